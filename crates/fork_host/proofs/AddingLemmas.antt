@@ -1,0 +1,84 @@
+-- When a tenant is added.
+use Rattle.std.proofs.Common.{◌≡◌, ℕ, ◌+◌, ◌<◌, ◌≤◌, Bool, true, false, cond, List, [], Option, Some, None, refl, sym, ap, subst, ◌∙◌, arith, is_some, inl, inr}
+use Rattle.std.specs.Prelude.{nat_le, nat_lt}
+use Rattle.std.proofs.lemmas.Bool.Decides.{nat_tests}
+use Rattle.std.specs.Ordering.{eq_by_cmp}
+use Rattle.std.specs.Map.{lookup}
+use Rattle.std.specs.BTreeMap.{is_at}
+use Rattle.std.specs.FinMap.{get, get-insert, get-empty, insert, contains_key, len, len-insert, len-empty, empty, from_entries}
+use Rattle.git_name.specs.Name.{name_cmp}
+use Rattle.git_name.specs.Object.{Object}
+use Rattle.git_name.proofs.Names.{name_total}
+use Rattle.fork_model.specs.Objects.{use_of}
+use Rattle.fork_model.specs.Sound.{IsSound, IsSoundWorld}
+use Rattle.fork_model.specs.View.{View, References}
+use Rattle.fork_model.specs.World.{World}
+use Rattle.fork_model.proofs.Hosts.{get_is}
+use Rattle.fork_model.proofs.SoundLemmas.{at_key}
+use Rattle.fork_model.proofs.UseLemmas.{use_of-empty}
+use Rattle.fork_host.specs.Adding.{new_view, refusal_to_add}
+use Rattle.fork_host.specs.declared.add_error.AddError.TheVariants.{There, TooMany, Limit}
+
+-- whether the world has the tenant is whether the entries have it
+pub known : (w : World) (es : List (List ℕ × View)) (t : List ℕ) (b : Bool) → from_entries es ≡ w → b ≡ is_some (lookup (is_at (name_cmp t)) es) → contains_key w t ≡ b
+known w es t b is found = ap is_some (get_is w es t is) ∙ sym found
+
+pub refused_there : (w : World) (t : List ℕ) (limit : ℕ) → contains_key w t ≡ true → refusal_to_add w t limit ≡ Some There
+refused_there w t limit here = ap (λ b. cond b (Some There) (cond (nat_le 64 (len w)) (Some TooMany) (cond (nat_lt 1099511627776 limit) (Some Limit) None))) here
+
+not_there : (w : World) (t : List ℕ) (limit : ℕ) → contains_key w t ≡ false → refusal_to_add w t limit ≡ cond (nat_le 64 (len w)) (Some TooMany) (cond (nat_lt 1099511627776 limit) (Some Limit) None)
+not_there w t limit absent = ap (λ b. cond b (Some There) (cond (nat_le 64 (len w)) (Some TooMany) (cond (nat_lt 1099511627776 limit) (Some Limit) None))) absent
+
+fits : (a b : ℕ) → a ≤ b → nat_le a b ≡ true
+fits a b is = grind (arith, nat_tests)
+
+exceeds : (a b : ℕ) → b < a → nat_le a b ≡ false
+exceeds a b is = grind (arith, nat_tests)
+
+below : (a b : ℕ) → a < b → nat_lt a b ≡ true
+below a b is = grind (arith, nat_tests)
+
+within : (a b : ℕ) → b ≤ a → nat_lt a b ≡ false
+within a b is = grind (arith, nat_tests)
+
+pub refused_many : (w : World) (t : List ℕ) (limit : ℕ) → contains_key w t ≡ false → 64 ≤ len w → refusal_to_add w t limit ≡ Some TooMany
+refused_many w t limit absent many = not_there w t limit absent ∙ ap (λ b. cond b (Some TooMany) (cond (nat_lt 1099511627776 limit) (Some Limit) None)) (fits 64 (len w) many)
+
+few_tenants : (w : World) (t : List ℕ) (limit : ℕ) → contains_key w t ≡ false → len w < 64 → refusal_to_add w t limit ≡ cond (nat_lt 1099511627776 limit) (Some Limit) None
+few_tenants w t limit absent few = not_there w t limit absent ∙ ap (λ b. cond b (Some TooMany) (cond (nat_lt 1099511627776 limit) (Some Limit) None)) (exceeds 64 (len w) few)
+
+pub refused_limit : (w : World) (t : List ℕ) (limit : ℕ) → contains_key w t ≡ false → len w < 64 → 1099511627776 < limit → refusal_to_add w t limit ≡ Some Limit
+refused_limit w t limit absent few high = few_tenants w t limit absent few ∙ ap (λ b. cond b (Some Limit) None) (below 1099511627776 limit high)
+
+pub not_refused : (w : World) (t : List ℕ) (limit : ℕ) → contains_key w t ≡ false → len w < 64 → limit ≤ 1099511627776 → refusal_to_add w t limit ≡ None
+not_refused w t limit absent few low = few_tenants w t limit absent few ∙ ap (λ b. cond b (Some Limit) None) (within 1099511627776 limit low)
+
+nothing_at : {X : Type 0} (name : List ℕ) (x : X) → get (empty {X = X} {R = name_cmp}) name ≡ Some x → ⊥
+nothing_at {X} name x is = (let no : ⊥ = cc (sym (get-empty {X = X} name_cmp name) ∙ is) in no)
+
+-- a new tenant's view is sound
+pub sound_new_view : (limit : ℕ) → limit ≤ 1099511627776 → IsSound (new_view limit)
+sound_new_view limit low = record {
+  named = λ name object is. absurd (nothing_at name object is);
+  within_limit = (let none = use_of-empty in omega arith);
+  limit = low;
+  few_repositories = (let none = len-empty name_cmp References in omega arith);
+  repositories = λ name references is. absurd (nothing_at name references is);
+}
+
+-- a world with one more tenant
+pub sound_more : (w : World) (t : List ℕ) (limit : ℕ) → contains_key w t ≡ false → len w < 64 → limit ≤ 1099511627776 → IsSoundWorld w → IsSoundWorld (insert w t (new_view limit))
+sound_more w t limit absent few low sound = record {
+  few = (let count = len-insert name_total w t (new_view limit) ∙ ap (λ b. cond b (len w) (len w + 1)) absent in omega arith);
+  views = λ q view is. elim (at_key (eq_by_cmp name_cmp q t) (new_view limit) view (get w q) (sym (get-insert name_total w t (new_view limit) q) ∙ is)) [
+    inl set ↦ subst IsSound set.1 (sound_new_view limit low)
+    | inr stays ↦ sound.views q view stays
+  ];
+}
+
+-- a world without tenants
+pub sound_none : IsSoundWorld empty
+sound_none = record {
+  few = (let none = len-empty name_cmp View in omega arith);
+  views = λ q view is. absurd (nothing_at q view is);
+}

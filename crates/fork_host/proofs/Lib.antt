@@ -1,0 +1,3 @@
+pub mod AddingLemmas
+pub mod RowLemmas
+pub mod TakingBack

@@ -1,0 +1,35 @@
+use Rattle.std.proofs.Common.{◌≡◌, ◌<◌, ◌+◌, ◌≤◌, ◌++◌, ◌∷◌, [], ℕ, List, All, length, get_or, take, ap, ◌∙◌, sym, subst, arith}
+use Rattle.std.proofs.lemmas.List.{take_more, take_all, map-append}
+use Rattle.std.proofs.lemmas.List.Elements.{All-push, All-same}
+use Rattle.fork_request.specs.declared.reply.Reply.{Reply}
+use Rattle.fork_model.specs.World.{World, Steps, Explains}
+use Rattle.fork_model.proofs.Hosts.{run_more}
+use Rattle.fork_host.specs.declared.step.HostStep.{HostStep}
+use Rattle.fork_host.specs.Given.{event_of, events_of}
+use Rattle.fork_host.specs.Rows.{IsMemoryAtMost}
+use Rattle.fork_host.proofs.host.Host.run.Goals as goal
+
+-- the run goes on by the step at i
+turn : (old mid new : World) (steps : List HostStep) (i : ℕ) (step : HostStep) (replies more : List Reply) (reply : Reply) → i < length steps → step ≡ get_or steps i step → more ≡ replies ++ reply ∷ []
+    → Explains old (events_of (take i steps)) replies mid → Steps mid (event_of step) reply new → Explains old (events_of (take (i + 1) steps)) more new
+turn old mid new steps i step replies more reply lt is grown ran next =
+    let taken : events_of (take (i + 1) steps) ≡ events_of (take i steps) ++ event_of step ∷ [] =
+    ap events_of (take_more steps i step lt) ∙ (map-append event_of (take i steps) _ ∙ ap (λ (x : HostStep). events_of (take i steps) ++ event_of x ∷ []) (sym is)) in
+    rw (taken, grown) (run_more old mid new (events_of (take i steps)) replies (event_of step) reply ran next)
+
+faults_more : (replies more : List Reply) (reply : Reply) → more ≡ replies ++ reply ∷ [] → All IsMemoryAtMost replies → IsMemoryAtMost reply → All IsMemoryAtMost more
+faults_more replies more reply grown all one = All-same IsMemoryAtMost _ _ grown (All-push IsMemoryAtMost replies reply all one)
+
+pub loop-step-preserved : goal.loop-step-preserved
+loop-step-preserved c = record {
+  trusted = λ trusted. c.step-reply.ensures.trusted (c.loop-step.invariant.trusted trusted);
+  ran = λ trusted. turn c.args.self.now c.loop-step.self c.step-reply.new.self c.args.steps.now c.loop-step.step-index c.step-item.result c.loop-step.replies.items c.push_reserved.new.self.items c.step-reply.result c.loop-step-test.true c.step-item.is c.push_reserved.ensures.items (c.loop-step.invariant.ran trusted) (c.step-reply.ensures.explained (c.loop-step.invariant.trusted trusted));
+  sound = c.step-reply.ensures.sound;
+  faults = faults_more c.loop-step.replies.items c.push_reserved.new.self.items c.step-reply.result c.push_reserved.ensures.items c.loop-step.invariant.faults c.step-reply.ensures.faults;
+  told = omega arith;
+  room = omega arith;
+}
+
+-- after the loop the run has all the steps
+all : (old new : World) (steps : List HostStep) (i : ℕ) (replies : List Reply) → length steps ≤ i → Explains old (events_of (take i steps)) replies new → Explains old (events_of steps) replies new
+all old new steps i replies le ran = rw (take_all i steps le) at ran

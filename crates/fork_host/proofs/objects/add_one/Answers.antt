@@ -1,0 +1,36 @@
+use Rattle.std.proofs.Common.{◌≡◌, ◌≤◌, ◌+◌, false, sym, ap, subst, ◌∙◌, arith, length, ◌∷◌, []}
+use Rattle.std.specs.FinMap as map
+use Rattle.git_name.specs.Object.{object_name}
+use Rattle.fork_model.specs.Objects.{use_of, use_of_object, with_object}
+use Rattle.fork_model.proofs.UseLemmas.{use_of-new, with_object-new}
+use Rattle.fork_host.proofs.TakingBack.{taken_back-append, remove_absent, remove_inserted, taken_back_same}
+use Rattle.fork_host.proofs.objects.add_one.Goals as goal
+
+pub returns-then-size-limit-clause-over : goal.returns-then-size-limit-clause-over
+returns-then-size-limit-clause-over c _ =
+    let absent : map.contains_key c.args.objects.now (object_name c.args.sealed) ≡ false = ap (λ k. map.contains_key c.args.objects.now k) (sym c.name-name.ensures) ∙ sym c.contains.ensures ∙ c.if-contains.false in
+    let more = use_of-new c.args.objects.now c.args.sealed absent in
+    let size = ap (λ bytes. length bytes) c.bytes.ensures in
+    let used = c.requires.used in
+    omega arith
+
+pub returns-in_default-insert-clause-undone : goal.returns-in_default-insert-clause-undone
+returns-in_default-insert-clause-undone c =
+    let absent = sym c.contains.ensures ∙ c.if-contains.false in
+    taken_back_same _ _ _ _ _ c.in-Ok.ensures.items (ap (λ m. map.remove m c.name-name.result) c.in_default-insert.ensures.err ∙ remove_absent c.args.objects.now c.name-name.result absent)
+
+pub returns-clause-undone : goal.returns-clause-undone
+returns-clause-undone c =
+    let absent : map.contains_key c.args.objects.now c.name-name.result ≡ false = sym c.contains.ensures ∙ c.if-contains.false in
+    let inserted = c.in-Ok-insert.ensures.ok ∙ ap (λ k. map.insert c.args.objects.now k c.args.sealed) (sym c.name-name.ensures) in
+    taken_back_same _ _ _ _ _ c.in-Ok.ensures.items (ap (λ m. map.remove m c.name-name.result) inserted ∙ remove_inserted c.args.objects.now c.name-name.result c.args.sealed absent)
+
+pub returns-clause-used : goal.returns-clause-used
+returns-clause-used c =
+    let absent : map.contains_key c.args.objects.now (object_name c.args.sealed) ≡ false = ap (λ k. map.contains_key c.args.objects.now k) (sym c.name-name.ensures) ∙ sym c.contains.ensures ∙ c.if-contains.false in
+    let more = use_of-new c.args.objects.now c.args.sealed absent in
+    let set = ap use_of (c.in-Ok-insert.ensures.ok ∙ sym (with_object-new c.args.objects.now c.args.sealed absent)) in
+    let size = ap (λ bytes. length bytes) c.bytes.ensures in
+    let used = c.requires.used in
+    let within = c.requires.within in
+    (omega arith, omega arith)

@@ -1,0 +1,19 @@
+-- When a tenant is not added, and what it sees at first.
+use Rattle.std.specs.Prelude.{ℕ, List, Option, None, Some, nat_le, nat_lt, if◌then◌else◌}
+use Rattle.std.specs.FinMap.{contains_key, len, empty}
+use Rattle.fork_model.specs.View.{View}
+use Rattle.fork_model.specs.World.{World}
+use Rattle.fork_host.specs.declared.add_error.AddError.{AddError}
+use Rattle.fork_host.specs.declared.add_error.AddError.TheVariants.{There, TooMany, Limit}
+
+-- the first reason against it
+abbrev pub refusal_to_add : World → List ℕ → ℕ → Option AddError
+refusal_to_add world name limit =
+    if contains_key world name then Some There
+    else if nat_le 64 (len world) then Some TooMany
+    else if nat_lt 1099511627776 limit then Some Limit
+    else None
+
+-- nothing, under this limit
+abbrev pub new_view : ℕ → View
+new_view limit = record { repositories = empty; objects = empty; upload = None; limit = limit }

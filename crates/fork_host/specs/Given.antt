@@ -1,0 +1,15 @@
+-- The steps that a host is given, as values.
+use Rattle.std.specs.Prelude.{List, map}
+use Rattle.fork_request.specs.Asked.{ask_of}
+use Rattle.fork_model.specs.Runs.{Asks, HostAsks}
+use Rattle.fork_model.specs.World.{Event}
+use Rattle.fork_host.specs.declared.step.HostStep.{HostStep}
+use Rattle.fork_host.specs.declared.step.HostStep.TheVariants.{Tenant, Host}
+
+-- a tenant's request, or one of the host's own
+abbrev pub event_of : HostStep → Event
+event_of (Tenant name request) = Asks name.now (ask_of request)
+event_of (Host request) = HostAsks request
+
+abbrev pub events_of : List HostStep → List Event
+events_of steps = map event_of steps

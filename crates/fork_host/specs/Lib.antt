@@ -1,0 +1,6 @@
+pub mod Adding
+pub mod Given
+pub mod Rows
+pub mod Shape
+pub mod Shown
+pub mod TakenBack

@@ -1,0 +1,58 @@
+-- The world of a host: a view for each tenant, and how runs go from one world to the next.
+use Rattle.std.specs.Prelude.{◌≡◌, ℕ, List}
+use Rattle.std.specs.FinMap.{FinMap, get}
+use Rattle.git_name.specs.Name.{name_cmp}
+use Rattle.fork_request.specs.Asked.{Ask}
+use Rattle.fork_request.specs.Told.{is_host_fault}
+use Rattle.fork_request.specs.declared.host_request.HostRequest.{HostRequest}
+use Rattle.fork_request.specs.declared.host_request.HostRequest.TheVariants.{Bad}
+use Rattle.fork_request.specs.declared.refusal.Refusal.TheVariants.{BadRequest, UnknownTenant}
+use Rattle.fork_request.specs.declared.reply.Reply.{Reply}
+use Rattle.fork_request.specs.declared.reply.Reply.TheVariants.{Refused}
+use Rattle.fork_model.specs.Answer.{answer}
+use Rattle.fork_model.specs.Runs
+use Rattle.fork_model.specs.View.{View}
+
+-- a view for each tenant
+abbrev pub World : Type 0
+World = FinMap name_cmp View
+
+-- a tenant's request, or one of the host's own
+abbrev pub Event : Type 0
+Event = Runs.Event (List ℕ) Ask HostRequest
+
+-- what may be told of the host: a bad request is refused
+abbrev pub HostSays : HostRequest → Reply → Type 0
+HostSays Bad reply = reply ≡ Refused BadRequest
+
+-- one step may go from the old world to the new one with this reply
+abbrev pub Steps : World → Event → Reply → World → Type 0
+Steps = Runs.Steps name_cmp answer (Refused UnknownTenant) is_host_fault HostSays
+
+-- these replies, one to each step, lead from the old world to the new one
+abbrev pub Explains : World → List Event → List Reply → World → Type 0
+Explains = Runs.Explains name_cmp answer (Refused UnknownTenant) is_host_fault HostSays
+
+-- what a tenant asks, in order
+abbrev pub own : List ℕ → List Event → List Ask
+own = Runs.own name_cmp
+
+-- what a tenant is told, in order
+abbrev pub told : List ℕ → List Event → List Reply → List Reply
+told = Runs.told name_cmp
+
+-- the replies and the last view of a private host, which has this view and no other tenant
+abbrev pub alone : View → List Ask → List Reply × View
+alone = Runs.alone answer
+
+-- no reply to the tenant is a host fault
+abbrev pub IsUnfaulted : List ℕ → List Event → List Reply → Type 0
+IsUnfaulted tenant steps replies = Runs.IsUnfaulted is_host_fault (told tenant steps replies)
+
+-- both worlds show the tenant alike
+abbrev pub Agree : List ℕ → World → World → Type 0
+Agree tenant world other = get world tenant ≡ get other tenant
+
+-- a tenant's own part in a step
+abbrev pub Answers : View → Ask → Reply → View → Type 0
+Answers = Runs.Answers answer is_host_fault

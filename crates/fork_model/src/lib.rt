@@ -1,0 +1,56 @@
+//! What a tenant sees of a host, what it is told, and the laws of runs: definitions, and no code that
+//! runs.
+//! A run of a host is private: whatever others do between, a tenant is told what a host of its own
+//! would tell it.
+#![tactic(auto)]
+
+ghost use Rattle.std.specs.Prelude.{◌≡◌, ℕ, List, Some};
+ghost use Rattle.std.specs.FinMap.{get};
+ghost use Rattle.fork_request.specs.declared.reply.Reply.{Reply};
+ghost use Rattle.fork_model.specs.View.{View};
+ghost use Rattle.fork_model.specs.World.{World, Event, Explains, IsUnfaulted, Agree, own, told, alone};
+
+/// What a tenant is told, and its view afterwards, are those of a private host that holds this
+/// tenant alone, whatever requests of others stand between, where no host fault answered it.
+pub fn a_run_is_private()
+    ensures replies { (tenant : List ℕ) (old new : World) (steps : List Event) (replies : List Reply) (view : View)
+        → Explains old steps replies new → IsUnfaulted tenant steps replies → get old tenant ≡ Some view
+        → told tenant steps replies ≡ (alone view (own tenant steps)).0 }
+    ensures view { (tenant : List ℕ) (old new : World) (steps : List Event) (replies : List Reply) (view : View)
+        → Explains old steps replies new → IsUnfaulted tenant steps replies → get old tenant ≡ Some view
+        → get new tenant ≡ Some (alone view (own tenant steps)).1 }
+{}
+
+/// Two runs from worlds that show a tenant alike, in which the tenant asks the same, tell it the
+/// same and leave worlds that show it alike, whatever else the runs and the worlds are.
+pub fn two_runs_agree()
+    ensures replies { (tenant : List ℕ) (old new : World) (steps : List Event) (replies : List Reply)
+        (old2 new2 : World) (steps2 : List Event) (replies2 : List Reply)
+        → Explains old steps replies new → IsUnfaulted tenant steps replies
+        → Explains old2 steps2 replies2 new2 → IsUnfaulted tenant steps2 replies2
+        → Agree tenant old old2 → own tenant steps ≡ own tenant steps2
+        → told tenant steps replies ≡ told tenant steps2 replies2 }
+    ensures worlds { (tenant : List ℕ) (old new : World) (steps : List Event) (replies : List Reply)
+        (old2 new2 : World) (steps2 : List Event) (replies2 : List Reply)
+        → Explains old steps replies new → IsUnfaulted tenant steps replies
+        → Explains old2 steps2 replies2 new2 → IsUnfaulted tenant steps2 replies2
+        → Agree tenant old old2 → own tenant steps ≡ own tenant steps2
+        → Agree tenant new new2 }
+{}
+
+ghost use Rattle.fork_request.specs.Asked.{Ask};
+ghost use Rattle.fork_request.specs.declared.refusal.Refusal.{Refusal};
+ghost use Rattle.fork_request.specs.declared.reply.Reply.TheVariants.{Refused};
+ghost use Rattle.fork_model.specs.Answer.{answer};
+ghost use Rattle.fork_model.specs.Sound.{IsSound, IsSoundWorld};
+
+/// A refused request leaves the view as it was.
+pub fn refusals_leave_the_view()
+    ensures { (view : View) (ask : Ask) (refusal : Refusal) → (answer view ask).0 ≡ Refused refusal → (answer view ask).1 ≡ view }
+{}
+
+/// Answers keep a view sound, and runs a world.
+pub fn runs_keep_worlds_sound()
+    ensures view { (view : View) (ask : Ask) → IsSound view → IsSound (answer view ask).1 }
+    ensures world { (old new : World) (steps : List Event) (replies : List Reply) → Explains old steps replies new → IsSoundWorld old → IsSoundWorld new }
+{}

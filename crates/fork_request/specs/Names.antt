@@ -1,0 +1,30 @@
+-- The names of tenants and of repositories (own): small letters, digits, `-` and `_`, beginning with a letter or digit.
+use Rattle.std.specs.Prelude.{◌≡◌, ℕ, ◌≤◌, Bool, true, ◌||◌, ◌&&◌, ◌==◌, nat_le, List, length, slice_index, All}
+use Rattle.std.specs.List.{list_all}
+
+-- a small letter or a digit
+abbrev pub starts_a_name : ℕ → Bool
+starts_a_name byte = (nat_le 97 byte && nat_le byte 122) || (nat_le 48 byte && nat_le byte 57)
+
+-- or `-` or `_`
+abbrev pub stands_in_a_name : ℕ → Bool
+stands_in_a_name byte = starts_a_name byte || (byte == 45) || (byte == 95)
+
+-- 1 to `most` bytes, the first of them a letter or a digit
+pub record IsPlainName (most : ℕ) (name : List ℕ) : Type 0 where
+  pub some : 1 ≤ length name
+  pub few : length name ≤ most
+  pub starts : starts_a_name (slice_index name 0) ≡ true
+  pub bytes : All (λ byte. stands_in_a_name byte ≡ true) name
+
+-- the same as a test
+unfoldable pub is_plain_name : ℕ → List ℕ → Bool
+is_plain_name most name = nat_le 1 (length name) && nat_le (length name) most && starts_a_name (slice_index name 0) && list_all stands_in_a_name name
+
+-- a tenant's name has 1 to 32 bytes
+abbrev pub IsTenantName : List ℕ → Type 0
+IsTenantName = IsPlainName 32
+
+-- a repository's has 1 to 64
+abbrev pub IsRepositoryName : List ℕ → Type 0
+IsRepositoryName = IsPlainName 64

@@ -1,0 +1,49 @@
+-- The bytes of replies (own): `ok` and data, `no` and why not, or `host` and the host's own fault.
+use Rattle.std.specs.Prelude.{ℕ, List, [], ◌∷◌, ◌++◌, Bool, true, false, codes}
+use Rattle.hex.specs.Hex.{encode_lower}
+use Rattle.fork_request.specs.declared.refusal.Refusal.{Refusal}
+use Rattle.fork_request.specs.declared.refusal.Refusal.TheVariants.{BadRequest, UnknownTenant, BadName, RepositoryExists, NoRepository, Missing, OverQuota, TooMany, Syntax, WrongName, Truncated, TooLarge}
+use Rattle.fork_request.specs.declared.host_fault.HostFault.{HostFault}
+use Rattle.fork_request.specs.declared.host_fault.HostFault.TheVariants.{Memory, Store, Damaged, Collision}
+use Rattle.fork_request.specs.declared.reply.Reply.{Reply}
+use Rattle.fork_request.specs.declared.reply.Reply.TheVariants.{Done, Refused, Failed}
+
+-- a refusal's word, and what it is about behind a SP
+abbrev pub refusal_text : Refusal → List ℕ
+refusal_text BadRequest = codes "bad-request"
+refusal_text UnknownTenant = codes "unknown-tenant"
+refusal_text (BadName word) = codes "bad-name " ++ word
+refusal_text (RepositoryExists repository) = codes "repository-exists " ++ repository
+refusal_text (NoRepository repository) = codes "no-repository " ++ repository
+refusal_text (Missing name) = codes "missing " ++ encode_lower name
+refusal_text OverQuota = codes "over-quota"
+refusal_text TooMany = codes "too-many"
+refusal_text Syntax = codes "syntax"
+refusal_text (WrongName name) = codes "wrong-name " ++ encode_lower name
+refusal_text Truncated = codes "truncated"
+refusal_text (TooLarge name) = codes "too-large " ++ encode_lower name
+
+-- the word of a host fault
+abbrev pub fault_word : HostFault → List ℕ
+fault_word Memory = codes "memory"
+fault_word Store = codes "store"
+fault_word Damaged = codes "damaged"
+fault_word Collision = codes "collision"
+
+-- the bytes of a reply
+abbrev pub bytes_of : Reply → List ℕ
+bytes_of (Done text) = codes "ok\n" ++ text
+bytes_of (Refused refusal) = codes "no " ++ refusal_text refusal ++ codes "\n"
+bytes_of (Failed fault) = codes "host " ++ fault_word fault ++ codes "\n"
+
+-- whether a reply is a host fault
+abbrev pub is_host_fault : Reply → Bool
+is_host_fault (Done text) = false
+is_host_fault (Refused refusal) = false
+is_host_fault (Failed fault) = true
+
+-- whether a reply is an answer with data
+abbrev pub is_done : Reply → Bool
+is_done (Done text) = true
+is_done (Refused refusal) = false
+is_done (Failed fault) = false

@@ -1,0 +1,21 @@
+//! What is asked of a host of many tenants and what it tells: the names of tenants and repositories,
+//! the payloads of requests, the bytes of replies.
+//! Every payload is a request or a bad one, and a reply has one spelling.
+#![tactic(auto)]
+
+mod byte_string;
+mod host_fault;
+mod host_request;
+mod name;
+mod plain_word;
+mod refusal;
+mod reply;
+mod request;
+
+pub use crate::byte_string::ByteString;
+pub use crate::host_fault::HostFault;
+pub use crate::host_request::HostRequest;
+pub use crate::name::{PlainName, RepositoryName, TenantName};
+pub use crate::refusal::Refusal;
+pub use crate::reply::Reply;
+pub use crate::request::{MAX_PAYLOAD, Request};

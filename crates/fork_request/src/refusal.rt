@@ -1,0 +1,79 @@
+ghost use Rattle.std.specs.Prelude.{◌≡◌, ◌++◌, OnOk};
+ghost use Rattle.hex.specs.Hex.{encode_lower};
+
+use crate::byte_string::ByteString;
+use crate::name::RepositoryName;
+use git_name::Name;
+use std::alloc::AllocError;
+
+/// Why a request was refused, and what the refusal is about. A refused request changes no view.
+#[derive(Debug, Drop)]
+pub enum Refusal {
+    /// No request.
+    BadRequest,
+    /// The host has no tenant of this name.
+    UnknownTenant,
+    /// This word is no name of a repository.
+    BadName(ByteString),
+    /// The tenant has this repository already.
+    RepositoryExists(RepositoryName),
+    /// The tenant has no such repository.
+    NoRepository(RepositoryName),
+    /// The tenant sees no object of this name.
+    Missing(Name),
+    /// The objects would use more than the tenant's limit.
+    OverQuota,
+    /// A limit on a number is met.
+    TooMany,
+    /// The body breaks its grammar.
+    Syntax,
+    /// The content of the record of this name has another name.
+    WrongName(Name),
+    /// The body ends too early.
+    Truncated,
+    /// The record of this name says that its content is longer than an object may be.
+    TooLarge(Name),
+}
+
+impl Refusal {
+    ghost use Rattle.fork_request.specs.Told.{refusal_text};
+
+    /// Adds the refusal's word, and what it is about behind a space.
+    pub fn write(&self, text: &mut Vec<u8>) -> Result<(), AllocError>
+        ensures { OnOk result (text.new.items ≡ text.old.items ++ refusal_text self.now) }
+    {
+        match self {
+            Refusal::BadRequest => text.extend_from_slice(b"bad-request"),
+            Refusal::UnknownTenant => text.extend_from_slice(b"unknown-tenant"),
+            Refusal::BadName(word) => write_about(text, b"bad-name ", word.as_bytes()),
+            Refusal::RepositoryExists(repository) => {
+                write_about(text, b"repository-exists ", repository.as_bytes())
+            }
+            Refusal::NoRepository(repository) => {
+                write_about(text, b"no-repository ", repository.as_bytes())
+            }
+            Refusal::Missing(name) => write_name(text, b"missing ", *name),
+            Refusal::OverQuota => text.extend_from_slice(b"over-quota"),
+            Refusal::TooMany => text.extend_from_slice(b"too-many"),
+            Refusal::Syntax => text.extend_from_slice(b"syntax"),
+            Refusal::WrongName(name) => write_name(text, b"wrong-name ", *name),
+            Refusal::Truncated => text.extend_from_slice(b"truncated"),
+            Refusal::TooLarge(name) => write_name(text, b"too-large ", *name),
+        }
+    }
+}
+
+fn write_about(text: &mut Vec<u8>, word: &[u8], about: &[u8]) -> Result<(), AllocError>
+    ensures { OnOk result (text.new.items ≡ text.old.items ++ (word.now ++ about.now)) }
+{
+    text.extend_from_slice(word)?;
+    text.extend_from_slice(about)
+}
+
+fn write_name(text: &mut Vec<u8>, word: &[u8], name: Name) -> Result<(), AllocError>
+    ensures { OnOk result (text.new.items ≡ text.old.items ++ (word.now ++ encode_lower name)) }
+{
+    let mut digits = [0; 64];
+    name.write_hex(&mut digits);
+    write_about(text, word, digits.as_slice())
+}

@@ -1,0 +1,5 @@
+pub mod DecimalLemmas
+pub mod Names
+pub mod ReadingLemmas
+pub mod TextLemmas
+pub mod TreeMaps

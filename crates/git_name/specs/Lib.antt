@@ -1,0 +1,5 @@
+pub mod Kind
+pub mod Name
+pub mod Number
+pub mod Object
+pub mod Text

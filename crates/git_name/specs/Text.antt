@@ -1,0 +1,17 @@
+-- Lines and words of a text of bytes.
+use Rattle.std.specs.Prelude.{ℕ, ◌==◌, List, [], ◌∷◌, Option, None, Some, if◌then◌else◌, option_map}
+
+-- what stands before the first such byte, and what stands behind it
+abbrev pub split_once : ℕ → List ℕ → Option (List ℕ × List ℕ)
+split_once byte [] = None
+split_once byte (b ∷ bs) = if b == byte then Some ([], bs) else option_map (λ p. (b ∷ p.0, p.1)) (split_once byte bs)
+
+-- a byte put before the first of these words
+abbrev pub onto_first : ℕ → List (List ℕ) → List (List ℕ)
+onto_first b [] = (b ∷ []) ∷ []
+onto_first b (word ∷ words) = (b ∷ word) ∷ words
+
+-- the words of a line, parted by one SP each; so an SP too many makes an empty word
+abbrev pub words_of : List ℕ → List (List ℕ)
+words_of [] = [] ∷ []
+words_of (b ∷ bs) = if b == 32 then [] ∷ words_of bs else onto_first b (words_of bs)

@@ -1,0 +1,40 @@
+ghost use Rattle.std.specs.Prelude.{◌≡◌, ◌≢◌, IfSome, IfNone};
+ghost use Rattle.git_name.specs.declared.kind.Kind.{Kind};
+ghost use Rattle.git_name.specs.Kind.{type_word};
+
+/// What an object is (git-cat-file(1)).
+#[derive(Clone, Copy, Debug, PartialEq, Eq, PartialOrd, Ord, Hash)]
+pub enum Kind {
+    Blob,
+    Tree,
+    Commit,
+    Tag,
+}
+
+impl Kind {
+    /// The word that stands for the kind: `blob`, `tree`, `commit` or `tag`.
+    pub fn word(self) -> &'static [u8]
+        ensures { result.now ≡ type_word self }
+    {
+        match self {
+            Kind::Blob => b"blob",
+            Kind::Tree => b"tree",
+            Kind::Commit => b"commit",
+            Kind::Tag => b"tag",
+        }
+    }
+
+    /// The kind that a word stands for.
+    pub fn from_word(word: &[u8]) -> Option<Kind>
+        ensures found { IfSome result (λ kind. word.now ≡ type_word kind) }
+        ensures none { IfNone result ((kind : Kind) → word.now ≢ type_word kind) }
+    {
+        match word {
+            b"blob" => Some(Kind::Blob),
+            b"tree" => Some(Kind::Tree),
+            b"commit" => Some(Kind::Commit),
+            b"tag" => Some(Kind::Tag),
+            _ => None,
+        }
+    }
+}

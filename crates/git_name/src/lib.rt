@@ -1,0 +1,18 @@
+//! The names of Git's objects in the SHA-256 format, and the texts that write names and numbers.
+//! A sealed object's name is always the hash of its header and content, and each text is read only
+//! where it is the one spelling of its value.
+#![tactic(auto)]
+
+mod kind;
+mod name;
+mod number;
+mod sealed;
+mod text;
+#[cfg(test)]
+mod tests;
+
+pub use crate::kind::Kind;
+pub use crate::name::{Name, name_of};
+pub use crate::number::decimal;
+pub use crate::sealed::{Sealed, seal};
+pub use crate::text::{first_word, split_once};

@@ -1,0 +1,89 @@
+ghost use Rattle.std.specs.Prelude.{◌≡◌, ◌≢◌, IfSome, IfNone, List, ℕ};
+ghost use Rattle.hex.specs.Hex.{encode_lower};
+ghost use Rattle.git_name.specs.Name.{IsName, name_in};
+ghost use Rattle.git_name.specs.Object.{object_name};
+
+use crate::kind::Kind;
+use hex::FromHex;
+use itoa::Buffer;
+use sha2::{Digest, Sha256};
+use std::marker::Model;
+
+/// The name of an object: the 32 bytes of a SHA-256. Names are ordered bytewise, which is the
+/// order of their digits.
+#[derive(Clone, Copy, Debug, PartialEq, Eq, PartialOrd, Ord, Hash)]
+pub struct Name {
+    bytes: [u8; 32],
+}
+
+impl Model for Name {
+    ghost use Rattle.std.specs.Prelude.{List, ℕ};
+    ghost use Rattle.git_name.specs.Name.{IsName};
+
+    ghost Value = { List ℕ };
+
+    ghost view = { λ a. a.bytes };
+
+    ghost invariant = { λ a. IsName a.bytes };
+
+    ghost inverse = { λ bytes. record { bytes = bytes } };
+}
+
+impl Name {
+    /// The name with these bytes.
+    pub fn new(bytes: [u8; 32]) -> Name
+        ensures { result ≡ bytes }
+    {
+        Name { bytes }
+    }
+
+    /// The bytes of the name.
+    pub fn as_bytes(&self) -> &[u8; 32]
+        ensures bytes { result.now ≡ self.now }
+        ensures name { IsName self.now }
+    {
+        &self.bytes
+    }
+
+    /// The name that these 64 lower case digits write. Capitals write no name.
+    pub fn parse_hex(text: &[u8]) -> Option<Name>
+        ensures value { result ≡ name_in text.now }
+        ensures found { IfSome result (λ name. text.now ≡ encode_lower name) }
+        ensures none { IfNone result ((name : List ℕ) → IsName name → text.now ≢ encode_lower name) }
+    {
+        let Ok(bytes) = <[u8; 32] as FromHex>::from_hex(text) else {
+            return None;
+        };
+        let name = Name { bytes };
+        let mut again = [0; 64];
+        name.write_hex(&mut again);
+        if again.as_slice() == text {
+            Some(name)
+        } else {
+            None
+        }
+    }
+
+    /// Writes the name as 64 lower case digits.
+    pub fn write_hex(&self, out: &mut [u8; 64])
+        ensures { out.new ≡ encode_lower self.now }
+    {
+        let written = hex::encode_to_slice(self.bytes, out.as_mut_slice());
+        prove!(written.is_ok());
+    }
+}
+
+/// The name of the object of this kind with this content: one pass over the bytes, with no copy
+/// and no memory taken (Git's hash-function-transition; FIPS 180-4).
+pub fn name_of(kind: Kind, bytes: &[u8]) -> Name
+    ensures { result ≡ object_name (record { kind = kind; bytes = bytes.now }) }
+{
+    let mut length = Buffer::new();
+    let mut hasher = Sha256::new();
+    hasher.update(kind.word());
+    hasher.update(b" ");
+    hasher.update(length.format(bytes.len()));
+    hasher.update(b"\0");
+    hasher.update(bytes);
+    Name::new(hasher.finalize())
+}

@@ -1,0 +1,4 @@
+pub mod Line
+pub mod Record
+pub mod Shown
+pub mod Stream

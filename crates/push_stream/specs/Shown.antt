@@ -1,0 +1,40 @@
+-- What the readers' answers stand for.
+use Rattle.std.specs.Prelude.{◌≡◌, ℕ, List, Option, None, Some, Err, ⊤}
+use Rattle.git_name.specs.Object.{Object}
+use Rattle.push_stream.specs.declared.line.Line.{Line}
+use Rattle.push_stream.specs.declared.line.Line.TheVariants.{Whole, Unfinished, TooLong}
+use Rattle.push_stream.specs.declared.record.Parts.{Parts}
+use Rattle.push_stream.specs.declared.record.Parts.TheVariants.{Whole as Whole_parts, Open, Wrong}
+use Rattle.push_stream.specs.declared.fault.StreamFault.{StreamFault}
+use Rattle.push_stream.specs.declared.fault.StreamFault.TheVariants.{Truncated}
+use Rattle.push_stream.specs.declared.fault.BodyError.{BodyError}
+use Rattle.push_stream.specs.declared.fault.BodyError.TheVariants.{Fault, Memory}
+use Rattle.push_stream.specs.Line as value
+use Rattle.push_stream.specs.Record as record_value
+use Rattle.push_stream.specs.Stream.{Stream, finished}
+
+abbrev pub line_shown : Line → value.LineAt
+line_shown (Whole line behind) = value.Whole line.now behind.now
+line_shown Unfinished = value.Unfinished
+line_shown TooLong = value.TooLong
+
+abbrev pub parts_shown : Parts → record_value.PartsAt
+parts_shown (Whole_parts head content behind) = record_value.Parts head content.now behind.now
+parts_shown Open = record_value.Short
+parts_shown (Wrong fault) = record_value.Faulty fault
+
+-- why there is no record
+abbrev pub fault_at : record_value.RecordAt → Option StreamFault
+fault_at (record_value.Taken object behind) = None
+fault_at record_value.Open = Some Truncated
+fault_at (record_value.Wrong fault) = Some fault
+
+-- the error tells why there is no record; want of memory tells nothing
+abbrev pub TellsRecord : record_value.RecordAt → BodyError → Type 0
+TellsRecord found (Fault fault) = fault_at found ≡ Some fault
+TellsRecord found Memory = ⊤
+
+-- the error tells why a body gives no objects
+abbrev pub TellsFault : Stream → BodyError → Type 0
+TellsFault stream (Fault fault) = finished stream ≡ Err fault
+TellsFault stream Memory = ⊤

@@ -1,0 +1,25 @@
+use git_name::Name;
+use thiserror::Error;
+
+/// What is wrong with a stream: the fault of its first wrong item. A name is the one that the
+/// record's line tells.
+#[derive(Clone, Copy, Debug, PartialEq, Eq, Error)]
+pub enum StreamFault {
+    #[error("no right item")]
+    Syntax,
+    #[error("a record says that its content is too long")]
+    TooLarge(Name),
+    #[error("a record's content has another name")]
+    WrongName(Name),
+    #[error("the stream ends too early")]
+    Truncated,
+}
+
+/// Why a body was not read.
+#[derive(Clone, Copy, Debug, PartialEq, Eq, Error)]
+pub enum BodyError {
+    #[error(transparent)]
+    Fault(StreamFault),
+    #[error("no memory")]
+    Memory,
+}

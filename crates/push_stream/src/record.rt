@@ -1,0 +1,120 @@
+ghost use Rattle.std.specs.Prelude.{◌≡◌, IfOk, IfErr, IfSome};
+ghost use Rattle.git_name.specs.Name.{name_in};
+ghost use Rattle.git_name.specs.Number.{number_in};
+ghost use Rattle.git_name.specs.Text.{words_of};
+ghost use Rattle.push_stream.specs.Record.{Taken, kind_taken, head_of_parts, head_of_words, content_at, parts_at, record_at};
+ghost use Rattle.push_stream.specs.Shown.{parts_shown, TellsRecord};
+
+use crate::fault::{BodyError, StreamFault};
+use crate::line::{Line, first_line};
+use git_name::{Kind, Name, Sealed, decimal, first_word, seal};
+use std::alloc::Global;
+
+/// The most bytes of an object's content that a host takes (own).
+pub const MAX_CONTENT: usize = 8_388_608;
+
+// What a record's line says.
+#[derive(Clone, Copy, Debug)]
+pub(crate) struct Head {
+    name: Name,
+    kind: Kind,
+    size: u64,
+}
+
+// The parts of the record at the front of a text.
+#[derive(Clone, Copy, Debug)]
+pub(crate) enum Parts<'a> {
+    // What its line says, the content, and what stands behind its last LF.
+    Whole(Head, &'a [u8], &'a [u8]),
+    // The front of a record that may still be right, or nothing.
+    Open,
+    // What is wrong with it.
+    Wrong(StreamFault),
+}
+
+#[tactic(auto, unfolding(crate::specs::Record::record_at))]
+// Takes the record at the front of a text, and gives what stands behind it.
+pub(crate) fn take_record(alloc: Global, text: &[u8]) -> Result<(Sealed, &[u8]), BodyError>
+    ensures taken { IfOk result (λ p. record_at text.now ≡ Taken p.0 p.1.now) }
+    ensures exact { IfErr result (TellsRecord (record_at text.now)) }
+{
+    match first_parts(text) {
+        Parts::Whole(head, content, behind) => {
+            let Ok(bytes) = content.to_vec(alloc) else {
+                return Err(BodyError::Memory);
+            };
+            let sealed = seal(head.kind, bytes);
+            if sealed.name() != head.name {
+                return Err(BodyError::Fault(StreamFault::WrongName(head.name)));
+            }
+            Ok((sealed, behind))
+        }
+        Parts::Open => Err(BodyError::Fault(StreamFault::Truncated)),
+        Parts::Wrong(fault) => Err(BodyError::Fault(fault)),
+    }
+}
+
+#[tactic(auto, unfolding(crate::specs::Record::parts_at))]
+// The parts of the record at the front of a text.
+fn first_parts(text: &[u8]) -> Parts<'_>
+    ensures { parts_shown result ≡ parts_at text.now }
+{
+    match first_line(text) {
+        Line::Whole(line, behind) => match read_head(line) {
+            Some(head) => take_content(head, behind),
+            None => Parts::Wrong(StreamFault::Syntax),
+        },
+        Line::Unfinished => Parts::Open,
+        Line::TooLong => Parts::Wrong(StreamFault::Syntax),
+    }
+}
+
+// What a record's line says.
+fn read_head(line: &[u8]) -> Option<Head>
+    ensures { result ≡ head_of_words (words_of line.now) }
+{
+    let (digits, rest) = first_word(line)?;
+    let (word, number) = first_word(rest)?;
+    match first_word(number) {
+        Some(_) => None,
+        None => head_of(digits, word, number),
+    }
+}
+
+fn head_of(digits: &[u8], word: &[u8], number: &[u8]) -> Option<Head>
+    ensures { result ≡ head_of_parts (name_in digits.now) (kind_taken word.now) (number_in number.now) }
+{
+    let name = Name::parse_hex(digits)?;
+    let kind = taken_kind(word)?;
+    let size = decimal(number)?;
+    Some(Head { name, kind, size })
+}
+
+// The kind that a word stands for, where its objects are taken.
+fn taken_kind(word: &[u8]) -> Option<Kind>
+    ensures { result ≡ kind_taken word.now }
+{
+    if word == b"blob".as_slice() {
+        Some(Kind::Blob)
+    } else {
+        None
+    }
+}
+
+// The content behind a record's line, which ends in LF.
+fn take_content(head: Head, text: &[u8]) -> Parts<'_>
+    ensures { parts_shown result ≡ content_at head text.now }
+{
+    if head.size > MAX_CONTENT as u64 {
+        return Parts::Wrong(StreamFault::TooLarge(head.name));
+    }
+    let size = head.size as usize;
+    if text.len() <= size {
+        return Parts::Open;
+    }
+    let (content, behind) = text.split_at(size);
+    match behind {
+        [b'\n', behind @ ..] => Parts::Whole(head, content, behind),
+        _ => Parts::Wrong(StreamFault::Syntax),
+    }
+}

@@ -11,6 +11,8 @@ mod plain_word;
 mod refusal;
 mod reply;
 mod request;
+#[cfg(test)]
+mod tests;
 
 pub use crate::byte_string::ByteString;
 pub use crate::host_fault::HostFault;

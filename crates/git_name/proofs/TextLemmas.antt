@@ -44,8 +44,8 @@ words_of-plain (x ∷ a) plain =
 pub front_plain : (byte end : ℕ) (t : List ℕ) → Nowhere (Passes (is_byte byte) t) 0 end → end ≤ length t → All (λ b. b ≢ byte) (take end t)
 front_plain byte end t nowhere fits =
     All-from_get_or (λ b. b ≢ byte) (take end t) 0 (λ i within is.
-      let short : i < end = (let long = length-take end t in omega arith) in
-      nowhere i (omega arith) short (found i (sym (get_or-take end t i 0 short) ∙ is)))
+    let short : i < end = (let long = length-take end t in omega arith) in
+    nowhere i (omega arith) short (found i (sym (get_or-take end t i 0 short) ∙ is)))
   where
     found : (i : ℕ) → get_or t i 0 ≡ byte → eqb (get_or t i 0) byte ≡ true
     found i is = ap (λ b. eqb b byte) is ∙ same byte

@@ -7,9 +7,9 @@ mod kind;
 mod name;
 mod number;
 mod sealed;
-mod text;
 #[cfg(test)]
 mod tests;
+mod text;
 
 pub use crate::kind::Kind;
 pub use crate::name::{Name, name_of};

@@ -3,15 +3,13 @@
 //! first wrong item.
 #![tactic(auto)]
 
-
 mod body;
 mod fault;
 mod line;
 mod record;
+#[cfg(test)]
+mod tests;
 mod write;
-
-
-
 
 pub use crate::body::read_body;
 pub use crate::fault::{BodyError, StreamFault};

@@ -1,0 +1,4 @@
+pub mod Examples
+pub mod GrantLemmas
+pub mod MetLemmas
+pub mod TableLemmas

@@ -1,0 +1,112 @@
+ghost use Rattle.std.specs.Prelude.{◌≡◌, ◌≢◌, IfOk, IfErr, IfSome, IfNone, List, [], Option, codes, map, option_map, unwrap_or};
+ghost use Rattle.clap.specs.Words.{HasKind, Kinds, Row, Text, fault_of, found_of, rows_of, subcommand_of, subcommand_rows_of};
+ghost use Rattle.git_name.specs.Kind.{type_word};
+ghost use Rattle.fork_command.specs.Grant.{AreGrants, IsBadGrant};
+ghost use Rattle.fork_command.specs.Table.{table_app};
+ghost use Rattle.fork_command.specs.Command.{Asks, AsksNothing, IsRefused, tenants_given};
+
+use crate::error::CommandError;
+use crate::grant::{Grant, grants_of};
+use crate::table::table;
+use clap::error::ErrorKind;
+use clap::{ArgMatches, Error};
+use git_name::Kind;
+use std::alloc::Global;
+
+/// What the command line asks for.
+#[derive(Debug, Drop)]
+pub enum Command {
+    /// To print the name of the object of this kind that standard input holds.
+    HashObject { kind: Kind },
+    /// To serve frames from standard input to standard output, for these tenants.
+    Run { tenants: Vec<Grant> },
+}
+
+// What clap's refusal of the words is.
+fn refusal<'a>(error: Error) -> CommandError<'a>
+    ensures { (faults : Kinds) (met : Option (Text × List Row)) → HasKind faults error → IsRefused faults met result }
+{
+    match error.kind() {
+        ErrorKind::OutOfMemory => CommandError::Memory,
+        ErrorKind::DisplayHelp => CommandError::Help(error),
+        _ => CommandError::Usage(error),
+    }
+}
+
+// The kind of object that this word names; a blob where there is none.
+fn kind_given(word: Option<&str>) -> Option<Kind>
+    ensures found { IfSome result (λ kind. (unwrap_or (option_map (λ s. s.now) word.entry) (codes "blob") ≡ type_word kind) × (kind ≡ Kind.Blob)) }
+    ensures none { IfNone result (unwrap_or (option_map (λ s. s.now) word.entry) (codes "blob") ≢ type_word Kind.Blob) }
+{
+    let Some(word) = word else {
+        return Some(Kind::Blob);
+    };
+    if word.as_bytes() == Kind::Blob.word() {
+        return Some(Kind::Blob);
+    }
+    None
+}
+
+// The tenants given to `run`.
+fn tenants_of<'a>(alloc: Global, matches: &ArgMatches<'a>) -> Result<Vec<Grant>, CommandError<'a>>
+    ensures ok { IfOk result (λ grants. AreGrants grants.items (tenants_given (rows_of (found_of matches.entry.now)))) }
+    ensures err { IfErr result (IsBadGrant (tenants_given (rows_of (found_of matches.entry.now)))) }
+{
+    match matches.get_strs("tenants") {
+        Some(words) => grants_of(alloc, words),
+        None => Ok(Vec::new(alloc)),
+    }
+}
+
+// What the words ask for that clap took.
+fn asked<'a>(alloc: Global, matches: &ArgMatches<'a>) -> Result<Option<Command>, CommandError<'a>>
+    ensures some { IfOk result (λ o. IfSome o (Asks (subcommand_rows_of matches.entry.now))) }
+    ensures none { IfOk result (λ o. IfNone o (AsksNothing (subcommand_rows_of matches.entry.now))) }
+    ensures err { IfErr result (IsRefused [] (subcommand_rows_of matches.entry.now)) }
+{
+    let Some((name, matches)) = matches.subcommand() else {
+        return Ok(None);
+    };
+    if name == "hash-object" {
+        let Some(kind) = kind_given(matches.get_str("type")) else {
+            return Ok(None);
+        };
+        return Ok(Some(Command::HashObject { kind }));
+    }
+    if name == "run" {
+        let tenants = tenants_of(alloc, matches)?;
+        return Ok(Some(Command::Run { tenants }));
+    }
+    Ok(None)
+}
+
+// The refusal of words that clap took, and that ask for nothing all the same.
+fn no_command<'a>(top: &mut clap::Command<'_>) -> CommandError<'a>
+    ensures { (faults : Kinds) (met : Option (Text × List Row)) → AsksNothing met → IsRefused faults met result }
+{
+    match top.error(ErrorKind::InvalidValue, "the one TYPE so far is blob") {
+        Ok(error) => CommandError::Usage(error),
+        Err(_) => CommandError::Memory,
+    }
+}
+
+/// What the words ask for; the first of them is the program's name. Each word in the place of
+/// TENANT=LIMIT is judged before any command is answered.
+pub fn command_of<'a>(alloc: Global, words: &'a [&'a str]) -> Result<Command, CommandError<'a>>
+    ensures ok { let texts = map (λ word. word.now) words.entry.now in
+        IfOk result (λ command. (fault_of table_app texts ≡ []) × Asks (subcommand_of table_app texts) command) }
+    ensures err { let texts = map (λ word. word.now) words.entry.now in
+        IfErr result (IsRefused (fault_of table_app texts) (subcommand_of table_app texts)) }
+{
+    let Ok(mut top) = table(alloc) else {
+        return Err(CommandError::Memory);
+    };
+    let matches = match top.try_get_matches_from_mut(words) {
+        Ok(matches) => matches,
+        Err(error) => return Err(refusal(error)),
+    };
+    match asked(alloc, &matches)? {
+        Some(command) => Ok(command),
+        None => Err(no_command(&mut top)),
+    }
+}

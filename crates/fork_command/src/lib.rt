@@ -1,0 +1,16 @@
+//! The command line of `forkhost`, read by `clap`.
+//! A command is answered only where `clap`'s meaning of the words asks for it, and refused, want of
+//! memory aside, only where the words ask for none.
+#![tactic(auto)]
+
+mod command;
+mod error;
+mod grant;
+mod table;
+
+pub use crate::command::{Command, command_of};
+pub use crate::error::CommandError;
+pub use crate::grant::{Grant, MAX_LIMIT};
+
+#[cfg(test)]
+mod tests;

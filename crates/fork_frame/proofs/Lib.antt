@@ -1,0 +1,6 @@
+pub mod Examples
+pub mod FrameLemmas
+pub mod LawLemmas
+pub mod LineLemmas
+pub mod ReplyLemmas
+pub mod StreamLemmas

@@ -1,0 +1,6 @@
+pub mod Asker
+pub mod Frame
+pub mod Line
+pub mod Next
+pub mod Reading
+pub mod Reply

@@ -1,0 +1,26 @@
+-- What reading the next frame takes of a reader's bytes: `old` are those before, `new` those after, where they are known.
+use Rattle.std.specs.Prelude.{◌≡◌, ℕ, ◌≤◌, ◌<◌, List, ◌∷◌, ◌++◌, length, Option, IfSome}
+use Rattle.std.specs.Io.KnownBytes.{Keeps, Consumes, IsAtEnd}
+use Rattle.fork_frame.specs.declared.line.Line.{Line}
+use Rattle.fork_frame.specs.declared.frame.Next.{Next}
+use Rattle.fork_frame.specs.declared.frame.Next.TheVariants.{Frame, End, Bad}
+use Rattle.fork_frame.specs.Line.{IsLine}
+use Rattle.fork_frame.specs.Frame.{IsFrame, IsBad, frame_bytes}
+
+-- so much may be read before it is known that no frame comes: 41 bytes, or a right line, LF, and too short a payload
+pub data IsEnough (front : List ℕ) : Type 0 where
+  OfLine : length front ≤ 41 → IsEnough front
+  OfPayload : (line : Line) (text payload : List ℕ) → IsLine line text → length payload < line.len → front ≡ text ++ 10 ∷ payload → IsEnough front
+
+-- no frame comes, and no more was read than shows it
+pub record FindsNoFrame (old new : Option (List ℕ)) : Type 0 where
+  pub bad : IfSome old IsBad
+  pub front : List ℕ
+  pub taken : Consumes old new front
+  pub enough : IsEnough front
+
+-- a frame was taken, and nothing more; or there was nothing; or no frame comes
+abbrev pub IsNext : Option (List ℕ) → Option (List ℕ) → Next → Type 0
+IsNext old new (Frame frame) = IsFrame frame × Consumes old new (frame_bytes frame)
+IsNext old new End = Keeps old new × IsAtEnd old
+IsNext old new Bad = FindsNoFrame old new

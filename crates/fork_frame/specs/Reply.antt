@@ -1,0 +1,21 @@
+-- What goes out (own): the frames of replies, and a last line where the input went on with no frame.
+use Rattle.std.specs.Prelude.{◌≡◌, ◌≢◌, ℕ, ◌<◌, ◌^◌, List, [], ◌∷◌, ◌++◌, length, codes, decimal}
+use Rattle.fork_frame.specs.declared.ended.Ended.{Ended}
+use Rattle.fork_frame.specs.declared.ended.Ended.TheVariants.{Clean, BadFrame}
+
+-- the length of the reply's bytes in decimal, LF, and the bytes
+abbrev pub reply_frame : List ℕ → List ℕ
+reply_frame bytes = decimal (length bytes) ++ 10 ∷ bytes
+
+-- what goes out last
+abbrev pub last_line : Ended → List ℕ
+last_line Clean = []
+last_line BadFrame = codes "! bad-frame\n"
+
+-- bytes begin with one reply at most
+abbrev pub OneReply : Type 0
+OneReply = (a b r s : List ℕ) → length a < 2 ^ 64 → length b < 2 ^ 64 → reply_frame a ++ r ≡ reply_frame b ++ s → (a ≡ b) × (r ≡ s)
+
+-- no reply begins as the last line does
+abbrev pub NoReplyIsLast : Type 0
+NoReplyIsLast = (a r s : List ℕ) → length a < 2 ^ 64 → reply_frame a ++ r ≢ last_line BadFrame ++ s

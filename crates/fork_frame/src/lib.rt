@@ -1,0 +1,25 @@
+//! Frames: requests are read one at a time from any reader, and replies written to any writer.
+//! The same bytes are always the same requests, and no more is read than the next frame has.
+#![tactic(auto)]
+
+mod asker;
+mod ended;
+mod fault;
+mod frame;
+mod law;
+mod line;
+mod payload;
+mod reader;
+mod reply;
+mod text;
+
+pub use crate::asker::Asker;
+pub use crate::ended::Ended;
+pub use crate::fault::{FrameFault, ReplyFault};
+pub use crate::frame::{Frame, Next, next_frame};
+pub use crate::law::{same_bytes_are_same_replies, same_bytes_are_same_requests};
+pub use crate::line::Line;
+pub use crate::reply::{send_bad_frame, send_bytes, send_reply};
+
+#[cfg(test)]
+mod tests;

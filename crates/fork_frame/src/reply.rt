@@ -1,0 +1,54 @@
+ghost use Rattle.std.specs.Prelude.{◌≡◌, IfErr, OnOk};
+ghost use Rattle.std.specs.Io.KnownBytes.{Appends, Keeps};
+ghost use Rattle.fork_request.specs.Told.{bytes_of};
+ghost use Rattle.fork_frame.specs.Reply.{last_line, reply_frame};
+
+use crate::ended::Ended;
+use crate::fault::ReplyFault;
+use fork_request::Reply;
+use std::alloc::Global;
+use std::io::Write;
+
+// Writes all of it, so that the peer has it before more is read.
+fn send<W: Write>(writer: &mut W, bytes: &[u8]) -> Result<(), ReplyFault>
+    ensures ok { OnOk result (Appends (W.contents writer.old) (W.contents writer.new) bytes.now) }
+    ensures cause { IfErr result (λ fault. fault ≡ ReplyFault.Write) }
+{
+    let Ok(()) = writer.write_all(bytes) else {
+        return Err(ReplyFault::Write);
+    };
+    let Ok(()) = writer.flush() else {
+        return Err(ReplyFault::Write);
+    };
+    Ok(())
+}
+
+/// Sends the frame of a reply with these bytes, and flushes. It takes no memory.
+pub fn send_bytes<W: Write>(writer: &mut W, bytes: &[u8]) -> Result<(), ReplyFault>
+    ensures ok { OnOk result (Appends (W.contents writer.old) (W.contents writer.new) (reply_frame bytes.now)) }
+    ensures cause { IfErr result (λ fault. fault ≡ ReplyFault.Write) }
+{
+    let Ok(()) = writeln!(writer, "{}", bytes.len()) else {
+        return Err(ReplyFault::Write);
+    };
+    send(writer, bytes)
+}
+
+/// Sends the frame of a reply, and flushes. Memory is taken for the reply's bytes.
+pub fn send_reply<W: Write>(alloc: Global, writer: &mut W, reply: Reply) -> Result<(), ReplyFault>
+    ensures ok { OnOk result (Appends (W.contents writer.old) (W.contents writer.new) (reply_frame (bytes_of reply))) }
+    ensures kept { IfErr result (λ fault. fault ≡ ReplyFault.Memory → Keeps (W.contents writer.old) (W.contents writer.new)) }
+{
+    let Ok(bytes) = reply.bytes(alloc) else {
+        return Err(ReplyFault::Memory);
+    };
+    send_bytes(writer, bytes.as_slice())
+}
+
+/// Tells the peer that what came is no frame, and flushes.
+pub fn send_bad_frame<W: Write>(writer: &mut W) -> Result<(), ReplyFault>
+    ensures ok { OnOk result (Appends (W.contents writer.old) (W.contents writer.new) (last_line Ended.BadFrame)) }
+    ensures cause { IfErr result (λ fault. fault ≡ ReplyFault.Write) }
+{
+    send(writer, b"! bad-frame\n")
+}

@@ -1,0 +1,94 @@
+-- A session goes on by one frame, and ends.
+use Rattle.std.specs.Prelude.{IfSome, flat_map, map}
+use Rattle.std.proofs.Common.{◌≡◌, Option, Some, None, ℕ, All, List, [], ◌∷◌, ◌++◌, refl, sym, ap, ◌∙◌, subst}
+use Rattle.std.proofs.lemmas.Grind.{flat_map-append}
+use Rattle.std.proofs.lemmas.List.{append-nil, append_assoc, map-append}
+use Rattle.std.proofs.lemmas.List.Elements.{All-nil, All-push}
+use Rattle.std.proofs.KnownBytes.{Consumes-trans, Appends-trans}
+use Rattle.std.specs.Io.KnownBytes.{Appends, Consumes, IsAtEnd}
+use Rattle.git_name.specs.Name.{name_cmp}
+use Rattle.git_name.proofs.Names.{name_total}
+use Rattle.fork_request.specs.Told.{bytes_of, is_host_fault}
+use Rattle.fork_request.specs.declared.refusal.Refusal.TheVariants.{UnknownTenant}
+use Rattle.fork_request.specs.declared.reply.Reply.TheVariants.{Refused}
+use Rattle.fork_request.specs.declared.reply.Reply.{Reply}
+use Rattle.fork_model.specs.Answer.{answer}
+use Rattle.fork_model.specs.World.{World, Event, Explains, HostSays, Steps}
+use Rattle.fork_model.proofs.Isolation.{run_alone}
+use Rattle.fork_model.proofs.Hosts.{run_more}
+use Rattle.fork_host.specs.Rows.{IsMemoryAtMost}
+use Rattle.fork_frame.specs.declared.frame.Frame.{Frame}
+use Rattle.fork_frame.specs.declared.ended.Ended.{Ended}
+use Rattle.fork_frame.specs.Frame.{AreFrames, EndsAt, IsFrame, frame_bytes}
+use Rattle.fork_frame.specs.Reply.{reply_frame}
+use Rattle.fork_frame.proofs.StreamLemmas.{no_frames, frames_more}
+use Rattle.fork_wire.specs.declared.fault.SessionFault.{SessionFault}
+use Rattle.fork_wire.specs.declared.fault.SessionFault.TheVariants.{Read}
+use Rattle.fork_wire.specs.Sessions.{BeginsWith, IsPrivateRun, IsStopped, event_of, events_of, frames_of}
+
+-- what came so far was answered by what went out so far
+pub record Going (old new : World) (input left before after : Option (List ℕ)) : Type 0 where
+  pub frames : List Frame
+  pub replies : List Reply
+  pub came : List ℕ
+  pub right : AreFrames frames came
+  pub taken : Consumes input left came
+  pub explained : Explains old (events_of frames) replies new
+  pub faults : All IsMemoryAtMost replies
+  pub written : Appends before after (frames_of replies)
+
+one_reply : (reply : Reply) → frames_of (reply ∷ []) ≡ reply_frame (bytes_of reply)
+one_reply reply = append-nil (reply_frame (bytes_of reply))
+
+replies_more : (replies : List Reply) (reply : Reply) → frames_of (replies ++ reply ∷ []) ≡ frames_of replies ++ reply_frame (bytes_of reply)
+replies_more replies reply = flat_map-append (λ r. reply_frame (bytes_of r)) replies (reply ∷ []) ∙ ap (λ bytes. frames_of replies ++ bytes) (one_reply reply)
+
+events_more : (frames : List Frame) (frame : Frame) → events_of (frames ++ frame ∷ []) ≡ events_of frames ++ event_of frame ∷ []
+events_more frames frame = map-append event_of frames (frame ∷ [])
+
+-- a frame more was answered
+pub explained_more : (old mid new : World) (frames : List Frame) (replies : List Reply) (frame : Frame) (reply : Reply) → Explains old (events_of frames) replies mid → Steps mid (event_of frame) reply new
+    → Explains old (events_of (frames ++ frame ∷ [])) (replies ++ reply ∷ []) new
+explained_more old mid new frames replies frame reply so_far step =
+    subst (λ events. Explains old events (replies ++ reply ∷ []) new) (sym (events_more frames frame)) (run_more old mid new (events_of frames) replies (event_of frame) reply so_far step)
+
+-- and its reply went out
+pub going_more : (old mid new : World) (input left now before during after : Option (List ℕ)) (frame : Frame) (reply : Reply) → Going old mid input left before during → IsFrame frame → Consumes left now (frame_bytes frame)
+    → Steps mid (event_of frame) reply new → IsMemoryAtMost reply → Appends during after (reply_frame (bytes_of reply)) → Going old new input now before after
+going_more old mid new input left now before during after frame reply so_far right taken step fault written = record {
+  frames = so_far.frames ++ frame ∷ [];
+  replies = so_far.replies ++ reply ∷ [];
+  came = so_far.came ++ frame_bytes frame;
+  right = frames_more so_far.frames so_far.came frame so_far.right right;
+  taken = Consumes-trans input left now so_far.came (frame_bytes frame) so_far.taken taken;
+  explained = explained_more old mid new so_far.frames so_far.replies frame reply so_far.explained step;
+  faults = All-push IsMemoryAtMost so_far.replies reply so_far.faults fault;
+  written = subst (Appends before after) (sym (replies_more so_far.replies reply)) (Appends-trans before during after (frames_of so_far.replies) (reply_frame (bytes_of reply)) so_far.written written);
+}
+
+-- the input begins with the frames that were taken
+pub begins : (input left : Option (List ℕ)) (came : List ℕ) (frames : List Frame) → Consumes input left came → AreFrames frames came → IfSome input (BeginsWith frames)
+begins None left came frames taken right = tt
+begins (Some bytes) None came frames taken right = absurd taken
+begins (Some bytes) (Some rest) came frames taken right = (came, rest, right, taken)
+
+-- a run is private
+private_of : (old new : World) (events : List Event) (replies : List Reply) → Explains old events replies new → IsPrivateRun old events replies new
+private_of old new events replies run tenant view here fine =
+    run_alone name_cmp name_total answer (Refused UnknownTenant) is_host_fault HostSays tenant old new events replies view run fine here
+
+-- a frame was answered, and its reply did not go out, or not wholly
+pub unsent : (old mid new : World) (input left now before during after : Option (List ℕ)) (frame : Frame) (reply : Reply) (fault : SessionFault) → Going old mid input left before during → IsFrame frame → Consumes left now (frame_bytes frame)
+    → Steps mid (event_of frame) reply new → IsMemoryAtMost reply → (fault ≡ Read → ⊥) → IsStopped old new input before after fault
+unsent old mid new input left now before during after frame reply fault so_far right taken step alone_fault other =
+    let run = explained_more old mid new so_far.frames so_far.replies frame reply so_far.explained step in
+    let frames = so_far.frames ++ frame ∷ [] in
+    let replies = so_far.replies ++ reply ∷ [] in
+    let came = so_far.came ++ frame_bytes frame in
+    record {
+      frames = frames;
+      replies = replies;
+      answered = record { explained = run; private_run = private_of old new (events_of frames) replies run; faults = All-push IsMemoryAtMost so_far.replies reply so_far.faults alone_fault };
+      read = begins input now came frames (Consumes-trans input left now so_far.came (frame_bytes frame) so_far.taken taken) (frames_more so_far.frames so_far.came frame so_far.right right);
+      written = λ is. absurd (other is);
+    }

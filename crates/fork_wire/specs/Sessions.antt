@@ -1,0 +1,65 @@
+-- What a session does: the frames that came, the replies that go out, and the worlds that the host shows.
+use Rattle.std.specs.Prelude.{◌≡◌, ℕ, All, IfSome, List, ◌++◌, Option, Some, flat_map, map}
+use Rattle.std.specs.FinMap.{get}
+use Rattle.std.specs.Io.KnownBytes.{Appends}
+use Rattle.fork_request.specs.Asked.{asked, asked_host}
+use Rattle.fork_request.specs.Told.{bytes_of}
+use Rattle.fork_request.specs.declared.reply.Reply.{Reply}
+use Rattle.fork_model.specs.Runs.{Asks, HostAsks}
+use Rattle.fork_model.specs.View.{View}
+use Rattle.fork_model.specs.World.{World, Event, Explains, IsUnfaulted, alone, own, told}
+use Rattle.fork_host.specs.Rows.{IsMemoryAtMost}
+use Rattle.fork_frame.specs.Frame.{AreFrames, IsRequestStream}
+use Rattle.fork_frame.specs.Reply.{last_line, reply_frame}
+use Rattle.fork_frame.specs.declared.asker.Asker.{Asker}
+use Rattle.fork_frame.specs.declared.asker.Asker.TheVariants.{Tenant, Host}
+use Rattle.fork_frame.specs.declared.ended.Ended.{Ended}
+use Rattle.fork_frame.specs.declared.frame.Frame.{Frame}
+use Rattle.fork_wire.specs.declared.fault.SessionFault.{SessionFault}
+use Rattle.fork_wire.specs.declared.fault.SessionFault.TheVariants.{Read}
+
+-- what a payload asks, by who sends it
+abbrev pub event_by : Asker → List ℕ → Event
+event_by (Tenant name) payload = Asks name (asked payload)
+event_by Host payload = HostAsks (asked_host payload)
+
+abbrev pub event_of : Frame → Event
+event_of frame = event_by frame.asker frame.payload
+
+abbrev pub events_of : List Frame → List Event
+events_of frames = map event_of frames
+
+-- the frames of these replies, one after another
+abbrev pub frames_of : List Reply → List ℕ
+frames_of replies = flat_map (λ reply. reply_frame (bytes_of reply)) replies
+
+-- each tenant that no host fault answered was told what a private host would tell it, and is left as there
+abbrev pub IsPrivateRun : World → List Event → List Reply → World → Type 0
+IsPrivateRun old events replies new = (tenant : List ℕ) (view : View) → get old tenant ≡ Some view → IsUnfaulted tenant events replies
+    → (told tenant events replies ≡ (alone view (own tenant events)).0) × (get new tenant ≡ Some (alone view (own tenant events)).1)
+
+-- the replies, one to each frame, lead from the old world to the new one, and no host fault but want of memory is among them
+pub record IsAnswered (old new : World) (frames : List Frame) (replies : List Reply) : Type 0 where
+  pub explained : Explains old (events_of frames) replies new
+  pub private_run : IsPrivateRun old (events_of frames) replies new
+  pub faults : All IsMemoryAtMost replies
+
+-- a session that reached its end: all frames of the input were answered, and their replies went out, then the last line
+pub record IsServed (old new : World) (input before after : Option (List ℕ)) (ended : Ended) : Type 0 where
+  pub frames : List Frame
+  pub replies : List Reply
+  pub answered : IsAnswered old new frames replies
+  pub read : IfSome input (λ bytes. IsRequestStream bytes frames ended)
+  pub written : Appends before after (frames_of replies ++ last_line ended)
+
+-- the input begins with these frames
+abbrev pub BeginsWith : List Frame → List ℕ → Type 0
+BeginsWith frames input = (came : List ℕ) × (rest : List ℕ) × AreFrames frames came × (input ≡ came ++ rest)
+
+-- a session that a fault stopped: the first frames of the input were answered; where reading failed all their replies went out
+pub record IsStopped (old new : World) (input before after : Option (List ℕ)) (fault : SessionFault) : Type 0 where
+  pub frames : List Frame
+  pub replies : List Reply
+  pub answered : IsAnswered old new frames replies
+  pub read : IfSome input (BeginsWith frames)
+  pub written : fault ≡ Read → Appends before after (frames_of replies)

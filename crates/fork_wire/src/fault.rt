@@ -1,0 +1,33 @@
+ghost use Rattle.std.specs.Prelude.{◌≡◌, ◌≢◌};
+
+use fork_frame::{FrameFault, ReplyFault};
+use thiserror::Error;
+
+/// Why a session stopped before its end. The host stands where the requests answered so far leave it.
+#[derive(Clone, Copy, Debug, PartialEq, Eq, Error)]
+pub enum SessionFault {
+    #[error("the input could not be read")]
+    Read,
+    #[error("the output could not be written")]
+    Write,
+    #[error("no memory")]
+    Memory,
+}
+
+// The fault of a frame that could not be read.
+pub(crate) fn of_frame(fault: FrameFault) -> SessionFault {
+    match fault {
+        FrameFault::Read => SessionFault::Read,
+        FrameFault::Memory => SessionFault::Memory,
+    }
+}
+
+// The fault of a reply that could not be sent.
+pub(crate) fn of_reply(fault: ReplyFault) -> SessionFault
+    ensures { result ≢ SessionFault.Read }
+{
+    match fault {
+        ReplyFault::Memory => SessionFault::Memory,
+        ReplyFault::Write => SessionFault::Write,
+    }
+}

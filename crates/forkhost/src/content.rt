@@ -1,0 +1,66 @@
+ghost use Rattle.std.specs.Prelude.{◌≡◌, ◌≢◌, ◌<◌, ◌≤◌, ◌++◌, List, ℕ, IfOk, IfErr, IfSome, length};
+ghost use Rattle.std.specs.Io.{ReadsAtMost};
+ghost use Rattle.std.specs.Io.KnownBytes.{Consumes, IsAtEnd, ReadConsumes};
+
+use crate::fault::Fault;
+use push_stream::MAX_CONTENT;
+use std::alloc::Global;
+use std::io::{ErrorKind, Read};
+
+const CHUNK: usize = 16384;
+
+// One read, tried again where a signal interrupts it.
+fn read_some<R: Read>(reader: &mut R, buf: &mut [u8]) -> Result<usize, Fault>
+    ensures bound { ReadsAtMost result buf.new }
+    ensures bytes { ReadConsumes (R.remaining reader.old) (R.remaining reader.new) result buf.new }
+    ensures cause { IfErr result (λ fault. fault ≢ Fault.TooLarge) }
+{
+    for _ in 0..u64::MAX {
+        match reader.read(buf) {
+            Ok(n) => return Ok(n),
+            Err(error) => {
+                if error.kind() != ErrorKind::Interrupted {
+                    return Err(Fault::Read);
+                }
+            }
+        }
+    }
+    Err(Fault::Read)
+}
+
+// Adds what one read gives, and says how many bytes; none only at the end.
+fn read_onto<R: Read>(reader: &mut R, out: &mut Vec<u8>) -> Result<usize, Fault>
+    ensures some { IfOk result (λ n. (more : List ℕ) × (length more ≡ n)
+        × Consumes (R.remaining reader.old) (R.remaining reader.new) more
+        × (out.new.items ≡ out.old.items ++ more)) }
+    ensures end { IfOk result (λ n. n ≡ 0 → IsAtEnd (R.remaining reader.new)) }
+    ensures cause { IfErr result (λ fault. fault ≢ Fault.TooLarge) }
+{
+    let mut chunk = [0u8; CHUNK];
+    let n = match read_some(reader, &mut chunk) {
+        Ok(n) => n,
+        Err(fault) => return Err(fault),
+    };
+    let Ok(()) = out.extend_from_slice(&chunk[..n]) else {
+        return Err(Fault::Memory);
+    };
+    Ok(n)
+}
+
+/// All that a reader gives, where that is no more than an object may have: a longer input is not read
+/// to its end.
+pub fn read_content<R: Read>(alloc: Global, reader: &mut R) -> Result<Vec<u8>, Fault>
+    ensures whole { IfOk result (λ content. IfSome (R.remaining reader.old) (λ input. content.items ≡ input)) }
+    ensures fits { IfOk result (λ content. length content.items ≤ 8388608) }
+    ensures cause { IfErr result (λ fault. fault ≡ Fault.TooLarge → IfSome (R.remaining reader.old) (λ input. 8388608 < length input)) }
+{
+    let mut content = Vec::new(alloc);
+    while content.len() <= MAX_CONTENT {
+        match read_onto(reader, &mut content) {
+            Ok(0) => return Ok(content),
+            Ok(_) => {}
+            Err(fault) => return Err(fault),
+        }
+    }
+    Err(Fault::TooLarge)
+}

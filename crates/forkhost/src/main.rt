@@ -1,0 +1,45 @@
+//! `forkhost`, the core of a Git host for many tenants: names objects, and serves request frames from
+//! standard input to standard output.
+#![tactic(auto)]
+
+mod content;
+mod fault;
+mod hash_object;
+mod program;
+mod run;
+
+use program::program;
+use std::env;
+use std::io;
+use std::io::{BufReader, BufWriter, Write};
+use std::process::ExitCode;
+use std::rt::Env;
+
+// Runs the program on what the process was given, and answers its exit status.
+fn started<R: Env + AllocGlobal + Input + Print + Eprint>(rt: &R) -> io::Result<u8> {
+    let alloc = rt.alloc();
+    let mut texts = Vec::new(alloc);
+    for text in env::args(rt)? {
+        texts.push(text)?;
+    }
+    let mut words = Vec::new(alloc);
+    for text in &texts {
+        words.push(text.as_str())?;
+    }
+    let mut reader = BufReader::new(alloc, rt.reader())?;
+    let mut writer = BufWriter::new(alloc, io::writer(rt))?;
+    let mut faults = Vec::new(alloc);
+    let status = program(alloc, words.as_slice(), &mut reader, &mut writer, &mut faults);
+    rt.eprint(String::from_utf8_lossy(alloc, faults.as_slice())?)?;
+    Ok(status)
+}
+
+fn main(rt: HostRuntime) -> io::Result<ExitCode> {
+    match started(&rt) {
+        Ok(status) => Ok(ExitCode::from(status)),
+        Err(_) => {
+            eprintln!(rt; "forkhost: memory")?;
+            Ok(ExitCode::from(1))
+        }
+    }
+}

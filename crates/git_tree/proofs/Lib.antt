@@ -1,0 +1,10 @@
+pub mod ListLemmas
+pub mod OrderLemmas
+pub mod RowLemmas
+pub mod FormLemmas
+pub mod FaultLemmas
+pub mod PlaceLemmas
+pub mod TreeLemmas
+pub mod BuildLemmas
+pub mod TestLemmas
+pub mod Worked

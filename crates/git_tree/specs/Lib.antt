@@ -1,0 +1,11 @@
+pub mod Mode
+pub mod Entry
+pub mod Tree
+pub mod Fault
+pub mod Pushing
+pub mod Row
+pub mod TreeIn
+pub mod Fronts
+pub mod Known
+pub mod Tracks
+pub mod Building

@@ -1,0 +1,49 @@
+-- The entries that stand in bytes, where these are entries at all (own).
+use Rattle.std.specs.Prelude.{◌≡◌, ℕ, zero, suc, List, [], ◌∷◌, length, take, drop, ◌==◌, if◌then◌else◌, slice_index}
+use Rattle.std.specs.List.{flat_map, AllByRecursion}
+use Rattle.git_tree.specs.declared.mode.Mode.{Mode}
+use Rattle.git_tree.specs.declared.mode.Mode.TheVariants.{Tree, File, Executable, Link, Gitlink}
+use Rattle.git_tree.specs.Entry.{Entry, IsEntry, spelled}
+
+-- the bytes before the first such byte, and those behind it
+abbrev pub before : ℕ → List ℕ → List ℕ
+before byte [] = []
+before byte (b ∷ bytes) = if b == byte then [] else b ∷ before byte bytes
+
+abbrev pub behind : ℕ → List ℕ → List ℕ
+behind byte [] = []
+behind byte (b ∷ bytes) = if b == byte then bytes else behind byte bytes
+
+-- the mode that digits stand for, told by the digits in which they differ
+abbrev pub mode_of : List ℕ → Mode
+mode_of word =
+    if slice_index word 0 == 52 then Tree else
+    if slice_index word 1 == 50 then Link else
+    if slice_index word 1 == 54 then Gitlink else
+    if slice_index word 3 == 54 then File else Executable
+
+-- the entry at the front of bytes, and the bytes behind it
+abbrev pub first_entry : List ℕ → Entry
+first_entry bytes = record {
+  mode = mode_of (before 32 bytes);
+  file_name = before 0 (behind 32 bytes);
+  name = take 32 (behind 0 (behind 32 bytes));
+}
+
+abbrev pub after_first : List ℕ → List ℕ
+after_first bytes = drop 32 (behind 0 (behind 32 bytes))
+
+-- the first entries of bytes, so many at the most
+unfoldable pub first_entries : ℕ → List ℕ → List Entry
+first_entries zero bytes = []
+first_entries (suc n) [] = []
+first_entries (suc n) (b ∷ bytes) = first_entry (b ∷ bytes) ∷ first_entries n (after_first (b ∷ bytes))
+
+-- the entries that stand in bytes
+unfoldable pub entries_in : List ℕ → List Entry
+entries_in bytes = first_entries (length bytes) bytes
+
+-- the bytes are right entries, spelled one after another
+pub record IsRow (bytes : List ℕ) : Type 0 where
+  pub each : AllByRecursion IsEntry (entries_in bytes)
+  pub spelling : bytes ≡ flat_map spelled (entries_in bytes)

@@ -1,0 +1,13 @@
+use crate::mode::Mode;
+use git_name::Name;
+
+/// An entry of a tree.
+#[derive(Clone, Copy, Debug, PartialEq, Eq)]
+pub struct TreeEntry<'a> {
+    /// What the entry is.
+    pub mode: Mode,
+    /// Its file name, lent from the tree's bytes.
+    pub file_name: &'a [u8],
+    /// The name of the object that it stands for.
+    pub name: Name,
+}

@@ -1,0 +1,56 @@
+ghost use Rattle.std.specs.Prelude.{IfOk, IfErr};
+ghost use Rattle.git_tree.specs.Entry.{entry_of, IsEntry};
+ghost use Rattle.git_tree.specs.Fault.{IsPlaceFault};
+ghost use Rattle.git_tree.specs.Row.{entries_in, IsRow};
+ghost use Rattle.git_tree.specs.Tracks.{Tracks, Steps, MayFollow, reached_by};
+
+use crate::entry::TreeEntry;
+use crate::fault::TreeFault;
+use crate::fronts::Fronts;
+use crate::order::{is_below, shared_len};
+use crate::row::stands_among;
+
+// The last entry's file name, and whether it is a tree.
+#[derive(Clone, Copy, Debug)]
+pub(crate) struct Last<'a> {
+    pub(crate) file_name: &'a [u8],
+    pub(crate) is_tree: bool,
+}
+
+// Whether the next entry may stand behind those of `before`, of which the last one is given, and
+// how many bytes the two file names have in common at the front. The entries before are read again
+// only where one of them has the file name, or the next one is out of order.
+pub(crate) fn place(
+    last: Last<'_>,
+    fronts: &Fronts,
+    before: &[u8],
+    entry: TreeEntry<'_>,
+) -> Result<usize, TreeFault>
+    requires tracks { Tracks (entries_in before.now) (reached_by last fronts.now) }
+    requires row { IsRow before.now }
+    requires entry { IsEntry (entry_of entry) }
+    ensures follows { IfOk result (λ _. MayFollow (entries_in before.now) (entry_of entry.entry)) }
+    ensures steps { IfOk result (λ shared. Steps (reached_by last.entry fronts.now) (entry_of entry.entry) shared) }
+    ensures fault { IfErr result (λ fault. IsPlaceFault fault (entries_in before.now) (entry_of entry.entry)) }
+{
+    let is_tree = entry.mode.is_tree();
+    let shared = shared_len(last.file_name, entry.file_name);
+    let in_order = is_below(
+        last.file_name,
+        last.is_tree,
+        entry.file_name,
+        is_tree,
+        shared,
+    );
+    if !in_order {
+        if stands_among(before, entry.file_name) {
+            return Err(TreeFault::Repeated);
+        }
+        return Err(TreeFault::Order);
+    }
+    let may_repeat = fronts.may_hold(shared, entry.file_name.len(), is_tree);
+    if may_repeat && stands_among(before, entry.file_name) {
+        return Err(TreeFault::Repeated);
+    }
+    Ok(shared)
+}

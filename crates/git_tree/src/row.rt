@@ -1,0 +1,73 @@
+ghost use Rattle.std.specs.Prelude.{◌≡◌, ◌≢◌, MatchBool};
+ghost use Rattle.std.specs.List.{AllByRecursion, Any};
+ghost use Rattle.git_tree.specs.Row.{IsRow, entries_in};
+
+use crate::entry::TreeEntry;
+use crate::reading::take_entry;
+use std::marker::Model;
+
+/// The entries of a tree, in its order, each lent from the bytes when it is asked for. In a
+/// clause this is the list of those that are still to come.
+#[derive(Debug, Drop)]
+pub struct Entries<'a> {
+    rest: &'a [u8],
+}
+
+impl<'a> Model for Entries<'a> {
+    ghost use Rattle.std.specs.Prelude.{List};
+    ghost use Rattle.git_tree.specs.Entry.{Entry};
+    ghost use Rattle.git_tree.specs.Row.{IsRow, entries_in};
+
+    ghost Value = { List Entry };
+
+    ghost view = { λ s. entries_in s.rest.now };
+
+    ghost invariant = { λ s. IsRow s.rest.now };
+}
+
+impl<'a> Entries<'a> {
+    // Those of bytes that are a row of right entries.
+    pub(crate) fn new(bytes: &'a [u8]) -> Entries<'a>
+        requires { IsRow bytes.now }
+        ensures { result ≡ entries_in bytes.now }
+    {
+        Entries { rest: bytes }
+    }
+}
+
+impl<'a> Iterator for Entries<'a> {
+    ghost use Rattle.std.specs.Iterator.{YieldsFirstBy, item_count};
+    ghost use Rattle.git_tree.specs.Entry.{entry_of};
+
+    type Item = TreeEntry<'a>;
+
+    ghost next_gives = { YieldsFirstBy entry_of (λ rest. rest) };
+
+    ghost remaining = { item_count (λ rest. rest) };
+
+    fn next(&mut self) -> Option<TreeEntry<'a>> {
+        if self.rest.is_empty() {
+            return None;
+        }
+        let Ok((entry, after)) = take_entry(self.rest) else {
+            unreachable!();
+        };
+        self.rest = after;
+        Some(entry)
+    }
+}
+
+// Whether one of the entries in the bytes has the file name.
+pub(crate) fn stands_among(bytes: &[u8], file_name: &[u8]) -> bool
+    requires { IsRow bytes.now }
+    ensures { MatchBool result
+        (Any (λ e. e.file_name ≡ file_name.now) (entries_in bytes.now))
+        (AllByRecursion (λ e. e.file_name ≢ file_name.now) (entries_in bytes.now)) }
+{
+    for entry in Entries::new(bytes) {
+        if entry.file_name == file_name {
+            return true;
+        }
+    }
+    false
+}

@@ -1,0 +1,57 @@
+ghost use Rattle.std.specs.Prelude.{◌≡◌, IfOk, IfErr, List, Ok};
+ghost use Rattle.std.specs.Result.{result_ok};
+ghost use Rattle.git_tree.specs.Entry.{Entry};
+ghost use Rattle.git_tree.specs.Fault.{IsTreeFault};
+ghost use Rattle.git_tree.specs.Row.{entries_in};
+ghost use Rattle.git_tree.specs.Tree.{IsTree};
+ghost use Rattle.git_tree.specs.TreeIn.{tree_in};
+
+use crate::fault::TreeFault;
+use crate::fronts::Fronts;
+use crate::place::{Last, place};
+use crate::reading::take_entry;
+use crate::row::Entries;
+
+// Whether the bytes are a tree.
+fn check(bytes: &[u8]) -> Result<(), TreeFault>
+    ensures found { IfOk result (λ _. IsTree (entries_in bytes.now) bytes.now) }
+    ensures exact { IfErr result (λ fault. IsTreeFault fault bytes.now) }
+{
+    let mut fronts = Fronts::new();
+    let mut last = Last {
+        file_name: &bytes[..0],
+        is_tree: false,
+    };
+    let mut at = 0;
+    while at < bytes.len() {
+        let (entry, after) = match take_entry(&bytes[at..]) {
+            Ok(taken) => taken,
+            Err(fault) => return Err(fault),
+        };
+        let (file_name, is_tree) = (entry.file_name, entry.mode.is_tree());
+        let shared = match place(last, &fronts, &bytes[..at], entry) {
+            Ok(shared) => shared,
+            Err(fault) => return Err(fault),
+        };
+        fronts.advance(shared, file_name.len(), is_tree);
+        last = Last { file_name, is_tree };
+        at = bytes.len() - after.len();
+    }
+    Ok(())
+}
+
+/// The entries of the tree that the bytes are, all of the bytes. It takes no memory; its time is
+/// linear in the bytes, up to 8 MiB of them at least, whatever they are.
+pub fn entries(bytes: &[u8]) -> Result<Entries<'_>, TreeFault>
+    // The entries of the tree that the bytes are, where they are one.
+    ensures value { result_ok result ≡ tree_in bytes.now }
+    // What is read is a tree of these entries.
+    ensures found { IfOk result (λ row. IsTree row bytes.now) }
+    // What is a tree is read.
+    ensures only { (row : List Entry) → IsTree row bytes.now → result ≡ Ok row }
+    // Which fault it is.
+    ensures exact { IfErr result (λ fault. IsTreeFault fault bytes.now) }
+{
+    check(bytes)?;
+    Ok(Entries::new(bytes))
+}

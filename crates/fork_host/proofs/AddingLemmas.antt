@@ -71,7 +71,7 @@ pub sound_more : (w : World) (t : List ℕ) (limit : ℕ) → contains_key w t �
 sound_more w t limit absent few low sound = record {
   few = (let count = len-insert name_total w t (new_view limit) ∙ ap (λ b. cond b (len w) (len w + 1)) absent in omega arith);
   views = λ q view is. elim (at_key (eq_by_cmp name_cmp q t) (new_view limit) view (get w q) (sym (get-insert name_total w t (new_view limit) q) ∙ is)) [
-    inl set ↦ subst IsSound set.1 (sound_new_view limit low)
+    | inl set ↦ subst IsSound set.1 (sound_new_view limit low)
     | inr stays ↦ sound.views q view stays
   ];
 }

@@ -58,7 +58,12 @@ impl Objects {
     }
 
     // Adds these objects, but those of a name that is there, or none of them.
-    pub(crate) fn add(&mut self, alloc: Global, sent: Vec<Sealed>, limit: u64) -> Result<(), PutError>
+    pub(crate) fn add(
+        &mut self,
+        alloc: Global,
+        sent: Vec<Sealed>,
+        limit: u64,
+    ) -> Result<(), PutError>
         requires { use_of self.old ≤ limit }
         ensures ok { OnOk result (self.new ≡ with_objects self.old sent.items) }
         ensures within { OnOk result (use_of self.new ≤ limit) }

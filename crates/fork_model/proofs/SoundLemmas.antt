@@ -42,7 +42,7 @@ named_more objects object named = by (contains_key objects (object_name object))
     by true = named
     by false = λ name found is.
         elim (at_key (eq_by_cmp name_cmp name (object_name object)) object found (get objects name) (sym (get-insert name_total objects (object_name object) object name) ∙ is)) [
-          inl here ↦ ap object_name (sym here.1) ∙ sym (tied_names name (object_name object) here.0)
+          | inl here ↦ ap object_name (sym here.1) ∙ sym (tied_names name (object_name object) here.0)
           | inr there ↦ named name found there
         ]
 
@@ -81,7 +81,7 @@ few_more here full n is not_full absent few = rw absent (grind (arith, nat_tests
 repository_more : (view : View) (word : List ℕ) → IsRepositoryName word → IsSound view → (name : List ℕ) (references : References) → get (insert view.repositories word empty) name ≡ Some references → IsRepositoryName name
 repository_more view word right sound name references is =
     elim (at_key (eq_by_cmp name_cmp name word) empty references (get view.repositories name) (sym (get-insert name_total view.repositories word empty name) ∙ is)) [
-      inl here ↦ subst IsRepositoryName (sym (tied_names name word here.0)) right
+      | inl here ↦ subst IsRepositoryName (sym (tied_names name word here.0)) right
       | inr there ↦ sound.repositories name references there
     ]
 

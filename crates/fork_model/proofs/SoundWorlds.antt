@@ -18,7 +18,7 @@ pub sound_insert : (world : World) (t : List ℕ) (view : View) → IsSoundWorld
 sound_insert world t view sound here right = record {
   few = subst (λ n. n ≤ 64) (sym (len-insert name_total world t view ∙ ap (λ b. cond b (len world) (len world + 1)) here)) sound.few;
   views = λ q other is. elim (at_key (eq_by_cmp name_cmp q t) view other (get world q) (sym (get-insert name_total world t view q) ∙ is)) [
-    inl set ↦ subst IsSound set.1 right
+    | inl set ↦ subst IsSound set.1 right
     | inr stays ↦ sound.views q other stays
   ];
 }

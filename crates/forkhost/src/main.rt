@@ -7,13 +7,14 @@ mod fault;
 mod hash_object;
 mod program;
 mod run;
+#[cfg(test)]
+mod tests;
 
 use program::program;
-use std::env;
-use std::io;
 use std::io::{BufReader, BufWriter, Write};
 use std::process::ExitCode;
 use std::rt::Env;
+use std::{env, io};
 
 // Runs the program on what the process was given, and answers its exit status.
 fn started<R: Env + AllocGlobal + Input + Print + Eprint>(rt: &R) -> io::Result<u8> {
@@ -29,7 +30,13 @@ fn started<R: Env + AllocGlobal + Input + Print + Eprint>(rt: &R) -> io::Result<
     let mut reader = BufReader::new(alloc, rt.reader())?;
     let mut writer = BufWriter::new(alloc, io::writer(rt))?;
     let mut faults = Vec::new(alloc);
-    let status = program(alloc, words.as_slice(), &mut reader, &mut writer, &mut faults);
+    let status = program(
+        alloc,
+        words.as_slice(),
+        &mut reader,
+        &mut writer,
+        &mut faults,
+    );
     rt.eprint(String::from_utf8_lossy(alloc, faults.as_slice())?)?;
     Ok(status)
 }

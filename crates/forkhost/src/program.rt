@@ -21,7 +21,10 @@ pub fn program<R: Read, W: Write, F: Write>(
     ensures { result ≤ 2 }
 {
     match command_of(alloc, words) {
-        Ok(Command::HashObject { kind }) => status(hash_object(alloc, kind, reader, writer), faults),
+        Ok(Command::HashObject { kind }) => status(
+            hash_object(alloc, kind, reader, writer),
+            faults,
+        ),
         Ok(Command::Run { tenants }) => status(run(alloc, tenants, reader, writer), faults),
         Err(CommandError::Help(error)) => told(error, writer, 0),
         Err(CommandError::Usage(error)) => told(error, faults, 2),

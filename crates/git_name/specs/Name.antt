@@ -1,5 +1,5 @@
 -- Names of objects, and the digits that write them (Git's hash-function-transition: 32 bytes, 64 lower case digits).
-use Rattle.std.specs.Prelude.{◌≡◌, ℕ, List, length, Bool, Option, None, Some, Result, Ok, Err, if◌then◌else◌}
+use Rattle.std.specs.Prelude.{◌≡◌, ℕ, List, length, Option, None, Some, Result, Ok, Err, if◌then◌else◌}
 use Rattle.std.specs.Ordering.{nat_cmp}
 use Rattle.std.specs.Str.{bytes_eq}
 use Rattle.std.specs.Cmp.Lexicographic.{slice_cmp}

@@ -1,11 +1,8 @@
 -- A stream after objects that were taken before.
-use Rattle.std.proofs.Common.{◌≡◌, ℕ, true, zero, suc, ◌≤◌, ◌<◌, List, [], ◌∷◌, ◌++◌, Result, Ok, Err, refl, sym, ap, ◌∙◌, length, append_assoc, append-nil, arith, Some}
+use Rattle.std.proofs.Common.{◌≡◌, ℕ, true, zero, suc, ◌≤◌, ◌<◌, List, [], ◌∷◌, ◌++◌, Ok, refl, sym, ap, ◌∙◌, length, append_assoc, append-nil, arith}
 use Rattle.git_name.specs.Object.{Object}
-use Rattle.push_stream.specs.declared.fault.StreamFault.{StreamFault}
-use Rattle.push_stream.specs.declared.fault.StreamFault.TheVariants.{Truncated}
-use Rattle.push_stream.specs.Record.{RecordAt, Taken, Open, Wrong, record_at, record_of_parts, parts_at}
+use Rattle.push_stream.specs.Record.{Taken, record_at, parts_at}
 use Rattle.push_stream.specs.Line.{line_at}
-use Rattle.push_stream.specs.Shown.{fault_at, TellsRecord}
 use Rattle.push_stream.proofs.Shorter.{record_shorter}
 use Rattle.push_stream.specs.Stream.{Stream, Flows, Breaks, records_in, after_record, with_first, finished}
 

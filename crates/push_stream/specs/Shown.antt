@@ -1,6 +1,5 @@
 -- What the readers' answers stand for.
-use Rattle.std.specs.Prelude.{◌≡◌, ℕ, List, Option, None, Some, Err, ⊤}
-use Rattle.git_name.specs.Object.{Object}
+use Rattle.std.specs.Prelude.{◌≡◌, Option, None, Some, Err, ⊤}
 use Rattle.push_stream.specs.declared.line.Line.{Line}
 use Rattle.push_stream.specs.declared.line.Line.TheVariants.{Whole, Unfinished, TooLong}
 use Rattle.push_stream.specs.declared.record.Parts.{Parts}

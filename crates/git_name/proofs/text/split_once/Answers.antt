@@ -1,4 +1,4 @@
-use Rattle.std.proofs.Common.{◌≡◌, ◌∷◌, ◌++◌, Some, List, ℕ, ◌+◌, ◌-◌, length, sym, ap, ◌∙◌, arith, take, drop}
+use Rattle.std.proofs.Common.{◌≡◌, ◌∷◌, ◌++◌, List, ℕ, ◌+◌, ◌-◌, length, sym, ap, ◌∙◌, arith, take, drop}
 use Rattle.std.proofs.lemmas.Grind.{common_steps}
 use Rattle.std.proofs.lemmas.Bool.Decides.{nat_tests}
 use Rattle.git_name.specs.Text.{split_once as parted}

@@ -3,7 +3,7 @@ use Rattle.std.proofs.lemmas.Bool.Decides.{Decides-eqb}
 use Rattle.std.proofs.Common.{rules, ◌≡◌, sym, ◌∙◌, ap}
 use Rattle.hex.specs.Hex.{decode_sized, encode_lower}
 use Rattle.hex.proofs.HexLemmas.{decode_sized-encode_lower}
-use Rattle.git_name.specs.Name.{IsName, name_in}
+use Rattle.git_name.specs.Name.{name_in}
 use Rattle.git_name.proofs.ReadingLemmas.{no_name, name_in-encode_lower}
 use Rattle.git_name.proofs.name.Name.parse_hex.Goals as goal
 

@@ -1,0 +1,180 @@
+use super::{ran, streams};
+use std::test::Fail;
+
+const TENANTS: [&str; 3] = ["run", "alice=1000", "bob=1000"];
+
+#[test]
+fn one_tenant_is_told_missing_what_another_holds(rt: HostRuntime) -> Result<(), Fail> {
+    let alloc = rt.alloc();
+    let turns = [
+        ("alice", "init r\n", "ok\n"),
+        (
+            "alice",
+            "push r\n\n473a0f4c3be8a93681a267e3b1e9a7dcda1185436fe141f7749120a303721813 blob 0\n\n",
+            "ok\n",
+        ),
+        (
+            "bob",
+            "cat-file 473a0f4c3be8a93681a267e3b1e9a7dcda1185436fe141f7749120a303721813\n",
+            "no missing 473a0f4c3be8a93681a267e3b1e9a7dcda1185436fe141f7749120a303721813\n",
+        ),
+        (
+            "alice",
+            "cat-file 473a0f4c3be8a93681a267e3b1e9a7dcda1185436fe141f7749120a303721813\n",
+            "ok\n473a0f4c3be8a93681a267e3b1e9a7dcda1185436fe141f7749120a303721813 blob 0\n\n",
+        ),
+        ("bob", "init r\n", "ok\n"),
+        (
+            "bob",
+            "push r\n\n473a0f4c3be8a93681a267e3b1e9a7dcda1185436fe141f7749120a303721813 blob 0\n\n",
+            "ok\n",
+        ),
+        (
+            "bob",
+            "cat-file 473a0f4c3be8a93681a267e3b1e9a7dcda1185436fe141f7749120a303721813\n",
+            "ok\n473a0f4c3be8a93681a267e3b1e9a7dcda1185436fe141f7749120a303721813 blob 0\n\n",
+        ),
+    ];
+    let (input, output) = streams(alloc, turns.as_slice())?;
+    let told = ran(alloc, TENANTS.as_slice(), input.as_bytes())?;
+    assert_eq!(rt; told.status, 0);
+    assert_eq!(rt; told.written.as_slice(), output.as_bytes());
+    assert!(rt; told.faults.is_empty());
+    Ok(())
+}
+
+#[test]
+fn requests_that_are_none_and_tenants_that_are_not_there(rt: HostRuntime) -> Result<(), Fail> {
+    let alloc = rt.alloc();
+    let turns = [
+        ("carol", "quota\n", "no unknown-tenant\n"),
+        ("carol", "", "no unknown-tenant\n"),
+        ("alice", "", "no bad-request\n"),
+        ("alice", "quota\n", "no bad-request\n"),
+        ("alice", "init\n", "no bad-request\n"),
+        ("alice", "init r", "no bad-request\n"),
+        ("alice", "init r\nx", "no bad-request\n"),
+        ("alice", "init  r\n", "no bad-request\n"),
+        ("alice", "init r \n", "no bad-request\n"),
+        ("alice", "init R\n", "no bad-name R\n"),
+        ("alice", "init -r\n", "no bad-name -r\n"),
+        ("alice", "init r\r\n", "no bad-name r\r\n"),
+        ("alice", "init r\n", "ok\n"),
+        ("alice", "init r\n", "no repository-exists r\n"),
+        ("alice", "push s\n\n", "no no-repository s\n"),
+        ("alice", "push S\n\n", "no bad-name S\n"),
+        ("alice", "cat-file 473A\n", "no bad-request\n"),
+        ("@host", "", "no bad-request\n"),
+        ("@host", "census\n", "no bad-request\n"),
+    ];
+    let (input, output) = streams(alloc, turns.as_slice())?;
+    let told = ran(alloc, TENANTS.as_slice(), input.as_bytes())?;
+    assert_eq!(rt; told.status, 0);
+    assert_eq!(rt; told.written.as_slice(), output.as_bytes());
+    Ok(())
+}
+
+#[test]
+fn push_bodies(rt: HostRuntime) -> Result<(), Fail> {
+    let alloc = rt.alloc();
+    let turns = [
+        ("alice", "init r\n", "ok\n"),
+        ("alice", "push r\n", "no truncated\n"),
+        ("alice", "push r\n\n", "ok\n"),
+        (
+            "alice",
+            "push r\n\n473a0f4c3be8a93681a267e3b1e9a7dcda1185436fe141f7749120a303721813 blob 00\n",
+            "no syntax\n",
+        ),
+        (
+            "alice",
+            "push r\n\n473a0f4c3be8a93681a267e3b1e9a7dcda1185436fe141f7749120a303721813 blob 1\nx\n",
+            "no wrong-name 473a0f4c3be8a93681a267e3b1e9a7dcda1185436fe141f7749120a303721813\n",
+        ),
+        (
+            "alice",
+            "push r\n\n473a0f4c3be8a93681a267e3b1e9a7dcda1185436fe141f7749120a303721813 blob 8388609\n",
+            "no too-large 473a0f4c3be8a93681a267e3b1e9a7dcda1185436fe141f7749120a303721813\n",
+        ),
+        (
+            "alice",
+            "push r\n\n473a0f4c3be8a93681a267e3b1e9a7dcda1185436fe141f7749120a303721813 blob 0\n",
+            "no truncated\n",
+        ),
+        ("alice", "push r\nverify refs/heads/a\n\n", "no syntax\n"),
+        (
+            "alice",
+            "push r\n\n6ef19b41225c5369f1c104d45d8d85efa9b057b53b14b4b9b939dd74decc5321 tree 0\n\n",
+            "no syntax\n",
+        ),
+        (
+            "alice",
+            "cat-file 473a0f4c3be8a93681a267e3b1e9a7dcda1185436fe141f7749120a303721813\n",
+            "no missing 473a0f4c3be8a93681a267e3b1e9a7dcda1185436fe141f7749120a303721813\n",
+        ),
+    ];
+    let (input, output) = streams(alloc, turns.as_slice())?;
+    let told = ran(alloc, TENANTS.as_slice(), input.as_bytes())?;
+    assert_eq!(rt; told.written.as_slice(), output.as_bytes());
+    Ok(())
+}
+
+#[test]
+fn a_limit_is_met_exactly(rt: HostRuntime) -> Result<(), Fail> {
+    let alloc = rt.alloc();
+    let hello =
+        "2cf8d83d9ee29543b34a87727421fdecb7e3f3a183d337639025de576db9ebb4 blob 6\nhello\n\n";
+    let empty = "473a0f4c3be8a93681a267e3b1e9a7dcda1185436fe141f7749120a303721813 blob 0\n\n";
+    let twice = format!(in alloc; "push r\n\n{empty}{empty}")?;
+    let both = format!(in alloc; "push r\n\n{empty}{hello}")?;
+    let one = format!(in alloc; "push r\n\n{hello}")?;
+    let missing = "no missing 2cf8d83d9ee29543b34a87727421fdecb7e3f3a183d337639025de576db9ebb4\n";
+    let asked = "cat-file 2cf8d83d9ee29543b34a87727421fdecb7e3f3a183d337639025de576db9ebb4\n";
+    let turns = [
+        ("alice", "init r\n", "ok\n"),
+        ("bob", "init r\n", "ok\n"),
+        ("alice", twice.as_str(), "ok\n"),
+        ("alice", both.as_str(), "no over-quota\n"),
+        ("alice", asked, missing),
+        ("alice", twice.as_str(), "ok\n"),
+        ("bob", both.as_str(), "ok\n"),
+        ("bob", one.as_str(), "ok\n"),
+    ];
+    let (input, output) = streams(alloc, turns.as_slice())?;
+    let told = ran(
+        alloc,
+        ["run", "alice=64", "bob=134"].as_slice(),
+        input.as_bytes(),
+    )?;
+    assert_eq!(rt; told.written.as_slice(), output.as_bytes());
+    Ok(())
+}
+
+#[test]
+fn what_is_no_frame_ends_the_session(rt: HostRuntime) -> Result<(), Fail> {
+    let alloc = rt.alloc();
+    let cases = [
+        ("", "", 0),
+        ("alice 07\n", "! bad-frame\n", 1),
+        ("alice 1048577\n", "! bad-frame\n", 1),
+        ("alice 7\nini", "! bad-frame\n", 1),
+        ("alice 0\nx", "15\nno bad-request\n! bad-frame\n", 1),
+        (
+            "alice 0\nbob\nalice 0\n",
+            "15\nno bad-request\n! bad-frame\n",
+            1,
+        ),
+    ];
+    for (input, output, status) in cases {
+        let told = ran(alloc, TENANTS.as_slice(), input.as_bytes())?;
+        assert_eq!(rt; told.status, status, "{input}");
+        assert_eq!(rt; told.written.as_slice(), output.as_bytes(), "{input}");
+        let faults: &[u8] = if status == 0 {
+            b""
+        } else {
+            b"forkhost: bad frame\n"
+        };
+        assert_eq!(rt; told.faults.as_slice(), faults, "{input}");
+    }
+    Ok(())
+}

@@ -1,0 +1,11 @@
+pub mod Splits
+pub mod LineLemmas
+pub mod IdentLemmas
+pub mod JudgingLemmas
+pub mod RowLemmas
+pub mod FieldLemmas
+pub mod CommitLemmas
+pub mod HeadersLemmas
+pub mod WholeLemmas
+pub mod ReadLemmas
+pub mod WritingLemmas

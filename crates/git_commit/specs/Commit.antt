@@ -1,0 +1,52 @@
+-- Which bytes are which commit (git-cat-file(1), git-commit-tree(1); the exact form is own).
+use Rattle.std.specs.Prelude.{◌≡◌, ℕ, List, [], ◌∷◌, ◌++◌, map, codes, Option}
+use Rattle.std.specs.List.{flat_map, AllByRecursion}
+use Rattle.hex.specs.Hex.{encode_lower}
+use Rattle.git_name.specs.Name.{IsName}
+use Rattle.git_name.specs.declared.kind.Kind.TheVariants.{Commit}
+use Rattle.git_commit.specs.Ident.{IdentValue, IsIdentValue, spelled_ident}
+use Rattle.git_commit.specs.Header.{HeaderValue, IsHeader, header_lines}
+use Rattle.git_commit.specs.Line.{ended, ending}
+
+-- a commit, without where it lies in memory; no message and an empty one are two values
+pub record CommitValue : Type 0 where
+  pub tree : List ℕ
+  pub parents : List (List ℕ)
+  pub author : IdentValue
+  pub committer : IdentValue
+  pub headers : List HeaderValue
+  pub message : Option (List ℕ)
+
+-- what may stand in a commit
+pub record IsCommitValue (commit : CommitValue) : Type 0 where
+  pub tree : IsName commit.tree
+  pub parents : AllByRecursion IsName commit.parents
+  pub author : IsIdentValue commit.author
+  pub committer : IsIdentValue commit.committer
+  pub headers : AllByRecursion (IsHeader Commit) commit.headers
+
+-- a word and a name
+abbrev pub name_line : List ℕ → List ℕ → List ℕ
+name_line word name = word ++ encode_lower name
+
+abbrev pub parent_line : List ℕ → List ℕ
+parent_line name = name_line (codes "parent ") name
+
+-- a word and an ident
+abbrev pub ident_line : List ℕ → IdentValue → List ℕ
+ident_line word ident = word ++ spelled_ident ident
+
+-- the lines of the header, in order
+abbrev pub commit_lines : CommitValue → List (List ℕ)
+commit_lines commit =
+    name_line (codes "tree ") commit.tree ∷ (map parent_line commit.parents
+    ++ ident_line (codes "author ") commit.author ∷ ident_line (codes "committer ") commit.committer ∷ flat_map header_lines commit.headers)
+
+-- each line and its line feed, and the message behind an empty line where there is one
+abbrev pub spelled_commit : CommitValue → List ℕ
+spelled_commit commit = flat_map ended (commit_lines commit) ++ ending commit.message
+
+-- the bytes are this commit
+pub record IsCommit (commit : CommitValue) (bytes : List ℕ) : Type 0 where
+  pub right : IsCommitValue commit
+  pub spelling : bytes ≡ spelled_commit commit

@@ -1,0 +1,7 @@
+-- Lent bytes as a value, without where they lie in memory.
+use Rattle.std.specs.Prelude.{ℕ, List, map, Option, Some, None}
+use Rattle.std.specs.Borrow.{Bor}
+
+abbrev pub message_of : Option (Bor (List ℕ)) → Option (List ℕ)
+message_of None = None
+message_of (Some message) = Some message.now

@@ -1,0 +1,12 @@
+pub mod Commit
+pub mod Fault
+pub mod Header
+pub mod Ident
+pub mod Judging
+pub mod Line
+pub mod Row
+pub mod View
+pub mod Lent
+pub mod Left
+pub mod More
+pub mod Whole

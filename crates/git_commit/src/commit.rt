@@ -1,0 +1,125 @@
+ghost use Rattle.std.specs.Prelude.{◌≡◌, IfOk, IfErr, IsOkAnd};
+ghost use Rattle.std.proofs.Props.{props};
+ghost use Rattle.git_name.specs.declared.kind.Kind.TheVariants.{Commit as OfCommit};
+ghost use Rattle.git_commit.specs.Row.{AreParents, AreHeaders};
+
+use crate::fault::CommitFault;
+use crate::field::take_fields;
+use crate::headers::Headers;
+use crate::ident::Ident;
+use crate::line::message_in;
+use crate::parents::{Parents, take_parents};
+use crate::value::{take_ident, take_name};
+use git_name::{Kind, Name};
+
+/// A commit, lent from its bytes.
+#[derive(Clone, Copy, Debug)]
+pub struct Commit<'a> {
+    tree: Name,
+    parents: &'a [u8],
+    author: Ident<'a>,
+    committer: Ident<'a>,
+    headers: &'a [u8],
+    message: Option<&'a [u8]>,
+    pub ghost parents_are: { AreParents parents.now } by { Prim.hlevel props },
+    pub ghost headers_are: { AreHeaders OfCommit headers.now } by { Prim.hlevel props },
+}
+
+impl<'a> Commit<'a> {
+    ghost use Rattle.git_commit.specs.Whole.{commit_of};
+    ghost use Rattle.git_commit.specs.Commit.{CommitValue, IsCommit};
+    ghost use Rattle.git_commit.specs.Fault.{IsCommitFault};
+    ghost use Rattle.git_commit.specs.View.{ident_of};
+    ghost use Rattle.git_commit.specs.Left.{parents_left, headers_left};
+    ghost use Rattle.git_commit.specs.Lent.{message_of};
+
+    // The parts of a commit, each read in turn.
+    fn parts_of(bytes: &'a [u8]) -> Result<Commit<'a>, CommitFault>
+        ensures found { IfOk result (λ commit. IsCommit (commit_of commit) bytes.now) }
+        ensures exact { IfErr result (λ why. IsCommitFault why bytes.now) }
+    {
+        let (tree, rest) = match take_name(b"tree ", bytes) {
+            Ok(taken) => taken,
+            Err(fault) => return Err(fault),
+        };
+        let (parents, rest) = match take_parents(rest) {
+            Ok(taken) => taken,
+            Err(fault) => return Err(fault),
+        };
+        let (author, rest) = match take_ident(b"author ", rest) {
+            Ok(taken) => taken,
+            Err(fault) => return Err(fault),
+        };
+        let (committer, rest) = match take_ident(b"committer ", rest) {
+            Ok(taken) => taken,
+            Err(fault) => return Err(fault),
+        };
+        let (headers, rest) = match take_fields(Kind::Commit, rest) {
+            Ok(taken) => taken,
+            Err(fault) => return Err(fault),
+        };
+        let message = message_in(rest);
+        Ok(Commit {
+            tree,
+            parents,
+            author,
+            committer,
+            headers,
+            message,
+        })
+    }
+
+    /// The commit that the bytes are. It takes no memory.
+    pub fn read(bytes: &'a [u8]) -> Result<Commit<'a>, CommitFault>
+        // What is read is a commit of these parts.
+        ensures found { IfOk result (λ commit. IsCommit (commit_of commit) bytes.now) }
+        // What is a commit is read.
+        ensures only { (value : CommitValue) → IsCommit value bytes.now → IsOkAnd result (λ commit. commit_of commit ≡ value) }
+        // Which fault it is.
+        ensures exact { IfErr result (λ why. IsCommitFault why bytes.now) }
+    {
+        Commit::parts_of(bytes)
+    }
+
+    /// The name of the commit's tree.
+    pub fn tree(&self) -> Name
+        ensures { result ≡ (commit_of self.now).tree }
+    {
+        self.tree
+    }
+
+    /// The names of the parents, in order.
+    pub fn parents(&self) -> Parents<'a>
+        ensures { parents_left result ≡ (commit_of self.now).parents }
+    {
+        Parents::new(self.parents)
+    }
+
+    /// Who wrote it, and when.
+    pub fn author(&self) -> Ident<'a>
+        ensures { ident_of result ≡ (commit_of self.now).author }
+    {
+        self.author
+    }
+
+    /// Who committed it, and when.
+    pub fn committer(&self) -> Ident<'a>
+        ensures { ident_of result ≡ (commit_of self.now).committer }
+    {
+        self.committer
+    }
+
+    /// The further headers, in order.
+    pub fn headers(&self) -> Headers<'a>
+        ensures { headers_left result ≡ (commit_of self.now).headers }
+    {
+        Headers::new(self.headers)
+    }
+
+    /// The message. None and an empty one are two commits.
+    pub fn message(&self) -> Option<&'a [u8]>
+        ensures { message_of result ≡ (commit_of self.now).message }
+    {
+        self.message
+    }
+}

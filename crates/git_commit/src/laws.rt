@@ -1,0 +1,17 @@
+ghost use Rattle.std.specs.Prelude.{◌≡◌, List, ℕ};
+ghost use Rattle.git_commit.specs.declared.fault.CommitFault.{CommitFault};
+ghost use Rattle.git_commit.specs.Commit.{CommitValue, IsCommit};
+ghost use Rattle.git_commit.specs.Fault.{IsCommitFault};
+ghost use Rattle.git_commit.specs.Ident.{IdentValue, IsIdent};
+
+/// A law, and no work: bytes are one commit at the most, and a text is one ident at the most.
+pub fn one_value()
+    ensures commit { (bytes : List ℕ) (v w : CommitValue) → IsCommit v bytes → IsCommit w bytes → v ≡ w }
+    ensures ident { (text : List ℕ) (v w : IdentValue) → IsIdent v text → IsIdent w text → v ≡ w }
+{}
+
+/// A law, and no work: bytes have one fault at the most, and a commit has none.
+pub fn one_fault()
+    ensures one { (bytes : List ℕ) (f g : CommitFault) → IsCommitFault f bytes → IsCommitFault g bytes → f ≡ g }
+    ensures none { (bytes : List ℕ) (v : CommitValue) (f : CommitFault) → IsCommit v bytes → IsCommitFault f bytes → ⊥ }
+{}

@@ -1,0 +1,70 @@
+ghost use Rattle.std.specs.Prelude.{◌≡◌, ◌≢◌, ◌++◌, List, ℕ, IfOk, IfErr, codes};
+ghost use Rattle.std.proofs.Props.{props};
+ghost use Rattle.git_commit.specs.Row.{AreParents};
+ghost use Rattle.git_commit.specs.Judging.{IsFirstFault};
+ghost use Rattle.git_commit.specs.Fault.{AfterTree, commit_grammar};
+
+use crate::fault::CommitFault;
+use crate::line::after_word;
+use crate::value::take_name;
+use git_name::Name;
+
+/// The names of a commit's parents, in order, lent from its bytes.
+#[derive(Clone, Copy, Debug)]
+pub struct Parents<'a> {
+    rest: &'a [u8],
+    pub ghost row: { AreParents rest.now } by { Prim.hlevel props },
+}
+
+impl<'a> Iterator for Parents<'a> {
+    ghost use Rattle.std.specs.Iterator.{YieldsFirst, item_count};
+    ghost use Rattle.git_commit.specs.Row.{parents_in};
+
+    type Item = Name;
+
+    ghost next_gives = { YieldsFirst (λ s. parents_in s.rest.now) };
+
+    ghost remaining = { item_count (λ s. parents_in s.rest.now) };
+
+    fn next(&mut self) -> Option<Name> {
+        if self.rest.is_empty() {
+            return None;
+        }
+        let Ok(taken) = take_name(b"parent ", self.rest) else {
+            unreachable!();
+        };
+        self.rest = taken.1;
+        Some(taken.0)
+    }
+}
+
+impl<'a> Parents<'a> {
+    ghost use Rattle.git_commit.specs.Left.{parents_left};
+    ghost use Rattle.git_commit.specs.Row.{parents_in};
+
+    // The parents that the bytes are.
+    pub(crate) fn new(bytes: &'a [u8]) -> Parents<'a>
+        requires { AreParents bytes.now }
+        ensures { parents_left result ≡ parents_in bytes.now }
+    {
+        Parents { rest: bytes }
+    }
+}
+
+// The lines of parents at the front, and what stands behind them.
+pub(crate) fn take_parents(text: &[u8]) -> Result<(&[u8], &[u8]), CommitFault>
+    ensures found { IfOk result (λ p. AreParents p.0.now) }
+    ensures parts { IfOk result (λ p. text.now ≡ p.0.now ++ p.1.now) }
+    ensures last { IfOk result (λ p. (line : List ℕ) → p.1.now ≢ codes "parent " ++ line) }
+    ensures exact { IfErr result (λ why. IsFirstFault commit_grammar AfterTree why text.now) }
+{
+    let mut rest = text;
+    'lines: while let Some(_) = after_word(b"parent ", rest) {
+        let (_, after) = match take_name(b"parent ", rest) {
+            Ok(taken) => taken,
+            Err(fault) => return Err(fault),
+        };
+        rest = after;
+    }
+    Ok((&text[..text.len() - rest.len()], rest))
+}

@@ -1,5 +1,5 @@
 -- The lines of a commit are right lines, in one way.
-use Rattle.std.proofs.Common.{◌≡◌, ◌≢◌, ◌⊎◌, inl, inr, ℕ, ◌<◌, ◌≤◌, ◌^◌, All, List, [], ◌∷◌, ◌++◌, map, length, refl, sym, ap, subst, ◌∙◌, arith, rules, codes, append_assoc, Option, Some, None}
+use Rattle.std.proofs.Common.{◌≡◌, ◌≢◌, inl, inr, ℕ, ◌<◌, ◌≤◌, ◌^◌, All, List, [], ◌∷◌, ◌++◌, map, length, refl, sym, ap, subst, ◌∙◌, arith, rules, codes, append_assoc}
 use Rattle.std.specs.List.{AllByRecursion, flat_map}
 use Rattle.std.specs.Fmt.{decimal}
 use Rattle.std.proofs.lemmas.List.Elements.{All-from_recursion, All-cons, All-append, All-same, All-weaker, All-head, All-tail}
@@ -12,17 +12,16 @@ use Rattle.git_commit.specs.declared.fault.CommitFault.{CommitFault}
 use Rattle.git_commit.specs.declared.fault.CommitFault.TheVariants as fault
 use Rattle.git_commit.specs.declared.ident.Sign.{Sign}
 use Rattle.git_commit.specs.declared.ident.Sign.TheVariants.{Plus, Minus}
-use Rattle.git_commit.specs.Line.{Lacks, IsEnding, IsLine, IsNoLine, IsNoWord, IsOther, Begins, ended, ending}
-use Rattle.git_commit.specs.Ident.{IdentValue, IsIdent, IsIdentValue, spelled_ident, spelled_time, sign_byte}
-use Rattle.git_commit.specs.Header.{HeaderValue, IsHeader, IsHeaderLine, IsContinuation, IsOwnWord, HasOwnWord, HeaderPlace, NoHeader, SomeHeader, IsFurther, header_grammar, header_lines}
-use Rattle.git_commit.specs.Commit.{CommitValue, IsCommitValue, IsCommit, name_line, parent_line, ident_line, commit_lines, spelled_commit}
-use Rattle.git_commit.specs.Judging.{Grammar, AreRight, IsBadLine, HoldsZero, Misplaced, Malformed, IsBroken, Early, Unended, Bad, IsFirstFault}
-use Rattle.git_commit.specs.Fault.{IsNameText, IsIdentLine, Holds, IsWrong, IsNoValue, Place, First, AfterTree, AfterAuthor, Further, commit_grammar, IsCommitFault}
+use Rattle.git_commit.specs.Line.{Lacks, IsEnding, IsLine, IsNoWord, IsOther, Begins, ended, ending}
+use Rattle.git_commit.specs.Ident.{IdentValue, IsIdentValue, spelled_ident, spelled_time, sign_byte}
+use Rattle.git_commit.specs.Header.{IsHeaderLine, IsOwnWord, HasOwnWord, HeaderPlace, NoHeader, SomeHeader, IsFurther, header_grammar, header_lines}
+use Rattle.git_commit.specs.Commit.{CommitValue, IsCommitValue, IsCommit, parent_line, commit_lines}
+use Rattle.git_commit.specs.Judging.{Grammar, AreRight, Misplaced, Malformed, IsBroken, Bad, IsFirstFault}
+use Rattle.git_commit.specs.Fault.{IsNameText, IsIdentLine, Holds, IsNoValue, Place, First, AfterTree, AfterAuthor, Further, commit_grammar, IsCommitFault}
 use Rattle.git_commit.specs.Row.{name_or_none, parents_in, AreParents}
 use Rattle.git_commit.proofs.Splits.{split_unique, same_rest, heads, tails, decimal_without}
-use Rattle.git_commit.proofs.IdentLemmas.{ident_unique}
-use Rattle.git_commit.proofs.RowLemmas.{hex_lacks, parents_of, name_of_line, names_are, headers_unique}
-use Rattle.git_commit.proofs.JudgingLemmas.{itself, IsUsual, IsSound, IsWithin, right_within, fault_within, lines_then, no_line_broken, no_line_ends, fault_here, fault_behind, right_lines, right_not_broken, one_fault, no_fault}
+use Rattle.git_commit.proofs.RowLemmas.{hex_lacks, parents_of}
+use Rattle.git_commit.proofs.JudgingLemmas.{itself, IsUsual, IsSound, IsWithin, right_within, fault_within, no_line_broken, fault_here, fault_behind, right_lines, right_not_broken, one_fault, no_fault}
 use Rattle.git_commit.proofs.FieldLemmas.{differ, own_is_key, headers_right, place_behind, one_line, lines_push}
 
 pub usual_commit : IsUsual itself commit_grammar

@@ -1,18 +1,18 @@
 -- Further headers that are read one after another.
-use Rattle.std.proofs.Common.{◌≡◌, ◌≢◌, ◌⊎◌, inl, inr, ℕ, ◌<◌, All, List, [], ◌∷◌, ◌++◌, map, length, refl, sym, ap, subst, ◌∙◌, arith, rules, codes, append_assoc, Option, Some, None}
+use Rattle.std.proofs.Common.{◌≡◌, ◌≢◌, ◌⊎◌, inl, inr, ℕ, ◌<◌, List, [], ◌∷◌, ◌++◌, map, length, refl, sym, ap, subst, ◌∙◌, arith, rules, codes, append_assoc, Some, None}
 use Rattle.std.specs.List.{AllByRecursion, flat_map}
 use Rattle.std.proofs.lemmas.List.{append-nil}
 use Rattle.std.proofs.lemmas.List.Concat.{flat_map-append}
-use Rattle.std.proofs.lemmas.List.Elements.{All-from_recursion, All-nil, All-cons, All-append, All-head, All-tail, All-same}
+use Rattle.std.proofs.lemmas.List.Elements.{All-from_recursion, All-nil, All-cons, All-head, All-tail, All-same}
 use Rattle.git_name.specs.declared.kind.Kind.{Kind}
 use Rattle.git_name.specs.declared.kind.Kind.TheVariants.{Blob, Tree, Commit, Tag}
 use Rattle.git_commit.specs.declared.fault.CommitFault.{CommitFault}
 use Rattle.git_commit.specs.declared.fault.CommitFault.TheVariants as fault
-use Rattle.git_commit.specs.Line.{Lacks, IsEnding, IsLine, IsNoLine, ended, ending}
-use Rattle.git_commit.specs.Header.{HeaderValue, IsPlain, IsKey, IsOwnWord, HasOwnWord, IsHeader, IsHeaderLine, IsContinuation, HeaderPlace, NoHeader, SomeHeader, IsFurther, header_grammar, header_lines, continued}
-use Rattle.git_commit.specs.Judging.{Grammar, AreRight, IsBadLine, HoldsZero, Misplaced, Malformed, IsBroken, Early, Unended, Bad, IsFirstFault}
-use Rattle.git_commit.proofs.Splits.{split_unique, split_none, heads, tails}
-use Rattle.git_commit.proofs.JudgingLemmas.{itself, IsUsual, IsSound, ended_then, lines_then, no_line_broken, fault_here, fault_behind, right_lines}
+use Rattle.git_commit.specs.Line.{Lacks, IsEnding, IsLine, IsNoLine, ended}
+use Rattle.git_commit.specs.Header.{HeaderValue, IsPlain, IsKey, IsOwnWord, HasOwnWord, IsHeader, IsHeaderLine, IsContinuation, HeaderPlace, NoHeader, SomeHeader, header_grammar, header_lines, continued}
+use Rattle.git_commit.specs.Judging.{AreRight, HoldsZero, Misplaced, Malformed, IsBroken, Early, Unended, Bad, IsFirstFault}
+use Rattle.git_commit.proofs.Splits.{split_unique, split_none, heads}
+use Rattle.git_commit.proofs.JudgingLemmas.{itself, IsUsual, lines_then, no_line_broken, fault_here, fault_behind, right_lines}
 
 pub usual : (kind : Kind) → IsUsual itself (header_grammar kind)
 usual kind = record { order = refl; unended = refl; zero_byte = refl }

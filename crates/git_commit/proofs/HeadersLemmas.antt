@@ -1,14 +1,13 @@
 -- Further headers are lent one after another.
-use Rattle.std.proofs.Common.{zero, suc, ◌+◌, get_or, inr, drop, ◌≡◌, ◌≢◌, ℕ, ◌<◌, All, List, [], ◌∷◌, ◌++◌, map, length, refl, sym, ap, subst, ◌∙◌, arith, append_assoc, Option, Some, None}
+use Rattle.std.proofs.Common.{zero, suc, ◌+◌, get_or, inr, drop, ◌≡◌, ◌≢◌, ℕ, ◌<◌, All, List, [], ◌∷◌, ◌++◌, map, length, refl, sym, ap, subst, ◌∙◌, arith, append_assoc, Some, None}
 use Rattle.std.specs.List.{AllByRecursion, AllWithin, flat_map}
 use Rattle.std.proofs.lemmas.List.Concat.{flat_map-append}
 use Rattle.std.proofs.lemmas.List.{append-nil}
 use Rattle.std.proofs.lemmas.List.Elements.{AllWithin-more, All-head, All-from_recursion, recursion_from_All}
 use Rattle.std.specs.Borrow.{Bor}
-use Rattle.git_name.specs.declared.kind.Kind.{Kind}
 use Rattle.git_name.specs.declared.kind.Kind.TheVariants.{Commit}
 use Rattle.git_commit.specs.declared.fault.CommitFault.{CommitFault}
-use Rattle.git_commit.specs.Line.{Lacks, IsEnding, IsLine, IsNoLine, ended, ending}
+use Rattle.git_commit.specs.Line.{Lacks, IsEnding, IsLine, IsNoLine, ended}
 use Rattle.git_commit.specs.Header.{HeaderValue, IsHeader, IsPlain, NoHeader, SomeHeader, header_grammar, header_lines, continued}
 use Rattle.git_commit.specs.Judging.{IsFirstFault}
 use Rattle.git_commit.specs.Row.{AreHeaders, headers_in, IsMore, more_in}

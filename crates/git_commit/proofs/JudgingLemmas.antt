@@ -1,8 +1,8 @@
 -- The first faulty line is one line, and its fault is one fault.
-use Rattle.std.proofs.Common.{◌≡◌, ◌≢◌, ◌⊎◌, inl, inr, ℕ, All, List, [], ◌∷◌, ◌++◌, refl, sym, ap, subst, ◌∙◌, append_assoc, Option, Some, None}
+use Rattle.std.proofs.Common.{◌≡◌, ◌≢◌, ℕ, List, [], ◌∷◌, ◌++◌, refl, sym, ap, subst, ◌∙◌, append_assoc, Option, Some, None}
 use Rattle.std.specs.List.{flat_map}
 use Rattle.std.proofs.lemmas.List.Concat.{flat_map-append}
-use Rattle.std.proofs.lemmas.List.Elements.{All-head, All-same}
+use Rattle.std.proofs.lemmas.List.Elements.{All-head}
 use Rattle.git_commit.specs.declared.fault.CommitFault.{CommitFault}
 use Rattle.git_commit.specs.declared.fault.CommitFault.TheVariants as fault
 use Rattle.git_commit.specs.Line.{Lacks, IsEnding, IsLine, IsNoLine, ended, ending}

@@ -1,5 +1,5 @@
 -- Where a header ends, and where a line does.
-use Rattle.std.proofs.Common.{true, false, ◌≢◌, ◌++◌, ◌↔◌, ◌≡◌, ℕ, ◌<◌, List, [], ◌∷◌, length, get_or, ap, sym, refl, ◌∙◌, arith, Option, Some, None}
+use Rattle.std.proofs.Common.{true, ◌≢◌, ◌++◌, ◌↔◌, ◌≡◌, ℕ, ◌<◌, List, [], ◌∷◌, length, get_or, ap, ◌∙◌, arith, Option, Some, None}
 use Rattle.std.specs.Prelude.{MatchOption, IfSome, IfNone, nat_eq}
 use Rattle.std.proofs.lemmas.Bool.Decides.{nat_tests}
 use Rattle.git_commit.proofs.Splits.{heads}

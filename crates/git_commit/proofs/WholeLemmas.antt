@@ -1,18 +1,18 @@
 -- A commit is read in one way.
-use Rattle.std.proofs.Common.{◌≡◌, ◌≢◌, ◌⊎◌, inl, inr, ℕ, List, [], ◌∷◌, ◌++◌, map, refl, sym, ap, subst, ◌∙◌, arith, codes, append_assoc, Option, Some, None}
+use Rattle.std.proofs.Common.{◌≡◌, inr, ℕ, List, [], ◌∷◌, ◌++◌, map, refl, sym, ap, subst, ◌∙◌, arith, codes, append_assoc, Option, Some, None}
 use Rattle.std.specs.List.{AllByRecursion, flat_map}
 use Rattle.hex.specs.Hex.{encode_lower}
 use Rattle.git_name.specs.Name.{IsName}
 use Rattle.git_name.specs.declared.kind.Kind.TheVariants.{Commit}
 use Rattle.git_commit.specs.declared.fault.CommitFault.{CommitFault}
-use Rattle.git_commit.specs.Line.{Lacks, IsEnding, IsLine, ended, ending}
+use Rattle.git_commit.specs.Line.{IsLine, ended, ending}
 use Rattle.git_commit.specs.Ident.{IdentValue, IsIdentValue, spelled_ident}
 use Rattle.git_commit.specs.Header.{HeaderValue, NoHeader, IsHeader, header_lines}
-use Rattle.git_commit.specs.Commit.{CommitValue, IsCommitValue, IsCommit, name_line, parent_line, ident_line, commit_lines, spelled_commit}
+use Rattle.git_commit.specs.Commit.{CommitValue, IsCommit, name_line, parent_line, ident_line, commit_lines}
 use Rattle.git_commit.specs.Judging.{Grammar, AreRight, IsFirstFault}
 use Rattle.git_commit.specs.Fault.{Place, First, AfterTree, AfterAuthor, Further, commit_grammar, IsCommitFault}
 use Rattle.git_commit.specs.Row.{parents_in, AreParents, headers_in, AreHeaders}
-use Rattle.git_commit.proofs.Splits.{split_unique, same_rest, heads}
+use Rattle.git_commit.proofs.Splits.{same_rest, heads}
 use Rattle.git_commit.proofs.IdentLemmas.{ident_unique}
 use Rattle.git_commit.proofs.RowLemmas.{headers_unique}
 use Rattle.git_commit.proofs.JudgingLemmas.{right_lines, fault_behind, same_lines}

@@ -1,5 +1,5 @@
 -- Lent bytes as a value, without where they lie in memory.
-use Rattle.std.specs.Prelude.{ℕ, List, map, Option, Some, None}
+use Rattle.std.specs.Prelude.{ℕ, List, Option, Some, None}
 use Rattle.std.specs.Borrow.{Bor}
 
 abbrev pub message_of : Option (Bor (List ℕ)) → Option (List ℕ)

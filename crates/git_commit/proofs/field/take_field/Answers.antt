@@ -1,6 +1,6 @@
-use Rattle.std.proofs.Common.{◌≡◌, ◌≢◌, [], length, arith, sym, ◌∙◌, ap}
+use Rattle.std.proofs.Common.{◌≡◌, ◌≢◌, [], length, arith, ap}
 use Rattle.std.proofs.lemmas.Grind.{common_steps}
-use Rattle.git_commit.specs.Header.{NoHeader, header_grammar, IsOwnWord, IsKey, IsPlain}
+use Rattle.git_commit.specs.Header.{NoHeader, header_grammar, IsOwnWord}
 use Rattle.git_commit.proofs.JudgingLemmas.{itself, fault_here, no_line_broken}
 use Rattle.git_commit.proofs.FieldLemmas.{usual, no_space_fault, no_key_fault, own_fault, key_right, behind_key_fault}
 use Rattle.git_commit.proofs.field.take_field.Goals as goal

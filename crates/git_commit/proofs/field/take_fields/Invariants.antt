@@ -1,4 +1,4 @@
-use Rattle.std.proofs.Common.{◌≡◌, ◌≢◌, ◌++◌, ◌∷◌, [], List, ℕ, map, length}
+use Rattle.std.proofs.Common.{◌≡◌, ◌≢◌, ◌++◌, ◌∷◌, [], List, ℕ, length}
 use Rattle.std.specs.List.{flat_map, AllByRecursion}
 use Rattle.git_commit.specs.Line.{ended}
 use Rattle.git_commit.specs.Header.{HeaderValue, IsHeader, header_lines}

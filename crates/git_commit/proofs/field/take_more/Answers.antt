@@ -1,5 +1,3 @@
-use Rattle.std.proofs.Common.{List, ℕ, subst, sym}
-use Rattle.git_commit.specs.Row.{IsMore}
 use Rattle.git_commit.proofs.RowLemmas.{front_of, more_of_values}
 use Rattle.git_commit.proofs.FieldLemmas.{more_fault, more_step}
 use Rattle.git_commit.proofs.field.take_more.Goals as goal

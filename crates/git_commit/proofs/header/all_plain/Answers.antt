@@ -1,4 +1,4 @@
-use Rattle.std.proofs.Common.{refl, arith, ◌≤◌, ◌<◌, length, ℕ}
+use Rattle.std.proofs.Common.{refl, arith}
 use Rattle.git_commit.proofs.HeadersLemmas.{not_all_plain, plain_so_far}
 use Rattle.git_commit.proofs.header.all_plain.Goals as goal
 

@@ -1,4 +1,3 @@
-use Rattle.std.proofs.Common.{sym}
 use Rattle.git_commit.proofs.LineLemmas.{goes_on}
 use Rattle.git_commit.proofs.line.take_line.Goals as goal
 

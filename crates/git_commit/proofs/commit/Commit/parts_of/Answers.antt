@@ -1,4 +1,4 @@
-use Rattle.std.proofs.Common.{refl, sym}
+use Rattle.std.proofs.Common.{refl}
 use Rattle.git_commit.specs.View.{ident_of}
 use Rattle.git_commit.proofs.CommitLemmas.{tree_fault, author_fault, committer_fault, headers_fault}
 use Rattle.git_commit.proofs.WholeLemmas.{read_tree, read_parents, read_author, read_committer, read_fault, read_whole}

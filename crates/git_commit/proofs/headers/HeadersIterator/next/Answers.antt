@@ -1,9 +1,8 @@
-use Rattle.std.proofs.Common.{◌≡◌, ◌∷◌, List, length, ap, sym, ◌∙◌, arith, suc, rules}
+use Rattle.std.proofs.Common.{◌≡◌, ◌∷◌, length, ap, sym, ◌∙◌, arith, suc, rules}
 use Rattle.std.proofs.lemmas.Grind.{common_steps}
 use Rattle.git_commit.specs.Header.{HeaderValue}
 use Rattle.git_commit.specs.Row.{headers_in}
 use Rattle.git_commit.specs.View.{field_of}
-use Rattle.git_commit.specs.Left.{header_of}
 use Rattle.git_commit.proofs.HeadersLemmas.{headers_step, headers_no_fault, row_goes_on, no_headers}
 use Rattle.git_commit.proofs.headers.HeadersIterator.next.Goals as goal
 

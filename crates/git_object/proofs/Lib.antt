@@ -1,0 +1,3 @@
+pub mod TagLemmas
+pub mod WholeLemmas
+pub mod ObjectLemmas

@@ -1,0 +1,7 @@
+-- What an object that is lent from its bytes stands for.
+use Rattle.git_object.specs.declared.object.Object.{Object}
+use Rattle.git_object.specs.Form.{value_of}
+use Rattle.git_object.specs.Object.{ObjectValue}
+
+abbrev pub object_of : Object → ObjectValue
+object_of object = value_of object.form

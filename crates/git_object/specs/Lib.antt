@@ -1,0 +1,10 @@
+pub mod Tag
+pub mod Fault
+pub mod View
+pub mod Whole
+pub mod Object
+pub mod Links
+pub mod Form
+pub mod Held
+pub mod Left
+pub mod Rest

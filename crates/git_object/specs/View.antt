@@ -1,0 +1,9 @@
+-- The value that a lent tagger stands for, without where it lies in memory.
+use Rattle.std.specs.Prelude.{Option, None, Some}
+use Rattle.git_commit.specs.declared.ident.Ident.{Ident}
+use Rattle.git_commit.specs.Ident.{IdentValue}
+use Rattle.git_commit.specs.View.{ident_of}
+
+abbrev pub tagger_of : Option Ident → Option IdentValue
+tagger_of None = None
+tagger_of (Some ident) = Some (ident_of ident)

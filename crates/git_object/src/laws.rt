@@ -1,0 +1,24 @@
+ghost use Rattle.std.specs.Prelude.{◌≡◌, List, ℕ};
+ghost use Rattle.git_object.specs.declared.fault.TagFault.{TagFault};
+ghost use Rattle.git_object.specs.Tag.{TagValue, IsTag};
+ghost use Rattle.git_object.specs.Fault.{IsTagFault};
+ghost use Rattle.git_name.specs.declared.kind.Kind.{Kind};
+ghost use Rattle.git_object.specs.declared.object.ObjectFault.{ObjectFault};
+ghost use Rattle.git_object.specs.Object.{ObjectValue, IsObject, IsObjectFault};
+
+/// A law, and no work: bytes are one tag at the most.
+pub fn one_tag()
+    ensures { (bytes : List ℕ) (v w : TagValue) → IsTag v bytes → IsTag w bytes → v ≡ w }
+{}
+
+/// A law, and no work: bytes have one fault at the most, and a tag has none.
+pub fn one_tag_fault()
+    ensures one { (bytes : List ℕ) (f g : TagFault) → IsTagFault f bytes → IsTagFault g bytes → f ≡ g }
+    ensures none { (bytes : List ℕ) (v : TagValue) (f : TagFault) → IsTag v bytes → IsTagFault f bytes → ⊥ }
+{}
+
+/// A law, and no work: bytes are one object of a kind at the most, and one with a fault is none.
+pub fn one_object()
+    ensures one { (kind : Kind) (bytes : List ℕ) (v w : ObjectValue) → IsObject v kind bytes → IsObject w kind bytes → v ≡ w }
+    ensures none { (kind : Kind) (bytes : List ℕ) (v : ObjectValue) (f : ObjectFault) → IsObject v kind bytes → IsObjectFault f kind bytes → ⊥ }
+{}

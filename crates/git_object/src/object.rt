@@ -1,0 +1,87 @@
+ghost use Rattle.std.specs.Prelude.{◌≡◌, IfOk, IfErr, IsOkAnd};
+ghost use Rattle.std.proofs.Props.{props};
+ghost use Rattle.git_object.specs.Form.{IsRightForm};
+
+use crate::fault::TagFault;
+use crate::tag::Tag;
+use git_commit::{Commit, CommitFault};
+use git_name::Kind;
+use git_tree::{TreeFault, entries};
+use thiserror::Error;
+
+/// Why bytes are no object of a kind. Any bytes are a blob.
+#[derive(Clone, Copy, Debug, PartialEq, Eq, Error)]
+pub enum ObjectFault {
+    /// The bytes are no tree.
+    #[error("the bytes are no tree")]
+    Tree(TreeFault),
+    /// The bytes are no commit.
+    #[error("the bytes are no commit")]
+    Commit(CommitFault),
+    /// The bytes are no tag.
+    #[error("the bytes are no tag")]
+    Tag(TagFault),
+}
+
+/// What the bytes of an object are, by its kind.
+#[derive(Clone, Copy, Debug)]
+pub(crate) enum Form<'a> {
+    Blob(&'a [u8]),
+    Tree(&'a [u8]),
+    Commit(Commit<'a>),
+    Tag(Tag<'a>),
+}
+
+/// An object, lent from its bytes. No value of this type has bytes that its kind refuses.
+#[derive(Clone, Copy, Debug)]
+pub struct Object<'a> {
+    pub(crate) form: Form<'a>,
+    pub ghost right: { IsRightForm form } by { Prim.hlevel props },
+}
+
+impl<'a> Object<'a> {
+    ghost use Rattle.git_object.specs.Held.{object_of};
+    ghost use Rattle.git_object.specs.Object.{ObjectValue, IsObject, IsObjectFault};
+
+    // The object, by its kind.
+    fn parts_of(kind: Kind, bytes: &'a [u8]) -> Result<Object<'a>, ObjectFault>
+        ensures found { IfOk result (λ object. IsObject (object_of object) kind bytes.now) }
+        ensures exact { IfErr result (λ why. IsObjectFault why kind bytes.now) }
+    {
+        match kind {
+            Kind::Blob => Ok(Object {
+                form: Form::Blob(bytes),
+            }),
+            Kind::Tree => match entries(bytes) {
+                Ok(_) => Ok(Object {
+                    form: Form::Tree(bytes),
+                }),
+                Err(fault) => Err(ObjectFault::Tree(fault)),
+            },
+            Kind::Commit => match Commit::read(bytes) {
+                Ok(commit) => Ok(Object {
+                    form: Form::Commit(commit),
+                }),
+                Err(fault) => Err(ObjectFault::Commit(fault)),
+            },
+            Kind::Tag => match Tag::read(bytes) {
+                Ok(tag) => Ok(Object {
+                    form: Form::Tag(tag),
+                }),
+                Err(fault) => Err(ObjectFault::Tag(fault)),
+            },
+        }
+    }
+
+    /// The object of this kind that the bytes are. It takes no memory.
+    pub fn read(kind: Kind, bytes: &'a [u8]) -> Result<Object<'a>, ObjectFault>
+        // What is read is an object of these parts.
+        ensures found { IfOk result (λ object. IsObject (object_of object) kind bytes.now) }
+        // What is an object of the kind is read.
+        ensures only { (value : ObjectValue) → IsObject value kind bytes.now → IsOkAnd result (λ object. object_of object ≡ value) }
+        // Which fault it is.
+        ensures exact { IfErr result (λ why. IsObjectFault why kind bytes.now) }
+    {
+        Object::parts_of(kind, bytes)
+    }
+}

@@ -1,0 +1,110 @@
+ghost use Rattle.std.specs.Prelude.{◌≡◌, IfOk, IfErr, IsOkAnd};
+
+use crate::fault::TagFault;
+use crate::parts::{take_object, take_tag_name, take_tagger, take_type};
+use git_commit::Ident;
+use git_commit::field::take_fields;
+use git_commit::line::message_in;
+use git_name::{Kind, Name};
+
+/// A tag, lent from its bytes.
+#[derive(Clone, Copy, Debug)]
+pub struct Tag<'a> {
+    object: Name,
+    kind: Kind,
+    name: &'a [u8],
+    tagger: Option<Ident<'a>>,
+    headers: &'a [u8],
+    message: Option<&'a [u8]>,
+}
+
+impl<'a> Tag<'a> {
+    ghost use Rattle.git_commit.specs.Lent.{message_of};
+    ghost use Rattle.git_object.specs.Whole.{tag_of};
+    ghost use Rattle.git_object.specs.Tag.{TagValue, IsTag};
+    ghost use Rattle.git_object.specs.Fault.{IsTagFault};
+    ghost use Rattle.git_object.specs.View.{tagger_of};
+
+    // The parts of a tag, each read in turn.
+    fn parts_of(bytes: &'a [u8]) -> Result<Tag<'a>, TagFault>
+        ensures found { IfOk result (λ tag. IsTag (tag_of tag) bytes.now) }
+        ensures exact { IfErr result (λ why. IsTagFault why bytes.now) }
+    {
+        let (object, rest) = match take_object(bytes) {
+            Ok(taken) => taken,
+            Err(fault) => return Err(fault),
+        };
+        let (kind, rest) = match take_type(rest) {
+            Ok(taken) => taken,
+            Err(fault) => return Err(fault),
+        };
+        let (name, rest) = match take_tag_name(rest) {
+            Ok(taken) => taken,
+            Err(fault) => return Err(fault),
+        };
+        let (tagger, rest) = match take_tagger(rest) {
+            Ok(taken) => taken,
+            Err(fault) => return Err(fault),
+        };
+        let (headers, rest) = match take_fields(Kind::Tag, rest) {
+            Ok(taken) => taken,
+            Err(fault) => return Err(TagFault::of_line(fault)),
+        };
+        let message = message_in(rest);
+        Ok(Tag {
+            object,
+            kind,
+            name,
+            tagger,
+            headers,
+            message,
+        })
+    }
+
+    /// The tag that the bytes are. It takes no memory.
+    pub fn read(bytes: &'a [u8]) -> Result<Tag<'a>, TagFault>
+        // What is read is a tag of these parts.
+        ensures found { IfOk result (λ tag. IsTag (tag_of tag) bytes.now) }
+        // What is a tag is read.
+        ensures only { (value : TagValue) → IsTag value bytes.now → IsOkAnd result (λ tag. tag_of tag ≡ value) }
+        // Which fault it is.
+        ensures exact { IfErr result (λ why. IsTagFault why bytes.now) }
+    {
+        Tag::parts_of(bytes)
+    }
+
+    /// The name of the object that the tag stands for.
+    pub fn object(&self) -> Name
+        ensures { result ≡ (tag_of self.now).object }
+    {
+        self.object
+    }
+
+    /// The kind that this object must have.
+    pub fn kind(&self) -> Kind
+        ensures { result ≡ (tag_of self.now).kind }
+    {
+        self.kind
+    }
+
+    /// The name that the tag gives itself.
+    pub fn name(&self) -> &'a [u8]
+        ensures { result.now ≡ (tag_of self.now).name }
+    {
+        self.name
+    }
+
+    /// Who made it, and when. Old tags have none.
+    pub fn tagger(&self) -> Option<Ident<'a>>
+        ensures { tagger_of result ≡ (tag_of self.now).tagger }
+    {
+        self.tagger
+    }
+
+    /// The message. None and an empty one are two tags.
+    pub fn message(&self) -> Option<&'a [u8]>
+        ensures { message_of result ≡ (tag_of self.now).message }
+    {
+        self.message
+    }
+}

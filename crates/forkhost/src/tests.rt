@@ -4,6 +4,7 @@ mod command_line;
 mod frames;
 mod isolation;
 mod objects;
+mod runs;
 mod wire;
 
 use crate::program::program;

@@ -1,0 +1,74 @@
+-- What a text holds that is longer by a byte.
+use Rattle.std.proofs.Common.{◌≡◌, ℕ, suc, ◌<◌, ◌≤◌, ◌+◌, ◌-◌, Bool, true, false, ◌||◌, List, [], ◌∷◌, ◌++◌, ◌⊎◌, inl, inr, nat_eq, refl, sym, ap, ◌∙◌, length, take, drop, length-take, length-drop, length-append, arith}
+use Rattle.std.specs.Cmp.Lexicographic.{pointwise, unequal}
+use Rattle.std.specs.List.{list_any}
+use Rattle.std.proofs.lemmas.Bool.{cases_lt}
+use Rattle.std.proofs.lemmas.List.{take_all, take-append-le}
+use Rattle.std.proofs.lemmas.List.Folds.{list_any-append}
+use Rattle.std.proofs.Math.Bool.{or-false}
+use Rattle.git_refname.specs.Rule.{begins, ends, holds}
+
+-- a text that is shorter than a part neither begins nor ends in it, nor holds it
+begins_short : (part text : List ℕ) → length text < length part → begins part text ≡ false
+begins_short part text short =
+    unequal nat_eq part (take (length part) text) (λ (same : length part ≡ length (take (length part) text)). let is = length-take (length part) text in absurd (omega arith))
+
+ends_short : (part text : List ℕ) → length text < length part → ends part text ≡ false
+ends_short part text short =
+    unequal nat_eq part (drop (length text - length part) text) (λ (same : length part ≡ length (drop (length text - length part) text)). let is = length-drop (length text - length part) text in absurd (omega arith))
+
+holds_short : (part text : List ℕ) → length text < length part → holds part text ≡ false
+holds_short part [] short = begins_short part [] short
+holds_short part (b ∷ bs) short = rw (begins_short part (b ∷ bs) short) (holds_short part bs (omega arith))
+
+-- a text that isn't longer than a part begins in it where it ends in it
+begins_ends : (part text : List ℕ) → length text ≤ length part → begins part text ≡ ends part text
+begins_ends part text short =
+    let none : length text - length part ≡ 0 = omega arith in
+    ap (pointwise nat_eq part) (take_all (length part) text short ∙ sym (ap (λ n. drop n text) none))
+
+begins_longer : (part xs ys : List ℕ) → length part ≤ length xs → begins part (xs ++ ys) ≡ begins part xs
+begins_longer part xs ys fits = ap (pointwise nat_eq part) (take-append-le (length part) xs ys fits)
+
+ends_longer : (part : List ℕ) (x : ℕ) (xs : List ℕ) → length part ≤ length xs → ends part (x ∷ xs) ≡ ends part xs
+ends_longer part x xs fits =
+    let more : suc (length xs) - length part ≡ suc (length xs - length part) = omega arith in
+    ap (λ n. pointwise nat_eq part (drop n (x ∷ xs))) more
+
+regrouped : (a b h e f : Bool) → a ≡ b → e ≡ f → (a || (h || e)) ≡ ((b || h) || f)
+regrouped true true h e f first last = refl
+regrouped false false h e f first last = ap (λ x. h || x) last
+regrouped true false h e f first last = absurd (cc)
+regrouped false true h e f first last = absurd (cc)
+
+no_more : (a b c h e : Bool) → b ≡ false → h ≡ false → e ≡ false → c ≡ a → (a || (h || e)) ≡ ((b || h) || c)
+no_more a b c h e none nowhere not_ends same = rw (none, nowhere, not_ends, same) (or-false a)
+
+-- such a text holds a part where it held it before, or ends in it
+pub holds_more : (part xs : List ℕ) (b : ℕ) → 1 ≤ length part → holds part (xs ++ b ∷ []) ≡ (holds part xs || ends part (xs ++ b ∷ []))
+holds_more part [] b some =
+    rw (begins_short part [] some, begins_ends part (b ∷ []) some) (or-false (ends part (b ∷ [])))
+holds_more part (x ∷ xs) b some = by_length (holds_more part xs b some) (cases_lt (length (x ∷ xs)) (length part))
+  where
+    longer : length (xs ++ b ∷ []) ≡ length xs + 1
+    longer = length-append xs (b ∷ [])
+
+    by_length : holds part (xs ++ b ∷ []) ≡ (holds part xs || ends part (xs ++ b ∷ [])) → (length (x ∷ xs) < length part) ⊎ (length part ≤ length (x ∷ xs))
+        → holds part (x ∷ xs ++ b ∷ []) ≡ (holds part (x ∷ xs) || ends part (x ∷ xs ++ b ∷ []))
+    by_length before (inl short) =
+        rw before (no_more (begins part (x ∷ xs ++ b ∷ [])) (begins part (x ∷ xs)) (ends part (x ∷ xs ++ b ∷ [])) (holds part xs) (ends part (xs ++ b ∷ []))
+        (begins_short part (x ∷ xs) short) (holds_short part xs (omega arith)) (ends_short part (xs ++ b ∷ []) (omega (arith, longer)))
+        (sym (begins_ends part (x ∷ xs ++ b ∷ []) (omega (arith, longer)))))
+    by_length before (inr long) =
+        rw before (regrouped (begins part (x ∷ xs ++ b ∷ [])) (begins part (x ∷ xs)) (holds part xs) (ends part (xs ++ b ∷ [])) (ends part (x ∷ xs ++ b ∷ []))
+        (begins_longer part (x ∷ xs) (b ∷ []) long) (sym (ends_longer part x (xs ++ b ∷ []) (omega (arith, longer)))))
+
+-- what was met of a part before, or is met at the end, is what the longer text holds
+pub met : (part before front : List ℕ) (b : ℕ) (was at_end : Bool) → 1 ≤ length part → was ≡ holds part before → at_end ≡ ends part front → front ≡ before ++ b ∷ [] → (was || at_end) ≡ holds part front
+met part before front b was at_end some was_is at_is longer =
+    (λ i. was_is i || (at_is ∙ ap (ends part) longer) i) ∙ sym (holds_more part before b some) ∙ sym (ap (holds part) longer)
+
+-- the same of a byte that passes a test
+pub met_byte : (test : ℕ → Bool) (before front : List ℕ) (b : ℕ) (was last : Bool) → was ≡ list_any test before → last ≡ test b → front ≡ before ++ b ∷ [] → (was || last) ≡ list_any test front
+met_byte test before front b was last was_is last_is longer =
+    (λ i. was_is i || (last_is ∙ sym (or-false (test b))) i) ∙ sym (list_any-append test before (b ∷ [])) ∙ sym (ap (list_any test) longer)

@@ -1,0 +1,3 @@
+pub mod Marks
+pub mod Namespace
+pub mod Rule

@@ -1,0 +1,18 @@
+-- What a text holds of all that breaks a rule wherever it stands.
+use Rattle.std.specs.Prelude.{ℕ, List, codes}
+use Rattle.std.specs.List.{list_any}
+use Rattle.git_refname.specs.declared.marks.Marks.{Marks}
+use Rattle.git_refname.specs.Rule.{holds, is_unprintable, is_pattern}
+
+abbrev pub marks_of : List ℕ → Marks
+marks_of text = record {
+  dot = holds (codes "/.") text;
+  lock = holds (codes ".lock/") text;
+  slash = holds (codes "/") text;
+  two_dots = holds (codes "..") text;
+  unprintable = list_any is_unprintable text;
+  pattern = list_any is_pattern text;
+  two_slashes = holds (codes "//") text;
+  at_brace = holds (codes "@{") text;
+  backslash = holds (codes "\\") text;
+}

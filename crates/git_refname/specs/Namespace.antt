@@ -1,0 +1,11 @@
+-- Namespaces of references (gitnamespaces(7)): `a/b` expands to `refs/namespaces/a/refs/namespaces/b/`.
+use Rattle.std.specs.Prelude.{ℕ, List, ◌++◌, codes}
+use Rattle.std.specs.List.{flat_map}
+
+-- a namespace by its one name
+abbrev pub namespace : List ℕ → List ℕ
+namespace name = codes "refs/namespaces/" ++ name ++ codes "/"
+
+-- a namespace by the names from the outermost to the innermost
+abbrev pub expanded : List (List ℕ) → List ℕ
+expanded names = flat_map namespace names

@@ -1,0 +1,16 @@
+//! Names of references: the rules of git-check-ref-format(1) and two own ones, and the namespaces of
+//! gitnamespaces(7).
+//! A name is told by the first rule that it breaks, and a `RefName` breaks none.
+#![tactic(auto)]
+
+mod check;
+mod marks;
+mod name;
+mod namespace;
+mod rule;
+#[cfg(test)]
+mod tests;
+
+pub use crate::name::{MAX_REF_NAME, RefName};
+pub use crate::namespace::expand;
+pub use crate::rule::Rule;

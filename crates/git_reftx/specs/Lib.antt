@@ -1,0 +1,9 @@
+pub mod Command
+pub mod Fronts
+pub mod Judging
+pub mod Known
+pub mod Line
+pub mod Reading
+pub mod Shown
+pub mod Sound
+pub mod Transaction

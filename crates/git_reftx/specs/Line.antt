@@ -1,0 +1,23 @@
+-- Lines of at most 512 bytes (own).
+use Rattle.std.specs.Prelude.{ℕ, List, Option, None, Some, length, nat_le, if◌then◌else◌}
+use Rattle.git_name.specs.Text.{split_once}
+
+-- what stands at the front of a text
+pub data LineAt : Type 0 where
+  -- a line, and what stands behind its LF
+  Whole : (line behind : List ℕ) → LineAt
+  -- the front of a line that may still be right
+  Unfinished : LineAt
+  -- 513 bytes without LF
+  TooLong : LineAt
+
+abbrev pub within_512 : List ℕ → LineAt → LineAt
+within_512 line right = if nat_le (length line) 512 then right else TooLong
+
+abbrev pub line_of_parts : List ℕ → Option (List ℕ × List ℕ) → LineAt
+line_of_parts text None = within_512 text Unfinished
+line_of_parts text (Some (line, behind)) = within_512 line (Whole line behind)
+
+-- the line at the front of a text
+unfoldable pub line_at : List ℕ → LineAt
+line_at text = line_of_parts text (split_once 10 text)

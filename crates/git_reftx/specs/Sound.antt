@@ -1,0 +1,15 @@
+-- What holds of the references of a repository at all times.
+use Rattle.std.specs.Prelude.{◌≡◌, ◌≤◌, ℕ, List, None, true}
+use Rattle.std.specs.FinMap.{contains_key, keys, len}
+use Rattle.git_refname.specs.Rule.{IsRefName}
+use Rattle.git_reftx.specs.Transaction.{References, least_upper}
+
+-- each has a right name
+abbrev pub AreNamed : References → Type 0
+AreNamed references = (name : List ℕ) → contains_key references name ≡ true → IsRefName name
+
+-- each has a right name, none stands above another, and there are at most 4,096
+pub record AreSound (references : References) : Type 0 where
+  pub named : AreNamed references
+  pub free : least_upper (keys references) ≡ None
+  pub few : len references ≤ 4096

@@ -1,0 +1,31 @@
+ghost use Rattle.std.specs.Prelude.{◌≡◌, IfOk, OnOk};
+ghost use Rattle.git_reftx.specs.Transaction.{changed, changed_by};
+
+use crate::command::Change;
+use crate::order::Order;
+use crate::ref_map::RefMap;
+use std::alloc::AllocError;
+
+// The references after the commands: a copy, in which they were carried out in turn.
+pub(crate) fn carried_out(old: &RefMap, orders: &[Order]) -> Result<RefMap, AllocError>
+    ensures { IfOk result (λ new. new ≡ changed orders.now old.now) }
+{
+    let mut new = old.copy()?;
+    for order in orders {
+        carry_out(&mut new, order)?;
+    }
+    Ok(new)
+}
+
+fn carry_out(references: &mut RefMap, order: &Order) -> Result<(), AllocError>
+    ensures { OnOk result (references.new ≡ changed_by order.now.reference order.now.change references.old) }
+{
+    match order.change() {
+        Change::Keep => Ok(()),
+        Change::Remove => {
+            references.remove(order.reference());
+            Ok(())
+        }
+        Change::Point(name) => references.insert(order.reference().copy(), name),
+    }
+}

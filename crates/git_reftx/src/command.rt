@@ -1,0 +1,34 @@
+use crate::ref_word::RefWord;
+use git_name::Name;
+
+/// What a command demands of its reference, as it was before the transaction.
+#[derive(Clone, Copy, Debug, PartialEq, Eq)]
+pub enum Demand {
+    /// Nothing.
+    Any,
+    /// It is not there.
+    Absent,
+    /// It is there.
+    Present,
+    /// It points at this object.
+    At(Name),
+}
+
+/// What a command does to its reference.
+#[derive(Clone, Copy, Debug, PartialEq, Eq)]
+pub enum Change {
+    /// Nothing.
+    Keep,
+    /// It goes.
+    Remove,
+    /// It points at this object.
+    Point(Name),
+}
+
+/// A command of a transaction.
+#[derive(Debug, Drop)]
+pub struct Command {
+    pub reference: RefWord,
+    pub demand: Demand,
+    pub change: Change,
+}

@@ -1,0 +1,53 @@
+use crate::ref_word::RefWord;
+use git_name::Name;
+use git_refname::RefName;
+use thiserror::Error;
+
+/// What is wrong with a body of command lines: the fault of its first wrong line.
+#[derive(Clone, Copy, Debug, PartialEq, Eq, Error)]
+pub enum CommandFault {
+    #[error("the line is no command, or too long")]
+    Syntax,
+    #[error("there are more than 256 commands")]
+    TooMany,
+    #[error("the last line has no LF")]
+    Truncated,
+}
+
+/// Why command lines were not read.
+#[derive(Clone, Copy, Debug, PartialEq, Eq, Error)]
+pub enum ReadError {
+    #[error(transparent)]
+    Fault(CommandFault),
+    #[error("no memory")]
+    Memory,
+}
+
+/// Why a transaction was refused, in the order in which it is judged. It names the first command, in
+/// their order, that is refused so.
+#[derive(Debug, Drop)]
+pub enum TxRefusal {
+    /// The word breaks a rule of reference names.
+    BadRef(RefWord),
+    /// The reference stands in an earlier command.
+    RepeatedRef(RefName),
+    /// The object is not known.
+    Missing(Name),
+    /// The object is no commit, and the reference is a branch.
+    NotACommit(Name),
+    /// The reference is not as the command demands.
+    Stale(RefName),
+    /// Of the references afterwards this one stands above another; it is the least that does.
+    RefConflict(RefName),
+    /// There would be more than 4,096 references.
+    TooMany,
+}
+
+/// Why a transaction was not carried out.
+#[derive(Debug, Drop)]
+pub enum ApplyError {
+    /// It was refused.
+    Refused(TxRefusal),
+    /// There is no memory for it.
+    Memory,
+}

@@ -1,0 +1,31 @@
+//! References of a repository, and transactions of them, as git-update-ref(1) has them: all commands
+//! are carried out, or none.
+//! Each demand is judged on the references before; a refusal leaves them as they were.
+#![tactic(auto)]
+
+mod carrying;
+mod command;
+mod command_line;
+mod conflict;
+mod fault;
+mod judging;
+mod known;
+mod line;
+mod order;
+mod reading;
+mod ref_map;
+mod ref_word;
+mod refs;
+mod repeated;
+#[cfg(test)]
+mod tests;
+mod transact;
+
+pub use crate::command::{Change, Command, Demand};
+pub use crate::fault::{ApplyError, CommandFault, ReadError, TxRefusal};
+pub use crate::known::Known;
+pub use crate::line::{Line, first_line};
+pub use crate::reading::{MAX_COMMANDS, first_command, read_commands};
+pub use crate::ref_word::RefWord;
+pub use crate::refs::Refs;
+pub use crate::transact::MAX_REFERENCES;

@@ -1,0 +1,110 @@
+ghost use Rattle.std.specs.Prelude.{◌≡◌, ◌==◌, Ok, OnOk, OnErr, IfOk, IfErr};
+ghost use Rattle.std.specs.FinMap as map;
+ghost use Rattle.std.specs.List.Sorted.{IsStrictlySortedBy};
+ghost use Rattle.git_name.specs.Name.{name_cmp};
+ghost use Rattle.git_reftx.specs.Judging.{TellsTransacted};
+ghost use Rattle.git_reftx.specs.Sound.{AreSound};
+ghost use Rattle.git_reftx.specs.Transaction.{transacted};
+
+use crate::command::Command;
+use crate::fault::ApplyError;
+use crate::known::Known;
+use crate::ref_map::RefMap;
+use crate::transact::transact;
+use git_name::Name;
+use git_refname::RefName;
+use std::alloc::{AllocError, Global};
+use std::collections::btree_map::Iter;
+use std::marker::Model;
+
+/// The references of a repository: at most 4,096 (own), of which none stands above another. Contracts
+/// see them as a map from names of references to names of objects.
+#[derive(Drop)]
+pub struct Refs {
+    map: RefMap,
+}
+
+impl Model for Refs {
+    ghost use Rattle.std.specs.FinMap as finite;
+    ghost use Rattle.std.specs.Coded.{coded_list, coded_ℕ};
+    ghost use Rattle.git_reftx.specs.Sound.{AreSound};
+    ghost use Rattle.git_reftx.specs.Transaction.{References};
+
+    ghost Value = { References };
+
+    ghost coded = { finite.code (coded_list coded_ℕ) (coded_list coded_ℕ) };
+
+    ghost view = { λ a. a.map };
+
+    ghost invariant = { λ a. AreSound a.map };
+}
+
+impl Refs {
+    /// No references.
+    pub fn new(alloc: Global) -> Refs
+        ensures { result ≡ map.empty }
+    {
+        Refs {
+            map: RefMap::new(alloc),
+        }
+    }
+
+    /// How many there are.
+    pub fn len(&self) -> usize
+        ensures len { result ≡ map.len self.now }
+        ensures sound { AreSound self.now }
+    {
+        self.map.len()
+    }
+
+    /// Whether there are none.
+    pub fn is_empty(&self) -> bool
+        ensures { result ≡ (map.len self.now == 0) }
+    {
+        self.map.len() == 0
+    }
+
+    /// The object at which the reference points, where it is there.
+    pub fn get(&self, name: &RefName) -> Option<Name>
+        ensures { result ≡ map.get self.now name.now }
+    {
+        self.map.get(name)
+    }
+
+    /// The references, by name, in ascending order.
+    pub fn iter(&self) -> Iter<'_, RefName, Name>
+        ensures entries { result ≡ map.entries self.now }
+        ensures ordered { IsStrictlySortedBy name_cmp (map.keys self.now) }
+    {
+        self.map.iter()
+    }
+
+    /// The same references once more.
+    pub fn copy(&self) -> Result<Refs, AllocError>
+        ensures { IfOk result (λ copied. copied ≡ self.now) }
+    {
+        let map = self.map.copy()?;
+        Ok(Refs { map })
+    }
+
+    /// Carries out all commands of a transaction, or none: an `Err` leaves the references as they were.
+    /// An error's refusal is the first that meets the commands.
+    pub fn apply<K: Known>(
+        &mut self,
+        alloc: Global,
+        commands: &[Command],
+        known: &K,
+    ) -> Result<(), ApplyError>
+        ensures ok { OnOk result (transacted self.old commands.now (K.kinds known.now) ≡ Ok self.new) }
+        ensures err { OnErr result (self.new ≡ self.old) }
+        ensures cause { IfErr result (TellsTransacted (transacted self.old commands.now (K.kinds known.now))) }
+    {
+        match transact(alloc, &self.map, commands, known) {
+            Ok(map) => {
+                self.map = map;
+                Ok(())
+            }
+            Err(error) => Err(error),
+        }
+    }
+}

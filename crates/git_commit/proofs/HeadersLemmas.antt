@@ -5,6 +5,7 @@ use Rattle.std.proofs.lemmas.List.Concat.{flat_map-append}
 use Rattle.std.proofs.lemmas.List.{append-nil}
 use Rattle.std.proofs.lemmas.List.Elements.{AllWithin-more, All-head, All-from_recursion, recursion_from_All}
 use Rattle.std.specs.Borrow.{Bor}
+use Rattle.git_name.specs.declared.kind.Kind.{Kind}
 use Rattle.git_name.specs.declared.kind.Kind.TheVariants.{Commit}
 use Rattle.git_commit.specs.declared.fault.CommitFault.{CommitFault}
 use Rattle.git_commit.specs.Line.{Lacks, IsEnding, IsLine, IsNoLine, ended}
@@ -17,8 +18,8 @@ use Rattle.git_commit.proofs.JudgingLemmas.{IsSound, lines_then, no_line_ends, n
 use Rattle.git_commit.proofs.FieldLemmas.{usual, space_goes_on, headers_right, place_behind}
 use Rattle.git_commit.proofs.CommitLemmas.{further_no_zero, further_no_end, further_some, further_stands, line_no_end}
 
-sound_headers : IsSound (header_grammar Commit)
-sound_headers = record { no_zero = further_no_zero Commit; no_end = further_no_end Commit; some = further_some Commit; stands = further_stands Commit }
+sound_headers : (kind : Kind) → IsSound (header_grammar kind)
+sound_headers kind = record { no_zero = further_no_zero kind; no_end = further_no_end kind; some = further_some kind; stands = further_stands kind }
 
 abbrev made : List ℕ → List ℕ → List (List ℕ) → HeaderValue
 made key value more = record { key = key; value = value; more = more }
@@ -37,13 +38,13 @@ more_agree (v ∷ vs) (w ∷ ws) a b p q fresh_a fresh_b same =
     let later = more_agree vs ws a b p.1 q.1 fresh_a fresh_b one.1 in
     (ap (λ (h : List ℕ). h ∷ vs) one.0 ∙ ap (λ (t : List (List ℕ)). w ∷ t) later.0, later.1)
 
-key_line_end : (h : HeaderValue) → IsHeader Commit h → Lacks 10 (h.key ++ 32 ∷ h.value)
-key_line_end h is = line_no_end Commit (h.key ++ 32 ∷ h.value) (record { key = h.key; value = h.value; key_is = is.key; value_is = is.value; spelling = refl })
+key_line_end : (kind : Kind) (h : HeaderValue) → IsHeader kind h → Lacks 10 (h.key ++ 32 ∷ h.value)
+key_line_end kind h is = line_no_end kind (h.key ++ 32 ∷ h.value) (record { key = h.key; value = h.value; key_is = is.key; value_is = is.value; spelling = refl })
 
 -- a row of further headers begins with no space
-fresh_row : (hs : List HeaderValue) → AllByRecursion (IsHeader Commit) hs → Fresh (flat_map ended (flat_map header_lines hs))
-fresh_row [] are line e = let no_such : ⊥ = cc in no_such
-fresh_row (h ∷ hs) are line e = from h.key _ are.0.key.some are.0.key.no_space (sym (lines_first h hs) ∙ e)
+fresh_row : (kind : Kind) (hs : List HeaderValue) → AllByRecursion (IsHeader kind) hs → Fresh (flat_map ended (flat_map header_lines hs))
+fresh_row kind [] are line e = let no_such : ⊥ = cc in no_such
+fresh_row kind (h ∷ hs) are line e = from h.key _ are.0.key.some are.0.key.no_space (sym (lines_first h hs) ∙ e)
   where
     lines_first : (h : HeaderValue) (hs : List HeaderValue) → flat_map ended (flat_map header_lines (h ∷ hs)) ≡ (h.key ++ 32 ∷ h.value) ++ 10 ∷ flat_map ended (map continued h.more ++ flat_map header_lines hs)
     lines_first h hs = append_assoc (h.key ++ 32 ∷ h.value) (10 ∷ []) (flat_map ended (map continued h.more ++ flat_map header_lines hs))
@@ -52,54 +53,54 @@ fresh_row (h ∷ hs) are line e = from h.key _ are.0.key.some are.0.key.no_space
     from [] rest some lacks same = some refl
     from (b ∷ key) rest some lacks same = All-head (λ x. x ≢ 32) b key lacks (heads b 32 _ _ same)
 
-same_header : (h k : HeaderValue) (a b : List ℕ) → IsHeader Commit h → IsHeader Commit k → Fresh a → Fresh b → flat_map ended (header_lines h) ++ a ≡ flat_map ended (header_lines k) ++ b → (h ≡ k) × (a ≡ b)
-same_header h k a b is is_k fresh_a fresh_b same =
-    let first = split_unique 10 (h.key ++ 32 ∷ h.value) (flat_map ended (map continued h.more) ++ a) (k.key ++ 32 ∷ k.value) (flat_map ended (map continued k.more) ++ b) (key_line_end h is) (key_line_end k is_k)
+same_header : (kind : Kind) (h k : HeaderValue) (a b : List ℕ) → IsHeader kind h → IsHeader kind k → Fresh a → Fresh b → flat_map ended (header_lines h) ++ a ≡ flat_map ended (header_lines k) ++ b → (h ≡ k) × (a ≡ b)
+same_header kind h k a b is is_k fresh_a fresh_b same =
+    let first = split_unique 10 (h.key ++ 32 ∷ h.value) (flat_map ended (map continued h.more) ++ a) (k.key ++ 32 ∷ k.value) (flat_map ended (map continued k.more) ++ b) (key_line_end kind h is) (key_line_end kind k is_k)
     (sym (lines_then (h.key ++ 32 ∷ h.value) (map continued h.more) a) ∙ same ∙ lines_then (k.key ++ 32 ∷ k.value) (map continued k.more) b) in
     let sides = split_unique 32 h.key h.value k.key k.value is.key.no_space is_k.key.no_space first.0 in
     let more = more_agree h.more k.more a b is.more is_k.more fresh_a fresh_b first.1 in
     (ap (λ x. made x h.value h.more) sides.0 ∙ ap (λ x. made k.key x h.more) sides.1 ∙ ap (λ x. made k.key k.value x) more.0, more.1)
 
-first_header : (hs : List HeaderValue) (h : HeaderValue) (bytes after : List ℕ) → AllByRecursion (IsHeader Commit) hs → IsHeader Commit h → bytes ≡ flat_map ended (flat_map header_lines hs) → bytes ≡ flat_map ended (header_lines h) ++ after → Fresh after
-    → (others : List HeaderValue) × (hs ≡ h ∷ others) × (after ≡ flat_map ended (flat_map header_lines others)) × AllByRecursion (IsHeader Commit) others
-first_header [] h bytes after are is spelled begins fresh = absurd (none (h.key ++ 32 ∷ h.value) _ (sym (sym spelled ∙ begins ∙ lines_then (h.key ++ 32 ∷ h.value) (map continued h.more) after)))
+first_header : (kind : Kind) (hs : List HeaderValue) (h : HeaderValue) (bytes after : List ℕ) → AllByRecursion (IsHeader kind) hs → IsHeader kind h → bytes ≡ flat_map ended (flat_map header_lines hs) → bytes ≡ flat_map ended (header_lines h) ++ after → Fresh after
+    → (others : List HeaderValue) × (hs ≡ h ∷ others) × (after ≡ flat_map ended (flat_map header_lines others)) × AllByRecursion (IsHeader kind) others
+first_header kind [] h bytes after are is spelled begins fresh = absurd (none (h.key ++ 32 ∷ h.value) _ (sym (sym spelled ∙ begins ∙ lines_then (h.key ++ 32 ∷ h.value) (map continued h.more) after)))
   where
     none : (l rest : List ℕ) → l ++ 10 ∷ rest ≡ [] → ⊥
     none [] rest e = let no_such : ⊥ = cc in no_such
     none (b ∷ l) rest e = let no_such : ⊥ = cc in no_such
-first_header (k ∷ hs) h bytes after are is spelled begins fresh =
+first_header kind (k ∷ hs) h bytes after are is spelled begins fresh =
     let whole : bytes ≡ flat_map ended (header_lines k) ++ flat_map ended (flat_map header_lines hs) = spelled ∙ flat_map-append ended (header_lines k) (flat_map header_lines hs) in
-    let same = same_header k h (flat_map ended (flat_map header_lines hs)) after are.0 is (fresh_row hs are.1) fresh (sym whole ∙ begins) in
+    let same = same_header kind k h (flat_map ended (flat_map header_lines hs)) after are.0 is (fresh_row kind hs are.1) fresh (sym whole ∙ begins) in
     (hs, ap (λ (x : HeaderValue). x ∷ hs) same.0, sym same.1, are.1)
 
 -- what stands behind the first further header
-pub headers_step : (h : HeaderValue) (bytes after : List ℕ) → AreHeaders Commit bytes → IsHeader Commit h → bytes ≡ flat_map ended (header_lines h) ++ after → Fresh after → (headers_in bytes ≡ h ∷ headers_in after) × AreHeaders Commit after
-headers_step h bytes after row is begins fresh =
-    let cut = first_header (headers_in bytes) h bytes after row.each is row.spelling begins fresh in
-    let rest = headers_of Commit cut.0 after cut.3 cut.2 in
+pub headers_step : (kind : Kind) (h : HeaderValue) (bytes after : List ℕ) → AreHeaders kind bytes → IsHeader kind h → bytes ≡ flat_map ended (header_lines h) ++ after → Fresh after → (headers_in bytes ≡ h ∷ headers_in after) × AreHeaders kind after
+headers_step kind h bytes after row is begins fresh =
+    let cut = first_header kind (headers_in bytes) h bytes after row.each is row.spelling begins fresh in
+    let rest = headers_of kind cut.0 after cut.3 cut.2 in
     (cut.1 ∙ ap (λ (t : List HeaderValue). h ∷ t) (sym rest.0), rest.1)
 
-pub headers_no_fault : (why : CommitFault) (bytes : List ℕ) → AreHeaders Commit bytes → IsFirstFault (header_grammar Commit) NoHeader why bytes → ⊥
-headers_no_fault why bytes row wrong =
-    no_fault (header_grammar Commit) sound_headers NoHeader (place_behind (headers_in bytes)) why (flat_map header_lines (headers_in bytes)) [] bytes (headers_right Commit (headers_in bytes) row.each) tt (None, refl)
+pub headers_no_fault : (kind : Kind) (why : CommitFault) (bytes : List ℕ) → AreHeaders kind bytes → IsFirstFault (header_grammar kind) NoHeader why bytes → ⊥
+headers_no_fault kind why bytes row wrong =
+    no_fault (header_grammar kind) (sound_headers kind) NoHeader (place_behind (headers_in bytes)) why (flat_map header_lines (headers_in bytes)) [] bytes (headers_right kind (headers_in bytes) row.each) tt (None, refl)
     (row.spelling ∙ sym (append-nil (flat_map ended (flat_map header_lines (headers_in bytes))))) wrong
 
-headers_go_on : (hs : List HeaderValue) (bytes : List ℕ) → AllByRecursion (IsHeader Commit) hs → bytes ≡ flat_map ended (flat_map header_lines hs) → 0 < length bytes → IsEnding bytes → ⊥
-headers_go_on [] bytes are spelled some ends = let len : length bytes ≡ 0 = ap length spelled in absurd (omega arith)
-headers_go_on (h ∷ hs) bytes are spelled some ends =
+headers_go_on : (kind : Kind) (hs : List HeaderValue) (bytes : List ℕ) → AllByRecursion (IsHeader kind) hs → bytes ≡ flat_map ended (flat_map header_lines hs) → 0 < length bytes → IsEnding bytes → ⊥
+headers_go_on kind [] bytes are spelled some ends = let len : length bytes ≡ 0 = ap length spelled in absurd (omega arith)
+headers_go_on kind (h ∷ hs) bytes are spelled some ends =
     no_line_ends (h.key ++ 32 ∷ h.value) (flat_map ended (map continued h.more ++ flat_map header_lines hs)) bytes
     (record {
       parts = spelled ∙ append_assoc (h.key ++ 32 ∷ h.value) (10 ∷ []) (flat_map ended (map continued h.more ++ flat_map header_lines hs));
-      no_end = key_line_end h are.0;
-      some = further_some Commit NoHeader (h.key ++ 32 ∷ h.value) (record { key = h.key; value = h.value; key_is = are.0.key; value_is = are.0.value; spelling = refl });
+      no_end = key_line_end kind h are.0;
+      some = further_some kind NoHeader (h.key ++ 32 ∷ h.value) (record { key = h.key; value = h.value; key_is = are.0.key; value_is = are.0.value; spelling = refl });
     }) ends
 
-pub row_goes_on : (bytes : List ℕ) → AreHeaders Commit bytes → 0 < length bytes → IsEnding bytes → ⊥
-row_goes_on bytes row some ends = headers_go_on (headers_in bytes) bytes row.each row.spelling some ends
+pub row_goes_on : (kind : Kind) (bytes : List ℕ) → AreHeaders kind bytes → 0 < length bytes → IsEnding bytes → ⊥
+row_goes_on kind bytes row some ends = headers_go_on kind (headers_in bytes) bytes row.each row.spelling some ends
 
-pub no_headers : (bytes : List ℕ) → length bytes ≡ 0 → headers_in bytes ≡ []
-no_headers [] none = (headers_of Commit [] [] tt refl).0
-no_headers (b ∷ bytes) none = absurd (omega arith)
+pub no_headers : (kind : Kind) (bytes : List ℕ) → length bytes ≡ 0 → headers_in bytes ≡ []
+no_headers kind [] none = (headers_of kind [] [] tt refl).0
+no_headers kind (b ∷ bytes) none = absurd (omega arith)
 
 -- ---- continuation lines
 
@@ -127,7 +128,7 @@ more_is_line [] why text plain spelled some wrong = let len : length text ≡ 0 
 more_is_line (v ∷ vs) why text plain spelled some wrong =
     let rest = flat_map ended (map continued vs) in
     let whole : text ≡ continued v ++ 10 ∷ rest = spelled ∙ append_assoc (continued v) (10 ∷ []) rest in
-    right_not_broken (header_grammar Commit) sound_headers why SomeHeader (continued v) rest text (inr (record { value = v; value_is = plain.0; spelling = refl })) whole
+    right_not_broken (header_grammar Commit) (sound_headers Commit) why SomeHeader (continued v) rest text (inr (record { value = v; value_is = plain.0; spelling = refl })) whole
     (no_line_broken itself (header_grammar Commit) (usual Commit) why SomeHeader text wrong (λ ends _. space_goes_on text (v ++ 10 ∷ rest) whole ends))
 
 pub more_no_fault : (why : CommitFault) (text : List ℕ) → IsMore text → 0 < length text → IsNoLine why text → ⊥

@@ -9,3 +9,7 @@ pub mod HeadersLemmas
 pub mod WholeLemmas
 pub mod ReadLemmas
 pub mod WritingLemmas
+pub mod PartingLemmas
+pub mod TestLemmas
+pub mod CommitInLemmas
+pub mod Examples

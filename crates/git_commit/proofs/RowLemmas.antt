@@ -21,13 +21,13 @@ tested_true : {A : Type 0} (c : ℕ) (x y : A) → cond (eqb c c) x y ≡ x
 tested_true c x y = grind (arith, nat_tests)
 
 -- the first line of bytes
-line_first : (line rest : List ℕ) → AllByRecursion (λ b. b ≢ 10) line → lines_in (line ++ 10 ∷ rest) ≡ line ∷ lines_in rest
+pub line_first : (line rest : List ℕ) → AllByRecursion (λ b. b ≢ 10) line → lines_in (line ++ 10 ∷ rest) ≡ line ∷ lines_in rest
 unfolding lines_in
 line_first [] rest lacks = tested_true 10 ([] ∷ lines_in rest) (before_first 10 (lines_in rest))
 line_first (b ∷ line) rest lacks =
     tested_false b 10 ([] ∷ lines_in (line ++ 10 ∷ rest)) (before_first b (lines_in (line ++ 10 ∷ rest))) lacks.0 ∙ ap (before_first b) (line_first line rest lacks.1)
 
-no_lines : lines_in [] ≡ []
+pub no_lines : lines_in [] ≡ []
 unfolding lines_in
 no_lines = refl
 

@@ -10,3 +10,7 @@ pub mod Lent
 pub mod Left
 pub mod More
 pub mod Whole
+pub mod Parting
+pub mod IdentIn
+pub mod Tests
+pub mod CommitIn

@@ -26,7 +26,10 @@ pub struct Commit<'a> {
 }
 
 impl<'a> Commit<'a> {
+    ghost use Rattle.std.specs.Option.{option_map};
+    ghost use Rattle.std.specs.Result.{result_ok};
     ghost use Rattle.git_commit.specs.Whole.{commit_of};
+    ghost use Rattle.git_commit.specs.CommitIn.{commit_in};
     ghost use Rattle.git_commit.specs.Commit.{CommitValue, IsCommit};
     ghost use Rattle.git_commit.specs.Fault.{IsCommitFault};
     ghost use Rattle.git_commit.specs.View.{ident_of};
@@ -75,6 +78,8 @@ impl<'a> Commit<'a> {
         ensures found { IfOk result (λ commit. IsCommit (commit_of commit) bytes.now) }
         // What is a commit is read.
         ensures only { (value : CommitValue) → IsCommit value bytes.now → IsOkAnd result (λ commit. commit_of commit ≡ value) }
+        // And what models compute.
+        ensures value { option_map commit_of (result_ok result) ≡ commit_in bytes.now }
         // Which fault it is.
         ensures exact { IfErr result (λ why. IsCommitFault why bytes.now) }
     {

@@ -37,6 +37,20 @@ pub struct Continuation<'a> {
     pub ghost right: { IsMoreOf rest } by { Prim.hlevel props },
 }
 
+impl<'a> Continuation<'a> {
+    ghost use Rattle.git_commit.specs.Left.{more_left};
+
+    /// The values of the continuation lines that the bytes are.
+    pub fn read(text: &'a [u8]) -> Continuation<'a>
+        requires { IsMore text.now }
+        ensures { more_left result ≡ more_in text.now }
+    {
+        Continuation {
+            rest: More::Text(text),
+        }
+    }
+}
+
 impl<'a> Iterator for Continuation<'a> {
     ghost use Rattle.std.specs.Iterator.{YieldsFirstBy, item_count};
     ghost use Rattle.git_commit.specs.More.{more_of};

@@ -1,6 +1,7 @@
-ghost use Rattle.std.specs.Prelude.{◌≡◌, List, ℕ};
+ghost use Rattle.std.specs.Prelude.{◌≡◌, List, ℕ, Some};
 ghost use Rattle.git_commit.specs.declared.fault.CommitFault.{CommitFault};
 ghost use Rattle.git_commit.specs.Commit.{CommitValue, IsCommit};
+ghost use Rattle.git_commit.specs.CommitIn.{commit_in};
 ghost use Rattle.git_commit.specs.Fault.{IsCommitFault};
 ghost use Rattle.git_commit.specs.Ident.{IdentValue, IsIdent};
 
@@ -14,4 +15,10 @@ pub fn one_value()
 pub fn one_fault()
     ensures one { (bytes : List ℕ) (f g : CommitFault) → IsCommitFault f bytes → IsCommitFault g bytes → f ≡ g }
     ensures none { (bytes : List ℕ) (v : CommitValue) (f : CommitFault) → IsCommit v bytes → IsCommitFault f bytes → ⊥ }
+{}
+
+/// A law, and no work: the tests that models compute by find exactly the commit that bytes are.
+pub fn tests_find_the_commit()
+    ensures found { (bytes : List ℕ) (commit : CommitValue) → commit_in bytes ≡ Some commit → IsCommit commit bytes }
+    ensures only { (bytes : List ℕ) (commit : CommitValue) → IsCommit commit bytes → commit_in bytes ≡ Some commit }
 {}

@@ -21,7 +21,7 @@ pub use crate::fault::CommitFault;
 pub use crate::header::{Continuation, Header};
 pub use crate::headers::Headers;
 pub use crate::ident::{Ident, Sign};
-pub use crate::laws::{one_fault, one_value};
+pub use crate::laws::{one_fault, one_value, tests_find_the_commit};
 pub use crate::parents::Parents;
 pub use crate::writing::write;
 

@@ -2,7 +2,9 @@ use crate::fault::CommitFault;
 use crate::field::{is_own_word, take_field, take_fields, take_more};
 use crate::line::{after_word, cut, is_ending, message_in, take_line, take_value};
 use crate::value::{take_ident, take_name};
-use crate::{Commit, Header, Ident, Sign, one_fault, one_value, write};
+use crate::{
+    Commit, Continuation, Header, Ident, Sign, one_fault, one_value, tests_find_the_commit, write,
+};
 use git_name::{Kind, Name, name_of};
 use std::alloc::Global;
 use std::test::Fail;
@@ -224,6 +226,7 @@ fn a_commit_gives_its_parts(rt: HostRuntime) -> Result<(), Fail> {
     assert!(rt; commit.message() == Some(b"one\n".as_slice()));
     one_value();
     one_fault();
+    tests_find_the_commit();
     Ok(())
 }
 
@@ -329,7 +332,9 @@ fn a_tag_can_be_read_by_the_same_readers(rt: HostRuntime) -> Result<(), Fail> {
         .ok()
         .ok_or("a header")?;
     assert!(rt; field.key == b"x".as_slice() && field.more == b" z\n".as_slice());
-    assert!(rt; is_ending(end) && take_more(b" z\n").is_ok());
+    assert!(rt; is_ending(end));
+    let (more, _) = take_more(b" z\n").ok().ok_or("more")?;
+    assert!(rt; Continuation::read(more).next() == Some(b"z".as_slice()));
     let (fields, rest) = take_fields(Kind::Tag, rest).ok().ok_or("headers")?;
     assert!(rt; fields.len() == 7 && message_in(rest) == Some(b"m".as_slice()));
     assert!(rt; is_own_word(Kind::Tag, b"tagger") && !is_own_word(Kind::Commit, b"tagger"));

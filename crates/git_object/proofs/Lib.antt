@@ -1,3 +1,6 @@
 pub mod TagLemmas
 pub mod WholeLemmas
 pub mod ObjectLemmas
+pub mod TagInLemmas
+pub mod ObjectInLemmas
+pub mod Examples

@@ -94,7 +94,7 @@ is_false : (b : Bool) → (b ≡ true → ⊥) → b ≡ false
 is_false true not = absurd (not refl)
 is_false false not = refl
 
-no_tagger : (text : List ℕ) → (Begins (codes "tagger ") text → ⊥) → is_tagger text ≡ false
+pub no_tagger : (text : List ℕ) → (Begins (codes "tagger ") text → ⊥) → is_tagger text ≡ false
 no_tagger text other = is_false (is_tagger text) (λ is. other (drop 7 text, sym (take-append-drop 7 text) ∙ ap (λ (t : List ℕ). t ++ drop 7 text) ((bytes_eq-Decides (take 7 text) (codes "tagger ")).0 is)))
 
 -- a further header doesn't begin with the word

@@ -1,5 +1,5 @@
 -- A tag is read in one way.
-use Rattle.std.proofs.Common.{◌≡◌, ◌≢◌, ℕ, ◌==◌, if◌then◌else◌, slice_index, List, [], ◌∷◌, ◌++◌, refl, sym, ap, subst, ◌∙◌, codes, Option, Some, None, Result, Ok, Err}
+use Rattle.std.proofs.Common.{◌≡◌, ◌≢◌, ℕ, List, [], ◌∷◌, ◌++◌, refl, sym, ap, subst, ◌∙◌, codes, Option, Some, None, Result, Ok, Err}
 use Rattle.std.specs.Prelude.{IfOk, IfErr, IsOkAnd}
 use Rattle.std.specs.List.{AllByRecursion, flat_map}
 use Rattle.hex.specs.Hex.{encode_lower}
@@ -22,6 +22,7 @@ use Rattle.git_commit.proofs.CommitLemmas.{name_same}
 use Rattle.git_commit.proofs.WholeLemmas.{IsRead, go_on, same_ending, same_ident}
 use Rattle.git_object.specs.declared.fault.TagFault.{TagFault}
 use Rattle.git_object.specs.Tag.{TagValue, IsTagName, IsTagger, IsTag, type_line, tag_line, tagger_lines, tag_lines}
+use Rattle.git_object.specs.TagIn.{kind_in}
 use Rattle.git_object.specs.Fault.{tag_fault, TagPlace, AtObject, AtType, AtName, AtTagger, Further, tag_grammar, IsTagFault}
 use Rattle.git_object.proofs.TagLemmas.{sound_tag, header_no_tagger, further_within, fault_at_tagger, last_of, may_end, tagger_right, tag_right}
 
@@ -78,18 +79,14 @@ read_whole bytes part rest after v object name tagger read row headers parts end
 
 -- ---- one value
 
--- the kind, told by the bytes in which the words differ
-abbrev kind_of : List ℕ → Kind
-kind_of word = if slice_index word 0 == 98 then kind.Blob else if slice_index word 0 == 99 then kind.Commit else if slice_index word 1 == 114 then kind.Tree else kind.Tag
-
-kind_back : (k : Kind) → kind_of (type_word k) ≡ k
+pub kind_back : (k : Kind) → kind_in (type_word k) ≡ k
 kind_back kind.Blob = refl
 kind_back kind.Tree = refl
 kind_back kind.Commit = refl
 kind_back kind.Tag = refl
 
 kind_same : (a b : Kind) → type_word a ≡ type_word b → a ≡ b
-kind_same a b same = sym (kind_back a) ∙ ap kind_of same ∙ kind_back b
+kind_same a b same = sym (kind_back a) ∙ ap kind_in same ∙ kind_back b
 
 first_line : {l m : List ℕ} {ls ms : List (List ℕ)} → l ∷ ls ≡ m ∷ ms → l ≡ m
 first_line e = cc

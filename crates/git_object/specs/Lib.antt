@@ -8,3 +8,6 @@ pub mod Form
 pub mod Held
 pub mod Left
 pub mod Rest
+pub mod TagIn
+pub mod ObjectIn
+pub mod TagHeader

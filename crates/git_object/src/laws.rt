@@ -1,10 +1,12 @@
-ghost use Rattle.std.specs.Prelude.{◌≡◌, List, ℕ};
+ghost use Rattle.std.specs.Prelude.{◌≡◌, List, ℕ, Some};
 ghost use Rattle.git_object.specs.declared.fault.TagFault.{TagFault};
 ghost use Rattle.git_object.specs.Tag.{TagValue, IsTag};
 ghost use Rattle.git_object.specs.Fault.{IsTagFault};
 ghost use Rattle.git_name.specs.declared.kind.Kind.{Kind};
 ghost use Rattle.git_object.specs.declared.object.ObjectFault.{ObjectFault};
 ghost use Rattle.git_object.specs.Object.{ObjectValue, IsObject, IsObjectFault};
+ghost use Rattle.git_object.specs.ObjectIn.{object_in};
+ghost use Rattle.git_object.specs.TagIn.{tag_in};
 
 /// A law, and no work: bytes are one tag at the most.
 pub fn one_tag()
@@ -21,4 +23,16 @@ pub fn one_tag_fault()
 pub fn one_object()
     ensures one { (kind : Kind) (bytes : List ℕ) (v w : ObjectValue) → IsObject v kind bytes → IsObject w kind bytes → v ≡ w }
     ensures none { (kind : Kind) (bytes : List ℕ) (v : ObjectValue) (f : ObjectFault) → IsObject v kind bytes → IsObjectFault f kind bytes → ⊥ }
+{}
+
+/// A law, and no work: the tests that models compute by find exactly the tag that bytes are.
+pub fn tests_find_the_tag()
+    ensures found { (bytes : List ℕ) (tag : TagValue) → tag_in bytes ≡ Some tag → IsTag tag bytes }
+    ensures only { (bytes : List ℕ) (tag : TagValue) → IsTag tag bytes → tag_in bytes ≡ Some tag }
+{}
+
+/// A law, and no work: they find exactly the object of a kind that bytes are.
+pub fn tests_find_the_object()
+    ensures found { (kind : Kind) (bytes : List ℕ) (object : ObjectValue) → object_in kind bytes ≡ Some object → IsObject object kind bytes }
+    ensures only { (kind : Kind) (bytes : List ℕ) (object : ObjectValue) → IsObject object kind bytes → object_in kind bytes ≡ Some object }
 {}

@@ -40,8 +40,11 @@ pub struct Object<'a> {
 }
 
 impl<'a> Object<'a> {
+    ghost use Rattle.std.specs.Option.{option_map};
+    ghost use Rattle.std.specs.Result.{result_ok};
     ghost use Rattle.git_object.specs.Held.{object_of};
     ghost use Rattle.git_object.specs.Object.{ObjectValue, IsObject, IsObjectFault};
+    ghost use Rattle.git_object.specs.ObjectIn.{object_in, links_in, links_or_none};
 
     // The object, by its kind.
     fn parts_of(kind: Kind, bytes: &'a [u8]) -> Result<Object<'a>, ObjectFault>
@@ -79,6 +82,9 @@ impl<'a> Object<'a> {
         ensures found { IfOk result (λ object. IsObject (object_of object) kind bytes.now) }
         // What is an object of the kind is read.
         ensures only { (value : ObjectValue) → IsObject value kind bytes.now → IsOkAnd result (λ object. object_of object ≡ value) }
+        // And what models compute, with its links.
+        ensures value { option_map object_of (result_ok result) ≡ object_in kind bytes.now }
+        ensures links { links_or_none (option_map object_of (result_ok result)) ≡ links_in kind bytes.now }
         // Which fault it is.
         ensures exact { IfErr result (λ why. IsObjectFault why kind bytes.now) }
     {

@@ -1,7 +1,11 @@
 ghost use Rattle.std.specs.Prelude.{◌≡◌, IfOk, IfErr, IsOkAnd};
+ghost use Rattle.std.proofs.Props.{props};
+ghost use Rattle.git_name.specs.declared.kind.Kind.TheVariants.{Tag as OfTag};
+ghost use Rattle.git_commit.specs.Row.{AreHeaders};
 
 use crate::fault::TagFault;
 use crate::parts::{take_object, take_tag_name, take_tagger, take_type};
+use crate::tag_headers::TagHeaders;
 use git_commit::Ident;
 use git_commit::field::take_fields;
 use git_commit::line::message_in;
@@ -16,13 +20,18 @@ pub struct Tag<'a> {
     tagger: Option<Ident<'a>>,
     headers: &'a [u8],
     message: Option<&'a [u8]>,
+    pub ghost headers_are: { AreHeaders OfTag headers.now } by { Prim.hlevel props },
 }
 
 impl<'a> Tag<'a> {
+    ghost use Rattle.std.specs.Option.{option_map};
+    ghost use Rattle.std.specs.Result.{result_ok};
     ghost use Rattle.git_commit.specs.Lent.{message_of};
     ghost use Rattle.git_object.specs.Whole.{tag_of};
     ghost use Rattle.git_object.specs.Tag.{TagValue, IsTag};
+    ghost use Rattle.git_object.specs.TagIn.{tag_in};
     ghost use Rattle.git_object.specs.Fault.{IsTagFault};
+    ghost use Rattle.git_object.specs.TagHeader.{tag_headers_left};
     ghost use Rattle.git_object.specs.View.{tagger_of};
 
     // The parts of a tag, each read in turn.
@@ -67,6 +76,8 @@ impl<'a> Tag<'a> {
         ensures found { IfOk result (λ tag. IsTag (tag_of tag) bytes.now) }
         // What is a tag is read.
         ensures only { (value : TagValue) → IsTag value bytes.now → IsOkAnd result (λ tag. tag_of tag ≡ value) }
+        // And what models compute.
+        ensures value { option_map tag_of (result_ok result) ≡ tag_in bytes.now }
         // Which fault it is.
         ensures exact { IfErr result (λ why. IsTagFault why bytes.now) }
     {
@@ -99,6 +110,13 @@ impl<'a> Tag<'a> {
         ensures { tagger_of result ≡ (tag_of self.now).tagger }
     {
         self.tagger
+    }
+
+    /// The further headers, in order.
+    pub fn headers(&self) -> TagHeaders<'a>
+        ensures { tag_headers_left result ≡ (tag_of self.now).headers }
+    {
+        TagHeaders::new(self.headers)
     }
 
     /// The message. None and an empty one are two tags.

@@ -1,4 +1,7 @@
-use crate::{Link, Object, ObjectFault, Tag, TagFault, links, one_object, one_tag, one_tag_fault};
+use crate::{
+    Link, Object, ObjectFault, Tag, TagFault, TagHeader, links, one_object, one_tag, one_tag_fault,
+    tests_find_the_object, tests_find_the_tag,
+};
 use git_commit::CommitFault;
 use git_name::{Kind, Name, name_of};
 use git_tree::TreeFault;
@@ -104,6 +107,8 @@ fn what_git_tagged_is_read(rt: HostRuntime) -> Result<(), Fail> {
     one_tag();
     one_tag_fault();
     one_object();
+    tests_find_the_tag();
+    tests_find_the_object();
     for (digits, text) in MADE_BY_GIT {
         let bytes = text.as_bytes();
         let name = named(digits)?;
@@ -139,6 +144,38 @@ fn an_old_tag_has_no_tagger_and_may_have_no_message(rt: HostRuntime) -> Result<(
     };
     assert!(rt; tag.tagger().is_none());
     assert!(rt; tag.message().is_none());
+    Ok(())
+}
+
+// Writes a further header as it stands in a tag.
+fn put_header(out: &mut Vec<u8>, header: &TagHeader<'_>) -> Result<(), Fail> {
+    out.extend_from_slice(header.key())?;
+    out.push(b' ')?;
+    out.extend_from_slice(header.value())?;
+    out.push(b'\n')?;
+    for more in header.more() {
+        out.push(b' ')?;
+        out.extend_from_slice(more)?;
+        out.push(b'\n')?;
+    }
+    Ok(())
+}
+
+#[test]
+fn a_tag_gives_its_further_headers(rt: HostRuntime) -> Result<(), Fail> {
+    let lines = "gpgsig-sha256 BEGIN\n \n  c\nx y\n";
+    for tagger in [TAGGER, ""] {
+        let bytes = joined(rt.alloc(), &[OBJECT, TYPE, NAME, tagger, lines, "\nm"])?;
+        let Ok(tag) = Tag::read(bytes.as_slice()) else {
+            assert!(rt; false, "no tag");
+            return Ok(());
+        };
+        let mut again = Vec::new(rt.alloc());
+        for header in tag.headers() {
+            put_header(&mut again, &header)?;
+        }
+        assert!(rt; again.as_slice() == lines.as_bytes());
+    }
     Ok(())
 }
 

@@ -1,0 +1,45 @@
+-- The commit that bytes are, found by tests, for models that compute (own). It says what `IsCommit`
+-- says, as the law `tests_find_the_commit` states.
+use Rattle.std.specs.Prelude.{ℕ, ◌&&◌, Bool, List, [], map, drop, length, get_or, Option, None, Some, if◌then◌else◌}
+use Rattle.std.specs.List.{list_all, take_while}
+use Rattle.std.specs.Str.{bytes_eq}
+use Rattle.git_name.specs.Name.{name_in}
+use Rattle.git_name.specs.declared.kind.Kind.TheVariants.{Commit}
+use Rattle.git_commit.specs.Commit.{CommitValue, spelled_commit}
+use Rattle.git_commit.specs.Fault.{is_parent}
+use Rattle.git_commit.specs.IdentIn.{ident_in}
+use Rattle.git_commit.specs.Parting.{header_part, message_part}
+use Rattle.git_commit.specs.Row.{name_or_none, gather}
+use Rattle.git_commit.specs.Tests.{is_name, is_ident, is_header}
+
+-- the test of a commit's parts
+abbrev pub is_commit : CommitValue → Bool
+is_commit commit = is_name commit.tree && list_all is_name commit.parents && is_ident commit.author && is_ident commit.committer && list_all (is_header Commit) commit.headers
+
+-- the line at a place, or an empty one
+abbrev pub line_at : ℕ → List (List ℕ) → List ℕ
+line_at place lines = get_or lines place []
+
+-- the name behind a word of so many bytes
+abbrev pub name_behind : ℕ → List ℕ → List ℕ
+name_behind len line = name_or_none (name_in (drop len line))
+
+-- the parts that lines and a message are, if they are those of a commit at all
+abbrev pub commit_from : List (List ℕ) → Option (List ℕ) → CommitValue
+commit_from lines message =
+    let parents = take_while is_parent (drop 1 lines) in
+    let others = drop (length parents) (drop 1 lines) in
+    record {
+      tree = name_behind 5 (line_at 0 lines);
+      parents = map (λ line. name_behind 7 line) parents;
+      author = ident_in (drop 7 (line_at 0 others));
+      committer = ident_in (drop 10 (line_at 1 others));
+      headers = (gather (drop 2 others)).headers;
+      message = message;
+    }
+
+-- the commit that bytes are, if they are one
+unfoldable pub commit_in : List ℕ → Option CommitValue
+commit_in bytes =
+    let commit = commit_from (header_part bytes) (message_part bytes) in
+    if is_commit commit && bytes_eq (spelled_commit commit) bytes then Some commit else None

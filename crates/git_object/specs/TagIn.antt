@@ -1,0 +1,63 @@
+-- The tag that bytes are, found by tests, for models that compute (own). It says what `IsTag` says,
+-- as the law `tests_find_the_tag` states.
+use Rattle.std.specs.Prelude.{ℕ, ◌&&◌, not, Bool, true, List, [], drop, codes, Option, None, Some, if◌then◌else◌}
+use Rattle.std.specs.List.{list_all}
+use Rattle.std.specs.Str.{bytes_eq}
+use Rattle.git_name.specs.declared.kind.Kind.{Kind}
+use Rattle.git_name.specs.declared.kind.Kind.TheVariants.{Blob, Tree, Commit, Tag}
+use Rattle.git_commit.specs.CommitIn.{line_at, name_behind}
+use Rattle.git_commit.specs.Ident.{IdentValue}
+use Rattle.git_commit.specs.IdentIn.{ident_in}
+use Rattle.git_commit.specs.Parting.{header_part, message_part}
+use Rattle.git_commit.specs.Row.{gather}
+use Rattle.git_commit.specs.Tests.{is_name, is_plain, is_ident, is_header}
+use Rattle.git_object.specs.Fault.{is_tagger}
+use Rattle.git_object.specs.Tag.{TagValue, spelled_tag}
+
+-- the test of the name that a tag gives itself
+abbrev pub is_tag_name : List ℕ → Bool
+is_tag_name name = not (bytes_eq name []) && is_plain name
+
+-- the test of a tagger, where there is one
+abbrev pub is_right_tagger : Option IdentValue → Bool
+is_right_tagger None = true
+is_right_tagger (Some ident) = is_ident ident
+
+-- the test of a tag's parts
+abbrev pub is_tag : TagValue → Bool
+is_tag tag = is_name tag.object && is_tag_name tag.name && is_right_tagger tag.tagger && list_all (is_header Tag) tag.headers
+
+-- the kind of a word, if it is that of one
+abbrev pub kind_in : List ℕ → Kind
+kind_in word =
+    if bytes_eq word (codes "blob") then Blob else
+    if bytes_eq word (codes "tree") then Tree else
+    if bytes_eq word (codes "commit") then Commit else Tag
+
+-- the tagger in a line, if it is that of one
+abbrev pub tagger_in : List ℕ → Option IdentValue
+tagger_in line = if is_tagger line then Some (ident_in (drop 7 line)) else None
+
+-- the lines behind that of a tagger, where there is one
+abbrev pub behind_tagger : Option IdentValue → List (List ℕ) → List (List ℕ)
+behind_tagger None lines = lines
+behind_tagger (Some ident) lines = drop 1 lines
+
+-- the parts that lines and a message are, if they are those of a tag at all
+abbrev pub tag_from : List (List ℕ) → Option (List ℕ) → TagValue
+tag_from lines message =
+    let tagger = tagger_in (line_at 3 lines) in
+    record {
+      object = name_behind 7 (line_at 0 lines);
+      kind = kind_in (drop 5 (line_at 1 lines));
+      name = drop 4 (line_at 2 lines);
+      tagger = tagger;
+      headers = (gather (behind_tagger tagger (drop 3 lines))).headers;
+      message = message;
+    }
+
+-- the tag that bytes are, if they are one
+unfoldable pub tag_in : List ℕ → Option TagValue
+tag_in bytes =
+    let tag = tag_from (header_part bytes) (message_part bytes) in
+    if is_tag tag && bytes_eq (spelled_tag tag) bytes then Some tag else None

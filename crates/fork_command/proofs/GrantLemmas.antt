@@ -20,7 +20,7 @@ name_plain name named =
 -- a grant's parts are the two sides of the first `=`
 pub parts_of : (name digits : List ℕ) (grant : Grant) → All (λ byte. byte ≢ 61) name → IsGrant grant → name ++ 61 ∷ digits ≡ grant_word grant → (name ≡ grant.tenant) × (digits ≡ decimal grant.limit)
 parts_of name digits grant plain right is =
-    let split = sym (split_once-append 61 name digits plain) ∙ (ap (split_once 61) is ∙ split_once-append 61 grant.tenant (decimal grant.limit) (name_plain grant.tenant right.named)) in
+    let split = sym (split_once-append 61 name digits plain) ∙ (ap (split_once 61) is ∙ split_once-append 61 grant.tenant (decimal grant.limit) (name_plain grant.tenant right)) in
     (ap (λ (o : Option (List ℕ × List ℕ)). unwrap_or (option_map (λ p. p.0) o) []) split, ap (λ (o : Option (List ℕ × List ℕ)). unwrap_or (option_map (λ p. p.1) o) []) split)
 
 pub decimal_unique : (n m : ℕ) → n < 2 ^ 64 → m < 2 ^ 64 → decimal n ≡ decimal m → n ≡ m
@@ -30,7 +30,7 @@ decimal_unique n m small other is =
 -- a word without `=` is no grant
 pub no_sign : (word : List ℕ) (grant : Grant) → All (λ byte. byte ≢ 61) word → IsGrant grant → word ≡ grant_word grant → ⊥
 no_sign word grant plain right is =
-    let none_is_some = sym (split_once-none 61 word plain) ∙ (ap (split_once 61) is ∙ split_once-append 61 grant.tenant (decimal grant.limit) (name_plain grant.tenant right.named)) in
+    let none_is_some = sym (split_once-none 61 word plain) ∙ (ap (split_once 61) is ∙ split_once-append 61 grant.tenant (decimal grant.limit) (name_plain grant.tenant right)) in
     absurd (cc)
 
 abbrev said : List (Bor (List ℕ)) → List (List ℕ)

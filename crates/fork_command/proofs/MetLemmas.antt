@@ -4,7 +4,7 @@ use Rattle.std.specs.Option.{option_map}
 use Rattle.std.specs.Str.{bytes_eq}
 use Rattle.std.proofs.lemmas.Slice.Eq.{bytes_eq-Decides}
 use Rattle.clap.specs.Words.{Row, Text}
-use Rattle.git_name.specs.declared.kind.Kind.TheVariants.{Blob}
+use Rattle.git_name.specs.declared.kind.Kind.{Kind}
 use Rattle.git_name.specs.Kind.{type_word}
 use Rattle.fork_command.specs.declared.command.Command.TheVariants.{HashObject, Run}
 use Rattle.fork_command.specs.Command.{AsksNothing, type_given}
@@ -28,11 +28,11 @@ entered met = unwrap_or (option_map (λ p. p.0) met) []
 abbrev given : Option (Text × List Row) → List Row
 given met = unwrap_or (option_map (λ p. p.1) met) []
 
--- a type that is no blob asks for nothing
-pub no_type : (met : Option (Text × List Row)) (rows : List Row) → met ≡ Some (codes "hash-object", rows) → (type_given rows ≡ type_word Blob → ⊥) → AsksNothing met
+-- a type that is no word for a kind asks for nothing
+pub no_type : (met : Option (Text × List Row)) (rows : List Row) → met ≡ Some (codes "hash-object", rows) → ((kind : Kind) → type_given rows ≡ type_word kind → ⊥) → AsksNothing met
 no_type met rows is wrong (HashObject kind) asked =
     let same : rows ≡ asked.0 = ap given (sym is ∙ asked.1) in
-    wrong (ap type_given same ∙ (asked.2 ∙ ap type_word asked.3))
+    wrong kind (ap type_given same ∙ asked.2)
 no_type met rows is wrong (Run tenants) asked =
     let names : codes "hash-object" ≡ codes "run" = ap entered (sym is ∙ asked.1) in
     let lens : 11 ≡ 3 = ap (λ (t : List ℕ). length t) names in

@@ -2,7 +2,6 @@
 use Rattle.std.specs.Prelude.{◌≡◌, ◌≢◌, ◌⊎◌, ℕ, List, [], codes, Option, Some, unwrap_or}
 use Rattle.clap.specs.Words.{IsAmong, Kinds, Row, Text, all_of, first_of, kind_of}
 use Rattle.clap.specs.declared.error.kind.ErrorKind.TheVariants.{DisplayHelp}
-use Rattle.git_name.specs.declared.kind.Kind.TheVariants.{Blob}
 use Rattle.git_name.specs.Kind.{type_word}
 use Rattle.fork_command.specs.declared.command.Command.{Command}
 use Rattle.fork_command.specs.declared.command.Command.TheVariants.{HashObject, Run}
@@ -18,9 +17,9 @@ type_given rows = unwrap_or (first_of (codes "type") rows) (codes "blob")
 abbrev pub tenants_given : List Row → List (List ℕ)
 tenants_given rows = unwrap_or (all_of (codes "tenants") rows) []
 
--- the subcommand that `clap` met, and the words given to it, ask for this command; blobs are the one kind so far
+-- the subcommand that `clap` met, and the words given to it, ask for this command
 abbrev pub Asks : Option (Text × List Row) → Command → Type 0
-Asks met (HashObject kind) = (rows : List Row) × (met ≡ Some (codes "hash-object", rows)) × (type_given rows ≡ type_word kind) × (kind ≡ Blob)
+Asks met (HashObject kind) = (rows : List Row) × (met ≡ Some (codes "hash-object", rows)) × (type_given rows ≡ type_word kind)
 Asks met (Run tenants) = (rows : List Row) × (met ≡ Some (codes "run", rows)) × AreGrants tenants.items (tenants_given rows)
 
 -- they ask for no command

@@ -1,5 +1,5 @@
 -- The words that name tenants on the command line (own): TENANT=LIMIT.
-use Rattle.std.specs.Prelude.{◌≡◌, ◌≢◌, ℕ, ◌≤◌, All, List, ◌∷◌, ◌++◌, decimal, map}
+use Rattle.std.specs.Prelude.{◌≡◌, ◌≢◌, ℕ, All, List, ◌∷◌, ◌++◌, decimal, map}
 use Rattle.fork_request.specs.Names.{IsTenantName}
 use Rattle.fork_command.specs.declared.grant.Grant.{Grant}
 use Rattle.fork_command.specs.declared.error.CommandError.{CommandError}
@@ -9,10 +9,9 @@ use Rattle.fork_command.specs.declared.error.CommandError.TheVariants.{Help, Usa
 abbrev pub grant_word : Grant → List ℕ
 grant_word grant = grant.tenant ++ 61 ∷ decimal grant.limit
 
--- the tenant has a tenant's name, and the limit is allowed
-pub record IsGrant (grant : Grant) : Type 0 where
-  pub named : IsTenantName grant.tenant
-  pub fits : grant.limit ≤ 1099511627776
+-- the tenant has a tenant's name; a grant's limit is always allowed
+abbrev pub IsGrant : Grant → Type 0
+IsGrant grant = IsTenantName grant.tenant
 
 -- the words are these grants, in order
 pub record AreGrants (grants : List Grant) (words : List (List ℕ)) : Type 0 where

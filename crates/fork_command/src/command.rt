@@ -1,12 +1,14 @@
 ghost use Rattle.std.specs.Prelude.{◌≡◌, ◌≢◌, IfOk, IfErr, IfSome, IfNone, List, [], Option, codes, map, option_map, unwrap_or};
 ghost use Rattle.clap.specs.Words.{HasKind, Kinds, Row, Text, fault_of, found_of, rows_of, subcommand_of, subcommand_rows_of};
+ghost use Rattle.git_name.specs.declared.kind.Kind.{Kind};
 ghost use Rattle.git_name.specs.Kind.{type_word};
 ghost use Rattle.fork_command.specs.Grant.{AreGrants, IsBadGrant};
 ghost use Rattle.fork_command.specs.Table.{table_app};
 ghost use Rattle.fork_command.specs.Command.{Asks, AsksNothing, IsRefused, tenants_given};
 
 use crate::error::CommandError;
-use crate::grant::{Grant, grants_of};
+use crate::grant::Grant;
+use crate::grants::grants_of;
 use crate::table::table;
 use clap::error::ErrorKind;
 use clap::{ArgMatches, Error};
@@ -35,16 +37,13 @@ fn refusal<'a>(error: Error) -> CommandError<'a>
 
 // The kind of object that this word names; a blob where there is none.
 fn kind_given(word: Option<&str>) -> Option<Kind>
-    ensures found { IfSome result (λ kind. (unwrap_or (option_map (λ s. s.now) word.entry) (codes "blob") ≡ type_word kind) × (kind ≡ Kind.Blob)) }
-    ensures none { IfNone result (unwrap_or (option_map (λ s. s.now) word.entry) (codes "blob") ≢ type_word Kind.Blob) }
+    ensures found { IfSome result (λ kind. unwrap_or (option_map (λ s. s.now) word.entry) (codes "blob") ≡ type_word kind) }
+    ensures none { IfNone result ((kind : Kind) → unwrap_or (option_map (λ s. s.now) word.entry) (codes "blob") ≢ type_word kind) }
 {
     let Some(word) = word else {
         return Some(Kind::Blob);
     };
-    if word.as_bytes() == Kind::Blob.word() {
-        return Some(Kind::Blob);
-    }
-    None
+    Kind::from_word(word.as_bytes())
 }
 
 // The tenants given to `run`.
@@ -84,7 +83,7 @@ fn asked<'a>(alloc: Global, matches: &ArgMatches<'a>) -> Result<Option<Command>,
 fn no_command<'a>(top: &mut clap::Command<'_>) -> CommandError<'a>
     ensures { (faults : Kinds) (met : Option (Text × List Row)) → AsksNothing met → IsRefused faults met result }
 {
-    match top.error(ErrorKind::InvalidValue, "the one TYPE so far is blob") {
+    match top.error(ErrorKind::InvalidValue, "TYPE is blob, tree, commit or tag") {
         Ok(error) => CommandError::Usage(error),
         Err(_) => CommandError::Memory,
     }

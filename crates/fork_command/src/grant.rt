@@ -1,19 +1,15 @@
-ghost use Rattle.std.specs.Prelude.{◌≡◌, ◌≢◌, IfSome, IfNone, IfOk, IfErr, map};
-ghost use Rattle.fork_command.specs.Grant.{AreGrants, IsBadGrant};
+ghost use Rattle.std.specs.Prelude.{◌≡◌, ◌≢◌, ◌≤◌, IfSome, IfNone};
 
-use crate::error::CommandError;
-use fork_request::TenantName;
+use fork_request::{MAX_LIMIT, TenantName};
 use git_name::{decimal, split_once};
-use std::alloc::Global;
 
-/// The greatest limit of a tenant, in bytes of use.
-pub const MAX_LIMIT: u64 = 1_099_511_627_776;
-
-/// A tenant to add, and its limit in bytes of use.
+/// A tenant to add, and its limit in bytes of use. No value of this type has a limit above the
+/// greatest.
 #[derive(Debug, Drop, PartialEq, Eq)]
 pub struct Grant {
     pub tenant: TenantName,
     pub limit: u64,
+    pub ghost fits: { limit ≤ 1099511627776 },
 }
 
 impl Grant {
@@ -39,24 +35,4 @@ impl Grant {
         }
         Some(Grant { tenant, limit })
     }
-}
-
-/// Reads the words, and tells the first that is no grant.
-pub(crate) fn grants_of<'a>(
-    alloc: Global,
-    words: &[&'a str],
-) -> Result<Vec<Grant>, CommandError<'a>>
-    ensures ok { IfOk result (λ grants. AreGrants grants.items (map (λ word. word.now) words.entry.now)) }
-    ensures err { IfErr result (IsBadGrant (map (λ word. word.now) words.entry.now)) }
-{
-    let mut grants = Vec::new(alloc);
-    for word in words {
-        let Some(grant) = Grant::read(word.as_bytes()) else {
-            return Err(CommandError::BadTenant(word));
-        };
-        let Ok(()) = grants.push(grant) else {
-            return Err(CommandError::Memory);
-        };
-    }
-    Ok(grants)
 }

@@ -6,11 +6,12 @@
 mod command;
 mod error;
 mod grant;
+mod grants;
 mod table;
 
 pub use crate::command::{Command, command_of};
 pub use crate::error::CommandError;
-pub use crate::grant::{Grant, MAX_LIMIT};
+pub use crate::grant::Grant;
 
 #[cfg(test)]
 mod tests;

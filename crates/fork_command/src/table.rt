@@ -13,7 +13,7 @@ fn hash_object<'a>(alloc: Global) -> Result<Command<'a>, AllocError>
     let kind = Arg::new(alloc, "type")
         .long("type")
         .value_name("TYPE")
-        .help("What standard input holds: blob, which it is where none is given")
+        .help("What standard input holds: blob, tree, commit or tag; blob where none is given")
         .action(ArgAction::Set);
     Command::new(alloc, "hash-object")
         .about("Print the name of the object that standard input holds")

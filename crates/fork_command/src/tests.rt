@@ -1,27 +1,38 @@
-use crate::{Command, CommandError, Grant, MAX_LIMIT, command_of};
-use fork_request::TenantName;
+ghost use Rattle.std.specs.Prelude.{◌≤◌};
+
+use crate::{Command, CommandError, Grant, command_of};
+use fork_request::{MAX_LIMIT, TenantName};
 use git_name::Kind;
 use std::alloc::Global;
 use std::test::Fail;
 
-fn grant(name: &[u8], limit: u64) -> Result<Grant, Fail> {
+fn grant(name: &[u8], limit: u64) -> Result<Grant, Fail>
+    requires { limit ≤ 1099511627776 }
+{
     let tenant = TenantName::read(name).ok_or("no name")?;
     Ok(Grant { tenant, limit })
 }
 
+// Whether the words ask for the name of an object of this kind.
+fn is_hash_object(alloc: Global, line: &[&str], wanted: Kind) -> bool {
+    match command_of(alloc, line) {
+        Ok(Command::HashObject { kind }) => kind == wanted,
+        _ => false,
+    }
+}
+
 #[test]
-fn hash_object_takes_blobs(rt: HostRuntime) {
-    let lines: [&[&str]; 3] = [
-        &["forkhost", "hash-object"],
-        &["forkhost", "hash-object", "--type", "blob"],
-        &["forkhost", "hash-object", "--type=blob"],
+fn hash_object_takes_each_kind(rt: HostRuntime) {
+    let lines: [(&[&str], Kind); 6] = [
+        (&["forkhost", "hash-object"], Kind::Blob),
+        (&["forkhost", "hash-object", "--type", "blob"], Kind::Blob),
+        (&["forkhost", "hash-object", "--type=blob"], Kind::Blob),
+        (&["forkhost", "hash-object", "--type", "tree"], Kind::Tree),
+        (&["forkhost", "hash-object", "--type=commit"], Kind::Commit),
+        (&["forkhost", "hash-object", "--type", "tag"], Kind::Tag),
     ];
-    for line in lines {
-        let asked = command_of(rt.alloc(), line);
-        assert!(rt;
-            matches!(&asked, Ok(Command::HashObject { kind: Kind::Blob })),
-            "{line:?}"
-        );
+    for (line, kind) in lines {
+        assert!(rt; is_hash_object(rt.alloc(), line, kind), "{line:?}");
     }
 }
 
@@ -65,7 +76,7 @@ fn is_faulty(alloc: Global, line: &[&str]) -> bool {
 
 #[test]
 fn faulty_lines_are_told_by_clap(rt: HostRuntime) {
-    let lines: [&[&str]; 12] = [
+    let lines: [&[&str]; 13] = [
         &["forkhost"],
         &["forkhost", "help"],
         &["forkhost", "serve"],
@@ -74,7 +85,8 @@ fn faulty_lines_are_told_by_clap(rt: HostRuntime) {
         &["forkhost", "hash-object", "x"],
         &["forkhost", "hash-object", "--type"],
         &["forkhost", "hash-object", "--type", "Blob"],
-        &["forkhost", "hash-object", "--type", "tree"],
+        &["forkhost", "hash-object", "--type", ""],
+        &["forkhost", "hash-object", "--type", "trees"],
         &[
             "forkhost",
             "hash-object",

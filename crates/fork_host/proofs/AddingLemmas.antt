@@ -9,12 +9,13 @@ use Rattle.std.specs.FinMap.{get, get-insert, get-empty, insert, contains_key, l
 use Rattle.git_name.specs.Name.{name_cmp}
 use Rattle.git_name.specs.Object.{Object}
 use Rattle.git_name.proofs.Names.{name_total}
+use Rattle.git_reftx.specs.Transaction.{References}
 use Rattle.fork_model.specs.Objects.{use_of}
-use Rattle.fork_model.specs.Sound.{IsSound, IsSoundWorld}
-use Rattle.fork_model.specs.View.{View, References}
+use Rattle.fork_model.specs.Sound.{IsNamed, IsSound, IsSoundWorld}
+use Rattle.fork_model.specs.View.{View}
 use Rattle.fork_model.specs.World.{World}
 use Rattle.fork_model.proofs.Hosts.{get_is}
-use Rattle.fork_model.proofs.SoundLemmas.{at_key}
+use Rattle.fork_model.proofs.KeptObjects.{at_key}
 use Rattle.fork_model.proofs.UseLemmas.{use_of-empty}
 use Rattle.fork_host.specs.Adding.{new_view, refusal_to_add}
 use Rattle.fork_host.specs.declared.add_error.AddError.TheVariants.{There, TooMany, Limit}
@@ -56,14 +57,19 @@ not_refused w t limit absent few low = few_tenants w t limit absent few ∙ ap (
 nothing_at : {X : Type 0} (name : List ℕ) (x : X) → get (empty {X = X} {R = name_cmp}) name ≡ Some x → ⊥
 nothing_at {X} name x is = (let no : ⊥ = cc (sym (get-empty {X = X} name_cmp name) ∙ is) in no)
 
+-- no objects, each under its own name
+pub none_named : IsNamed empty
+none_named = λ name object is. absurd (nothing_at name object is)
+
 -- a new tenant's view is sound
 pub sound_new_view : (limit : ℕ) → limit ≤ 1099511627776 → IsSound (new_view limit)
 sound_new_view limit low = record {
-  named = λ name object is. absurd (nothing_at name object is);
+  named = none_named;
   within_limit = (let none = use_of-empty in omega arith);
   limit = low;
   few_repositories = (let none = len-empty name_cmp References in omega arith);
   repositories = λ name references is. absurd (nothing_at name references is);
+  references = λ name references is. absurd (nothing_at name references is);
 }
 
 -- a world with one more tenant

@@ -1,3 +1,4 @@
 pub mod AddingLemmas
 pub mod RowLemmas
 pub mod TakingBack
+pub mod UpdateLemmas

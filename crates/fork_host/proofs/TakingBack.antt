@@ -7,7 +7,7 @@ use Rattle.std.specs.FinMap.{get, get-insert, get-remove, get_tied, insert, remo
 use Rattle.git_name.specs.Name.{name_cmp}
 use Rattle.git_name.specs.Object.{Object}
 use Rattle.git_name.proofs.Names.{name_total, name_exact}
-use Rattle.fork_model.specs.Objects.{Objects}
+use Rattle.fork_reach.specs.Source.{Objects}
 use Rattle.fork_host.specs.TakenBack.{taken_back}
 
 is_equal : (o : Ordering) → is_eq o ≡ true → o ≡ Equal

@@ -15,7 +15,7 @@ use crate::add_error::AddError;
 use crate::step::HostStep;
 use crate::tenant::Tenant;
 use fork_model::a_run_is_private;
-use fork_request::{HostRequest, Refusal, Reply, Request, TenantName};
+use fork_request::{HostRequest, MAX_LIMIT, Refusal, Reply, Request, TenantName};
 use std::alloc::Global;
 use std::collections::BTreeMap;
 use std::marker::Model;
@@ -23,9 +23,6 @@ use thiserror::Error;
 
 /// The most tenants of a host.
 const MOST_TENANTS: usize = 64;
-
-/// The highest limit of a tenant, in bytes of use (own).
-pub const MAX_LIMIT: u64 = 1_099_511_627_776;
 
 /// There was no memory, and nothing was done.
 #[derive(Clone, Copy, Debug, PartialEq, Eq, Error)]
@@ -63,6 +60,14 @@ impl Host {
         Host {
             tenants: BTreeMap::new(alloc),
         }
+    }
+
+    /// How many tenants there are. What a host shows is sound.
+    pub fn tenants(&self) -> usize
+        ensures value { result ≡ map.len (world_of self.now) }
+        ensures sound { IsSoundWorld (world_of self.now) }
+    {
+        self.tenants.len()
     }
 
     /// Adds a tenant that sees nothing and may use so many bytes. Where it fails, the host is as it

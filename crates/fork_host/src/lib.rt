@@ -8,11 +8,10 @@ mod add_error;
 mod host;
 mod object_map;
 mod objects;
-mod references;
 mod repositories;
 mod step;
 mod tenant;
 
 pub use crate::add_error::AddError;
-pub use crate::host::{Host, MAX_LIMIT, NoMemory};
+pub use crate::host::{Host, NoMemory};
 pub use crate::step::HostStep;

@@ -4,8 +4,9 @@ ghost use Rattle.std.specs.FinMap as map;
 ghost use Rattle.std.specs.BTreeMap.{IsUnchanged, Updates};
 ghost use Rattle.git_name.specs.Name.{name_cmp};
 ghost use Rattle.git_name.specs.Object.{object_name};
+ghost use Rattle.fork_reach.specs.Source.{kind_in};
 
-use git_name::{Name, Sealed};
+use git_name::{Kind, Name, Sealed};
 use std::alloc::{AllocError, Global};
 use std::collections::BTreeMap;
 use std::marker::Model;
@@ -20,7 +21,7 @@ impl Model for ObjectMap {
     ghost use Rattle.std.specs.FinMap as map;
     ghost use Rattle.std.specs.Coded.{coded_list, coded_ℕ};
     ghost use Rattle.git_name.specs.contracts.sealed.Sealed as sealed;
-    ghost use Rattle.fork_model.specs.Objects.{Objects};
+    ghost use Rattle.fork_reach.specs.Source.{Objects};
 
     ghost Value = { Objects };
 
@@ -44,6 +45,16 @@ impl ObjectMap {
         ensures { option_copied result ≡ map.get self.now name }
     {
         self.objects.get(&name)
+    }
+
+    // The kind of the object of this name.
+    pub(crate) fn kind_of(&self, name: Name) -> Option<Kind>
+        ensures { result ≡ kind_in self.now name }
+    {
+        match self.get(name) {
+            Some(sealed) => Some(sealed.kind()),
+            None => None,
+        }
     }
 
     // Whether there is an object of this name.

@@ -5,7 +5,9 @@ ghost use Rattle.fork_model.specs.Objects.{use_of, with_object, with_objects};
 ghost use Rattle.fork_host.specs.TakenBack.{taken_back};
 
 use crate::object_map::ObjectMap;
-use git_name::{Name, Sealed};
+use fork_reach::{Source, SourceFault};
+use git_name::{Kind, Name, Sealed};
+use git_reftx::Known;
 use std::alloc::Global;
 use std::marker::Model;
 
@@ -28,7 +30,9 @@ impl Model for Objects {
     ghost use Rattle.std.specs.FinMap as map;
     ghost use Rattle.std.specs.Coded.{coded_list, coded_ℕ};
     ghost use Rattle.git_name.specs.contracts.sealed.Sealed as sealed;
-    ghost use Rattle.fork_model.specs.Objects.{Objects, use_of};
+    ghost use Rattle.fork_reach.specs.Source.{Objects};
+    ghost use Rattle.fork_model.specs.Objects.{use_of};
+    ghost use Rattle.fork_model.specs.Sound.{IsNamed};
 
     ghost Value = { Objects };
 
@@ -36,7 +40,7 @@ impl Model for Objects {
 
     ghost view = { λ a. a.objects };
 
-    ghost invariant = { λ a. a.used ≡ use_of a.objects };
+    ghost invariant = { λ a. (a.used ≡ use_of a.objects) × IsNamed a.objects };
 }
 
 impl Objects {
@@ -80,6 +84,38 @@ impl Objects {
                 take_back(&mut self.objects, added);
                 Err(error)
             }
+        }
+    }
+}
+
+impl Known for Objects {
+    ghost use Rattle.fork_reach.specs.Source.{kind_in};
+
+    ghost kinds = { λ objects. kind_in objects };
+
+    fn kind_of(&self, name: Name) -> Option<Kind> {
+        self.objects.kind_of(name)
+    }
+}
+
+impl Source for Objects {
+    ghost use Rattle.std.specs.Prelude.{true};
+
+    ghost objects = { λ objects. objects };
+
+    ghost honest = { λ _. true };
+
+    fn kind_of(&self, name: Name) -> Option<Kind> {
+        self.objects.kind_of(name)
+    }
+
+    fn read(&mut self, _alloc: Global, name: Name) -> Result<Option<Sealed>, SourceFault> {
+        match self.objects.get(name) {
+            Some(sealed) => match sealed.clone() {
+                Ok(copy) => Ok(Some(copy)),
+                Err(_) => Err(SourceFault::Memory),
+            },
+            None => Ok(None),
         }
     }
 }

@@ -1,10 +1,13 @@
-ghost use Rattle.std.specs.Prelude.{◌≡◌, OnOk, OnErr, Some};
+ghost use Rattle.std.specs.Prelude.{◌≡◌, OnOk, OnErr, IfErr, Ok, Err, Some, true};
+ghost use Rattle.std.specs.Option.{option_copied};
 ghost use Rattle.std.specs.FinMap as map;
 ghost use Rattle.std.specs.BTreeMap.{IsUnchanged, Updates};
 ghost use Rattle.git_name.specs.Name.{name_cmp};
+ghost use Rattle.git_reftx.specs.Transaction.{References, transacted};
+ghost use Rattle.git_reftx.specs.Judging.{TellsTransacted};
 
-use crate::references::References;
 use fork_request::RepositoryName;
+use git_reftx::{ApplyError, Command, Known, Refs};
 use std::alloc::{AllocError, Global};
 use std::collections::BTreeMap;
 use std::marker::Model;
@@ -12,7 +15,7 @@ use std::marker::Model;
 // A tenant's repositories under their names, each with its references.
 #[derive(Drop)]
 pub(crate) struct Repositories {
-    repositories: BTreeMap<RepositoryName, References>,
+    repositories: BTreeMap<RepositoryName, Refs>,
 }
 
 impl Model for Repositories {
@@ -51,22 +54,67 @@ impl Repositories {
         self.repositories.contains_key(name)
     }
 
-    // Puts one without references under a name.
-    pub(crate) fn insert(&mut self, name: RepositoryName) -> Result<(), AllocError>
-        ensures ok { OnOk result (self.new ≡ map.insert self.old name map.empty) }
+    // The references of the one of this name.
+    pub(crate) fn get(&self, name: &RepositoryName) -> Option<&Refs>
+        ensures { option_copied result ≡ map.get self.now name.now }
+    {
+        self.repositories.get(name)
+    }
+
+    // Puts one with these references under a name.
+    pub(crate) fn insert(
+        &mut self,
+        name: RepositoryName,
+        references: Refs,
+    ) -> Result<(), AllocError>
+        ensures ok { OnOk result (self.new ≡ map.insert self.old name references) }
         ensures err { OnErr result (self.new ≡ self.old) }
     {
-        put(&mut self.repositories, name)
+        put(&mut self.repositories, name, references)
+    }
+
+    // Carries out the commands on the references of the one of this name, all or none of them.
+    pub(crate) fn apply<K: Known>(
+        &mut self,
+        alloc: Global,
+        name: &RepositoryName,
+        commands: &[Command],
+        known: &K,
+    ) -> Result<(), ApplyError>
+        requires { map.contains_key self.old name.now ≡ true }
+        ensures ok { OnOk result ((old : References) → map.get self.old name.now ≡ Some old
+            → (new : References) × (transacted old commands.now (K.kinds known.now) ≡ Ok new) × (self.new ≡ map.insert self.old name.now new)) }
+        ensures err { OnErr result (self.new ≡ self.old) }
+        ensures cause { IfErr result (λ error. (old : References) → map.get self.old name.now ≡ Some old → TellsTransacted (transacted old commands.now (K.kinds known.now)) error) }
+    {
+        let Some(references) = self.repositories.get_mut(name) else {
+            return Err(ApplyError::Memory);
+        };
+        references.apply(alloc, commands, known)
+    }
+
+    // Takes out the one of this name, if it is there. It takes no memory.
+    pub(crate) fn remove(&mut self, name: &RepositoryName)
+        ensures { self.new ≡ map.remove self.old name.now }
+    {
+        take_out(&mut self.repositories, name)
     }
 }
 
 fn put(
-    repositories: &mut BTreeMap<RepositoryName, References>,
+    repositories: &mut BTreeMap<RepositoryName, Refs>,
     name: RepositoryName,
+    references: Refs,
 ) -> Result<(), AllocError>
-    ensures ok { OnOk result (Updates name_cmp repositories.old repositories.new name (Some map.empty)) }
+    ensures ok { OnOk result (Updates name_cmp repositories.old repositories.new name (Some references)) }
     ensures err { OnErr result (IsUnchanged repositories.old repositories.new) }
 {
-    repositories.insert(name, References::new())?;
+    repositories.insert(name, references)?;
     Ok(())
+}
+
+fn take_out(repositories: &mut BTreeMap<RepositoryName, Refs>, name: &RepositoryName)
+    ensures { Updates name_cmp repositories.old repositories.new name.now None }
+{
+    repositories.remove(name);
 }

@@ -1,64 +1,30 @@
 -- What a tenant's step leaves as it was.
 use Rattle.std.proofs.Common.{◌≡◌, ◌≢◌, ℕ, Bool, true, false, cond, List, [], Option, Some, None, Result, Ok, Err, refl, sym, ap, subst, ◌∙◌}
-use Rattle.std.specs.Prelude.{nat_le, nat_lt}
 use Rattle.std.specs.declared.cmp.Ordering.{Ordering}
 use Rattle.std.specs.declared.cmp.Ordering.TheVariants.{Less, Equal, Greater}
 use Rattle.std.specs.Ordering.{eq_by_cmp, is_eq}
-use Rattle.std.specs.FinMap.{get, get-insert, insert, contains_key, len, empty}
+use Rattle.std.specs.FinMap.{get, get-insert, insert}
 use Rattle.git_name.specs.Name.{name_cmp}
-use Rattle.git_name.specs.Object.{Object}
 use Rattle.git_name.proofs.Names.{name_total, name_exact}
-use Rattle.push_stream.specs.declared.fault.StreamFault.{StreamFault}
-use Rattle.push_stream.specs.Stream.{finished, stream_of}
-use Rattle.fork_request.specs.Asked.{Ask, Inits, Pushes, AsksObject, NoRequest}
-use Rattle.fork_request.specs.Names.{is_plain_name}
+use Rattle.fork_request.specs.Asked.{Ask}
 use Rattle.fork_request.specs.Told.{is_done, is_host_fault}
-use Rattle.fork_request.specs.declared.refusal.Refusal.TheVariants.{BadName, OverQuota, RepositoryExists, TooMany}
 use Rattle.fork_request.specs.declared.reply.Reply.{Reply}
 use Rattle.fork_request.specs.declared.reply.Reply.TheVariants.{Done, Refused, Failed}
-use Rattle.fork_model.specs.Answer.{answer, init_answer, push_answer, cat_file_answer, named_repository, new_repository, push_into, pushed, judged, told_object}
-use Rattle.fork_model.specs.Objects.{with_objects, use_of}
+use Rattle.fork_model.specs.Answer.{answer}
 use Rattle.fork_model.specs.Runs.{Asks, Answered, Unknown, Faulted}
-use Rattle.fork_model.specs.View.{View, References}
+use Rattle.fork_model.specs.View.{View}
 use Rattle.fork_model.specs.World.{World, Steps}
 use Rattle.fork_model.proofs.Refusals.{refusal_keeps}
+use Rattle.fork_model.proofs.Rows.{IsRow, Refuses, Does, answer_row}
 use Rattle.fork_model.proofs.Worlds.{insert_same}
 
--- the reply is no host fault
-abbrev Tells : Reply × View → Type 0
-Tells row = is_host_fault row.0 ≡ false
-
-either : (b : Bool) (x y : Reply × View) → Tells x → Tells y → Tells (cond b x y)
-either true x y left right = left
-either false x y left right = right
-
-judged_tells : (view : View) (sent : List Object) → Tells (judged view sent)
-judged_tells view sent = either (nat_lt view.limit (use_of (with_objects view.objects sent))) (Refused OverQuota, view) (Done [], record view { objects = with_objects view.objects sent }) refl refl
-
-pushed_tells : (view : View) (value : Result (List Object) StreamFault) → Tells (pushed view value)
-pushed_tells view (Ok sent) = judged_tells view sent
-pushed_tells view (Err fault) = refl
-
-into_tells : (view : View) (word body : List ℕ) (o : Option References) → Tells (push_into view word body o)
-into_tells view word body None = refl
-into_tells view word body (Some references) = pushed_tells view (finished (stream_of body))
-
-new_tells : (view : View) (word : List ℕ) → Tells (new_repository view word)
-new_tells view word =
-    either (contains_key view.repositories word) (Refused (RepositoryExists word), view) _ refl
-    (either (nat_le 256 (len view.repositories)) (Refused TooMany, view) (Done [], record view { repositories = insert view.repositories word empty }) refl refl)
-
-object_tells : (name : List ℕ) (o : Option Object) → is_host_fault (told_object name o) ≡ false
-object_tells name None = refl
-object_tells name (Some object) = refl
+row_tells : (view : View) (row : Reply × View) → IsRow view row → is_host_fault row.0 ≡ false
+row_tells view row (Refuses why told kept) = ap is_host_fault told
+row_tells view row (Does text told keeps) = ap is_host_fault told
 
 -- no answer is a host fault
 pub answer_tells : (view : View) (ask : Ask) → is_host_fault (answer view ask).0 ≡ false
-unfolding answer init_answer push_answer cat_file_answer
-answer_tells view (Inits word) = either (is_plain_name 64 word) (new_repository view word) (Refused (BadName word), view) (new_tells view word) refl
-answer_tells view (Pushes word body) = either (is_plain_name 64 word) (push_into view word body (get view.repositories word)) (Refused (BadName word), view) (into_tells view word body (get view.repositories word)) refl
-answer_tells view (AsksObject name) = object_tells name (get view.objects name)
-answer_tells view NoRequest = refl
+answer_tells view ask = row_tells view (answer view ask) (answer_row view ask)
 
 -- an answer that is no data leaves the view
 undone : (view : View) (ask : Ask) (reply : Reply) → reply ≡ (answer view ask).0 → is_done reply ≡ false → (answer view ask).1 ≡ view

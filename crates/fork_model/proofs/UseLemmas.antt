@@ -10,7 +10,8 @@ use Rattle.std.specs.FinMap.Entries.{by_order}
 use Rattle.git_name.specs.Name.{name_cmp}
 use Rattle.git_name.specs.Object.{Object, object_name}
 use Rattle.git_name.proofs.Names.{name_total}
-use Rattle.fork_model.specs.Objects.{Objects, use_of, use_of_object, with_object, with_objects}
+use Rattle.fork_reach.specs.Source.{Objects}
+use Rattle.fork_model.specs.Objects.{use_of, use_of_object, with_object, with_objects}
 
 abbrev use_in : List (List ℕ × Object) → ℕ
 use_in es = sum_by use_of_object (map (λ e. e.1) es)

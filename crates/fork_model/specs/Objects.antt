@@ -1,14 +1,10 @@
 -- The objects that a tenant sees, and what they use (own).
 use Rattle.std.specs.Prelude.{ℕ, ◌+◌, List, [], ◌∷◌, length, sum_by, if◌then◌else◌}
-use Rattle.std.specs.FinMap.{FinMap, insert, contains_key, values}
-use Rattle.git_name.specs.Name.{name_cmp}
+use Rattle.std.specs.FinMap.{insert, contains_key, values}
 use Rattle.git_name.specs.Object.{Object, object_name}
+use Rattle.fork_reach.specs.Source.{Objects}
 
--- whole objects under their names
-abbrev pub Objects : Type 0
-Objects = FinMap name_cmp Object
-
--- the same with one more, unless there is one of its name
+-- objects with one more, unless there is one of its name
 abbrev pub with_object : Objects → Object → Objects
 with_object objects object = if contains_key objects (object_name object) then objects else insert objects (object_name object) object
 

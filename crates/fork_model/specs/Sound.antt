@@ -1,15 +1,30 @@
--- Sound views: each object stands under its own name, and the limits hold (own).
-use Rattle.std.specs.Prelude.{◌≡◌, ℕ, ◌≤◌, List, Some, IfSome}
-use Rattle.std.specs.FinMap.{get, len}
+-- Sound views: each object stands under its own name, references name what is there, and the limits hold (own).
+use Rattle.std.specs.Prelude.{◌≡◌, ℕ, ◌≤◌, true, List, Some, None}
+use Rattle.std.specs.FinMap.{get, contains_key, keys, len}
+use Rattle.git_refname.specs.Rule.{IsRefName}
+use Rattle.git_reftx.specs.Transaction.{References, is_branch, is_commit, least_upper}
 use Rattle.git_name.specs.Object.{Object, object_name}
+use Rattle.fork_reach.specs.Source.{Objects, kind_in}
 use Rattle.fork_request.specs.Names.{IsRepositoryName, IsTenantName}
-use Rattle.fork_model.specs.Objects.{Objects, use_of}
-use Rattle.fork_model.specs.View.{View, References}
+use Rattle.fork_model.specs.Objects.{use_of}
+use Rattle.fork_model.specs.View.{View}
 use Rattle.fork_model.specs.World.{World}
 
 -- each object stands under its own name
 abbrev pub IsNamed : Objects → Type 0
 IsNamed objects = (name : List ℕ) (object : Object) → get objects name ≡ Some object → object_name object ≡ name
+
+-- a reference has a right name and points at an object that is there, a branch at a commit
+pub record IsReference (objects : Objects) (reference target : List ℕ) : Type 0 where
+  pub named : IsRefName reference
+  pub there : contains_key objects target ≡ true
+  pub commit : is_branch reference ≡ true → is_commit (kind_in objects target) ≡ true
+
+-- references that a repository may have: no name stands above another, and there are 4,096 at the most
+pub record AreReferences (objects : Objects) (references : References) : Type 0 where
+  pub each : (reference target : List ℕ) → get references reference ≡ Some target → IsReference objects reference target
+  pub apart : least_upper (keys references) ≡ None
+  pub few : len references ≤ 4096
 
 -- a view that a host may show
 pub record IsSound (view : View) : Type 0 where
@@ -18,6 +33,7 @@ pub record IsSound (view : View) : Type 0 where
   pub limit : view.limit ≤ 1099511627776
   pub few_repositories : len view.repositories ≤ 256
   pub repositories : (name : List ℕ) (references : References) → get view.repositories name ≡ Some references → IsRepositoryName name
+  pub references : (name : List ℕ) (references : References) → get view.repositories name ≡ Some references → AreReferences view.objects references
 
 -- a world that a host may show: at most 64 tenants, each with a sound view
 pub record IsSoundWorld (world : World) : Type 0 where

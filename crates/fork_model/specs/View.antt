@@ -9,13 +9,10 @@ use Rattle.git_name.specs.contracts.sealed.Sealed as sealed
 use Rattle.push_stream.specs.declared.fault.StreamFault.{StreamFault}
 use Rattle.push_stream.specs.contracts.fault.StreamFault as fault
 use Rattle.push_stream.specs.Stream.{Stream, Flows, Breaks, Upload}
-use Rattle.fork_model.specs.Objects.{Objects}
+use Rattle.git_reftx.specs.Transaction.{References}
+use Rattle.fork_reach.specs.Source.{Objects}
 
--- what each reference of a repository names
-abbrev pub References : Type 0
-References = FinMap name_cmp (List ℕ)
-
--- the repositories under their names
+-- the references of each repository
 abbrev pub Repositories : Type 0
 Repositories = FinMap name_cmp References
 

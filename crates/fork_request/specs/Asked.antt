@@ -1,33 +1,65 @@
 -- What a payload asks (own): a request line of words, LF, and for some requests a body.
-use Rattle.std.specs.Prelude.{ℕ, List, [], ◌∷◌, Option, None, Some, length, nat_le, codes, if◌then◌else◌}
+use Rattle.std.specs.Prelude.{ℕ, List, [], ◌∷◌, Option, None, Some, option_map, length, nat_le, codes, if◌then◌else◌}
 use Rattle.std.specs.Str.{bytes_eq}
 use Rattle.git_name.specs.Name.{name_in}
 use Rattle.git_name.specs.Text.{split_once, words_of}
 use Rattle.fork_request.specs.declared.request.Request.{Request}
-use Rattle.fork_request.specs.declared.request.Request.TheVariants.{Init, Push, CatFile, Bad}
+use Rattle.fork_request.specs.declared.request.Request.TheVariants.{Init, Drop, Fork, Push, UpdateRefs, CatFile, ForEachRef, Bad}
 use Rattle.fork_request.specs.declared.host_request.HostRequest.{HostRequest}
 use Rattle.fork_request.specs.declared.host_request.HostRequest.TheVariants.{Bad as Bad_host}
 
 -- a tenant's request as a value: words and bodies are lists of bytes
 pub data Ask : Type 0 where
   Inits : (repository : List ℕ) → Ask
+  Drops : (repository : List ℕ) → Ask
+  Forks : (source : List ℕ) (copy : List ℕ) → Ask
   Pushes : (repository : List ℕ) (body : List ℕ) → Ask
+  Updates : (repository : List ℕ) (body : List ℕ) → Ask
   AsksObject : (name : List ℕ) → Ask
+  AsksReferences : (repository : List ℕ) (prefix : Option (List ℕ)) → Ask
   NoRequest : Ask
 
 -- the value of a request
 abbrev pub ask_of : Request → Ask
 ask_of (Init repository) = Inits repository.now
+ask_of (Drop repository) = Drops repository.now
+ask_of (Fork source copy) = Forks source.now copy.now
 ask_of (Push repository body) = Pushes repository.now body.now
+ask_of (UpdateRefs repository body) = Updates repository.now body.now
 ask_of (CatFile name) = AsksObject name
+ask_of (ForEachRef repository prefix) = AsksReferences repository.now (option_map (λ word. word.now) prefix)
 ask_of Bad = NoRequest
 
--- the one word that stands there, where it isn't empty
+-- a word, where it isn't empty
+abbrev pub some_word : List ℕ → Option (List ℕ)
+some_word [] = None
+some_word (b ∷ bs) = Some (b ∷ bs)
+
+-- the one word that stands there
 abbrev pub sole : List (List ℕ) → Option (List ℕ)
 sole [] = None
-sole ([] ∷ words) = None
-sole ((b ∷ bs) ∷ []) = Some (b ∷ bs)
-sole ((b ∷ bs) ∷ word ∷ words) = None
+sole (word ∷ []) = some_word word
+sole (word ∷ other ∷ words) = None
+
+abbrev pub both_words : Option (List ℕ) → Option (List ℕ) → Option (List ℕ × List ℕ)
+both_words (Some first) (Some second) = Some (first, second)
+both_words (Some first) None = None
+both_words None second = None
+
+-- the two words that stand there
+abbrev pub pair : List (List ℕ) → Option (List ℕ × List ℕ)
+pair [] = None
+pair (word ∷ words) = both_words (some_word word) (sole words)
+
+abbrev pub and_word : Option (List ℕ × List ℕ) → Option (List ℕ × Option (List ℕ))
+and_word None = None
+and_word (Some p) = Some (p.0, Some p.1)
+
+-- the word that stands there, and one more where there is one
+abbrev pub one_or_two : List (List ℕ) → Option (List ℕ × Option (List ℕ))
+one_or_two [] = None
+one_or_two (word ∷ []) = option_map (λ first. (first, None)) (some_word word)
+one_or_two (word ∷ other ∷ words) = and_word (pair (word ∷ other ∷ words))
 
 -- `init REPO`
 abbrev pub asked_init : Option (List ℕ) → List ℕ → Ask
@@ -35,10 +67,33 @@ asked_init (Some repository) [] = Inits repository
 asked_init (Some repository) (b ∷ body) = NoRequest
 asked_init None body = NoRequest
 
+-- `drop REPO`
+abbrev pub asked_drop : Option (List ℕ) → List ℕ → Ask
+asked_drop (Some repository) [] = Drops repository
+asked_drop (Some repository) (b ∷ body) = NoRequest
+asked_drop None body = NoRequest
+
+-- `fork SRC DST`
+abbrev pub asked_fork : Option (List ℕ × List ℕ) → List ℕ → Ask
+asked_fork (Some p) [] = Forks p.0 p.1
+asked_fork (Some p) (b ∷ body) = NoRequest
+asked_fork None body = NoRequest
+
 -- `push REPO` and a body
 abbrev pub asked_push : Option (List ℕ) → List ℕ → Ask
 asked_push (Some repository) body = Pushes repository body
 asked_push None body = NoRequest
+
+-- `update-refs REPO` and a body
+abbrev pub asked_update : Option (List ℕ) → List ℕ → Ask
+asked_update (Some repository) body = Updates repository body
+asked_update None body = NoRequest
+
+-- `for-each-ref REPO [PREFIX]`
+abbrev pub asked_references : Option (List ℕ × Option (List ℕ)) → List ℕ → Ask
+asked_references (Some p) [] = AsksReferences p.0 p.1
+asked_references (Some p) (b ∷ body) = NoRequest
+asked_references None body = NoRequest
 
 -- the object of a name, where there is a name and nothing behind it
 abbrev pub asked_object : Option (List ℕ) → List ℕ → Ask
@@ -56,8 +111,12 @@ abbrev pub asked_words : List (List ℕ) → List ℕ → Ask
 asked_words [] body = NoRequest
 asked_words (verb ∷ words) body =
     if bytes_eq verb (codes "init") then asked_init (sole words) body
+    else if bytes_eq verb (codes "drop") then asked_drop (sole words) body
+    else if bytes_eq verb (codes "fork") then asked_fork (pair words) body
     else if bytes_eq verb (codes "push") then asked_push (sole words) body
+    else if bytes_eq verb (codes "update-refs") then asked_update (sole words) body
     else if bytes_eq verb (codes "cat-file") then asked_cat_file (sole words) body
+    else if bytes_eq verb (codes "for-each-ref") then asked_references (one_or_two words) body
     else NoRequest
 
 -- by the line and what stands behind its LF

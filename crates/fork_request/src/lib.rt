@@ -6,6 +6,7 @@
 mod byte_string;
 mod host_fault;
 mod host_request;
+mod limit;
 mod name;
 mod plain_word;
 mod refusal;
@@ -13,10 +14,12 @@ mod reply;
 mod request;
 #[cfg(test)]
 mod tests;
+mod words;
 
 pub use crate::byte_string::ByteString;
 pub use crate::host_fault::HostFault;
 pub use crate::host_request::HostRequest;
+pub use crate::limit::MAX_LIMIT;
 pub use crate::name::{PlainName, RepositoryName, TenantName};
 pub use crate::refusal::Refusal;
 pub use crate::reply::Reply;

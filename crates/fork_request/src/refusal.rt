@@ -4,6 +4,7 @@ ghost use Rattle.hex.specs.Hex.{encode_lower};
 use crate::byte_string::ByteString;
 use crate::name::RepositoryName;
 use git_name::Name;
+use git_refname::RefName;
 use std::alloc::AllocError;
 
 /// Why a request was refused, and what the refusal is about. A refused request changes no view.
@@ -19,6 +20,16 @@ pub enum Refusal {
     RepositoryExists(RepositoryName),
     /// The tenant has no such repository.
     NoRepository(RepositoryName),
+    /// The word breaks a rule of reference names.
+    BadRef(ByteString),
+    /// The reference stands in two commands.
+    RepeatedRef(RefName),
+    /// The reference is not as a command demands.
+    Stale(RefName),
+    /// Another reference afterwards would stand below this one.
+    RefConflict(RefName),
+    /// The object is no commit, and one is wanted.
+    NotACommit(Name),
     /// The tenant sees no object of this name.
     Missing(Name),
     /// The objects would use more than the tenant's limit.
@@ -52,6 +63,15 @@ impl Refusal {
             Refusal::NoRepository(repository) => {
                 write_about(text, b"no-repository ", repository.as_bytes())
             }
+            Refusal::BadRef(word) => write_about(text, b"bad-ref ", word.as_bytes()),
+            Refusal::RepeatedRef(reference) => {
+                write_about(text, b"repeated-ref ", reference.as_bytes())
+            }
+            Refusal::Stale(reference) => write_about(text, b"stale ", reference.as_bytes()),
+            Refusal::RefConflict(reference) => {
+                write_about(text, b"ref-conflict ", reference.as_bytes())
+            }
+            Refusal::NotACommit(name) => write_name(text, b"not-a-commit ", *name),
             Refusal::Missing(name) => write_name(text, b"missing ", *name),
             Refusal::OverQuota => text.extend_from_slice(b"over-quota"),
             Refusal::TooMany => text.extend_from_slice(b"too-many"),

@@ -1,6 +1,7 @@
 ghost use Rattle.std.specs.Prelude.{◌≡◌, ◌∷◌, option_map};
 ghost use Rattle.std.specs.Str.{bytes_eq};
 
+use crate::words::{one_or_two_words, sole_word, two_words};
 use git_name::{Name, first_word, split_once};
 
 /// The most bytes that a payload has.
@@ -12,10 +13,18 @@ pub const MAX_PAYLOAD: usize = 1_048_576;
 pub enum Request<'a> {
     /// `init REPO`: a new repository.
     Init(&'a [u8]),
+    /// `drop REPO`: a repository goes, with its references.
+    Drop(&'a [u8]),
+    /// `fork SRC DST`: a new repository with the references of another.
+    Fork(&'a [u8], &'a [u8]),
     /// `push REPO` and a body: objects that come.
     Push(&'a [u8], &'a [u8]),
+    /// `update-refs REPO` and a body: a transaction of references.
+    UpdateRefs(&'a [u8], &'a [u8]),
     /// `cat-file NAME`: the record of an object.
     CatFile([u8; 32]),
+    /// `for-each-ref REPO [PREFIX]`: the references of a repository.
+    ForEachRef(&'a [u8], Option<&'a [u8]>),
     /// What is no request.
     Bad,
 }
@@ -39,7 +48,7 @@ impl<'a> Request<'a> {
 }
 
 ghost use Rattle.git_name.specs.Text.{words_of};
-ghost use Rattle.fork_request.specs.Asked.{ask_of, asked_words, asked_init, asked_push, asked_cat_file, sole};
+ghost use Rattle.fork_request.specs.Asked.{ask_of, asked_words, asked_init, asked_drop, asked_fork, asked_push, asked_update, asked_cat_file, asked_references};
 
 // What a line and the body behind it ask.
 fn read_line<'a>(line: &'a [u8], body: &'a [u8]) -> Request<'a>
@@ -55,15 +64,26 @@ fn read_line<'a>(line: &'a [u8], body: &'a [u8]) -> Request<'a>
 fn read_words<'a>(verb: &'a [u8], words: &'a [u8], body: &'a [u8]) -> Request<'a>
     ensures { ask_of result ≡ asked_words (verb.now ∷ words_of words.now) body.now }
 {
-    let sole = sole_word(words);
     if is_word(verb, b"init") {
-        return init(sole, body);
+        return init(sole_word(words), body);
+    }
+    if is_word(verb, b"drop") {
+        return drop_of(sole_word(words), body);
+    }
+    if is_word(verb, b"fork") {
+        return fork(two_words(words), body);
     }
     if is_word(verb, b"push") {
-        return push(sole, body);
+        return push(sole_word(words), body);
+    }
+    if is_word(verb, b"update-refs") {
+        return update_refs(sole_word(words), body);
     }
     if is_word(verb, b"cat-file") {
-        return cat_file(sole, body);
+        return cat_file(sole_word(words), body);
+    }
+    if is_word(verb, b"for-each-ref") {
+        return for_each_ref(one_or_two_words(words), body);
     }
     Request::Bad
 }
@@ -74,24 +94,29 @@ fn is_word(text: &[u8], word: &[u8]) -> bool
     text == word
 }
 
-// The one word that stands there, where it isn't empty.
-fn sole_word(words: &[u8]) -> Option<&[u8]>
-    ensures { option_map (λ word. word.now) result ≡ sole (words_of words.now) }
-{
-    if words.is_empty() {
-        return None;
-    }
-    match first_word(words) {
-        Some(_) => None,
-        None => Some(words),
-    }
-}
-
 fn init<'a>(sole: Option<&'a [u8]>, body: &'a [u8]) -> Request<'a>
     ensures { ask_of result ≡ asked_init (option_map (λ word. word.now) sole.entry) body.now }
 {
     match sole {
         Some(repository) if body.is_empty() => Request::Init(repository),
+        _ => Request::Bad,
+    }
+}
+
+fn drop_of<'a>(sole: Option<&'a [u8]>, body: &'a [u8]) -> Request<'a>
+    ensures { ask_of result ≡ asked_drop (option_map (λ word. word.now) sole.entry) body.now }
+{
+    match sole {
+        Some(repository) if body.is_empty() => Request::Drop(repository),
+        _ => Request::Bad,
+    }
+}
+
+fn fork<'a>(pair: Option<(&'a [u8], &'a [u8])>, body: &'a [u8]) -> Request<'a>
+    ensures { ask_of result ≡ asked_fork (option_map (λ p. (p.0.now, p.1.now)) pair.entry) body.now }
+{
+    match pair {
+        Some((source, copy)) if body.is_empty() => Request::Fork(source, copy),
         _ => Request::Bad,
     }
 }
@@ -105,6 +130,15 @@ fn push<'a>(sole: Option<&'a [u8]>, body: &'a [u8]) -> Request<'a>
     }
 }
 
+fn update_refs<'a>(sole: Option<&'a [u8]>, body: &'a [u8]) -> Request<'a>
+    ensures { ask_of result ≡ asked_update (option_map (λ word. word.now) sole.entry) body.now }
+{
+    match sole {
+        Some(repository) => Request::UpdateRefs(repository, body),
+        None => Request::Bad,
+    }
+}
+
 fn cat_file<'a>(sole: Option<&'a [u8]>, body: &'a [u8]) -> Request<'a>
     ensures { ask_of result ≡ asked_cat_file (option_map (λ word. word.now) sole.entry) body.now }
 {
@@ -113,6 +147,15 @@ fn cat_file<'a>(sole: Option<&'a [u8]>, body: &'a [u8]) -> Request<'a>
     };
     match Name::parse_hex(digits) {
         Some(name) if body.is_empty() => Request::CatFile(*name.as_bytes()),
+        _ => Request::Bad,
+    }
+}
+
+fn for_each_ref<'a>(words: Option<(&'a [u8], Option<&'a [u8]>)>, body: &'a [u8]) -> Request<'a>
+    ensures { ask_of result ≡ asked_references (option_map (λ p. (p.0.now, option_map (λ word. word.now) p.1)) words.entry) body.now }
+{
+    match words {
+        Some((repository, prefix)) if body.is_empty() => Request::ForEachRef(repository, prefix),
         _ => Request::Bad,
     }
 }

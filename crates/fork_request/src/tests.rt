@@ -3,6 +3,7 @@ use crate::{
     TenantName,
 };
 use git_name::Name;
+use git_refname::RefName;
 use std::alloc::{AllocError, Global};
 use std::test::Fail;
 
@@ -97,15 +98,28 @@ fn names_are_ordered_by_their_bytes(rt: HostRuntime) -> Result<(), Fail> {
     Ok(())
 }
 
-// Whether the payload asks this of this word with this body.
+// Whether the payload asks this of this word, with this body or second word.
 fn asks(payload: &[u8], verb: &[u8], word: &[u8], body: &[u8]) -> bool {
     match Request::read(payload) {
         Request::Init(repository) => verb == b"init".as_slice()
             && repository == word
             && body.is_empty(),
+        Request::Drop(repository) => verb == b"drop".as_slice()
+            && repository == word
+            && body.is_empty(),
+        Request::Fork(source, copy) => verb == b"fork".as_slice() && source == word && copy == body,
         Request::Push(repository, sent) => verb == b"push".as_slice()
             && repository == word
             && sent == body,
+        Request::UpdateRefs(repository, commands) => verb == b"update-refs".as_slice()
+            && repository == word
+            && commands == body,
+        Request::ForEachRef(repository, Some(prefix)) => verb == b"for-each-ref".as_slice()
+            && repository == word
+            && prefix == body,
+        Request::ForEachRef(repository, None) => verb == b"for-each-ref".as_slice()
+            && repository == word
+            && body == b"no prefix".as_slice(),
         Request::CatFile(_) => false,
         Request::Bad => false,
     }
@@ -117,7 +131,7 @@ fn is_bad(payload: &[u8]) -> bool {
 
 #[test]
 fn a_right_line_and_its_body_are_a_request(rt: HostRuntime) -> Result<(), Fail> {
-    let rows: [(&[u8], &[u8], &[u8], &[u8]); 9] = [
+    let rows: [(&[u8], &[u8], &[u8], &[u8]); 18] = [
         (b"init r\n", b"init", b"r", b""),
         (b"init .No/name\xff\n", b"init", b".No/name\xff", b""),
         (b"init r\r\n", b"init", b"r\r", b""),
@@ -127,6 +141,25 @@ fn a_right_line_and_its_body_are_a_request(rt: HostRuntime) -> Result<(), Fail> 
         (b"push r\n\nx y\n\n", b"push", b"r", b"\nx y\n\n"),
         (b"push r\n \0\xff", b"push", b"r", b" \0\xff"),
         (b"push push\ninit r\n", b"push", b"push", b"init r\n"),
+        (b"drop r\n", b"drop", b"r", b""),
+        (b"fork r s\n", b"fork", b"r", b"s"),
+        (b"fork r r\n", b"fork", b"r", b"r"),
+        (b"fork .A \xff\n", b"fork", b".A", b"\xff"),
+        (b"update-refs r\n", b"update-refs", b"r", b""),
+        (
+            b"update-refs r\ndelete refs/a\n\n",
+            b"update-refs",
+            b"r",
+            b"delete refs/a\n\n",
+        ),
+        (b"for-each-ref r\n", b"for-each-ref", b"r", b"no prefix"),
+        (
+            b"for-each-ref r refs/heads/\n",
+            b"for-each-ref",
+            b"r",
+            b"refs/heads/",
+        ),
+        (b"for-each-ref r r\n", b"for-each-ref", b"r", b"r"),
     ];
     for (payload, verb, word, body) in rows {
         assert!(rt; asks(payload, verb, word, body), "{payload:?}");
@@ -144,7 +177,7 @@ fn a_right_line_and_its_body_are_a_request(rt: HostRuntime) -> Result<(), Fail> 
 
 #[test]
 fn any_other_payload_is_a_bad_request(rt: HostRuntime) {
-    let payloads: [&[u8]; 38] = [
+    let payloads: [&[u8]; 61] = [
         b"",
         b"\n",
         b"\n\n",
@@ -183,6 +216,29 @@ fn any_other_payload_is_a_bad_request(rt: HostRuntime) {
         b"cat-file  473a0f4c3be8a93681a267e3b1e9a7dcda1185436fe141f7749120a303721813\n",
         b"census\n",
         b"init\xff r\n",
+        b"drop\n",
+        b"drop \n",
+        b"drop r s\n",
+        b"drop r\nx",
+        b"fork\n",
+        b"fork r\n",
+        b"fork r \n",
+        b"fork  s\n",
+        b"fork r  s\n",
+        b"fork r s t\n",
+        b"fork r s \n",
+        b"fork r s\nx",
+        b"update-refs\n",
+        b"update-refs \ndelete refs/a\n",
+        b"update-refs r s\ndelete refs/a\n",
+        b"update-refs r",
+        b"for-each-ref\n",
+        b"for-each-ref \n",
+        b"for-each-ref r \n",
+        b"for-each-ref  r\n",
+        b"for-each-ref r s t\n",
+        b"for-each-ref r\nx",
+        b"for-each-ref r s\n\n",
     ];
     for payload in payloads {
         assert!(rt; is_bad(payload), "{payload:?}");
@@ -222,6 +278,13 @@ fn repository(text: &[u8]) -> Result<RepositoryName, Fail> {
     }
 }
 
+fn reference(text: &[u8]) -> Result<RefName, Fail> {
+    match RefName::read(text) {
+        Ok(name) => Ok(name),
+        Err(_) => Err("no name of a reference")?,
+    }
+}
+
 #[test]
 fn data_and_host_faults_are_told(rt: HostRuntime) -> Result<(), Fail> {
     let alloc = rt.alloc();
@@ -252,7 +315,7 @@ fn data_and_host_faults_are_told(rt: HostRuntime) -> Result<(), Fail> {
 fn each_refusal_has_its_word_and_what_it_is_about(rt: HostRuntime) -> Result<(), Fail> {
     let alloc = rt.alloc();
     let name = Name::parse_hex(EMPTY_BLOB).ok_or("no name")?;
-    let rows: [(Refusal, &[u8]); 12] = [
+    let rows: [(Refusal, &[u8]); 17] = [
         (Refusal::BadRequest, b"no bad-request\n"),
         (Refusal::UnknownTenant, b"no unknown-tenant\n"),
         (
@@ -266,6 +329,26 @@ fn each_refusal_has_its_word_and_what_it_is_about(rt: HostRuntime) -> Result<(),
         (
             Refusal::NoRepository(repository(b"a-long_name")?),
             b"no no-repository a-long_name\n",
+        ),
+        (
+            Refusal::BadRef(ByteString::new(b"a..\xff".to_vec(alloc)?)),
+            b"no bad-ref a..\xff\n",
+        ),
+        (
+            Refusal::RepeatedRef(reference(b"refs/heads/a")?),
+            b"no repeated-ref refs/heads/a\n",
+        ),
+        (
+            Refusal::Stale(reference(b"refs/tags/v1.0")?),
+            b"no stale refs/tags/v1.0\n",
+        ),
+        (
+            Refusal::RefConflict(reference(b"refs/a")?),
+            b"no ref-conflict refs/a\n",
+        ),
+        (
+            Refusal::NotACommit(name),
+            b"no not-a-commit 473a0f4c3be8a93681a267e3b1e9a7dcda1185436fe141f7749120a303721813\n",
         ),
         (
             Refusal::Missing(name),

@@ -30,8 +30,10 @@ pub fn serve<R: Read, W: Write>(
     ensures stopped { Trusted host.old → IfErr result (IsStopped (world_of host.old) (world_of host.new)
         (R.remaining reader.old) (W.contents writer.old) (W.contents writer.new)) }
     ensures trusted { Trusted host.old → Trusted host.new }
+    ensures sound { IsSoundWorld (world_of host.new) }
 {
     a_run_is_private();
+    let _tenants = host.tenants();
     for _ in 0..u64::MAX {
         let frame = match next_frame(alloc, reader) {
             Ok(Next::Frame(frame)) => frame,
@@ -52,6 +54,7 @@ pub fn serve<R: Read, W: Write>(
 fn answer(host: &mut Host, alloc: Global, frame: Frame) -> Reply
     ensures explained { Trusted host.old → Steps (world_of host.old) (event_of frame) result (world_of host.new) }
     ensures trusted { Trusted host.old → Trusted host.new }
+    ensures sound { IsSoundWorld (world_of host.new) }
     ensures faults { IsMemoryAtMost result }
 {
     let payload = frame.payload.as_bytes();

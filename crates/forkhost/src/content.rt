@@ -1,6 +1,7 @@
-ghost use Rattle.std.specs.Prelude.{◌≡◌, ◌≢◌, ◌<◌, ◌≤◌, ◌++◌, List, ℕ, IfOk, IfErr, IfSome, length};
+ghost use Rattle.std.specs.Prelude.{◌≡◌, ◌⊎◌, ◌++◌, List, ℕ, IfOk, IfErr, length};
 ghost use Rattle.std.specs.Io.{ReadsAtMost};
 ghost use Rattle.std.specs.Io.KnownBytes.{Consumes, IsAtEnd, ReadConsumes};
+ghost use Rattle.forkhost.specs.Hashing.{IsContent, IsUnread};
 
 use crate::fault::Fault;
 use push_stream::MAX_CONTENT;
@@ -13,7 +14,7 @@ const CHUNK: usize = 16384;
 fn read_some<R: Read>(reader: &mut R, buf: &mut [u8]) -> Result<usize, Fault>
     ensures bound { ReadsAtMost result buf.new }
     ensures bytes { ReadConsumes (R.remaining reader.old) (R.remaining reader.new) result buf.new }
-    ensures cause { IfErr result (λ fault. fault ≢ Fault.TooLarge) }
+    ensures cause { IfErr result (λ fault. fault ≡ Fault.Read) }
 {
     for _ in 0..u64::MAX {
         match reader.read(buf) {
@@ -34,7 +35,7 @@ fn read_onto<R: Read>(reader: &mut R, out: &mut Vec<u8>) -> Result<usize, Fault>
         × Consumes (R.remaining reader.old) (R.remaining reader.new) more
         × (out.new.items ≡ out.old.items ++ more)) }
     ensures end { IfOk result (λ n. n ≡ 0 → IsAtEnd (R.remaining reader.new)) }
-    ensures cause { IfErr result (λ fault. fault ≢ Fault.TooLarge) }
+    ensures cause { IfErr result (λ fault. (fault ≡ Fault.Read) ⊎ (fault ≡ Fault.Memory)) }
 {
     let mut chunk = [0u8; CHUNK];
     let n = match read_some(reader, &mut chunk) {
@@ -50,9 +51,8 @@ fn read_onto<R: Read>(reader: &mut R, out: &mut Vec<u8>) -> Result<usize, Fault>
 /// All that a reader gives, where that is no more than an object may have: a longer input is not read
 /// to its end.
 pub fn read_content<R: Read>(alloc: Global, reader: &mut R) -> Result<Vec<u8>, Fault>
-    ensures whole { IfOk result (λ content. IfSome (R.remaining reader.old) (λ input. content.items ≡ input)) }
-    ensures fits { IfOk result (λ content. length content.items ≤ 8388608) }
-    ensures cause { IfErr result (λ fault. fault ≡ Fault.TooLarge → IfSome (R.remaining reader.old) (λ input. 8388608 < length input)) }
+    ensures ok { IfOk result (λ content. IsContent (R.remaining reader.old) content.items) }
+    ensures err { IfErr result (IsUnread (R.remaining reader.old)) }
 {
     let mut content = Vec::new(alloc);
     while content.len() <= MAX_CONTENT {

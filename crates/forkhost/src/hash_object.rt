@@ -1,13 +1,35 @@
-ghost use Rattle.std.specs.Prelude.{◌++◌, ◌∷◌, [], OnOk, IfSome};
-ghost use Rattle.std.specs.Io.KnownBytes.{Appends};
-ghost use Rattle.hex.specs.Hex.{encode_lower};
-ghost use Rattle.git_name.specs.Object.{object_name};
+ghost use Rattle.std.specs.Prelude.{◌≡◌, ◌↔◌, IfErr, IsTrue, OnOk};
+ghost use Rattle.forkhost.specs.Hashing.{IsNamed, IsOfKind, IsUnnamed, name_line};
 
 use crate::content::read_content;
 use crate::fault::Fault;
+use crate::send::send;
 use git_name::{Kind, name_of};
+use git_object::Object;
 use std::alloc::Global;
 use std::io::{Read, Write};
+
+// Whether the bytes are an object of this kind.
+fn is_object(kind: Kind, bytes: &[u8]) -> bool
+    ensures { IsTrue result ↔ IsOfKind kind bytes.now }
+{
+    let Ok(_object) = Object::read(kind, bytes) else {
+        return false;
+    };
+    true
+}
+
+// The name of the object of this kind, and LF.
+fn line_of(kind: Kind, bytes: &[u8]) -> [u8; 65]
+    ensures { result ≡ name_line kind bytes.now }
+{
+    let mut line = [b'\n'; 65];
+    let name = name_of(kind, bytes);
+    let mut digits = [0; 64];
+    name.write_hex(&mut digits);
+    line[..64].copy_from_slice(digits.as_slice());
+    line
+}
 
 /// Prints the name of the object of this kind that the input is, and LF.
 pub fn hash_object<R: Read, W: Write>(
@@ -16,20 +38,21 @@ pub fn hash_object<R: Read, W: Write>(
     reader: &mut R,
     writer: &mut W,
 ) -> Result<(), Fault>
-    ensures { OnOk result (IfSome (R.remaining reader.old) (λ input. Appends (W.contents writer.old) (W.contents writer.new)
-        (encode_lower (object_name (record { kind = kind; bytes = input })) ++ 10 ∷ []))) }
+    ensures ok { OnOk result (IsNamed kind (R.remaining reader.old)
+        (W.contents writer.old) (W.contents writer.new)) }
+    ensures err { IfErr result (IsUnnamed kind (R.remaining reader.old)
+        (W.contents writer.old) (W.contents writer.new)) }
 {
-    let content = read_content(alloc, reader)?;
-    let mut line = [b'\n'; 65];
-    let name = name_of(kind, content.as_slice());
-    let mut digits = [0; 64];
-    name.write_hex(&mut digits);
-    line[..64].copy_from_slice(digits.as_slice());
-    let Ok(()) = writer.write_all(line.as_slice()) else {
-        return Err(Fault::Write);
+    let content = match read_content(alloc, reader) {
+        Ok(content) => content,
+        Err(fault) => return Err(fault),
     };
-    let Ok(()) = writer.flush() else {
-        return Err(Fault::Write);
-    };
-    Ok(())
+    if !is_object(kind, content.as_slice()) {
+        return Err(Fault::BadObject);
+    }
+    let line = line_of(kind, content.as_slice());
+    match send(line.as_slice(), writer) {
+        Ok(()) => Ok(()),
+        Err(fault) => Err(fault),
+    }
 }

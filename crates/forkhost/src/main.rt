@@ -3,14 +3,16 @@
 #![tactic(auto)]
 
 mod content;
+mod ending;
 mod fault;
 mod hash_object;
 mod program;
 mod run;
+mod send;
 #[cfg(test)]
 mod tests;
 
-use program::program;
+use program::{Untold, program};
 use std::io::{BufReader, BufWriter, Write};
 use std::process::ExitCode;
 use std::rt::Env;
@@ -30,13 +32,16 @@ fn started<R: Env + AllocGlobal + Input + Print + Eprint>(rt: &R) -> io::Result<
     let mut reader = BufReader::new(alloc, rt.reader())?;
     let mut writer = BufWriter::new(alloc, io::writer(rt))?;
     let mut faults = Vec::new(alloc);
-    let status = program(
+    let status = match program(
         alloc,
         words.as_slice(),
         &mut reader,
         &mut writer,
         &mut faults,
-    );
+    ) {
+        Ok(status) => status,
+        Err(Untold { status }) => status,
+    };
     rt.eprint(String::from_utf8_lossy(alloc, faults.as_slice())?)?;
     Ok(status)
 }

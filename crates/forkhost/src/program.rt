@@ -1,63 +1,97 @@
-ghost use Rattle.std.specs.Prelude.{◌≡◌, ◌≤◌};
+ghost use Rattle.std.specs.Prelude.{◌≡◌, ◌≢◌, ◌≤◌, ℕ, IfErr, IfOk, List, OnOk, map};
+ghost use Rattle.std.specs.Io.KnownBytes.{Appends, Keeps};
+ghost use Rattle.forkhost.specs.Program.{Ends, IsDone, IsEnded, IsEndedAndTold, IsUndone};
 
+use crate::ending::Ending;
 use crate::fault::Fault;
 use crate::hash_object::hash_object;
 use crate::run::run;
+use crate::send::send;
 use clap::Error;
 use fork_command::{Command, CommandError, command_of};
 use std::alloc::Global;
 use std::io::{Read, Write};
 
-/// Does what the words ask for, of which the first is the program's name, and answers the exit
-/// status: 0; 1 with one line on `faults` for the first fault met; 2 with its text on `faults` for a
-/// faulty command line.
+/// What belongs on standard error could not be written, or not wholly. The exit status stays what it is.
+#[derive(Clone, Copy, Debug, PartialEq, Eq)]
+pub struct Untold {
+    pub status: u8,
+}
+
+// Carries the command out.
+fn carried_out<R: Read, W: Write>(
+    alloc: Global,
+    command: Command,
+    reader: &mut R,
+    writer: &mut W,
+) -> Result<(), Fault>
+    ensures ok { OnOk result (IsDone command (R.remaining reader.old)
+        (W.contents writer.old) (W.contents writer.new)) }
+    ensures err { IfErr result (IsUndone command (R.remaining reader.old) (R.remaining reader.new)
+        (W.contents writer.old) (W.contents writer.new)) }
+{
+    match command {
+        Command::HashObject { kind } => hash_object(alloc, kind, reader, writer),
+        Command::Run { tenants } => run(alloc, tenants, reader, writer),
+    }
+}
+
+// Gives help.
+fn help<W: Write>(alloc: Global, error: Error, writer: &mut W) -> Result<(), Fault>
+    ensures ok { OnOk result ((text : List ℕ) × Appends (W.contents writer.old) (W.contents writer.new) text) }
+    ensures kept { IfErr result (λ why. why ≢ Fault.Write → (why ≡ Fault.Memory) × Keeps (W.contents writer.old) (W.contents writer.new)) }
+{
+    let Ok(text) = error.to_string(alloc) else {
+        return Err(Fault::Memory);
+    };
+    send(text.as_bytes(), writer)
+}
+
+// Does what the words ask for.
+fn ending<'a, R: Read, W: Write>(
+    alloc: Global,
+    words: &'a [&'a str],
+    reader: &mut R,
+    writer: &mut W,
+) -> Ending<'a>
+    ensures { Ends (map (λ word. word.now) words.entry.now) (R.remaining reader.old) (R.remaining reader.new)
+        (W.contents writer.old) (W.contents writer.new) result }
+{
+    match command_of(alloc, words) {
+        Ok(command) => match carried_out(alloc, command, reader, writer) {
+            Ok(()) => Ending::Done,
+            Err(fault) => Ending::Failed(fault),
+        },
+        Err(CommandError::Help(error)) => match help(alloc, error, writer) {
+            Ok(()) => Ending::Done,
+            Err(fault) => Ending::Failed(fault),
+        },
+        Err(CommandError::Usage(error)) => Ending::Misused(error),
+        Err(CommandError::BadTenant(word)) => Ending::BadTenant(word),
+        Err(CommandError::Memory) => Ending::Failed(Fault::Memory),
+    }
+}
+
+/// Does what the words ask for, of which the first is the program's name, tells on `faults` what
+/// belongs on standard error, and answers the exit status.
 pub fn program<R: Read, W: Write, F: Write>(
     alloc: Global,
     words: &[&str],
     reader: &mut R,
     writer: &mut W,
     faults: &mut F,
-) -> u8
-    ensures { result ≤ 2 }
+) -> Result<u8, Untold>
+    ensures ok { IfOk result (IsEndedAndTold (map (λ word. word.now) words.entry.now)
+        (R.remaining reader.old) (R.remaining reader.new) (W.contents writer.old) (W.contents writer.new)
+        (F.contents faults.old) (F.contents faults.new)) }
+    ensures err { IfErr result (λ untold. IsEnded (map (λ word. word.now) words.entry.now)
+        (R.remaining reader.old) (R.remaining reader.new) (W.contents writer.old) (W.contents writer.new) untold.status) }
+    ensures cause { IfErr result (λ untold. 1 ≤ untold.status) }
 {
-    match command_of(alloc, words) {
-        Ok(Command::HashObject { kind }) => status(
-            hash_object(alloc, kind, reader, writer),
-            faults,
-        ),
-        Ok(Command::Run { tenants }) => status(run(alloc, tenants, reader, writer), faults),
-        Err(CommandError::Help(error)) => told(error, writer, 0),
-        Err(CommandError::Usage(error)) => told(error, faults, 2),
-        Err(CommandError::BadTenant(word)) => bad_tenant(word, faults),
-        Err(CommandError::Memory) => status(Err(Fault::Memory), faults),
+    let how = ending(alloc, words, reader, writer);
+    let status = how.status();
+    match how.tell(alloc, faults) {
+        Ok(()) => Ok(status),
+        Err(_) => Err(Untold { status }),
     }
-}
-
-// Tells the fault, if there is one. Where the line can't be written there is nobody to tell.
-fn status<F: Write>(outcome: Result<(), Fault>, faults: &mut F) -> u8
-    ensures { result ≤ 2 }
-{
-    match outcome {
-        Ok(()) => 0,
-        Err(fault) => {
-            let _ = fault.write(faults);
-            1
-        }
-    }
-}
-
-// Writes clap's text.
-fn told<W: Write>(error: Error, writer: &mut W, status: u8) -> u8
-    ensures { result ≡ status }
-{
-    let _ = write!(writer, "{error}");
-    let _ = writer.flush();
-    status
-}
-
-fn bad_tenant<F: Write>(word: &str, faults: &mut F) -> u8
-    ensures { result ≤ 2 }
-{
-    let _ = writeln!(faults, "forkhost: bad tenant {word}");
-    2
 }

@@ -4,6 +4,7 @@ mod command_line;
 mod frames;
 mod isolation;
 mod objects;
+mod references;
 mod runs;
 mod wire;
 
@@ -30,13 +31,15 @@ fn ran(alloc: Global, words: &[&str], input: &[u8]) -> Result<Outcome, Fail> {
     let mut reader = input;
     let mut written = Vec::new(alloc);
     let mut faults = Vec::new(alloc);
-    let status = program(
+    let Ok(status) = program(
         alloc,
         all.as_slice(),
         &mut reader,
         &mut written,
         &mut faults,
-    );
+    ) else {
+        return Err("untold")?;
+    };
     Ok(Outcome {
         status,
         written,

@@ -9,11 +9,11 @@ returns-in_default-kind_given-clause-none c =
     let name = text_is _ _ _ c.eq.ensures c.if-eq.true in
     let met : subcommand_rows_of c.args.matches.now ≡ Some (c.in-Some.name.now, rows_of (found_of c.in-Some.matches.now)) = both_halves _ _ _ _ _ c.in-Some.ensures.name c.in-Some.ensures.rows in
     let given = ap (λ (o : Option Text). unwrap_or o (codes "blob")) (c.get_str.ensures ∙ first_value-rows (found_of c.in-Some.matches.now) (codes "type")) in
-    no_type _ (rows_of (found_of c.in-Some.matches.now)) (met ∙ ap (λ (t : Text). Some (t, rows_of (found_of c.in-Some.matches.now))) name) (λ is. c.in_default-kind_given.ensures.none (given ∙ is))
+    no_type _ (rows_of (found_of c.in-Some.matches.now)) (met ∙ ap (λ (t : Text). Some (t, rows_of (found_of c.in-Some.matches.now))) name) (λ kind is. c.in_default-kind_given.ensures.none kind (given ∙ is))
 
 pub returns-then-eq-clause-some : goal.returns-then-eq-clause-some
 returns-then-eq-clause-some c =
     let name = text_is _ _ _ c.eq.ensures c.if-eq.true in
     let met : subcommand_rows_of c.args.matches.now ≡ Some (c.in-Some.name.now, rows_of (found_of c.in-Some.matches.now)) = both_halves _ _ _ _ _ c.in-Some.ensures.name c.in-Some.ensures.rows in
     let given = ap (λ (o : Option Text). unwrap_or o (codes "blob")) (c.get_str.ensures ∙ first_value-rows (found_of c.in-Some.matches.now) (codes "type")) in
-    (_, met ∙ ap (λ (t : Text). Some (t, rows_of (found_of c.in-Some.matches.now))) name, sym given ∙ c.in-Some-kind_given.ensures.found.0, c.in-Some-kind_given.ensures.found.1)
+    (_, met ∙ ap (λ (t : Text). Some (t, rows_of (found_of c.in-Some.matches.now))) name, sym given ∙ c.in-Some-kind_given.ensures.found)

@@ -9,12 +9,14 @@ use Rattle.fork_wire.proofs.session.serve.Goals as goal
 pub loop-init : goal.loop-init
 loop-init g c = record {
   trusted = λ trusted. trusted;
+  sound = c.tenants-tenants.ensures.sound;
   going = λ trusted. record { frames = []; replies = []; came = []; right = no_frames; taken = Consumes-nil _; explained = refl; faults = All-nil IsMemoryAtMost; written = Appends-nil _ };
 }
 
 pub loop-preserved : goal.loop-preserved
 loop-preserved g c = record {
   trusted = λ trusted. c.answer-reply.ensures.trusted (c.loop.invariant.trusted trusted);
+  sound = c.answer-reply.ensures.sound;
   going = λ trusted.
       let frame = rw c.in-Ok-Frame.field-0-is at c.in-Ok-Frame.ensures in
       going_more _ _ _ _ _ _ _ _ _ c.in-Ok-Frame.frame c.answer-reply.result (c.loop.invariant.going trusted) frame.0 frame.1 (c.answer-reply.ensures.explained (c.loop.invariant.trusted trusted)) c.answer-reply.ensures.faults c.in-Ok.ensures.ok;

@@ -2,7 +2,7 @@ use Rattle.std.proofs.Common.{◌∷◌, [], sym, ◌∙◌}
 use Rattle.std.proofs.lemmas.List.Elements.{All-append, All-cons, All-nil}
 use Rattle.fork_command.specs.Grant.{IsGrant}
 use Rattle.fork_command.proofs.GrantLemmas.{all_words, first_bad, more_words}
-use Rattle.fork_command.proofs.grant.grants_of.Goals as goal
+use Rattle.fork_command.proofs.grants.grants_of.Goals as goal
 
 pub returns-in_default-clause-err : goal.returns-in_default-clause-err
 returns-in_default-clause-err c =

@@ -1,6 +1,6 @@
 use Rattle.std.proofs.Common.{◌≡◌, All, map, take}
 use Rattle.fork_command.specs.Grant.{IsGrant, grant_word}
-use Rattle.fork_command.proofs.grant.grants_of.Given as goal
+use Rattle.fork_command.proofs.grants.grants_of.Given as goal
 
 -- the words so far are the grants
 abbrev pub invariant-loop-word : goal.invariant-loop-word

@@ -1,0 +1,14 @@
+-- What a source of objects finds (own): whole objects under their names, as a finite map.
+use Rattle.std.specs.Prelude.{ℕ, Bool, List, Option, option_map}
+use Rattle.std.specs.FinMap.{FinMap, get}
+use Rattle.git_name.specs.declared.kind.Kind.{Kind}
+use Rattle.git_name.specs.Name.{name_cmp}
+use Rattle.git_name.specs.Object.{Object}
+
+-- whole objects under their names
+abbrev pub Objects : Type 0
+Objects = FinMap name_cmp Object
+
+-- the kind of the object of a name
+abbrev pub kind_in : Objects → List ℕ → Option Kind
+kind_in objects name = option_map (λ object. object.kind) (get objects name)

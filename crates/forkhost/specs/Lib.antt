@@ -1,0 +1,4 @@
+pub mod Fault
+pub mod Hashing
+pub mod Running
+pub mod Program

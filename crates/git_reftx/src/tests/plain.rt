@@ -55,29 +55,52 @@ fn is_stale(command: Plain, target: u8) -> bool {
     command.verb == b"verify".as_slice() && target != 0
 }
 
-fn refused_before(state: State, commands: &[Plain]) -> Option<Refused> {
+fn bad(commands: &[Plain]) -> Option<Refused> {
     for command in commands {
         if command.place >= 7 {
             return Some(Refused::At(b"bad-ref ", 7));
         }
     }
-    for (at, command) in commands.iter().enumerate() {
-        for earlier in &commands[..at] {
-            if earlier.place == command.place {
-                return Some(Refused::At(b"repeated-ref ", command.place));
-            }
+    None
+}
+
+fn stands_in(place: usize, commands: &[Plain]) -> bool {
+    for command in commands {
+        if command.place == place {
+            return true;
         }
     }
+    false
+}
+
+fn repeated(commands: &[Plain]) -> Option<Refused> {
+    for (at, command) in commands.iter().enumerate() {
+        if stands_in(command.place, &commands[..at]) {
+            return Some(Refused::At(b"repeated-ref ", command.place));
+        }
+    }
+    None
+}
+
+fn missing(commands: &[Plain]) -> Option<Refused> {
     for command in commands {
         if has_new(*command) && command.new == b'f' {
             return Some(Refused::Object(b"missing ", b'f'));
         }
     }
+    None
+}
+
+fn not_a_commit(commands: &[Plain]) -> Option<Refused> {
     for command in commands {
         if has_new(*command) && command.new == b'e' && command.place < 5 {
             return Some(Refused::Object(b"not-a-commit ", b'e'));
         }
     }
+    None
+}
+
+fn stale(state: State, commands: &[Plain]) -> Option<Refused> {
     for command in commands {
         if is_stale(*command, state[command.place % 8]) {
             return Some(Refused::At(b"stale ", command.place));
@@ -114,14 +137,26 @@ fn conflict(state: State) -> Option<usize> {
     None
 }
 
-fn refusal_of(state: State, commands: &[Plain]) -> Option<Refused> {
-    let refused = refused_before(state, commands);
-    if refused.is_some() {
-        return refused;
-    }
-    match conflict(changed(state, commands)) {
+fn conflicting(state: State) -> Option<Refused> {
+    match conflict(state) {
         Some(place) => Some(Refused::At(b"ref-conflict ", place)),
         None => None,
+    }
+}
+
+fn refusal_of(state: State, commands: &[Plain]) -> Option<Refused> {
+    bad(commands)
+        .or(repeated(commands))
+        .or(missing(commands))
+        .or(not_a_commit(commands))
+        .or(stale(state, commands))
+        .or(conflicting(changed(state, commands)))
+}
+
+fn left_after(state: State, refusal: Option<Refused>, commands: &[Plain]) -> State {
+    match refusal {
+        Some(_) => state,
+        None => changed(state, commands),
     }
 }
 
@@ -210,6 +245,45 @@ fn command_of(chance: u32) -> Plain {
     }
 }
 
+// So many commands by chance, from this number on.
+fn commands_from(alloc: Global, chance: u32, count: usize) -> Result<Vec<Plain>, AllocError> {
+    let mut commands = Vec::new(alloc);
+    let mut chance = chance;
+    for _ in 0..count {
+        chance = next(chance);
+        commands.push(command_of(chance))?;
+    }
+    Ok(commands)
+}
+
+fn next(chance: u32) -> u32 {
+    chance.wrapping_mul(1_664_525).wrapping_add(1_013_904_223)
+}
+
+fn body_of(alloc: Global, commands: &[Plain]) -> Result<Vec<u8>, AllocError> {
+    let mut body = Vec::new(alloc);
+    for command in commands {
+        put_command(&mut body, *command)?;
+    }
+    Ok(body)
+}
+
+// Whether both answer alike, and leave the same references, which are `after`.
+fn is_alike(
+    alloc: Global,
+    refs: &mut Refs,
+    commands: &[Plain],
+    refusal: Option<Refused>,
+    after: State,
+) -> Result<bool, Fail> {
+    let body = body_of(alloc, commands)?;
+    let wanted = told(alloc, refusal)?;
+    let left = state_shown(alloc, after)?;
+    let answer = carried(alloc, refs, body.as_slice())?;
+    let references = shown(alloc, refs)?;
+    Ok(answer.as_slice() == wanted.as_slice() && references.as_slice() == left.as_slice())
+}
+
 #[test]
 fn the_plain_program_answers_alike(rt: HostRuntime) -> Result<(), Fail> {
     let alloc = rt.alloc();
@@ -217,30 +291,13 @@ fn the_plain_program_answers_alike(rt: HostRuntime) -> Result<(), Fail> {
     let mut state: State = [0; 8];
     let mut chance = 7_u32;
     for round in 0..3000_usize {
-        let mut commands = Vec::new(alloc);
-        let mut body = Vec::new(alloc);
-        for _ in 0..1 + round % 4 {
-            chance = chance.wrapping_mul(1_664_525).wrapping_add(1_013_904_223);
-            let command = command_of(chance);
-            put_command(&mut body, command)?;
-            commands.push(command)?;
-        }
+        let commands = commands_from(alloc, chance, 1 + round % 4)?;
         let refusal = refusal_of(state, commands.as_slice());
-        if refusal.is_none() {
-            state = changed(state, commands.as_slice());
-        }
-        let answer = carried(alloc, &mut refs, body.as_slice())?;
-        assert_eq!(rt;
-            answer.as_slice(),
-            told(alloc, refusal)?.as_slice(),
-            "{round}"
-        );
-        let after = shown(alloc, &refs)?;
-        assert_eq!(rt;
-            after.as_slice(),
-            state_shown(alloc, state)?.as_slice(),
-            "{round}"
-        );
+        let after = left_after(state, refusal, commands.as_slice());
+        let alike = is_alike(alloc, &mut refs, commands.as_slice(), refusal, after)?;
+        assert!(rt; alike, "{round}");
+        chance = next(chance.wrapping_add(round as u32));
+        state = after;
     }
     Ok(())
 }

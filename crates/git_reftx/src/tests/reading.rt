@@ -62,7 +62,12 @@ fn each_command_is_read(rt: HostRuntime) -> Result<(), Fail> {
         assert_eq!(rt; command.demand, demand);
         assert_eq!(rt; command.change, change);
     }
-    let (first, behind) = first_command(alloc, b"delete ..\nrest")?;
+    Ok(())
+}
+
+#[test]
+fn a_command_is_read_with_what_stands_behind_it(rt: HostRuntime) -> Result<(), Fail> {
+    let (first, behind) = first_command(rt.alloc(), b"delete ..\nrest")?;
     assert_eq!(rt; first.reference.as_bytes(), b"..".as_slice());
     assert_eq!(rt; behind, b"rest".as_slice());
     Ok(())
@@ -148,6 +153,11 @@ fn a_line_has_512_bytes_at_most(rt: HostRuntime) -> Result<(), Fail> {
         let body = long(alloc, len, text)?;
         assert_eq!(rt; fault_of(alloc, body.as_slice())?, fault, "{len}");
     }
+    Ok(())
+}
+
+#[test]
+fn a_line_is_parted_from_what_stands_behind_it(rt: HostRuntime) -> Result<(), Fail> {
     match first_line(b"a b\nc") {
         Line::Whole(line, behind) => {
             assert_eq!(rt; line, b"a b".as_slice());

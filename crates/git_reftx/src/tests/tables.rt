@@ -1,6 +1,7 @@
 use crate::tests::objects::{Objects, object};
-use crate::tests::{carried, shown, told};
+use crate::tests::{carried, shown};
 use crate::{Change, Command, Demand, MAX_REFERENCES, RefWord, Refs};
+use git_name::Name;
 use git_refname::RefName;
 use std::alloc::{AllocError, Global};
 use std::test::Fail;
@@ -136,28 +137,44 @@ fn a_reference_has_255_bytes_at_most(rt: HostRuntime) -> Result<(), Fail> {
     Ok(())
 }
 
+// References of two names.
+fn two(alloc: Global) -> Result<Refs, Fail> {
+    let mut refs = Refs::new(alloc);
+    let answer = carried(alloc, &mut refs, b"create refs/b $c\ncreate refs/a $d\n")?;
+    if answer.as_slice() != b"ok".as_slice() {
+        return Err("refused")?;
+    }
+    Ok(refs)
+}
+
+fn target_of(refs: &Refs, name: &[u8]) -> Option<Name> {
+    match RefName::read(name) {
+        Ok(name) => refs.get(&name),
+        Err(_) => None,
+    }
+}
+
 #[test]
 fn references_are_found_by_name(rt: HostRuntime) -> Result<(), Fail> {
-    let alloc = rt.alloc();
-    let mut refs = Refs::new(alloc);
-    assert!(rt; refs.is_empty());
-    let answer = carried(alloc, &mut refs, b"create refs/b $c\ncreate refs/a $d\n")?;
-    assert_eq!(rt; answer.as_slice(), b"ok".as_slice());
-    let (Ok(a), Ok(c)) = (RefName::read(b"refs/a"), RefName::read(b"refs/c")) else {
-        return Err("no name")?;
-    };
+    let refs = two(rt.alloc())?;
     assert_eq!(rt; refs.len(), 2);
     assert!(rt; !refs.is_empty());
-    assert_eq!(rt; refs.get(&a), object(b'd'));
-    assert_eq!(rt; refs.get(&c), None);
+    assert_eq!(rt; target_of(&refs, b"refs/a"), object(b'd'));
+    assert_eq!(rt; target_of(&refs, b"refs/b"), object(b'c'));
+    assert_eq!(rt; target_of(&refs, b"refs/c"), None);
+    Ok(())
+}
+
+#[test]
+fn a_copy_keeps_its_references(rt: HostRuntime) -> Result<(), Fail> {
+    let alloc = rt.alloc();
+    let mut refs = two(alloc)?;
     let copied = refs.copy()?;
-    let answer = carried(alloc, &mut refs, b"delete refs/a\n")?;
-    assert_eq!(rt; answer.as_slice(), b"ok".as_slice());
-    assert_eq!(rt;
-        shown(alloc, &copied)?.as_slice(),
-        b"d refs/a\nc refs/b\n".as_slice()
-    );
-    assert_eq!(rt; shown(alloc, &refs)?.as_slice(), b"c refs/b\n".as_slice());
+    carried(alloc, &mut refs, b"delete refs/a\n")?;
+    let before = shown(alloc, &copied)?;
+    assert_eq!(rt; before.as_slice(), b"d refs/a\nc refs/b\n".as_slice());
+    let after = shown(alloc, &refs)?;
+    assert_eq!(rt; after.as_slice(), b"c refs/b\n".as_slice());
     Ok(())
 }
 
@@ -177,24 +194,36 @@ fn creation(alloc: Global, number: usize) -> Result<Command, Fail> {
     })
 }
 
-#[test]
-fn there_are_4096_references_at_most(rt: HostRuntime) -> Result<(), Fail> {
-    let alloc = rt.alloc();
+// References `refs/0000` to `refs/4095`.
+fn full(alloc: Global) -> Result<Refs, Fail> {
     let objects = Objects::new()?;
     let mut refs = Refs::new(alloc);
     let mut commands = Vec::new(alloc);
     for number in 0..MAX_REFERENCES {
         commands.push(creation(alloc, number)?)?;
     }
-    let answer = refs.apply(alloc, commands.as_slice(), &objects);
-    assert_eq!(rt; told(alloc, &answer)?.as_slice(), b"ok".as_slice());
-    assert_eq!(rt; refs.len(), 4096);
-    let answer = carried(alloc, &mut refs, b"create refs/x $c\n")?;
-    assert_eq!(rt; answer.as_slice(), b"too-many".as_slice());
-    assert_eq!(rt; refs.len(), 4096);
-    let answer = carried(alloc, &mut refs, b"create refs/x/y $c\ncreate refs/x $c\n")?;
-    assert_eq!(rt; answer.as_slice(), b"ref-conflict refs/x".as_slice());
-    let answer = carried(alloc, &mut refs, b"delete refs/0000\ncreate refs/x $c\n")?;
-    assert_eq!(rt; answer.as_slice(), b"ok".as_slice());
+    let Ok(()) = refs.apply(alloc, commands.as_slice(), &objects) else {
+        return Err("refused")?;
+    };
+    Ok(refs)
+}
+
+#[test]
+fn there_are_4096_references_at_most(rt: HostRuntime) -> Result<(), Fail> {
+    let alloc = rt.alloc();
+    let mut refs = full(alloc)?;
+    let rows: [(&[u8], &[u8]); 3] = [
+        (b"create refs/x $c\n", b"too-many"),
+        (
+            b"create refs/x/y $c\ncreate refs/x $c\n",
+            b"ref-conflict refs/x",
+        ),
+        (b"delete refs/0000\ncreate refs/x $c\n", b"ok"),
+    ];
+    for (body, wanted) in rows {
+        assert_eq!(rt; refs.len(), 4096);
+        let answer = carried(alloc, &mut refs, body)?;
+        assert_eq!(rt; answer.as_slice(), wanted);
+    }
     Ok(())
 }

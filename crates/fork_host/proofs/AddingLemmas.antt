@@ -10,13 +10,14 @@ use Rattle.git_name.specs.Name.{name_cmp}
 use Rattle.git_name.specs.Object.{Object}
 use Rattle.git_name.proofs.Names.{name_total}
 use Rattle.git_reftx.specs.Transaction.{References}
-use Rattle.fork_model.specs.Objects.{use_of}
-use Rattle.fork_model.specs.Sound.{IsNamed, IsSound, IsSoundWorld}
+use Rattle.fork_reach.specs.Objects.{IsNamed, use_of}
+use Rattle.fork_model.specs.Sound.{IsSound, IsSoundWorld}
 use Rattle.fork_model.specs.View.{View}
+use Rattle.push_stream.specs.Upload.{UploadValue}
 use Rattle.fork_model.specs.World.{World}
 use Rattle.fork_model.proofs.Hosts.{get_is}
-use Rattle.fork_model.proofs.KeptObjects.{at_key}
-use Rattle.fork_model.proofs.UseLemmas.{use_of-empty}
+use Rattle.fork_reach.proofs.KeptObjects.{at_key}
+use Rattle.fork_reach.proofs.UseLemmas.{use_of-empty}
 use Rattle.fork_host.specs.Adding.{new_view, refusal_to_add}
 use Rattle.fork_host.specs.declared.add_error.AddError.TheVariants.{There, TooMany, Limit}
 
@@ -61,10 +62,16 @@ nothing_at {X} name x is = (let no : ⊥ = cc (sym (get-empty {X = X} name_cmp n
 pub none_named : IsNamed empty
 none_named = λ name object is. absurd (nothing_at name object is)
 
+no_upload : (upload : UploadValue) → None ≡ Some upload → ⊥
+no_upload upload is = cc
+
 -- a new tenant's view is sound
 pub sound_new_view : (limit : ℕ) → limit ≤ 1099511627776 → IsSound (new_view limit)
 sound_new_view limit low = record {
   named = none_named;
+  right = λ name object is. absurd (nothing_at name object is);
+  closed = λ name object is. absurd (nothing_at name object is);
+  upload = λ upload is. absurd (no_upload upload is);
   within_limit = (let none = use_of-empty in omega arith);
   limit = low;
   few_repositories = (let none = len-empty name_cmp References in omega arith);

@@ -7,6 +7,7 @@ use Rattle.std.specs.FinMap.{get, get-insert, get-remove, get_tied, insert, remo
 use Rattle.git_name.specs.Name.{name_cmp}
 use Rattle.git_name.specs.Object.{Object}
 use Rattle.git_name.proofs.Names.{name_total, name_exact}
+use Rattle.fork_reach.specs.Objects.{IsNamed}
 use Rattle.fork_reach.specs.Source.{Objects}
 use Rattle.fork_host.specs.TakenBack.{taken_back}
 
@@ -49,3 +50,14 @@ taken_back-append (first ∷ names) name objects = ap (λ m. remove m first) (ta
 -- a name more, whose object is taken out
 pub taken_back_same : (names more : List (List ℕ)) (name : List ℕ) (old new : Objects) → more ≡ names ++ name ∷ [] → remove new name ≡ old → taken_back more new ≡ taken_back names old
 taken_back_same names more name old new grown removed = ap (λ ns. taken_back ns new) grown ∙ taken_back-append names name new ∙ ap (taken_back names) removed
+
+found_before : (b : Bool) (o : Option Object) (object : Object) → cond b None o ≡ Some object → o ≡ Some object
+found_before true o object is = absurd (cc)
+found_before false o object is = is
+
+-- what is left stands under its own name
+pub named_back : (names : List (List ℕ)) (objects : Objects) → IsNamed objects → IsNamed (taken_back names objects)
+named_back [] objects named = named
+named_back (name ∷ names) objects named = λ q object is.
+    named_back names objects named q object
+    (found_before (eq_by_cmp name_cmp q name) (get (taken_back names objects) q) object (sym (get-remove name_total (taken_back names objects) name q) ∙ is))

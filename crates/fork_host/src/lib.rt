@@ -8,9 +8,12 @@ mod add_error;
 mod host;
 mod object_map;
 mod objects;
+mod replies;
 mod repositories;
 mod step;
+mod taking;
 mod tenant;
+mod uploading;
 
 pub use crate::add_error::AddError;
 pub use crate::host::{Host, NoMemory};

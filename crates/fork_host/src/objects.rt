@@ -1,28 +1,33 @@
-ghost use Rattle.std.specs.Prelude.{◌≡◌, ◌≤◌, ◌<◌, [], IfOk, IfErr, OnOk, OnErr};
+ghost use Rattle.std.specs.Prelude.{◌≡◌, IfOk, OnOk, OnErr, map as map_list, nat_le};
 ghost use Rattle.std.specs.Option.{option_copied};
 ghost use Rattle.std.specs.FinMap as map;
-ghost use Rattle.fork_model.specs.Objects.{use_of, with_object, with_objects};
+ghost use Rattle.git_name.specs.Object.{object_name};
+ghost use Rattle.fork_reach.specs.Objects.{use_of, with_object, with_objects};
+ghost use Rattle.fork_host.specs.Staged.{TakesBack, capped};
 ghost use Rattle.fork_host.specs.TakenBack.{taken_back};
 
 use crate::object_map::ObjectMap;
+use fork_push::Sides;
 use fork_reach::{Source, SourceFault};
 use git_name::{Kind, Name, Sealed};
 use git_reftx::Known;
-use std::alloc::Global;
+use std::alloc::{AllocError, Global};
 use std::marker::Model;
 
-// Why objects were not added.
-#[derive(Clone, Copy, Debug, PartialEq, Eq)]
-pub(crate) enum PutError {
-    OverQuota,
-    Memory,
+// Objects that were put beside others: their names in the order in which they came, and what the
+// others use.
+#[derive(Drop)]
+pub(crate) struct Added {
+    names: Vec<Name>,
+    used: u128,
 }
 
-// A tenant's own objects under their names, and what they use.
+// A tenant's own objects under their names, and what they use. While a push is judged, what was sent
+// stands beside what the tenant sees.
 #[derive(Drop)]
 pub(crate) struct Objects {
     objects: ObjectMap,
-    used: u64,
+    used: u128,
 }
 
 impl Model for Objects {
@@ -30,9 +35,9 @@ impl Model for Objects {
     ghost use Rattle.std.specs.FinMap as map;
     ghost use Rattle.std.specs.Coded.{coded_list, coded_ℕ};
     ghost use Rattle.git_name.specs.contracts.sealed.Sealed as sealed;
+    ghost use Rattle.fork_reach.specs.Objects.{IsNamed, use_of};
     ghost use Rattle.fork_reach.specs.Source.{Objects};
-    ghost use Rattle.fork_model.specs.Objects.{use_of};
-    ghost use Rattle.fork_model.specs.Sound.{IsNamed};
+    ghost use Rattle.fork_host.specs.Staged.{capped};
 
     ghost Value = { Objects };
 
@@ -40,7 +45,7 @@ impl Model for Objects {
 
     ghost view = { λ a. a.objects };
 
-    ghost invariant = { λ a. (a.used ≡ use_of a.objects) × IsNamed a.objects };
+    ghost invariant = { λ a. (a.used ≡ capped (use_of a.objects)) × IsNamed a.objects };
 }
 
 impl Objects {
@@ -61,30 +66,35 @@ impl Objects {
         self.objects.get(name)
     }
 
-    // Adds these objects, but those of a name that is there, or none of them.
-    pub(crate) fn add(
-        &mut self,
-        alloc: Global,
-        sent: Vec<Sealed>,
-        limit: u64,
-    ) -> Result<(), PutError>
-        requires { use_of self.old ≤ limit }
+    // Puts these objects beside the others, but those of a name that is there, and gives what takes
+    // them out again.
+    pub(crate) fn add(&mut self, alloc: Global, sent: Vec<Sealed>) -> Result<Added, AllocError>
         ensures ok { OnOk result (self.new ≡ with_objects self.old sent.items) }
-        ensures within { OnOk result (use_of self.new ≤ limit) }
-        ensures over { IfErr result (λ error. error ≡ PutError.OverQuota → limit < use_of (with_objects self.old sent.items)) }
+        ensures added { IfOk result (λ added. TakesBack added self.old self.new) }
         ensures err { OnErr result (self.new ≡ self.old) }
     {
-        let mut added = Vec::new(alloc);
-        match add_all(&mut self.objects, sent, self.used, limit, &mut added) {
-            Ok(used) => {
-                self.used = used;
-                Ok(())
+        let used = self.used;
+        let mut names = Vec::new(alloc);
+        match add_all(&mut self.objects, sent, used, &mut names) {
+            Ok(total) => {
+                self.used = total;
+                Ok(Added { names, used })
             }
             Err(error) => {
-                take_back(&mut self.objects, added);
+                take_back(&mut self.objects, names);
                 Err(error)
             }
         }
+    }
+
+    // Takes out again what was added. It takes no memory.
+    pub(crate) fn discard(&mut self, added: Added)
+        requires { added.used ≡ capped (use_of (taken_back added.names.items self.old)) }
+        ensures { self.new ≡ taken_back added.names.items self.old }
+    {
+        let Added { names, used } = added;
+        take_back(&mut self.objects, names);
+        self.used = used;
     }
 }
 
@@ -105,6 +115,8 @@ impl Source for Objects {
 
     ghost honest = { λ _. true };
 
+    ghost failures = { λ _. 0 };
+
     fn kind_of(&self, name: Name) -> Option<Kind> {
         self.objects.kind_of(name)
     }
@@ -120,24 +132,27 @@ impl Source for Objects {
     }
 }
 
+impl Sides for Objects {
+    fn is_within(&self, limit: u64) -> bool {
+        self.used <= limit as u128
+    }
+}
+
 // Adds these objects in turn, as far as it goes, and notes the names of the new ones.
 fn add_all(
     objects: &mut ObjectMap,
     sent: Vec<Sealed>,
-    used: u64,
-    limit: u64,
+    used: u128,
     added: &mut Vec<Name>,
-) -> Result<u64, PutError>
-    requires used { used ≡ use_of objects.old }
-    requires within { used ≤ limit }
+) -> Result<u128, AllocError>
+    requires { used ≡ capped (use_of objects.old) }
     ensures ok { OnOk result (objects.new ≡ with_objects objects.old sent.items) }
-    ensures used { IfOk result (λ total. (total ≡ use_of objects.new) × (total ≤ limit)) }
-    ensures over { IfErr result (λ error. error ≡ PutError.OverQuota → limit < use_of (with_objects objects.old sent.items)) }
+    ensures used { IfOk result (λ total. total ≡ capped (use_of objects.new)) }
     ensures undone { taken_back added.new.items objects.new ≡ taken_back added.old.items objects.old }
 {
     let mut total = used;
     for sealed in sent {
-        match add_one(objects, sealed, total, limit, added) {
+        match add_one(objects, sealed, total, added) {
             Ok(more) => total = more,
             Err(error) => return Err(error),
         }
@@ -149,32 +164,26 @@ fn add_all(
 fn add_one(
     objects: &mut ObjectMap,
     sealed: Sealed,
-    used: u64,
-    limit: u64,
+    used: u128,
     added: &mut Vec<Name>,
-) -> Result<u64, PutError>
-    requires used { used ≡ use_of objects.old }
-    requires within { used ≤ limit }
+) -> Result<u128, AllocError>
+    requires { used ≡ capped (use_of objects.old) }
     ensures ok { OnOk result (objects.new ≡ with_object objects.old sealed) }
-    ensures used { IfOk result (λ total. (total ≡ use_of objects.new) × (total ≤ limit)) }
-    ensures over { IfErr result (λ error. error ≡ PutError.OverQuota → limit < use_of (with_object objects.old sealed)) }
+    ensures used { IfOk result (λ total. total ≡ capped (use_of objects.new)) }
     ensures undone { taken_back added.new.items objects.new ≡ taken_back added.old.items objects.old }
 {
     let name = sealed.name();
     if objects.contains(name) {
         return Ok(used);
     }
-    let size = sealed.bytes().len() as u64 + 64;
-    if size > limit - used {
-        return Err(PutError::OverQuota);
-    }
+    let size = sealed.bytes().len() as u128 + 64;
     let Ok(()) = added.push(name) else {
-        return Err(PutError::Memory);
+        return Err(AllocError);
     };
     let Ok(()) = objects.insert(sealed) else {
-        return Err(PutError::Memory);
+        return Err(AllocError);
     };
-    Ok(used + size)
+    Ok(used.saturating_add(size))
 }
 
 // Takes out the objects of these names, the last first. It takes no memory.

@@ -1,21 +1,23 @@
-ghost use Rattle.std.specs.Prelude.{◌≡◌, ◌⊎◌, OnOk, OnErr, Some, IfSome, option_map, true};
+ghost use Rattle.std.specs.Prelude.{◌≡◌, Some, option_map, true};
 ghost use Rattle.std.specs.FinMap as map;
 ghost use Rattle.git_reftx.specs.Transaction.{References, transacted};
 ghost use Rattle.fork_reach.specs.Source.{kind_in};
-ghost use Rattle.push_stream.specs.Stream.{finished, stream_of};
 ghost use Rattle.fork_request.specs.Asked.{ask_of};
-ghost use Rattle.fork_request.specs.declared.refusal.Refusal.TheVariants.{BadName};
-ghost use Rattle.fork_model.specs.Answer.{answer, cat_file_answer, command_refusal, copied, drop_answer, fork_answer, init_answer, judged, new_repository, push_answer, pushed, references_answer, refusal_of, transaction_refusal, update_answer, with_references};
+ghost use Rattle.fork_model.specs.Answer.{Held, answer, cat_file_answer, copied, drop_answer, end_in, fork_answer, init_answer, named_repository, new_repository, part_answer, part_drop_answer, part_end_answer, push_answer, pushed, references_answer, update_answer, with_references};
 ghost use Rattle.fork_host.specs.Adding.{new_view};
 ghost use Rattle.fork_host.specs.Rows.{Gives};
+ghost use Rattle.fork_host.specs.Staged.{TellsHeld};
 
-use crate::objects::{Objects, PutError};
+use crate::objects::Objects;
+use crate::replies::{bad_name, command_refusal, done, stream_refusal, transaction_refusal};
 use crate::repositories::Repositories;
+use crate::taking::take;
+use crate::uploading::feed;
 use fork_query::for_each_ref;
 use fork_request::{ByteString, HostFault, Refusal, Reply, RepositoryName, Request};
-use git_name::{Name, Sealed};
-use git_reftx::{ApplyError, Command, CommandFault, ReadError, Refs, TxRefusal, read_commands};
-use push_stream::{BodyError, StreamFault, read_body, write_record};
+use git_name::Name;
+use git_reftx::{ApplyError, Command, ReadError, Refs, read_commands};
+use push_stream::{Body, BodyError, Upload, read_body, write_record};
 use std::alloc::Global;
 use std::marker::Model;
 
@@ -27,19 +29,20 @@ const MOST_REPOSITORIES: usize = 256;
 pub(crate) struct Tenant {
     repositories: Repositories,
     objects: Objects,
+    upload: Option<Upload>,
     limit: u64,
 }
 
 impl Model for Tenant {
-    ghost use Rattle.std.specs.Prelude.{◌≤◌, None};
-    ghost use Rattle.fork_model.specs.Objects.{use_of};
+    ghost use Rattle.std.specs.Prelude.{◌≤◌};
+    ghost use Rattle.fork_reach.specs.Objects.{use_of};
     ghost use Rattle.fork_model.specs.View.{View, view_code};
 
     ghost Value = { View };
 
     ghost coded = { view_code };
 
-    ghost view = { λ a. record { repositories = a.repositories; objects = a.objects; upload = None; limit = a.limit } };
+    ghost view = { λ a. record { repositories = a.repositories; objects = a.objects; upload = a.upload; limit = a.limit } };
 
     ghost invariant = { λ a. use_of a.objects ≤ a.limit };
 }
@@ -52,6 +55,7 @@ impl Tenant {
         Tenant {
             repositories: Repositories::new(alloc),
             objects: Objects::new(alloc),
+            upload: None,
             limit,
         }
     }
@@ -66,6 +70,9 @@ impl Tenant {
             Request::Drop(word) => self.drop_repository(alloc, word),
             Request::Fork(source, copy) => self.fork(alloc, source, copy),
             Request::Push(word, body) => self.push(alloc, word, body),
+            Request::Part(body) => self.part(alloc, body),
+            Request::PartEnd(word) => self.part_end(alloc, word),
+            Request::PartDrop => self.part_drop(alloc),
             Request::UpdateRefs(word, body) => self.update_refs(alloc, word, body),
             Request::CatFile(name) => self.cat_file(alloc, Name::new(name)),
             Request::ForEachRef(word, prefix) => self.for_each_ref(alloc, word, prefix),
@@ -142,7 +149,7 @@ impl Tenant {
     }
 
     #[tactic(auto, unfolding(fork_model::specs::Answer::push_answer))]
-    // Objects that come into the tenant's view, all or none.
+    // Commands and objects that come in one body.
     fn push(&mut self, alloc: Global, word: &[u8], body: &[u8]) -> Reply
         ensures { Gives (push_answer self.old word.now body.now) self.old result self.new }
     {
@@ -152,29 +159,94 @@ impl Tenant {
         if !self.repositories.contains(&name) {
             return Reply::Refused(Refusal::NoRepository(name));
         }
-        self.take_body(alloc, body)
+        if self.upload.is_some() {
+            return Reply::Refused(Refusal::UploadOpen);
+        }
+        self.judge(alloc, name, read_body(alloc, body))
     }
 
-    // The objects of a right body come into the tenant's view.
-    fn take_body(&mut self, alloc: Global, body: &[u8]) -> Reply
-        ensures { Gives (pushed self.old (finished (stream_of body.now))) self.old result self.new }
+    #[tactic(auto, unfolding(fork_push::specs::Push::judged))]
+    // What a stream that is at its end holds is judged, and done: all of it or nothing.
+    fn judge(
+        &mut self,
+        alloc: Global,
+        name: RepositoryName,
+        finished: Result<Body, BodyError>,
+    ) -> Reply
+        ensures { (held : Held) (references : References) → TellsHeld held finished → map.get self.old.repositories name ≡ Some references
+            → Gives (pushed self.old name references held) self.old result self.new }
     {
-        match read_body(alloc, body) {
-            Ok(sent) => self.take_objects(alloc, sent),
-            Err(BodyError::Fault(fault)) => Reply::Refused(refusal(fault)),
+        match finished {
+            Ok(body) => take(
+                alloc,
+                &mut self.repositories,
+                &mut self.objects,
+                self.limit,
+                name,
+                body,
+            ),
+            Err(BodyError::Fault(fault)) => Reply::Refused(stream_refusal(fault)),
             Err(BodyError::Memory) => Reply::Failed(HostFault::Memory),
         }
     }
 
-    // These objects come into the tenant's view, where all together keep within the limit.
-    fn take_objects(&mut self, alloc: Global, sent: Vec<Sealed>) -> Reply
-        ensures { Gives (judged self.old sent.items) self.old result self.new }
+    #[tactic(auto, unfolding(fork_model::specs::Answer::part_answer))]
+    // A piece of an upload, which is begun where none is open.
+    fn part(&mut self, alloc: Global, body: &[u8]) -> Reply
+        ensures { Gives (part_answer self.old body.now) self.old result self.new }
     {
-        match self.objects.add(alloc, sent, self.limit) {
-            Ok(()) => done(alloc),
-            Err(PutError::OverQuota) => Reply::Refused(Refusal::OverQuota),
-            Err(PutError::Memory) => Reply::Failed(HostFault::Memory),
+        match &mut self.upload {
+            Some(upload) => feed(alloc, upload, body),
+            None => {
+                let mut upload = Upload::new(alloc);
+                let reply = feed(alloc, &mut upload, body);
+                if matches!(reply, Reply::Done(_)) {
+                    self.upload = Some(upload);
+                }
+                reply
+            }
         }
+    }
+
+    #[tactic(auto, unfolding(fork_model::specs::Answer::part_end_answer))]
+    // The upload is judged as the body of a push, and goes.
+    fn part_end(&mut self, alloc: Global, word: &[u8]) -> Reply
+        ensures { Gives (part_end_answer self.old word.now) self.old result self.new }
+    {
+        let reply = self.end_upload(alloc, word);
+        if !matches!(reply, Reply::Failed(_)) {
+            self.upload = None;
+        }
+        reply
+    }
+
+    // The upload is judged as the body of a push, and stays.
+    fn end_upload(&mut self, alloc: Global, word: &[u8]) -> Reply
+        ensures { Gives (named_repository self.old word.now (end_in self.old word.now (map.get self.old.repositories word.now))) self.old result self.new }
+    {
+        let Some(name) = RepositoryName::read(word) else {
+            return bad_name(alloc, word);
+        };
+        if !self.repositories.contains(&name) {
+            return Reply::Refused(Refusal::NoRepository(name));
+        }
+        let finished = match &self.upload {
+            Some(upload) => upload.finish(alloc),
+            None => return Reply::Refused(Refusal::NoUpload),
+        };
+        self.judge(alloc, name, finished)
+    }
+
+    #[tactic(auto, unfolding(fork_model::specs::Answer::part_drop_answer))]
+    // The upload goes.
+    fn part_drop(&mut self, alloc: Global) -> Reply
+        ensures { Gives (part_drop_answer self.old) self.old result self.new }
+    {
+        if self.upload.is_none() {
+            return Reply::Refused(Refusal::NoUpload);
+        }
+        self.upload = None;
+        done(alloc)
     }
 
     #[tactic(auto, unfolding(fork_model::specs::Answer::update_answer))]
@@ -240,62 +312,5 @@ impl Tenant {
             Ok(text) => Reply::Done(ByteString::new(text)),
             Err(_) => Reply::Failed(HostFault::Memory),
         }
-    }
-}
-
-ghost use Rattle.std.specs.Prelude.{[]};
-
-// There is nothing more to tell.
-fn done(alloc: Global) -> Reply
-    ensures { result ≡ Reply.Done [] }
-{
-    Reply::Done(ByteString::new(Vec::new(alloc)))
-}
-
-// A word that is no name of a repository.
-fn bad_name(alloc: Global, word: &[u8]) -> Reply
-    ensures { (result ≡ Reply.Refused (BadName word.now)) ⊎ (result ≡ Reply.Failed HostFault.Memory) }
-{
-    match word.to_vec(alloc) {
-        Ok(copy) => Reply::Refused(Refusal::BadName(ByteString::new(copy))),
-        Err(_) => Reply::Failed(HostFault::Memory),
-    }
-}
-
-// How a reply tells what is wrong with a stream.
-fn refusal(fault: StreamFault) -> Refusal
-    ensures { result ≡ refusal_of fault }
-{
-    match fault {
-        StreamFault::Syntax => Refusal::Syntax,
-        StreamFault::TooLarge(name) => Refusal::TooLarge(name),
-        StreamFault::WrongName(name) => Refusal::WrongName(name),
-        StreamFault::Truncated => Refusal::Truncated,
-    }
-}
-
-// How a reply tells what is wrong with a body of commands.
-fn command_refusal(fault: CommandFault) -> Refusal
-    ensures { result ≡ command_refusal fault }
-{
-    match fault {
-        CommandFault::Syntax => Refusal::Syntax,
-        CommandFault::TooMany => Refusal::TooMany,
-        CommandFault::Truncated => Refusal::Truncated,
-    }
-}
-
-// How a reply tells why a transaction was refused.
-fn transaction_refusal(refusal: TxRefusal) -> Refusal
-    ensures { result ≡ transaction_refusal refusal }
-{
-    match refusal {
-        TxRefusal::BadRef(word) => Refusal::BadRef(ByteString::new(word.into_bytes())),
-        TxRefusal::RepeatedRef(reference) => Refusal::RepeatedRef(reference),
-        TxRefusal::Missing(name) => Refusal::Missing(name),
-        TxRefusal::NotACommit(name) => Refusal::NotACommit(name),
-        TxRefusal::Stale(reference) => Refusal::Stale(reference),
-        TxRefusal::RefConflict(reference) => Refusal::RefConflict(reference),
-        TxRefusal::TooMany => Refusal::TooMany,
     }
 }

@@ -1,11 +1,11 @@
+pub mod ClosedLemmas
 pub mod Hosts
 pub mod Isolation
-pub mod KeptObjects
+pub mod PushLemmas
 pub mod Refusals
 pub mod Rows
 pub mod SoundLemmas
 pub mod SoundWorlds
 pub mod StepLemmas
 pub mod TransactionLemmas
-pub mod UseLemmas
 pub mod Worlds

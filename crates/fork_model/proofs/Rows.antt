@@ -1,11 +1,11 @@
--- How each row of the answer goes: it refuses and leaves the view, or it is done and leaves a sound view sound.
+-- How each row of the answer goes: it refuses and leaves what a refusal leaves, or it is done and leaves a sound view sound.
 use Rattle.std.proofs.Common.{◌≡◌, ℕ, ◌+◌, ◌≤◌, Bool, true, false, cond, not, List, [], Option, Some, None, Result, Ok, Err, refl, sym, ap, subst, ◌∙◌, arith, is_some, inl, inr, ◌∷◌, length, ◌-◌}
 use Rattle.std.specs.Prelude.{nat_le, nat_lt, map}
 use Rattle.std.specs.Option.{option_map}
 use Rattle.std.specs.Ordering.{eq_by_cmp}
 use Rattle.std.specs.FinMap.{get, get-insert, get-remove, get-empty, insert, remove, contains_key, keys, len, len-insert, len-remove, len-empty, len-entries, entries, empty}
 use Rattle.std.proofs.lemmas.Bool.Decides.{nat_tests}
-use Rattle.git_name.specs.Object.{Object}
+use Rattle.git_name.specs.Object.{Object, object_name}
 use Rattle.git_name.specs.Name.{name_cmp}
 use Rattle.git_name.proofs.Names.{name_total}
 use Rattle.git_reftx.specs.declared.command.Command.{Command}
@@ -15,28 +15,39 @@ use Rattle.git_reftx.specs.Reading.{commands_of}
 use Rattle.git_reftx.specs.Transaction.{References, is_commit, least_upper, transacted}
 use Rattle.push_stream.specs.declared.fault.StreamFault.{StreamFault}
 use Rattle.push_stream.specs.Record.{record_of}
-use Rattle.push_stream.specs.Stream.{finished, stream_of}
+use Rattle.push_stream.specs.Stream.{AreObjects, finished, sent_in, stream_of}
+use Rattle.push_stream.specs.Upload.{UploadValue, continued}
+use Rattle.push_stream.proofs.ObjectLemmas.{continued_right, stream_right}
+use Rattle.fork_push.specs.declared.refusal.PushRefusal.{PushRefusal}
+use Rattle.fork_push.specs.declared.refusal.PushRefusal.TheVariants.{Stream}
+use Rattle.fork_push.specs.Push.{judged}
+use Rattle.fork_reach.specs.Objects.{with_objects}
 use Rattle.fork_reach.specs.Source.{Objects, kind_in}
 use Rattle.fork_query.specs.References.{listing}
-use Rattle.fork_request.specs.Asked.{Ask, Inits, Drops, Forks, Pushes, Updates, AsksObject, AsksReferences, NoRequest}
+use Rattle.fork_request.specs.Asked.{Ask, Inits, Drops, Forks, Pushes, SendsPart, EndsParts, DropsParts, Updates, AsksObject, AsksReferences, NoRequest}
 use Rattle.fork_request.specs.Names.{IsRepositoryName, is_plain_name}
 use Rattle.fork_request.proofs.NameLemmas.{plain_name}
 use Rattle.fork_request.specs.declared.refusal.Refusal.{Refusal}
-use Rattle.fork_request.specs.declared.refusal.Refusal.TheVariants.{BadName, BadRequest, Missing, NoRepository, OverQuota, RepositoryExists, TooMany}
+use Rattle.fork_request.specs.declared.refusal.Refusal.TheVariants.{BadName, BadRequest, Missing, NoRepository, NoUpload, RepositoryExists, StagedTooLong, TooMany, UploadOpen}
 use Rattle.fork_request.specs.declared.reply.Reply.{Reply}
 use Rattle.fork_request.specs.declared.reply.Reply.TheVariants.{Done, Refused}
-use Rattle.fork_model.specs.Answer.{answer, init_answer, drop_answer, fork_answer, push_answer, update_answer, cat_file_answer, references_answer, named_repository, new_repository, dropped, copied, push_into, pushed, judged, update_in, carried_out, with_references, told_object, told_references, transaction_refusal, command_refusal, refusal_of}
-use Rattle.fork_model.specs.Objects.{with_objects, use_of}
-use Rattle.fork_model.specs.Sound.{IsReference, AreReferences, IsSound}
+use Rattle.fork_model.specs.Answer.{Held, answer, left_by, without_upload, init_answer, drop_answer, fork_answer, push_answer, part_answer, part_end_answer, part_drop_answer, update_answer, cat_file_answer, references_answer, named_repository, new_repository, dropped, copied, push_into, pushed, taken, open_upload, upload_into, end_in, ended, update_in, carried_out, with_references, told_object, told_references, transaction_refusal, command_refusal, push_refusal}
+use Rattle.fork_model.specs.Sound.{IsReference, AreReferences, IsSound, IsUpload}
 use Rattle.fork_model.specs.View.{View, Repositories}
-use Rattle.fork_model.proofs.KeptObjects.{at_key, kept_all, named_all, tied_names}
+use Rattle.fork_reach.proofs.KeptObjects.{at_key, kept_all, named_all, tied_names}
+use Rattle.fork_model.proofs.ClosedLemmas.{closed_both, right_both}
+use Rattle.fork_model.proofs.PushLemmas.{AreHeld, IsAccepted, accepted, held_right}
 use Rattle.fork_model.proofs.TransactionLemmas.{sound_transacted}
 
-pub data IsRow (view : View) (row : Reply × View) : Type 0 where
-  -- a refusal, which leaves the view
-  Refuses : (refusal : Refusal) → row.0 ≡ Refused refusal → row.1 ≡ view → IsRow view row
+pub data GoesTo (view left : View) (row : Reply × View) : Type 0 where
+  -- a refusal, which leaves this
+  Refuses : (refusal : Refusal) → row.0 ≡ Refused refusal → row.1 ≡ left → GoesTo view left row
   -- data, and a view that is sound where the view was
-  Does : (text : List ℕ) → row.0 ≡ Done text → (IsSound view → IsSound row.1) → IsRow view row
+  Does : (text : List ℕ) → row.0 ≡ Done text → (IsSound view → IsSound row.1) → GoesTo view left row
+
+-- a row whose refusal leaves the view
+abbrev IsRow : View → Reply × View → Type 0
+IsRow view row = GoesTo view view row
 
 refuses : (view : View) (refusal : Refusal) → IsRow view (Refused refusal, view)
 refuses view refusal = Refuses refusal refl refl
@@ -56,6 +67,9 @@ with_repositories : (view : View) (repositories : Repositories) → IsSound view
     → IsSound (record view { repositories = repositories })
 with_repositories view repositories sound few each = record {
   named = sound.named;
+  right = sound.right;
+  closed = sound.closed;
+  upload = sound.upload;
   within_limit = sound.within_limit;
   limit = sound.limit;
   few_repositories = few;
@@ -63,14 +77,19 @@ with_repositories view repositories sound few each = record {
   references = λ name references is. (each name references is).1;
 }
 
--- a repository put beside the others
-each_inserted : (view : View) (word : List ℕ) (new : References) → IsRepositoryName word → AreReferences view.objects new → IsSound view
-    → (name : List ℕ) (references : References) → get (insert view.repositories word new) name ≡ Some references → IsRepositoryName name × AreReferences view.objects references
-each_inserted view word new right sound_new sound name references is =
-    elim (at_key (eq_by_cmp name_cmp name word) new references (get view.repositories name) (sym (get-insert name_total view.repositories word new name) ∙ is)) [
-      | inl here ↦ (subst IsRepositoryName (sym (tied_names name word here.0)) right, subst (AreReferences view.objects) here.1 sound_new)
-      | inr there ↦ (sound.repositories name references there, sound.references name references there)
+-- a repository put beside others that are right over some objects
+each_inserted : (objects : Objects) (repositories : Repositories) (word : List ℕ) (new : References) → IsRepositoryName word → AreReferences objects new
+    → ((name : List ℕ) (references : References) → get repositories name ≡ Some references → IsRepositoryName name × AreReferences objects references)
+    → (name : List ℕ) (references : References) → get (insert repositories word new) name ≡ Some references → IsRepositoryName name × AreReferences objects references
+each_inserted objects repositories word new right sound_new others name references is =
+    elim (at_key (eq_by_cmp name_cmp name word) new references (get repositories name) (sym (get-insert name_total repositories word new name) ∙ is)) [
+      | inl here ↦ (subst IsRepositoryName (sym (tied_names name word here.0)) right, subst (AreReferences objects) here.1 sound_new)
+      | inr there ↦ others name references there
     ]
+
+-- those of a sound view are
+sound_each : (view : View) → IsSound view → (name : List ℕ) (references : References) → get view.repositories name ≡ Some references → IsRepositoryName name × AreReferences view.objects references
+sound_each view sound name references is = (sound.repositories name references is, sound.references name references is)
 
 few_more : (here : Bool) (n : ℕ) → nat_le 256 n ≡ false → n ≤ 256 → cond here n (n + 1) ≤ 256
 few_more true n room few = few
@@ -82,7 +101,7 @@ new_row view word references right right_new =
     either view (nat_le 256 (len view.repositories)) (Refused TooMany, view) (Done [], record view { repositories = insert view.repositories word references }) (λ _. refuses view TooMany) (λ room.
     Does [] refl (λ sound. with_repositories view (insert view.repositories word references) sound
     (subst (λ n. n ≤ 256) (sym (len-insert name_total view.repositories word references)) (few_more (contains_key view.repositories word) (len view.repositories) room sound.few_repositories))
-    (each_inserted view word references right (right_new sound) sound))))
+    (each_inserted view.objects view.repositories word references right (right_new sound) (sound_each view sound)))))
 
 some_absent : {X : Type 0} (x : X) → None ≡ Some x → ⊥
 some_absent x is = cc
@@ -90,6 +109,9 @@ some_absent x is = cc
 none_left : {A : Type 0} (xs : List A) → length xs ≡ 0 → xs ≡ []
 none_left [] is = refl
 none_left (x ∷ xs) is = absurd (omega arith)
+
+some_same : {X : Type 0} (x y : X) → Some x ≡ Some y → x ≡ y
+some_same x y is = cc
 
 no_entries : entries (empty {X = List ℕ} {R = name_cmp}) ≡ []
 no_entries = none_left (entries (empty {X = List ℕ} {R = name_cmp})) (sym (len-entries (empty {X = List ℕ} {R = name_cmp})) ∙ len-empty name_cmp (List ℕ))
@@ -124,9 +146,6 @@ copied_row : (view : View) (source copy : List ℕ) (o : Option References) → 
 copied_row view source copy None is right = refuses view (NoRepository source)
 copied_row view source copy (Some references) is right = new_row view copy references right (λ sound. sound.references source references is)
 
-within : (limit used : ℕ) → nat_lt limit used ≡ false → used ≤ limit
-within limit used is = grind (arith, nat_tests)
-
 -- references stay right where objects come
 references_kept : (objects : Objects) (sent : List Object) (references : References) → AreReferences objects references → AreReferences (with_objects objects sent) references
 references_kept objects sent references right = record {
@@ -142,25 +161,104 @@ references_kept objects sent references right = record {
   few = right.few;
 }
 
-judged_row : (view : View) (sent : List Object) → IsRow view (judged view sent)
-judged_row view sent =
-    either view (nat_lt view.limit (use_of (with_objects view.objects sent))) (Refused OverQuota, view) _ (λ _. refuses view OverQuota) (λ is.
-    Does [] refl (λ sound. record {
-      named = named_all view.objects sent sound.named;
-      within_limit = within view.limit (use_of (with_objects view.objects sent)) is;
+still_few : (view : View) (word : List ℕ) (old new : References) → get view.repositories word ≡ Some old → len view.repositories ≤ 256 → len (insert view.repositories word new) ≤ 256
+still_few view word old new there few =
+    subst (λ n. n ≤ 256) (sym (len-insert name_total view.repositories word new ∙ ap (λ b. cond b (len view.repositories) (len view.repositories + 1)) (ap is_some there))) few
+
+-- an accepted push leaves a sound view
+sound_pushed : (view : View) (word : List ℕ) (old new : References) (held : List Command × List Object) → get view.repositories word ≡ Some old → IsRepositoryName word → AreObjects held.1
+    → IsAccepted (with_objects view.objects held.1) old view.limit (held.0, map object_name held.1) new → IsSound view
+    → IsSound (record view { repositories = insert view.repositories word new; objects = with_objects view.objects held.1 })
+sound_pushed view word old new held there right are accepted sound =
+    let both = with_objects view.objects held.1 in
+    let each = each_inserted both view.repositories word new right
+    (sound_transacted both old new held.0 (references_kept view.objects held.1 old (sound.references word old there)) accepted.carried)
+    (λ name references is. (sound.repositories name references is, references_kept view.objects held.1 references (sound.references name references is))) in
+    record {
+      named = named_all view.objects held.1 sound.named;
+      right = right_both view.objects held.1 sound.right are;
+      closed = closed_both view.objects held.1 sound.closed accepted.met;
+      upload = sound.upload;
+      within_limit = accepted.within;
       limit = sound.limit;
-      few_repositories = sound.few_repositories;
-      repositories = sound.repositories;
-      references = λ name references found. references_kept view.objects sent references (sound.references name references found);
-    }))
+      few_repositories = still_few view word old new there sound.few_repositories;
+      repositories = λ name references is. (each name references is).0;
+      references = λ name references is. (each name references is).1;
+    }
 
-pushed_row : (view : View) (value : Result (List Object) StreamFault) → IsRow view (pushed view value)
-pushed_row view (Ok sent) = judged_row view sent
-pushed_row view (Err fault) = refuses view (refusal_of fault)
+taken_row : (view : View) (word : List ℕ) (objects : Objects) (value : Result References PushRefusal)
+    → ((new : References) → value ≡ Ok new → IsSound view → IsSound (record view { repositories = insert view.repositories word new; objects = objects })) → IsRow view (taken view word objects value)
+taken_row view word objects (Ok new) sound = Does [] refl (sound new refl)
+taken_row view word objects (Err refusal) sound = refuses view (push_refusal refusal)
 
-into_row : (view : View) (word body : List ℕ) (o : Option References) → IsRow view (push_into view word body o)
-into_row view word body None = refuses view (NoRepository word)
-into_row view word body (Some references) = pushed_row view (finished (stream_of body))
+faulty_row : (view : View) (word : List ℕ) (old : References) (fault : StreamFault) → IsRow view (pushed view word old (Err fault))
+unfolding judged
+faulty_row view word old fault = refuses view (push_refusal (Stream fault))
+
+pushed_row : (view : View) (word : List ℕ) (old : References) (held : Held) → get view.repositories word ≡ Some old → IsRepositoryName word → (IsSound view → AreHeld held) → IsRow view (pushed view word old held)
+pushed_row view word old (Ok held) there right are =
+    taken_row view word (with_objects view.objects held.1) (judged (with_objects view.objects held.1) old view.limit (Ok (held.0, map object_name held.1)))
+    (λ new is sound. sound_pushed view word old new held there right (are sound) (accepted (with_objects view.objects held.1) old view.limit (held.0, map object_name held.1) new is) sound)
+pushed_row view word old (Err fault) there right are = faulty_row view word old fault
+
+into_row : (view : View) (word body : List ℕ) (o : Option References) → get view.repositories word ≡ o → IsRepositoryName word → IsRow view (push_into view word body o)
+into_row view word body None there right = refuses view (NoRepository word)
+into_row view word body (Some old) there right =
+    either view (is_some view.upload) (Refused UploadOpen, view) (pushed view word old (finished (stream_of body))) (λ _. refuses view UploadOpen)
+    (λ _. pushed_row view word old (finished (stream_of body)) there right (λ _. held_right (stream_of body) (stream_right body)))
+
+-- a view with another upload, or none
+with_upload : (view : View) (upload : Option UploadValue) → ((value : UploadValue) → upload ≡ Some value → IsUpload value) → IsSound view → IsSound (record view { upload = upload })
+with_upload view upload right sound = record {
+  named = sound.named;
+  right = sound.right;
+  closed = sound.closed;
+  upload = right;
+  within_limit = sound.within_limit;
+  limit = sound.limit;
+  few_repositories = sound.few_repositories;
+  repositories = sound.repositories;
+  references = sound.references;
+}
+
+pub sound_without : (view : View) → IsSound view → IsSound (without_upload view)
+sound_without view sound = with_upload view None (λ value is. absurd (some_absent value is)) sound
+
+open_right : (upload : Option UploadValue) → ((value : UploadValue) → upload ≡ Some value → IsUpload value) → AreObjects (sent_in (open_upload upload).stream)
+open_right (Some upload) right = (right upload refl).right
+open_right None right = stream_right []
+
+counted : (upload : UploadValue) (piece : List ℕ) → nat_lt 33554432 (upload.count + length piece) ≡ false → (continued upload piece).count ≤ 33554432
+unfolding continued
+counted upload piece fits = grind (arith, nat_tests)
+
+part_row : (view : View) (body : List ℕ) → IsRow view (part_answer view body)
+unfolding part_answer
+part_row view body =
+    either view (nat_lt 33554432 ((open_upload view.upload).count + length body)) (Refused StagedTooLong, view) _ (λ _. refuses view StagedTooLong)
+    (λ fits. Does [] refl (λ sound. with_upload view (Some (continued (open_upload view.upload) body)) (λ value is. subst IsUpload (some_same (continued (open_upload view.upload) body) value is) (record {
+      few = counted (open_upload view.upload) body fits;
+      right = continued_right (open_upload view.upload) body (open_right view.upload sound.upload);
+    })) sound))
+
+upload_row : (view : View) (word : List ℕ) (old : References) (o : Option UploadValue) → view.upload ≡ o → get view.repositories word ≡ Some old → IsRepositoryName word → IsRow view (upload_into view word old o)
+upload_row view word old None is there right = refuses view NoUpload
+upload_row view word old (Some upload) is there right =
+    pushed_row view word old (finished upload.stream) there right (λ sound. held_right upload.stream (sound.upload upload is).right)
+
+end_row : (view : View) (word : List ℕ) (o : Option References) → get view.repositories word ≡ o → IsRepositoryName word → IsRow view (end_in view word o)
+end_row view word None there right = refuses view (NoRepository word)
+end_row view word (Some old) there right = upload_row view word old view.upload refl there right
+
+-- a row that ends the upload whatever it answers
+ended_row : (view : View) (row : Reply × View) → IsRow view row → GoesTo view (without_upload view) (ended row)
+ended_row view row (Refuses refusal told kept) = Refuses refusal told (ap without_upload kept)
+ended_row view row (Does text told sound) = Does text told (λ before. sound_without row.1 (sound before))
+
+dropped_upload_row : (view : View) → IsRow view (part_drop_answer view)
+unfolding part_drop_answer
+dropped_upload_row view =
+    either view (is_some view.upload) (Done [], without_upload view) (Refused NoUpload, view) (λ _. Does [] refl (sound_without view)) (λ _. refuses view NoUpload)
 
 -- a repository that is there has other references
 with_references_row : (view : View) (word : List ℕ) (old : References) (value : Result References TxRefusal) → get view.repositories word ≡ Some old → IsRepositoryName word
@@ -169,7 +267,7 @@ with_references_row view word old (Err refusal) there right right_new = refuses 
 with_references_row view word old (Ok new) there right right_new =
     Does [] refl (λ sound. with_repositories view (insert view.repositories word new) sound
     (subst (λ n. n ≤ 256) (sym (len-insert name_total view.repositories word new ∙ ap (λ b. cond b (len view.repositories) (len view.repositories + 1)) (ap is_some there))) sound.few_repositories)
-    (each_inserted view word new right (right_new new refl sound) sound))
+    (each_inserted view.objects view.repositories word new right (right_new new refl sound) (sound_each view sound)))
 
 carried_row : (view : View) (word : List ℕ) (old : References) (value : Result (List Command) CommandFault) → get view.repositories word ≡ Some old → IsRepositoryName word → IsRow view (carried_out view word old value)
 carried_row view word old (Err fault) there right = refuses view (command_refusal fault)
@@ -190,14 +288,19 @@ listing_row view word prefix None = refuses view (NoRepository word)
 listing_row view word prefix (Some references) = Does (listing view.objects references prefix) refl (λ sound. sound)
 
 -- each answer is such a row
-pub answer_row : (view : View) (ask : Ask) → IsRow view (answer view ask)
-unfolding answer init_answer drop_answer fork_answer push_answer update_answer cat_file_answer references_answer
+pub answer_row : (view : View) (ask : Ask) → GoesTo view (left_by view ask) (answer view ask)
+unfolding answer init_answer drop_answer fork_answer push_answer part_end_answer update_answer cat_file_answer references_answer
 answer_row view (Inits word) = named_row view word (new_repository view word empty) (λ right. new_row view word empty right (λ _. none_right view.objects))
 answer_row view (Drops word) = named_row view word (dropped view word) (λ _. dropped_row view word)
 answer_row view (Forks source copy) =
     named_row view source (named_repository view copy (copied view source copy (get view.repositories source))) (λ _.
     named_row view copy (copied view source copy (get view.repositories source)) (λ right. copied_row view source copy (get view.repositories source) refl right))
-answer_row view (Pushes word body) = named_row view word (push_into view word body (get view.repositories word)) (λ _. into_row view word body (get view.repositories word))
+answer_row view (Pushes word body) = named_row view word (push_into view word body (get view.repositories word)) (λ right. into_row view word body (get view.repositories word) refl right)
+answer_row view (SendsPart body) = part_row view body
+answer_row view (EndsParts word) =
+    ended_row view (named_repository view word (end_in view word (get view.repositories word)))
+    (named_row view word (end_in view word (get view.repositories word)) (λ right. end_row view word (get view.repositories word) refl right))
+answer_row view DropsParts = dropped_upload_row view
 answer_row view (Updates word body) = named_row view word (update_in view word body (get view.repositories word)) (λ right. update_row view word body (get view.repositories word) refl right)
 answer_row view (AsksObject name) = object_row view name (get view.objects name)
 answer_row view (AsksReferences word prefix) =

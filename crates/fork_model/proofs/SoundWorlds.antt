@@ -11,7 +11,7 @@ use Rattle.fork_model.specs.Runs.{Asks, HostAsks, Answered, Unknown, Faulted, Ho
 use Rattle.fork_model.specs.Sound.{IsSound, IsSoundWorld}
 use Rattle.fork_model.specs.View.{View}
 use Rattle.fork_model.specs.World.{World, Event, Steps, Explains}
-use Rattle.fork_model.proofs.KeptObjects.{at_key}
+use Rattle.fork_reach.proofs.KeptObjects.{at_key}
 use Rattle.fork_model.proofs.SoundLemmas.{sound_answer}
 
 -- a world with another sound view in a tenant's place

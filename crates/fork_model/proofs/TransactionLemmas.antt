@@ -21,7 +21,7 @@ use Rattle.git_reftx.specs.Transaction
 use Rattle.git_reftx.specs.Transaction.{References, is_branch, is_commit, least_upper, transacted, changed, changed_by, refusal_of, first_refusal}
 use Rattle.fork_reach.specs.Source.{Objects, kind_in}
 use Rattle.fork_model.specs.Sound.{IsReference, AreReferences}
-use Rattle.fork_model.proofs.KeptObjects.{at_key, tied_names}
+use Rattle.fork_reach.proofs.KeptObjects.{at_key, tied_names}
 
 -- neither, where there is none of both
 none_of_both : {X : Type 0} (a b : Option X) → option_or a b ≡ None → (a ≡ None) × (b ≡ None)

@@ -1,5 +1,5 @@
 -- The answer to each request: the reply, and the view afterwards. Refusals stand in the order in which they are judged.
-use Rattle.std.specs.Prelude.{ℕ, not, nat_le, nat_lt, List, [], Option, Some, None, Result, Ok, Err, if◌then◌else◌}
+use Rattle.std.specs.Prelude.{ℕ, ◌+◌, nat_le, nat_lt, List, [], length, Option, Some, None, is_some, Result, Ok, Err, if◌then◌else◌}
 use Rattle.std.specs.FinMap.{get, insert, remove, contains_key, len, empty}
 use Rattle.git_name.specs.Object.{Object}
 use Rattle.git_reftx.specs.declared.command.Command.{Command}
@@ -10,18 +10,23 @@ use Rattle.git_reftx.specs.declared.fault.TxRefusal.TheVariants as tx
 use Rattle.git_reftx.specs.Reading.{commands_of}
 use Rattle.git_reftx.specs.Transaction.{References, transacted}
 use Rattle.push_stream.specs.declared.fault.StreamFault.{StreamFault}
-use Rattle.push_stream.specs.declared.fault.StreamFault.TheVariants.{Syntax as Syntax_fault, TooLarge as TooLarge_fault, WrongName as WrongName_fault, Truncated as Truncated_fault}
+use Rattle.push_stream.specs.declared.fault.StreamFault.TheVariants as stream
+use Rattle.push_stream.specs.Brief.{brief_of}
 use Rattle.push_stream.specs.Record.{record_of}
 use Rattle.push_stream.specs.Stream.{finished, stream_of}
-use Rattle.fork_reach.specs.Source.{kind_in}
+use Rattle.push_stream.specs.Upload.{UploadValue, continued, upload_of}
+use Rattle.fork_push.specs.declared.refusal.PushRefusal.{PushRefusal}
+use Rattle.fork_push.specs.declared.refusal.PushRefusal.TheVariants as push
+use Rattle.fork_push.specs.Push.{judged}
+use Rattle.fork_reach.specs.Objects.{with_objects}
+use Rattle.fork_reach.specs.Source.{Objects, kind_in}
 use Rattle.fork_query.specs.References.{listing}
-use Rattle.fork_request.specs.Asked.{Ask, Inits, Drops, Forks, Pushes, Updates, AsksObject, AsksReferences, NoRequest}
+use Rattle.fork_request.specs.Asked.{Ask, Inits, Drops, Forks, Pushes, SendsPart, EndsParts, DropsParts, Updates, AsksObject, AsksReferences, NoRequest}
 use Rattle.fork_request.specs.Names.{is_plain_name}
 use Rattle.fork_request.specs.declared.refusal.Refusal.{Refusal}
-use Rattle.fork_request.specs.declared.refusal.Refusal.TheVariants.{BadRequest, BadName, RepositoryExists, NoRepository, BadRef, RepeatedRef, Stale, RefConflict, NotACommit, Missing, OverQuota, TooMany, Syntax, WrongName, Truncated, TooLarge}
+use Rattle.fork_request.specs.declared.refusal.Refusal.TheVariants.{BadRequest, BadName, RepositoryExists, NoRepository, BadRef, RepeatedRef, Stale, RefConflict, NotACommit, Missing, WrongType, OverQuota, TooMany, Syntax, WrongName, BadObject, Truncated, TooLarge, StagedTooLong, NoUpload, UploadOpen}
 use Rattle.fork_request.specs.declared.reply.Reply.{Reply}
 use Rattle.fork_request.specs.declared.reply.Reply.TheVariants.{Done, Refused}
-use Rattle.fork_model.specs.Objects.{use_of, with_objects}
 use Rattle.fork_model.specs.View.{View}
 
 -- the answer to a word in a repository's place: a refusal of the word, or the row's answer
@@ -56,32 +61,6 @@ copied view source copy (Some references) = new_repository view copy references
 unfoldable pub fork_answer : View → List ℕ → List ℕ → Reply × View
 fork_answer view source copy = named_repository view source (named_repository view copy (copied view source copy (get view.repositories source)))
 
--- how a reply tells what is wrong with a stream
-abbrev pub refusal_of : StreamFault → Refusal
-refusal_of Syntax_fault = Syntax
-refusal_of (TooLarge_fault name) = TooLarge name
-refusal_of (WrongName_fault name) = WrongName name
-refusal_of Truncated_fault = Truncated
-
--- the sent objects are seen beside the others, where all together keep within the limit
-abbrev pub judged : View → List Object → Reply × View
-judged view sent =
-    if nat_lt view.limit (use_of (with_objects view.objects sent)) then (Refused OverQuota, view)
-    else (Done [], record view { objects = with_objects view.objects sent })
-
--- what a push of a stream that is at its end does
-abbrev pub pushed : View → Result (List Object) StreamFault → Reply × View
-pushed view (Ok sent) = judged view sent
-pushed view (Err fault) = (Refused (refusal_of fault), view)
-
--- `push REPO` and a body: the repository is there, and the body is judged
-abbrev pub push_into : View → List ℕ → List ℕ → Option References → Reply × View
-push_into view repository body None = (Refused (NoRepository repository), view)
-push_into view repository body (Some references) = pushed view (finished (stream_of body))
-
-unfoldable pub push_answer : View → List ℕ → List ℕ → Reply × View
-push_answer view word body = named_repository view word (push_into view word body (get view.repositories word))
-
 -- how a reply tells what is wrong with a body of commands
 abbrev pub command_refusal : CommandFault → Refusal
 command_refusal command.Syntax = Syntax
@@ -97,6 +76,85 @@ transaction_refusal (tx.NotACommit name) = NotACommit name
 transaction_refusal (tx.Stale reference) = Stale reference
 transaction_refusal (tx.RefConflict reference) = RefConflict reference
 transaction_refusal tx.TooMany = TooMany
+
+-- how a reply tells what is wrong with a stream
+abbrev pub stream_refusal : StreamFault → Refusal
+stream_refusal stream.Syntax = Syntax
+stream_refusal stream.TooMany = TooMany
+stream_refusal (stream.TooLarge name) = TooLarge name
+stream_refusal (stream.WrongName name) = WrongName name
+stream_refusal (stream.BadObject name) = BadObject name
+stream_refusal stream.Truncated = Truncated
+
+-- how a reply tells why a push was refused
+abbrev pub push_refusal : PushRefusal → Refusal
+push_refusal (push.Stream fault) = stream_refusal fault
+push_refusal (push.Missing name) = Missing name
+push_refusal (push.WrongType name) = WrongType name
+push_refusal (push.Transaction refusal) = transaction_refusal refusal
+push_refusal push.OverQuota = OverQuota
+
+-- what a whole stream holds, or the fault of the stream
+abbrev pub Held : Type 0
+Held = Result (List Command × List Object) StreamFault
+
+-- the objects that the tenant sees and the sent ones: of several of one name the one that it sees counts, else the first sent
+abbrev pub both : View → Held → Objects
+both view (Ok held) = with_objects view.objects held.1
+both view (Err fault) = view.objects
+
+-- the repository has these references, and the sent objects are seen beside the others
+abbrev pub taken : View → List ℕ → Objects → Result References PushRefusal → Reply × View
+taken view repository objects (Ok references) = (Done [], record view { repositories = insert view.repositories repository references; objects = objects })
+taken view repository objects (Err refusal) = (Refused (push_refusal refusal), view)
+
+-- what a push of a stream that is at its end does
+abbrev pub pushed : View → List ℕ → References → Held → Reply × View
+pushed view repository old held = taken view repository (both view held) (judged (both view held) old view.limit (brief_of held))
+
+-- `push REPO` and a body: the repository is there, no upload is open, and the body is judged
+abbrev pub push_into : View → List ℕ → List ℕ → Option References → Reply × View
+push_into view repository body None = (Refused (NoRepository repository), view)
+push_into view repository body (Some old) = if is_some view.upload then (Refused UploadOpen, view) else pushed view repository old (finished (stream_of body))
+
+unfoldable pub push_answer : View → List ℕ → List ℕ → Reply × View
+push_answer view word body = named_repository view word (push_into view word body (get view.repositories word))
+
+-- the upload that is open, or one of which nothing came yet
+abbrev pub open_upload : Option UploadValue → UploadValue
+open_upload (Some upload) = upload
+open_upload None = upload_of []
+
+-- `part` and a body: the upload goes on by these bytes; what is wrong with it is told at its end
+unfoldable pub part_answer : View → List ℕ → Reply × View
+part_answer view body =
+    if nat_lt 33554432 ((open_upload view.upload).count + length body) then (Refused StagedTooLong, view)
+    else (Done [], record view { upload = Some (continued (open_upload view.upload) body) })
+
+-- the view without the upload
+abbrev pub without_upload : View → View
+without_upload view = record view { upload = None }
+
+-- a row that ends the upload whatever it answers
+abbrev pub ended : Reply × View → Reply × View
+ended row = (row.0, without_upload row.1)
+
+-- an upload that ends is judged as the body of a push
+abbrev pub upload_into : View → List ℕ → References → Option UploadValue → Reply × View
+upload_into view repository old None = (Refused NoUpload, view)
+upload_into view repository old (Some upload) = pushed view repository old (finished upload.stream)
+
+abbrev pub end_in : View → List ℕ → Option References → Reply × View
+end_in view repository None = (Refused (NoRepository repository), view)
+end_in view repository (Some old) = upload_into view repository old view.upload
+
+-- `part-end REPO`: the repository is there, an upload is open, and it is judged
+unfoldable pub part_end_answer : View → List ℕ → Reply × View
+part_end_answer view word = ended (named_repository view word (end_in view word (get view.repositories word)))
+
+-- `part-drop`: the upload goes
+unfoldable pub part_drop_answer : View → Reply × View
+part_drop_answer view = if is_some view.upload then (Done [], without_upload view) else (Refused NoUpload, view)
 
 -- the repository has the references that the transaction leaves
 abbrev pub with_references : View → List ℕ → Result References TxRefusal → Reply × View
@@ -138,7 +196,15 @@ answer view (Inits repository) = init_answer view repository
 answer view (Drops repository) = drop_answer view repository
 answer view (Forks source copy) = fork_answer view source copy
 answer view (Pushes repository body) = push_answer view repository body
+answer view (SendsPart body) = part_answer view body
+answer view (EndsParts repository) = part_end_answer view repository
+answer view DropsParts = part_drop_answer view
 answer view (Updates repository body) = update_answer view repository body
 answer view (AsksObject name) = cat_file_answer view name
 answer view (AsksReferences repository prefix) = references_answer view repository prefix
 answer view NoRequest = (Refused BadRequest, view)
+
+-- what a refusal leaves: the view, and without the upload where its end was asked for
+abbrev pub left_by : View → Ask → View
+left_by view (EndsParts repository) = without_upload view
+left_by view ask = view

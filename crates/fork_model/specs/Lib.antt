@@ -1,5 +1,4 @@
 pub mod Answer
-pub mod Objects
 pub mod Runs
 pub mod Sound
 pub mod View

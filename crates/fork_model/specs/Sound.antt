@@ -1,18 +1,37 @@
--- Sound views: each object stands under its own name, references name what is there, and the limits hold (own).
-use Rattle.std.specs.Prelude.{◌≡◌, ℕ, ◌≤◌, true, List, Some, None}
+-- Sound views: objects stand under their own names, are in their grammars and link to what is there, references name what
+-- is there, and the limits hold (own).
+use Rattle.std.specs.Prelude.{◌≡◌, ◌≢◌, ℕ, ◌≤◌, true, List, Some, None}
+use Rattle.std.specs.List.{AllByRecursion}
 use Rattle.std.specs.FinMap.{get, contains_key, keys, len}
 use Rattle.git_refname.specs.Rule.{IsRefName}
 use Rattle.git_reftx.specs.Transaction.{References, is_branch, is_commit, least_upper}
-use Rattle.git_name.specs.Object.{Object, object_name}
+use Rattle.git_name.specs.Object.{Object}
+use Rattle.git_object.specs.declared.link.Link.{Link}
+use Rattle.git_object.specs.ObjectIn.{object_in, links_in}
+use Rattle.push_stream.specs.Stream.{AreObjects, sent_in}
+use Rattle.push_stream.specs.Upload.{UploadValue}
+use Rattle.fork_reach.specs.Objects.{IsNamed, use_of}
 use Rattle.fork_reach.specs.Source.{Objects, kind_in}
 use Rattle.fork_request.specs.Names.{IsRepositoryName, IsTenantName}
-use Rattle.fork_model.specs.Objects.{use_of}
 use Rattle.fork_model.specs.View.{View}
 use Rattle.fork_model.specs.World.{World}
 
--- each object stands under its own name
-abbrev pub IsNamed : Objects → Type 0
-IsNamed objects = (name : List ℕ) (object : Object) → get objects name ≡ Some object → object_name object ≡ name
+-- each object is in the grammar of its kind
+abbrev pub AreRight : Objects → Type 0
+AreRight objects = (name : List ℕ) (object : Object) → get objects name ≡ Some object → object_in object.kind object.bytes ≢ None
+
+-- what the link names is there, and has the kind that the link demands
+abbrev pub IsMet : Objects → Link → Type 0
+IsMet objects link = kind_in objects link.name ≡ Some link.kind
+
+-- each link of each object is met
+abbrev pub IsClosed : Objects → Type 0
+IsClosed objects = (name : List ℕ) (object : Object) → get objects name ≡ Some object → AllByRecursion (IsMet objects) (links_in object.kind object.bytes)
+
+-- an upload has 33,554,432 bytes at the most, and its objects are in the grammars of their kinds
+pub record IsUpload (upload : UploadValue) : Type 0 where
+  pub few : upload.count ≤ 33554432
+  pub right : AreObjects (sent_in upload.stream)
 
 -- a reference has a right name and points at an object that is there, a branch at a commit
 pub record IsReference (objects : Objects) (reference target : List ℕ) : Type 0 where
@@ -29,6 +48,9 @@ pub record AreReferences (objects : Objects) (references : References) : Type 0 
 -- a view that a host may show
 pub record IsSound (view : View) : Type 0 where
   pub named : IsNamed view.objects
+  pub right : AreRight view.objects
+  pub closed : IsClosed view.objects
+  pub upload : (upload : UploadValue) → view.upload ≡ Some upload → IsUpload upload
   pub within_limit : use_of view.objects ≤ view.limit
   pub limit : view.limit ≤ 1099511627776
   pub few_repositories : len view.repositories ≤ 256

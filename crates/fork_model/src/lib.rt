@@ -41,12 +41,12 @@ pub fn two_runs_agree()
 ghost use Rattle.fork_request.specs.Asked.{Ask};
 ghost use Rattle.fork_request.specs.declared.refusal.Refusal.{Refusal};
 ghost use Rattle.fork_request.specs.declared.reply.Reply.TheVariants.{Refused};
-ghost use Rattle.fork_model.specs.Answer.{answer};
+ghost use Rattle.fork_model.specs.Answer.{answer, left_by};
 ghost use Rattle.fork_model.specs.Sound.{IsSound, IsSoundWorld};
 
-/// A refused request leaves the view as it was.
+/// A refused request leaves the view as it was, but that a refused `part-end` takes the upload away.
 pub fn refusals_leave_the_view()
-    ensures { (view : View) (ask : Ask) (refusal : Refusal) → (answer view ask).0 ≡ Refused refusal → (answer view ask).1 ≡ view }
+    ensures { (view : View) (ask : Ask) (refusal : Refusal) → (answer view ask).0 ≡ Refused refusal → (answer view ask).1 ≡ left_by view ask }
 {}
 
 /// Answers keep a view sound, and runs a world.

@@ -1,5 +1,5 @@
 -- What a source of objects finds (own): whole objects under their names, as a finite map.
-use Rattle.std.specs.Prelude.{ℕ, Bool, List, Option, option_map}
+use Rattle.std.specs.Prelude.{ℕ, List, Option, option_map}
 use Rattle.std.specs.FinMap.{FinMap, get}
 use Rattle.git_name.specs.declared.kind.Kind.{Kind}
 use Rattle.git_name.specs.Name.{name_cmp}

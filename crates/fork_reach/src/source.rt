@@ -1,6 +1,7 @@
-ghost use Rattle.std.specs.Prelude.{◌≡◌, Bool, IsTrue, IfOk, IfSome, is_some};
+ghost use Rattle.std.specs.Prelude.{◌≡◌, ◌≢◌, ℕ, Bool, IsTrue, IfOk, IfErr, IfSome, is_some};
 ghost use Rattle.std.specs.FinMap as map;
 ghost use Rattle.git_name.specs.Object.{object_name};
+ghost use Rattle.fork_reach.specs.Faults.{Counts};
 ghost use Rattle.fork_reach.specs.Source.{Objects, kind_in};
 
 use git_name::{Kind, Name, Sealed};
@@ -27,6 +28,9 @@ pub trait Source {
     /// that are found stay the same, and no bytes are given under a false name.
     ghost honest: { Self → Bool };
 
+    /// How often what lies under it failed.
+    ghost failures: { Self → ℕ };
+
     /// The kind of the object of this name. It reads no bytes of it.
     fn kind_of(&self, name: Name) -> Option<Kind>
         ensures { result ≡ kind_in (objects self.now) name };
@@ -37,5 +41,7 @@ pub trait Source {
         ensures there { IfOk result (λ found. is_some found ≡ map.contains_key (objects self.old) name) }
         ensures named { IfOk result (λ found. IfSome found (λ object. object_name object ≡ name)) }
         ensures kept { objects self.new ≡ objects self.old }
-        ensures honest { honest self.new ≡ honest self.old };
+        ensures honest { honest self.new ≡ honest self.old }
+        ensures damaged { IsTrue (honest self.old) → IfErr result (λ fault. fault ≢ SourceFault.Damaged) }
+        ensures cause { Counts (failures self.old) (failures self.new) result };
 }

@@ -1,9 +1,13 @@
 -- The words of a line where there is more than one.
-use Rattle.std.proofs.Common.{◌≡◌, ℕ, List, [], ◌∷◌, None, refl, ap, ◌∙◌}
+use Rattle.std.proofs.Common.{◌≡◌, ℕ, List, [], ◌∷◌, None, refl, sym, ap, ◌∙◌}
 use Rattle.git_name.specs.Text.{words_of}
 use Rattle.git_name.proofs.TextLemmas.{first_of_words}
-use Rattle.fork_request.specs.Asked.{sole}
+use Rattle.fork_request.specs.Asked.{Ask, asked_verb, asked_words, sole}
 
 -- a line of two words or more has no sole one
 pub sole_many : (word rest : List ℕ) → sole (word ∷ words_of rest) ≡ None
 sole_many word rest = (let more = first_of_words rest in ap (λ words. sole (word ∷ words)) more.2)
+
+-- in such a line the verb has words behind it
+pub verb_many : (verb rest body : List ℕ) → asked_words (verb ∷ words_of rest) body ≡ asked_verb verb (words_of rest) body
+verb_many verb rest body = (let more = first_of_words rest in ap (λ words. asked_words (verb ∷ words) body) more.2 ∙ sym (ap (λ words. asked_verb verb words body) more.2))

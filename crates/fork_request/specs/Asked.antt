@@ -4,7 +4,7 @@ use Rattle.std.specs.Str.{bytes_eq}
 use Rattle.git_name.specs.Name.{name_in}
 use Rattle.git_name.specs.Text.{split_once, words_of}
 use Rattle.fork_request.specs.declared.request.Request.{Request}
-use Rattle.fork_request.specs.declared.request.Request.TheVariants.{Init, Drop, Fork, Push, UpdateRefs, CatFile, ForEachRef, Bad}
+use Rattle.fork_request.specs.declared.request.Request.TheVariants.{Init, Drop, Fork, Push, Part, PartEnd, PartDrop, UpdateRefs, CatFile, ForEachRef, Bad}
 use Rattle.fork_request.specs.declared.host_request.HostRequest.{HostRequest}
 use Rattle.fork_request.specs.declared.host_request.HostRequest.TheVariants.{Bad as Bad_host}
 
@@ -14,6 +14,9 @@ pub data Ask : Type 0 where
   Drops : (repository : List ℕ) → Ask
   Forks : (source : List ℕ) (copy : List ℕ) → Ask
   Pushes : (repository : List ℕ) (body : List ℕ) → Ask
+  SendsPart : (body : List ℕ) → Ask
+  EndsParts : (repository : List ℕ) → Ask
+  DropsParts : Ask
   Updates : (repository : List ℕ) (body : List ℕ) → Ask
   AsksObject : (name : List ℕ) → Ask
   AsksReferences : (repository : List ℕ) (prefix : Option (List ℕ)) → Ask
@@ -25,6 +28,9 @@ ask_of (Init repository) = Inits repository.now
 ask_of (Drop repository) = Drops repository.now
 ask_of (Fork source copy) = Forks source.now copy.now
 ask_of (Push repository body) = Pushes repository.now body.now
+ask_of (Part body) = SendsPart body.now
+ask_of (PartEnd repository) = EndsParts repository.now
+ask_of PartDrop = DropsParts
 ask_of (UpdateRefs repository body) = Updates repository.now body.now
 ask_of (CatFile name) = AsksObject name
 ask_of (ForEachRef repository prefix) = AsksReferences repository.now (option_map (λ word. word.now) prefix)
@@ -84,6 +90,17 @@ abbrev pub asked_push : Option (List ℕ) → List ℕ → Ask
 asked_push (Some repository) body = Pushes repository body
 asked_push None body = NoRequest
 
+-- `part-end REPO`
+abbrev pub asked_part_end : Option (List ℕ) → List ℕ → Ask
+asked_part_end (Some repository) [] = EndsParts repository
+asked_part_end (Some repository) (b ∷ body) = NoRequest
+asked_part_end None body = NoRequest
+
+-- `part-drop`
+abbrev pub asked_part_drop : List ℕ → Ask
+asked_part_drop [] = DropsParts
+asked_part_drop (b ∷ body) = NoRequest
+
 -- `update-refs REPO` and a body
 abbrev pub asked_update : Option (List ℕ) → List ℕ → Ask
 asked_update (Some repository) body = Updates repository body
@@ -106,18 +123,31 @@ abbrev pub asked_cat_file : Option (List ℕ) → List ℕ → Ask
 asked_cat_file (Some digits) body = asked_object (name_in digits) body
 asked_cat_file None body = NoRequest
 
--- by the line's first word
-abbrev pub asked_words : List (List ℕ) → List ℕ → Ask
-asked_words [] body = NoRequest
-asked_words (verb ∷ words) body =
+-- by a verb and the words behind it
+abbrev pub asked_verb : List ℕ → List (List ℕ) → List ℕ → Ask
+asked_verb verb words body =
     if bytes_eq verb (codes "init") then asked_init (sole words) body
     else if bytes_eq verb (codes "drop") then asked_drop (sole words) body
     else if bytes_eq verb (codes "fork") then asked_fork (pair words) body
     else if bytes_eq verb (codes "push") then asked_push (sole words) body
+    else if bytes_eq verb (codes "part-end") then asked_part_end (sole words) body
     else if bytes_eq verb (codes "update-refs") then asked_update (sole words) body
     else if bytes_eq verb (codes "cat-file") then asked_cat_file (sole words) body
     else if bytes_eq verb (codes "for-each-ref") then asked_references (one_or_two words) body
     else NoRequest
+
+-- by a verb that stands alone: `part` and a body, `part-drop`
+abbrev pub asked_alone : List ℕ → List ℕ → Ask
+asked_alone verb body =
+    if bytes_eq verb (codes "part") then SendsPart body
+    else if bytes_eq verb (codes "part-drop") then asked_part_drop body
+    else NoRequest
+
+-- by the line's first word
+abbrev pub asked_words : List (List ℕ) → List ℕ → Ask
+asked_words [] body = NoRequest
+asked_words (verb ∷ []) body = asked_alone verb body
+asked_words (verb ∷ word ∷ words) body = asked_verb verb (word ∷ words) body
 
 -- by the line and what stands behind its LF
 abbrev pub asked_parts : Option (List ℕ × List ℕ) → Ask

@@ -2,7 +2,7 @@
 use Rattle.std.specs.Prelude.{ℕ, List, ◌++◌, Bool, true, false, codes}
 use Rattle.hex.specs.Hex.{encode_lower}
 use Rattle.fork_request.specs.declared.refusal.Refusal.{Refusal}
-use Rattle.fork_request.specs.declared.refusal.Refusal.TheVariants.{BadRequest, UnknownTenant, BadName, RepositoryExists, NoRepository, BadRef, RepeatedRef, Stale, RefConflict, NotACommit, Missing, OverQuota, TooMany, Syntax, WrongName, Truncated, TooLarge}
+use Rattle.fork_request.specs.declared.refusal.Refusal.TheVariants.{BadRequest, UnknownTenant, BadName, RepositoryExists, NoRepository, BadRef, RepeatedRef, Stale, RefConflict, NotACommit, Missing, WrongType, OverQuota, TooMany, Syntax, WrongName, BadObject, Truncated, TooLarge, StagedTooLong, NoUpload, UploadOpen}
 use Rattle.fork_request.specs.declared.host_fault.HostFault.{HostFault}
 use Rattle.fork_request.specs.declared.host_fault.HostFault.TheVariants.{Memory, Store, Damaged, Collision}
 use Rattle.fork_request.specs.declared.reply.Reply.{Reply}
@@ -21,12 +21,17 @@ refusal_text (Stale reference) = codes "stale " ++ reference
 refusal_text (RefConflict reference) = codes "ref-conflict " ++ reference
 refusal_text (NotACommit name) = codes "not-a-commit " ++ encode_lower name
 refusal_text (Missing name) = codes "missing " ++ encode_lower name
+refusal_text (WrongType name) = codes "wrong-type " ++ encode_lower name
 refusal_text OverQuota = codes "over-quota"
 refusal_text TooMany = codes "too-many"
 refusal_text Syntax = codes "syntax"
 refusal_text (WrongName name) = codes "wrong-name " ++ encode_lower name
+refusal_text (BadObject name) = codes "bad-object " ++ encode_lower name
 refusal_text Truncated = codes "truncated"
 refusal_text (TooLarge name) = codes "too-large " ++ encode_lower name
+refusal_text StagedTooLong = codes "staged-too-long"
+refusal_text NoUpload = codes "no-upload"
+refusal_text UploadOpen = codes "upload-open"
 
 -- the word of a host fault
 abbrev pub fault_word : HostFault → List ℕ

@@ -7,7 +7,8 @@ use git_name::Name;
 use git_refname::RefName;
 use std::alloc::AllocError;
 
-/// Why a request was refused, and what the refusal is about. A refused request changes no view.
+/// Why a request was refused, and what the refusal is about. A refused request changes no view, but
+/// that a refused `part-end` takes the upload away.
 #[derive(Debug, Drop)]
 pub enum Refusal {
     /// No request.
@@ -32,6 +33,8 @@ pub enum Refusal {
     NotACommit(Name),
     /// The tenant sees no object of this name.
     Missing(Name),
+    /// An object that a sent one links to has another kind than the link demands.
+    WrongType(Name),
     /// The objects would use more than the tenant's limit.
     OverQuota,
     /// A limit on a number is met.
@@ -40,10 +43,18 @@ pub enum Refusal {
     Syntax,
     /// The content of the record of this name has another name.
     WrongName(Name),
+    /// The content of the record of this name is no object of its type.
+    BadObject(Name),
     /// The body ends too early.
     Truncated,
     /// The record of this name says that its content is longer than an object may be.
     TooLarge(Name),
+    /// The upload would be longer than one may be.
+    StagedTooLong,
+    /// There is no open upload.
+    NoUpload,
+    /// There is an open upload.
+    UploadOpen,
 }
 
 impl Refusal {
@@ -73,12 +84,17 @@ impl Refusal {
             }
             Refusal::NotACommit(name) => write_name(text, b"not-a-commit ", *name),
             Refusal::Missing(name) => write_name(text, b"missing ", *name),
+            Refusal::WrongType(name) => write_name(text, b"wrong-type ", *name),
             Refusal::OverQuota => text.extend_from_slice(b"over-quota"),
             Refusal::TooMany => text.extend_from_slice(b"too-many"),
             Refusal::Syntax => text.extend_from_slice(b"syntax"),
             Refusal::WrongName(name) => write_name(text, b"wrong-name ", *name),
+            Refusal::BadObject(name) => write_name(text, b"bad-object ", *name),
             Refusal::Truncated => text.extend_from_slice(b"truncated"),
             Refusal::TooLarge(name) => write_name(text, b"too-large ", *name),
+            Refusal::StagedTooLong => text.extend_from_slice(b"staged-too-long"),
+            Refusal::NoUpload => text.extend_from_slice(b"no-upload"),
+            Refusal::UploadOpen => text.extend_from_slice(b"upload-open"),
         }
     }
 }

@@ -17,8 +17,14 @@ pub enum Request<'a> {
     Drop(&'a [u8]),
     /// `fork SRC DST`: a new repository with the references of another.
     Fork(&'a [u8], &'a [u8]),
-    /// `push REPO` and a body: objects that come.
+    /// `push REPO` and a body: a transaction of references, and objects that come.
     Push(&'a [u8], &'a [u8]),
+    /// `part` and a body: a piece of an upload.
+    Part(&'a [u8]),
+    /// `part-end REPO`: the upload is a push's body.
+    PartEnd(&'a [u8]),
+    /// `part-drop`: the upload goes.
+    PartDrop,
     /// `update-refs REPO` and a body: a transaction of references.
     UpdateRefs(&'a [u8], &'a [u8]),
     /// `cat-file NAME`: the record of an object.
@@ -48,7 +54,7 @@ impl<'a> Request<'a> {
 }
 
 ghost use Rattle.git_name.specs.Text.{words_of};
-ghost use Rattle.fork_request.specs.Asked.{ask_of, asked_words, asked_init, asked_drop, asked_fork, asked_push, asked_update, asked_cat_file, asked_references};
+ghost use Rattle.fork_request.specs.Asked.{ask_of, asked_words, asked_verb, asked_init, asked_drop, asked_fork, asked_push, asked_part_end, asked_part_drop, asked_update, asked_alone, asked_cat_file, asked_references};
 
 // What a line and the body behind it ask.
 fn read_line<'a>(line: &'a [u8], body: &'a [u8]) -> Request<'a>
@@ -56,13 +62,26 @@ fn read_line<'a>(line: &'a [u8], body: &'a [u8]) -> Request<'a>
 {
     match first_word(line) {
         Some((verb, words)) => read_words(verb, words, body),
-        None => Request::Bad,
+        None => read_verb(line, body),
     }
+}
+
+// What a verb asks that stands alone.
+fn read_verb<'a>(verb: &'a [u8], body: &'a [u8]) -> Request<'a>
+    ensures { ask_of result ≡ asked_alone verb.now body.now }
+{
+    if is_word(verb, b"part") {
+        return Request::Part(body);
+    }
+    if is_word(verb, b"part-drop") {
+        return part_drop(body);
+    }
+    Request::Bad
 }
 
 // What the words behind a verb ask.
 fn read_words<'a>(verb: &'a [u8], words: &'a [u8], body: &'a [u8]) -> Request<'a>
-    ensures { ask_of result ≡ asked_words (verb.now ∷ words_of words.now) body.now }
+    ensures { ask_of result ≡ asked_verb verb.now (words_of words.now) body.now }
 {
     if is_word(verb, b"init") {
         return init(sole_word(words), body);
@@ -75,6 +94,9 @@ fn read_words<'a>(verb: &'a [u8], words: &'a [u8], body: &'a [u8]) -> Request<'a
     }
     if is_word(verb, b"push") {
         return push(sole_word(words), body);
+    }
+    if is_word(verb, b"part-end") {
+        return part_end(sole_word(words), body);
     }
     if is_word(verb, b"update-refs") {
         return update_refs(sole_word(words), body);
@@ -127,6 +149,25 @@ fn push<'a>(sole: Option<&'a [u8]>, body: &'a [u8]) -> Request<'a>
     match sole {
         Some(repository) => Request::Push(repository, body),
         None => Request::Bad,
+    }
+}
+
+fn part_end<'a>(sole: Option<&'a [u8]>, body: &'a [u8]) -> Request<'a>
+    ensures { ask_of result ≡ asked_part_end (option_map (λ word. word.now) sole.entry) body.now }
+{
+    match sole {
+        Some(repository) if body.is_empty() => Request::PartEnd(repository),
+        _ => Request::Bad,
+    }
+}
+
+fn part_drop<'a>(body: &'a [u8]) -> Request<'a>
+    ensures { ask_of result ≡ asked_part_drop body.now }
+{
+    if body.is_empty() {
+        Request::PartDrop
+    } else {
+        Request::Bad
     }
 }
 

@@ -111,6 +111,11 @@ fn asks(payload: &[u8], verb: &[u8], word: &[u8], body: &[u8]) -> bool {
         Request::Push(repository, sent) => verb == b"push".as_slice()
             && repository == word
             && sent == body,
+        Request::Part(piece) => verb == b"part".as_slice() && word.is_empty() && piece == body,
+        Request::PartEnd(repository) => verb == b"part-end".as_slice()
+            && repository == word
+            && body.is_empty(),
+        Request::PartDrop => verb == b"part-drop".as_slice() && word.is_empty() && body.is_empty(),
         Request::UpdateRefs(repository, commands) => verb == b"update-refs".as_slice()
             && repository == word
             && commands == body,
@@ -131,7 +136,7 @@ fn is_bad(payload: &[u8]) -> bool {
 
 #[test]
 fn a_right_line_and_its_body_are_a_request(rt: HostRuntime) -> Result<(), Fail> {
-    let rows: [(&[u8], &[u8], &[u8], &[u8]); 18] = [
+    let rows: [(&[u8], &[u8], &[u8], &[u8]); 24] = [
         (b"init r\n", b"init", b"r", b""),
         (b"init .No/name\xff\n", b"init", b".No/name\xff", b""),
         (b"init r\r\n", b"init", b"r\r", b""),
@@ -141,6 +146,12 @@ fn a_right_line_and_its_body_are_a_request(rt: HostRuntime) -> Result<(), Fail> 
         (b"push r\n\nx y\n\n", b"push", b"r", b"\nx y\n\n"),
         (b"push r\n \0\xff", b"push", b"r", b" \0\xff"),
         (b"push push\ninit r\n", b"push", b"push", b"init r\n"),
+        (b"part\n", b"part", b"", b""),
+        (b"part\n\n", b"part", b"", b"\n"),
+        (b"part\npart r\n\xff", b"part", b"", b"part r\n\xff"),
+        (b"part-end r\n", b"part-end", b"r", b""),
+        (b"part-end part\n", b"part-end", b"part", b""),
+        (b"part-drop\n", b"part-drop", b"", b""),
         (b"drop r\n", b"drop", b"r", b""),
         (b"fork r s\n", b"fork", b"r", b"s"),
         (b"fork r r\n", b"fork", b"r", b"r"),
@@ -177,7 +188,7 @@ fn a_right_line_and_its_body_are_a_request(rt: HostRuntime) -> Result<(), Fail> 
 
 #[test]
 fn any_other_payload_is_a_bad_request(rt: HostRuntime) {
-    let payloads: [&[u8]; 61] = [
+    let payloads: [&[u8]; 76] = [
         b"",
         b"\n",
         b"\n\n",
@@ -214,6 +225,21 @@ fn any_other_payload_is_a_bad_request(rt: HostRuntime) {
         b"cat-file 473a0f4c3be8a93681a267e3b1e9a7dcda1185436fe141f7749120a303721813 \n",
         b"cat-file 473a0f4c3be8a93681a267e3b1e9a7dcda1185436fe141f7749120a303721813\n\n",
         b"cat-file  473a0f4c3be8a93681a267e3b1e9a7dcda1185436fe141f7749120a303721813\n",
+        b"part",
+        b"part \n",
+        b"part r\n",
+        b"part r\n\n",
+        b"part  \n",
+        b" part\n",
+        b"part-end\n",
+        b"part-end \n",
+        b"part-end r s\n",
+        b"part-end r\nx",
+        b"part-end r\n\n",
+        b"part-drop r\n",
+        b"part-drop \n",
+        b"part-drop\n\n",
+        b"part-drop",
         b"census\n",
         b"init\xff r\n",
         b"drop\n",
@@ -315,7 +341,7 @@ fn data_and_host_faults_are_told(rt: HostRuntime) -> Result<(), Fail> {
 fn each_refusal_has_its_word_and_what_it_is_about(rt: HostRuntime) -> Result<(), Fail> {
     let alloc = rt.alloc();
     let name = Name::parse_hex(EMPTY_BLOB).ok_or("no name")?;
-    let rows: [(Refusal, &[u8]); 17] = [
+    let rows: [(Refusal, &[u8]); 22] = [
         (Refusal::BadRequest, b"no bad-request\n"),
         (Refusal::UnknownTenant, b"no unknown-tenant\n"),
         (
@@ -354,6 +380,10 @@ fn each_refusal_has_its_word_and_what_it_is_about(rt: HostRuntime) -> Result<(),
             Refusal::Missing(name),
             b"no missing 473a0f4c3be8a93681a267e3b1e9a7dcda1185436fe141f7749120a303721813\n",
         ),
+        (
+            Refusal::WrongType(name),
+            b"no wrong-type 473a0f4c3be8a93681a267e3b1e9a7dcda1185436fe141f7749120a303721813\n",
+        ),
         (Refusal::OverQuota, b"no over-quota\n"),
         (Refusal::TooMany, b"no too-many\n"),
         (Refusal::Syntax, b"no syntax\n"),
@@ -361,11 +391,18 @@ fn each_refusal_has_its_word_and_what_it_is_about(rt: HostRuntime) -> Result<(),
             Refusal::WrongName(name),
             b"no wrong-name 473a0f4c3be8a93681a267e3b1e9a7dcda1185436fe141f7749120a303721813\n",
         ),
+        (
+            Refusal::BadObject(name),
+            b"no bad-object 473a0f4c3be8a93681a267e3b1e9a7dcda1185436fe141f7749120a303721813\n",
+        ),
         (Refusal::Truncated, b"no truncated\n"),
         (
             Refusal::TooLarge(name),
             b"no too-large 473a0f4c3be8a93681a267e3b1e9a7dcda1185436fe141f7749120a303721813\n",
         ),
+        (Refusal::StagedTooLong, b"no staged-too-long\n"),
+        (Refusal::NoUpload, b"no no-upload\n"),
+        (Refusal::UploadOpen, b"no upload-open\n"),
     ];
     for (refusal, bytes) in rows {
         assert!(rt; refuses(alloc, refusal, bytes)?);

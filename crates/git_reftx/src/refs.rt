@@ -107,4 +107,19 @@ impl Refs {
             Err(error) => Err(error),
         }
     }
+
+    /// The references after all commands of a transaction, where it is not refused.
+    /// An error's refusal is the first that meets the commands.
+    pub fn transacted<K: Known>(
+        &self,
+        alloc: Global,
+        commands: &[Command],
+        known: &K,
+    ) -> Result<Refs, ApplyError>
+        ensures found { IfOk result (λ new. transacted self.now commands.now (K.kinds known.now) ≡ Ok new) }
+        ensures exact { IfErr result (TellsTransacted (transacted self.now commands.now (K.kinds known.now))) }
+    {
+        let map = transact(alloc, &self.map, commands, known)?;
+        Ok(Refs { map })
+    }
 }

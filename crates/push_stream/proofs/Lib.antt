@@ -1,2 +1,6 @@
-pub mod Shorter
+pub mod HeaderLemmas
+pub mod LongerLemmas
+pub mod ObjectLemmas
+pub mod PieceLemmas
+pub mod RecordLemmas
 pub mod StreamLemmas

@@ -1,48 +1,87 @@
--- A stream after objects that were taken before.
-use Rattle.std.proofs.Common.{◌≡◌, ℕ, true, zero, suc, ◌≤◌, ◌<◌, List, [], ◌∷◌, ◌++◌, Ok, refl, sym, ap, ◌∙◌, length, append_assoc, append-nil, arith}
+-- A stream after commands and objects that were taken before.
+use Rattle.std.proofs.Common.{◌≡◌, ℕ, true, false, zero, suc, ◌≤◌, ◌<◌, List, [], ◌∷◌, ◌++◌, Result, Ok, Err, refl, sym, ap, ap₂, ◌∙◌, Some, length, append_assoc, append-nil, arith}
 use Rattle.git_name.specs.Object.{Object}
-use Rattle.push_stream.specs.Record.{Taken, record_at, parts_at}
-use Rattle.push_stream.specs.Line.{line_at}
-use Rattle.push_stream.proofs.Shorter.{record_shorter}
-use Rattle.push_stream.specs.Stream.{Stream, Flows, Breaks, records_in, after_record, with_first, finished}
+use Rattle.git_reftx.specs.Line.{line_at}
+use Rattle.git_reftx.specs.declared.command.Command.{Command}
+use Rattle.push_stream.specs.Record.{RecordAt, Taken, Open, Wrong, record_at, parts_at}
+use Rattle.push_stream.specs.Shown.{TellsFault, TellsRecord, fault_at}
+use Rattle.push_stream.specs.Stream.{Stream, Flows, Breaks, behind, records_in, after_record, finished}
+use Rattle.push_stream.specs.declared.fault.BodyError.{BodyError}
+use Rattle.push_stream.specs.declared.fault.BodyError.TheVariants.{Fault, Memory}
+use Rattle.push_stream.specs.declared.fault.StreamFault.{StreamFault}
+use Rattle.push_stream.proofs.RecordLemmas.{record_shorter}
 
--- these objects, and then the stream's
-abbrev pub onto : List Object → Stream → Stream
-onto objects (Flows others headed rest) = Flows (objects ++ others) headed rest
-onto objects (Breaks fault) = Breaks fault
+-- nothing stands before
+pub behind-nil : (s : Stream) → behind [] [] s ≡ s
+behind-nil (Flows commands objects headed rest) = refl
+behind-nil (Breaks fault) = refl
 
-pub onto-nil : (s : Stream) → onto [] s ≡ s
-onto-nil (Flows others headed rest) = refl
-onto-nil (Breaks fault) = refl
-
-pub onto-with_first : (objects : List Object) (object : Object) (s : Stream) → onto objects (with_first object s) ≡ onto (objects ++ object ∷ []) s
-onto-with_first objects object (Flows others headed rest) = ap (λ all. Flows all headed rest) (sym (append_assoc objects (object ∷ []) others))
-onto-with_first objects object (Breaks fault) = refl
+-- what stands before what stands before
+pub behind-behind : (cs ds : List Command) (os ps : List Object) (s : Stream) → behind cs os (behind ds ps s) ≡ behind (cs ++ ds) (os ++ ps) s
+behind-behind cs ds os ps (Flows commands objects headed rest) = ap₂ (λ before more. Flows before more headed rest) (sym (append_assoc cs ds commands)) (sym (append_assoc os ps objects))
+behind-behind cs ds os ps (Breaks fault) = refl
 
 -- nothing is left
-pub records_in-nil : (most : ℕ) → records_in most [] ≡ Flows [] true []
+pub records_in-nil : (most : ℕ) → records_in most [] ≡ Flows [] [] true []
 unfolding record_at parts_at line_at
 records_in-nil zero = refl
 records_in-nil (suc most) = refl
 
 -- a record more was taken
-pub taken_more : (whole : Stream) (most : ℕ) (sent more : List Object) (rest behind : List ℕ) (object : Object) → length rest ≤ most → whole ≡ onto sent (records_in most rest) → record_at rest ≡ Taken object behind → more ≡ sent ++ object ∷ []
-    → (others : ℕ) × (length behind ≤ others) × (whole ≡ onto more (records_in others behind))
-taken_more whole zero sent more rest behind object fits so_far taken grown =
-    let shorter : length behind < length rest = record_shorter rest object behind taken in
+pub taken_more : (whole : Stream) (most : ℕ) (sent more : List Object) (rest others : List ℕ) (object : Object) → length rest ≤ most → whole ≡ behind [] sent (records_in most rest) → record_at rest ≡ Taken object others → more ≡ sent ++ object ∷ []
+    → (left : ℕ) × (length others ≤ left) × (whole ≡ behind [] more (records_in left others))
+taken_more whole zero sent more rest others object fits so_far taken grown =
+    let shorter : length others < length rest = record_shorter rest object others taken in
     absurd (omega arith)
-taken_more whole (suc most) sent more rest behind object fits so_far taken grown =
-    let shorter : length behind < length rest = record_shorter rest object behind taken in
-    (most, omega arith, so_far ∙ ap (λ at. onto sent (after_record rest (records_in most) at)) taken ∙ onto-with_first sent object (records_in most behind) ∙ ap (λ objects. onto objects (records_in most behind)) (sym grown))
+taken_more whole (suc most) sent more rest others object fits so_far taken grown =
+    let shorter : length others < length rest = record_shorter rest object others taken in
+    (most, omega arith, so_far ∙ ap (λ at. behind [] sent (after_record rest (records_in most) at)) taken ∙ behind-behind [] [] sent (object ∷ []) (records_in most others) ∙ ap (λ objects. behind [] objects (records_in most others)) (sym grown))
 
-nothing_left : (whole : Stream) (most : ℕ) (sent : List Object) (rest : List ℕ) → whole ≡ onto sent (records_in most rest) → rest ≡ [] → finished whole ≡ Ok sent
+-- the empty rest holds no record
+nothing_left : (whole : Stream) (most : ℕ) (sent : List Object) (rest : List ℕ) → whole ≡ behind [] sent (records_in most rest) → rest ≡ [] → finished whole ≡ Ok ([], sent)
 nothing_left whole most sent rest so_far none =
-    ap finished (so_far ∙ ap (λ r. onto sent (records_in most r)) none ∙ ap (onto sent) (records_in-nil most)) ∙ ap (λ objects. Ok objects) (append-nil sent)
+    ap finished (so_far ∙ ap (λ r. behind [] sent (records_in most r)) none ∙ ap (behind [] sent) (records_in-nil most)) ∙ ap (λ objects. Ok ([], objects)) (append-nil sent)
 
+-- no bytes are the empty text
 no_bytes : (rest : List ℕ) → length rest ≡ 0 → rest ≡ []
 no_bytes [] none = refl
 no_bytes (b ∷ rest) none = absurd (omega arith)
 
 -- all records were taken
-pub taken_all : (whole : Stream) (most : ℕ) (sent : List Object) (rest : List ℕ) → whole ≡ onto sent (records_in most rest) → length rest ≡ 0 → finished whole ≡ Ok sent
+pub taken_all : (whole : Stream) (most : ℕ) (sent : List Object) (rest : List ℕ) → whole ≡ behind [] sent (records_in most rest) → length rest ≡ 0 → finished whole ≡ Ok ([], sent)
 taken_all whole most sent rest so_far none = nothing_left whole most sent rest so_far (no_bytes rest none)
+
+-- a whole stream behind commands and objects
+abbrev and_more : List Command → List Object → Result (List Command × List Object) StreamFault → Result (List Command × List Object) StreamFault
+and_more commands objects (Ok held) = Ok (commands ++ held.0, objects ++ held.1)
+and_more commands objects (Err fault) = Err fault
+
+-- and so where it ends
+finished-behind : (commands : List Command) (objects : List Object) (s : Stream) → finished (behind commands objects s) ≡ and_more commands objects (finished s)
+finished-behind commands objects (Flows others more true []) = refl
+finished-behind commands objects (Flows others more true (b ∷ rest)) = refl
+finished-behind commands objects (Flows others more false rest) = refl
+finished-behind commands objects (Breaks fault) = refl
+
+-- what is wrong with the rest is wrong with the whole
+pub tells_behind : (whole s : Stream) (commands : List Command) (objects : List Object) (error : BodyError) → whole ≡ behind commands objects s → TellsFault s error → TellsFault whole error
+tells_behind whole s commands objects (Fault fault) is told = ap finished is ∙ finished-behind commands objects s ∙ ap (and_more commands objects) told
+tells_behind whole s commands objects Memory is told = tt
+
+-- why there is no record at the front of the rest
+told_at : (text : List ℕ) (others : List ℕ → Stream) (at : RecordAt) (fault : StreamFault) → 0 < length text → fault_at at ≡ Some fault → finished (after_record text others at) ≡ Err fault
+told_at text others (Taken object rest) fault some told = absurd (cc)
+told_at [] others Open fault some told = absurd (omega arith)
+told_at (b ∷ bs) others Open fault some told = cc
+told_at text others (Wrong why) fault some told = cc
+
+-- the same of an error
+tells_at : (text : List ℕ) (others : List ℕ → Stream) (at : RecordAt) (error : BodyError) → 0 < length text → TellsRecord at error → TellsFault (after_record text others at) error
+tells_at text others at (Fault fault) some told = told_at text others at fault some told
+tells_at text others at Memory some told = tt
+
+-- a record that is not right
+pub tells_record : (whole : Stream) (most : ℕ) (sent : List Object) (rest : List ℕ) (error : BodyError) → 0 < length rest → length rest ≤ most → whole ≡ behind [] sent (records_in most rest) → TellsRecord (record_at rest) error → TellsFault whole error
+tells_record whole zero sent rest error some fits so_far told = absurd (omega arith)
+tells_record whole (suc most) sent rest error some fits so_far told =
+    tells_behind whole (after_record rest (records_in most) (record_at rest)) [] sent error so_far (tells_at rest (records_in most) (record_at rest) error some told)

@@ -1,4 +1,5 @@
-pub mod Line
+pub mod Brief
 pub mod Record
 pub mod Shown
 pub mod Stream
+pub mod Upload

@@ -1,18 +1,19 @@
 -- Records of objects, as `git cat-file --batch` prints them (git-cat-file(1)): NAME SP TYPE SP SIZE LF, the content, LF.
-use Rattle.std.specs.Prelude.{ℕ, ◌==◌, nat_lt, List, [], ◌∷◌, ◌++◌, Option, None, Some, length, take, drop, decimal, codes, if◌then◌else◌}
+use Rattle.std.specs.Prelude.{ℕ, ◌==◌, nat_lt, List, [], ◌∷◌, ◌++◌, Option, None, Some, is_some, length, take, drop, decimal, codes, if◌then◌else◌}
 use Rattle.std.specs.Str.{bytes_eq}
 use Rattle.hex.specs.Hex.{encode_lower}
 use Rattle.git_name.specs.declared.kind.Kind.{Kind}
-use Rattle.git_name.specs.declared.kind.Kind.TheVariants.{Blob}
+use Rattle.git_name.specs.declared.kind.Kind.TheVariants.{Blob, Tree, Commit, Tag}
 use Rattle.git_name.specs.Kind.{type_word}
 use Rattle.git_name.specs.Name.{name_in}
 use Rattle.git_name.specs.Number.{number_in}
 use Rattle.git_name.specs.Object.{Object, object_name}
 use Rattle.git_name.specs.Text.{words_of}
+use Rattle.git_object.specs.ObjectIn.{object_in}
+use Rattle.git_reftx.specs.Line.{LineAt, Whole, Unfinished, TooLong, line_at}
 use Rattle.push_stream.specs.declared.fault.StreamFault.{StreamFault}
 use Rattle.push_stream.specs.declared.record.Head.{Head}
-use Rattle.push_stream.specs.declared.fault.StreamFault.TheVariants.{Syntax, TooLarge, WrongName}
-use Rattle.push_stream.specs.Line.{LineAt, Whole, Unfinished, TooLong, line_at}
+use Rattle.push_stream.specs.declared.fault.StreamFault.TheVariants.{Syntax, TooLarge, WrongName, BadObject}
 
 -- the record's line, without its LF
 abbrev pub record_line : Object → List ℕ
@@ -22,9 +23,14 @@ record_line object = encode_lower (object_name object) ++ 32 ∷ type_word objec
 unfoldable pub record_of : Object → List ℕ
 record_of object = record_line object ++ 10 ∷ object.bytes ++ 10 ∷ []
 
--- the kind that a word stands for: so far blobs alone are taken
-abbrev pub kind_taken : List ℕ → Option Kind
-kind_taken word = if bytes_eq word (codes "blob") then Some Blob else None
+-- the kind that a word stands for
+abbrev pub kind_in : List ℕ → Option Kind
+kind_in word =
+    if bytes_eq word (codes "blob") then Some Blob
+    else if bytes_eq word (codes "tree") then Some Tree
+    else if bytes_eq word (codes "commit") then Some Commit
+    else if bytes_eq word (codes "tag") then Some Tag
+    else None
 
 abbrev pub head_of_parts : Option (List ℕ) → Option Kind → Option ℕ → Option Head
 head_of_parts (Some name) (Some kind) (Some size) = Some (record { name = name; kind = kind; size = size })
@@ -34,7 +40,7 @@ head_of_parts None kind size = None
 
 -- what a record's line says: NAME, TYPE and SIZE
 abbrev pub head_of_words : List (List ℕ) → Option Head
-head_of_words (digits ∷ word ∷ number ∷ []) = head_of_parts (name_in digits) (kind_taken word) (number_in number)
+head_of_words (digits ∷ word ∷ number ∷ []) = head_of_parts (name_in digits) (kind_in word) (number_in number)
 head_of_words words = None
 
 -- the parts of the record at the front of a text
@@ -77,9 +83,13 @@ pub data RecordAt : Type 0 where
   -- what is wrong with the record
   Wrong : (fault : StreamFault) → RecordAt
 
+-- the content is in the grammar of its kind
+abbrev pub right : List ℕ → Object → List ℕ → RecordAt
+right name object behind = if is_some (object_in object.kind object.bytes) then Taken object behind else Wrong (BadObject name)
+
 -- the content has the name that the line tells
 abbrev pub named : List ℕ → Object → List ℕ → RecordAt
-named name object behind = if bytes_eq (object_name object) name then Taken object behind else Wrong (WrongName name)
+named name object behind = if bytes_eq (object_name object) name then right name object behind else Wrong (WrongName name)
 
 abbrev pub record_of_parts : PartsAt → RecordAt
 record_of_parts (Parts head content behind) = named head.name (record { kind = head.kind; bytes = content }) behind

@@ -1,21 +1,13 @@
 -- What the readers' answers stand for.
 use Rattle.std.specs.Prelude.{◌≡◌, Option, None, Some, Err, ⊤}
-use Rattle.push_stream.specs.declared.line.Line.{Line}
-use Rattle.push_stream.specs.declared.line.Line.TheVariants.{Whole, Unfinished, TooLong}
 use Rattle.push_stream.specs.declared.record.Parts.{Parts}
 use Rattle.push_stream.specs.declared.record.Parts.TheVariants.{Whole as Whole_parts, Open, Wrong}
 use Rattle.push_stream.specs.declared.fault.StreamFault.{StreamFault}
 use Rattle.push_stream.specs.declared.fault.StreamFault.TheVariants.{Truncated}
 use Rattle.push_stream.specs.declared.fault.BodyError.{BodyError}
 use Rattle.push_stream.specs.declared.fault.BodyError.TheVariants.{Fault, Memory}
-use Rattle.push_stream.specs.Line as value
 use Rattle.push_stream.specs.Record as record_value
 use Rattle.push_stream.specs.Stream.{Stream, finished}
-
-abbrev pub line_shown : Line → value.LineAt
-line_shown (Whole line behind) = value.Whole line.now behind.now
-line_shown Unfinished = value.Unfinished
-line_shown TooLong = value.TooLong
 
 abbrev pub parts_shown : Parts → record_value.PartsAt
 parts_shown (Whole_parts head content behind) = record_value.Parts head content.now behind.now
@@ -33,7 +25,7 @@ abbrev pub TellsRecord : record_value.RecordAt → BodyError → Type 0
 TellsRecord found (Fault fault) = fault_at found ≡ Some fault
 TellsRecord found Memory = ⊤
 
--- the error tells why a body gives no objects
+-- the error tells why a stream gives no commands and objects
 abbrev pub TellsFault : Stream → BodyError → Type 0
 TellsFault stream (Fault fault) = finished stream ≡ Err fault
 TellsFault stream Memory = ⊤

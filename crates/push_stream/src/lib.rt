@@ -1,17 +1,23 @@
-//! Bodies of pushes: streams of objects, each a record as `git cat-file --batch` prints it.
-//! A body is read exactly: its objects where it is whole and right, and otherwise the fault of its
-//! first wrong item.
+//! Streams of pushes: commands of a transaction, then objects, each a record as `git cat-file
+//! --batch` prints it.
+//! A stream is read exactly, in one body or in pieces: its commands and objects where it is whole and
+//! right, and otherwise the fault of its first wrong item.
 #![tactic(auto)]
 
 mod body;
+mod brief;
 mod fault;
-mod line;
+mod laws;
 mod record;
 #[cfg(test)]
 mod tests;
+mod upload;
 mod write;
 
-pub use crate::body::read_body;
+pub use crate::body::{Body, read_body};
+pub use crate::brief::Brief;
 pub use crate::fault::{BodyError, StreamFault};
+pub use crate::laws::{pieces_join, streams_hold_objects};
 pub use crate::record::MAX_CONTENT;
+pub use crate::upload::{MAX_UPLOAD, Upload};
 pub use crate::write::write_record;

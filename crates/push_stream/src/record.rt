@@ -2,12 +2,13 @@ ghost use Rattle.std.specs.Prelude.{◌≡◌, IfOk, IfErr, IfSome};
 ghost use Rattle.git_name.specs.Name.{name_in};
 ghost use Rattle.git_name.specs.Number.{number_in};
 ghost use Rattle.git_name.specs.Text.{words_of};
-ghost use Rattle.push_stream.specs.Record.{Taken, kind_taken, head_of_parts, head_of_words, content_at, parts_at, record_at};
+ghost use Rattle.push_stream.specs.Record.{Taken, kind_in, head_of_parts, head_of_words, content_at, parts_at, record_at};
 ghost use Rattle.push_stream.specs.Shown.{parts_shown, TellsRecord};
 
 use crate::fault::{BodyError, StreamFault};
-use crate::line::{Line, first_line};
 use git_name::{Kind, Name, Sealed, decimal, first_word, seal};
+use git_object::Object;
+use git_reftx::{Line, first_line};
 use std::alloc::Global;
 
 /// The most bytes of an object's content that a host takes (own).
@@ -47,6 +48,9 @@ pub(crate) fn take_record(alloc: Global, text: &[u8]) -> Result<(Sealed, &[u8]),
             if sealed.name() != head.name {
                 return Err(BodyError::Fault(StreamFault::WrongName(head.name)));
             }
+            if Object::read(head.kind, sealed.bytes()).is_err() {
+                return Err(BodyError::Fault(StreamFault::BadObject(head.name)));
+            }
             Ok((sealed, behind))
         }
         Parts::Open => Err(BodyError::Fault(StreamFault::Truncated)),
@@ -82,20 +86,26 @@ fn read_head(line: &[u8]) -> Option<Head>
 }
 
 fn head_of(digits: &[u8], word: &[u8], number: &[u8]) -> Option<Head>
-    ensures { result ≡ head_of_parts (name_in digits.now) (kind_taken word.now) (number_in number.now) }
+    ensures { result ≡ head_of_parts (name_in digits.now) (kind_in word.now) (number_in number.now) }
 {
     let name = Name::parse_hex(digits)?;
-    let kind = taken_kind(word)?;
+    let kind = kind_of_word(word)?;
     let size = decimal(number)?;
     Some(Head { name, kind, size })
 }
 
-// The kind that a word stands for, where its objects are taken.
-fn taken_kind(word: &[u8]) -> Option<Kind>
-    ensures { result ≡ kind_taken word.now }
+// The kind that a word stands for.
+fn kind_of_word(word: &[u8]) -> Option<Kind>
+    ensures { result ≡ kind_in word.now }
 {
     if word == b"blob".as_slice() {
         Some(Kind::Blob)
+    } else if word == b"tree".as_slice() {
+        Some(Kind::Tree)
+    } else if word == b"commit".as_slice() {
+        Some(Kind::Commit)
+    } else if word == b"tag".as_slice() {
+        Some(Kind::Tag)
     } else {
         None
     }

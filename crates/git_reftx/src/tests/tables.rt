@@ -227,3 +227,18 @@ fn there_are_4096_references_at_most(rt: HostRuntime) -> Result<(), Fail> {
     }
     Ok(())
 }
+
+#[test]
+fn the_references_after_a_transaction_are_new_ones(rt: HostRuntime) -> Result<(), Fail> {
+    let alloc = rt.alloc();
+    let objects = Objects::new()?;
+    let refs = Refs::new(alloc);
+    let mut commands = Vec::new(alloc);
+    commands.push(creation(alloc, 0)?)?;
+    let Ok(new) = refs.transacted(alloc, commands.as_slice(), &objects) else {
+        return Err("refused")?;
+    };
+    assert_eq!(rt; new.len(), 1);
+    assert!(rt; refs.is_empty());
+    Ok(())
+}

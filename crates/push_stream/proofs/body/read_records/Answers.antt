@@ -1,19 +1,25 @@
-use Rattle.std.proofs.Common.{◌≡◌, length, arith}
+use Rattle.std.proofs.Common.{◌≡◌, ◌<◌, length, arith}
 use Rattle.std.proofs.lemmas.Bool.Decides.{nat_tests}
-use Rattle.push_stream.proofs.Shorter.{record_shorter}
-use Rattle.push_stream.proofs.StreamLemmas.{taken_all, taken_more}
+use Rattle.push_stream.proofs.RecordLemmas.{record_shorter}
+use Rattle.push_stream.proofs.StreamLemmas.{taken_all, taken_more, tells_record}
 use Rattle.push_stream.proofs.body.read_records.Goals as goal
 
-pub loop-rest-smaller : goal.loop-rest-smaller
-loop-rest-smaller c = record_shorter c.loop-rest.rest.now c.in-Ok.taken.0 c.in-Ok.taken.1.now c.in-Ok.ensures.taken
+pub returns-in-Err-clause-exact : goal.returns-in-Err-clause-exact
+returns-in-Err-clause-exact c =
+    let so_far = c.loop-left.invariant in
+    let some : 0 < length c.loop-left.left.now = grind (arith, nat_tests) in
+    tells_record _ so_far.0 c.loop-left.sent.items c.loop-left.left.now c.in-Err.error some so_far.1 so_far.2 c.in-Err.ensures.exact
 
-pub loop-rest-preserved : goal.loop-rest-preserved
-loop-rest-preserved c =
-    let so_far = c.loop-rest.invariant in
-    taken_more _ so_far.0 c.loop-rest.sent.items c.push.new.self.items c.loop-rest.rest.now c.in-Ok.taken.1.now c.in-Ok.taken.0 so_far.1 so_far.2 c.in-Ok.ensures.taken c.in-Ok-push.ensures.items
+pub loop-left-smaller : goal.loop-left-smaller
+loop-left-smaller c = record_shorter c.loop-left.left.now c.in-Ok.taken.0 c.in-Ok.taken.1.now c.in-Ok.ensures.taken
+
+pub loop-left-preserved : goal.loop-left-preserved
+loop-left-preserved c =
+    let so_far = c.loop-left.invariant in
+    taken_more _ so_far.0 c.loop-left.sent.items c.push.new.self.items c.loop-left.left.now c.in-Ok.taken.1.now c.in-Ok.taken.0 so_far.1 so_far.2 c.in-Ok.ensures.taken c.in-Ok-push.ensures.items
 
 pub returns-clause-found : goal.returns-clause-found
 returns-clause-found c =
-    let so_far = c.loop-rest.invariant in
-    let none : length c.loop-rest.rest.now ≡ 0 = grind (arith, nat_tests) in
-    taken_all _ so_far.0 c.loop-rest.sent.items c.loop-rest.rest.now so_far.2 none
+    let so_far = c.loop-left.invariant in
+    let none : length c.loop-left.left.now ≡ 0 = grind (arith, nat_tests) in
+    taken_all _ so_far.0 c.loop-left.sent.items c.loop-left.left.now so_far.2 none

@@ -9,6 +9,7 @@ use Rattle.fork_model.proofs.Hosts.{step_answered, step_unknown}
 use Rattle.fork_model.proofs.SoundWorlds.{sound_step}
 use Rattle.fork_model.proofs.StepLemmas.{step_kept, step_others}
 use Rattle.fork_host.specs.Shape.{shape_of}
+use Rattle.fork_host.proofs.ShapeLemmas.{same_shape}
 use Rattle.fork_host.proofs.RowLemmas.{answers_of, memory_of}
 use Rattle.fork_host.proofs.host.Host.answer.Goals as goal
 
@@ -37,7 +38,7 @@ returns-clause-sound c =
 
 pub returns-clause-kept : goal.returns-clause-kept
 returns-clause-kept c not_done t =
-    ap (λ w. option_map shape_of (map.get w t)) (step_kept c.args.self.now _ c.args.name.now (ask_of c.args.request) c.answer.result (returns-clause-explained c tt) not_done)
+    same_shape _ _ (step_kept c.args.self.now _ c.args.name.now (ask_of c.args.request) c.answer.result (returns-clause-explained c tt) not_done t)
 
 pub returns-clause-others : goal.returns-clause-others
 returns-clause-others c t differ =

@@ -1,0 +1,93 @@
+// What a tenant is told where a request gives no data.
+ghost use Rattle.std.specs.Prelude.{◌≡◌, ◌⊎◌, []};
+ghost use Rattle.fork_request.specs.declared.refusal.Refusal.TheVariants.{BadName};
+ghost use Rattle.fork_model.specs.Answer.{command_refusal, push_refusal, stream_refusal, transaction_refusal};
+ghost use Rattle.fork_host.specs.Rows.{fault_told};
+
+use fork_push::PushRefusal;
+use fork_reach::SourceFault;
+use fork_request::{ByteString, HostFault, Refusal, Reply};
+use git_reftx::{CommandFault, TxRefusal};
+use push_stream::StreamFault;
+use std::alloc::Global;
+
+// There is nothing more to tell.
+pub(crate) fn done(alloc: Global) -> Reply
+    ensures { result ≡ Reply.Done [] }
+{
+    Reply::Done(ByteString::new(Vec::new(alloc)))
+}
+
+// A word that is no name of a repository.
+pub(crate) fn bad_name(alloc: Global, word: &[u8]) -> Reply
+    ensures { (result ≡ Reply.Refused (BadName word.now)) ⊎ (result ≡ Reply.Failed HostFault.Memory) }
+{
+    match word.to_vec(alloc) {
+        Ok(copy) => Reply::Refused(Refusal::BadName(ByteString::new(copy))),
+        Err(_) => Reply::Failed(HostFault::Memory),
+    }
+}
+
+// How a reply tells what is wrong with a stream.
+pub(crate) fn stream_refusal(fault: StreamFault) -> Refusal
+    ensures { result ≡ stream_refusal fault }
+{
+    match fault {
+        StreamFault::Syntax => Refusal::Syntax,
+        StreamFault::TooMany => Refusal::TooMany,
+        StreamFault::TooLarge(name) => Refusal::TooLarge(name),
+        StreamFault::WrongName(name) => Refusal::WrongName(name),
+        StreamFault::BadObject(name) => Refusal::BadObject(name),
+        StreamFault::Truncated => Refusal::Truncated,
+    }
+}
+
+// How a reply tells what is wrong with a body of commands.
+pub(crate) fn command_refusal(fault: CommandFault) -> Refusal
+    ensures { result ≡ command_refusal fault }
+{
+    match fault {
+        CommandFault::Syntax => Refusal::Syntax,
+        CommandFault::TooMany => Refusal::TooMany,
+        CommandFault::Truncated => Refusal::Truncated,
+    }
+}
+
+// How a reply tells why a transaction was refused.
+pub(crate) fn transaction_refusal(refusal: TxRefusal) -> Refusal
+    ensures { result ≡ transaction_refusal refusal }
+{
+    match refusal {
+        TxRefusal::BadRef(word) => Refusal::BadRef(ByteString::new(word.into_bytes())),
+        TxRefusal::RepeatedRef(reference) => Refusal::RepeatedRef(reference),
+        TxRefusal::Missing(name) => Refusal::Missing(name),
+        TxRefusal::NotACommit(name) => Refusal::NotACommit(name),
+        TxRefusal::Stale(reference) => Refusal::Stale(reference),
+        TxRefusal::RefConflict(reference) => Refusal::RefConflict(reference),
+        TxRefusal::TooMany => Refusal::TooMany,
+    }
+}
+
+// How a reply tells why a push was refused.
+pub(crate) fn push_refusal(refusal: PushRefusal) -> Refusal
+    ensures { result ≡ push_refusal refusal }
+{
+    match refusal {
+        PushRefusal::Stream(fault) => stream_refusal(fault),
+        PushRefusal::Missing(name) => Refusal::Missing(name),
+        PushRefusal::WrongType(name) => Refusal::WrongType(name),
+        PushRefusal::Transaction(refusal) => transaction_refusal(refusal),
+        PushRefusal::OverQuota => Refusal::OverQuota,
+    }
+}
+
+// How a reply tells a fault of the store.
+pub(crate) fn host_fault(fault: SourceFault) -> HostFault
+    ensures { result ≡ fault_told fault }
+{
+    match fault {
+        SourceFault::Store => HostFault::Store,
+        SourceFault::Damaged => HostFault::Damaged,
+        SourceFault::Memory => HostFault::Memory,
+    }
+}

@@ -1,0 +1,17 @@
+use fork_reach::Source;
+use git_name::{Kind, Name};
+use git_reftx::Known;
+
+// What both sides of a push find, as what a transaction may name.
+#[derive(Drop)]
+pub(crate) struct BothKinds<'a, S>(pub(crate) &'a S);
+
+impl<'a, S: Source> Known for BothKinds<'a, S> {
+    ghost use Rattle.fork_reach.specs.Source.{kind_in};
+
+    ghost kinds = { λ both. kind_in (S.objects both.0.now) };
+
+    fn kind_of(&self, name: Name) -> Option<Kind> {
+        self.0.kind_of(name)
+    }
+}

@@ -1,0 +1,85 @@
+ghost use Rattle.std.specs.Prelude.{◌≡◌, Ok, IsTrue};
+ghost use Rattle.push_stream.specs.Brief.{brief_shown};
+ghost use Rattle.git_reftx.specs.Transaction.{transacted};
+ghost use Rattle.fork_reach.specs.Source.{kind_in};
+ghost use Rattle.fork_push.specs.Push.{judged, within_limit};
+ghost use Rattle.fork_push.specs.Verdict.{CountsVerdict, IsUndamaged, TellsJudged};
+
+use crate::both_kinds::BothKinds;
+use crate::refusal::PushRefusal;
+use crate::sent::judge_sent;
+use crate::sides::Sides;
+use crate::verdict::Verdict;
+use fork_reach::SourceFault;
+use git_reftx::{ApplyError, Command, Refs};
+use push_stream::{Brief, StreamFault};
+use std::alloc::Global;
+
+#[tactic(auto, unfolding(crate::specs::Push::judged))]
+/// Judges a push into a repository of these references, under a limit on what all objects may use.
+/// It changes nothing, and reads the sent objects alone.
+pub fn judge<S: Sides>(
+    alloc: Global,
+    sides: &mut S,
+    finished: &Result<Brief, StreamFault>,
+    references: &Refs,
+    limit: u64,
+) -> Verdict
+    ensures judged { IsTrue (S.honest sides.old) → TellsJudged (judged (S.objects sides.old) references.now limit (brief_shown finished.now)) result }
+    ensures kept { S.objects sides.new ≡ S.objects sides.old }
+    ensures honest { S.honest sides.new ≡ S.honest sides.old }
+    ensures damaged { IsTrue (S.honest sides.old) → IsUndamaged result }
+    ensures cause { CountsVerdict (S.failures sides.old) (S.failures sides.new) result }
+{
+    match finished {
+        Ok(brief) => judge_brief(alloc, sides, brief, references, limit),
+        Err(fault) => Verdict::Refused(PushRefusal::Stream(*fault)),
+    }
+}
+
+#[tactic(auto, unfolding(crate::specs::Push::judged))]
+// The same where the stream is right.
+fn judge_brief<S: Sides>(
+    alloc: Global,
+    sides: &mut S,
+    brief: &Brief,
+    references: &Refs,
+    limit: u64,
+) -> Verdict
+    ensures judged { IsTrue (S.honest sides.old) → TellsJudged (judged (S.objects sides.old) references.now limit (Ok (brief.now.commands.items, brief.now.names.items))) result }
+    ensures kept { S.objects sides.new ≡ S.objects sides.old }
+    ensures honest { S.honest sides.new ≡ S.honest sides.old }
+    ensures damaged { IsTrue (S.honest sides.old) → IsUndamaged result }
+    ensures cause { CountsVerdict (S.failures sides.old) (S.failures sides.new) result }
+{
+    match judge_sent(alloc, sides, brief.names.as_slice()) {
+        Ok(None) => judge_transaction(alloc, sides, brief.commands.as_slice(), references, limit),
+        Ok(Some(refusal)) => Verdict::Refused(refusal),
+        Err(fault) => Verdict::Failed(fault),
+    }
+}
+
+// The same where nothing stands against the links.
+fn judge_transaction<S: Sides>(
+    alloc: Global,
+    sides: &S,
+    commands: &[Command],
+    references: &Refs,
+    limit: u64,
+) -> Verdict
+    ensures judged { TellsJudged (within_limit (S.objects sides.now) limit (transacted references.now commands.now (kind_in (S.objects sides.now)))) result }
+    ensures damaged { IsUndamaged result }
+    ensures cause { CountsVerdict (S.failures sides.now) (S.failures sides.now) result }
+{
+    let new = match references.transacted(alloc, commands, &BothKinds(sides)) {
+        Ok(new) => new,
+        Err(ApplyError::Refused(refusal)) => {
+            return Verdict::Refused(PushRefusal::Transaction(refusal));
+        }
+        Err(ApplyError::Memory) => return Verdict::Failed(SourceFault::Memory),
+    };
+    if !sides.is_within(limit) {
+        return Verdict::Refused(PushRefusal::OverQuota);
+    }
+    Verdict::Accepted(new)
+}

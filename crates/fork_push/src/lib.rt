@@ -1,0 +1,19 @@
+//! What a push comes to: whether its links lead to objects that are there, its transaction, and the
+//! limit of what the objects may use.
+//! The first reason against a push decides, and judging it changes nothing.
+#![tactic(auto)]
+
+mod both_kinds;
+mod judging;
+mod linking;
+mod refusal;
+mod sent;
+mod sides;
+#[cfg(test)]
+mod tests;
+mod verdict;
+
+pub use crate::judging::judge;
+pub use crate::refusal::PushRefusal;
+pub use crate::sides::Sides;
+pub use crate::verdict::Verdict;

@@ -1,0 +1,33 @@
+ghost use Rattle.std.specs.Prelude.{◌≡◌, IfNone};
+ghost use Rattle.std.specs.List.{find};
+ghost use Rattle.std.specs.Option.{option_or};
+ghost use Rattle.git_object.specs.ObjectIn.{links_in};
+ghost use Rattle.fork_push.specs.Push.{is_missing, is_wrong};
+
+use fork_reach::Source;
+use git_name::Sealed;
+use git_object::{Link, Object, links};
+
+// The first link of the object whose object is not there. Where there is none, the first link to
+// another kind is noted, unless one was before.
+pub(crate) fn judge_links<S: Source>(
+    source: &S,
+    sealed: &Sealed,
+    wrong: &mut Option<Link>,
+) -> Option<Link>
+    ensures missing { result ≡ find (is_missing (S.objects source.now)) (links_in sealed.now.kind sealed.now.bytes) }
+    ensures wrong { IfNone result (wrong.new ≡ option_or wrong.old (find (is_wrong (S.objects source.now)) (links_in sealed.now.kind sealed.now.bytes))) }
+{
+    let Ok(object) = Object::read(sealed.kind(), sealed.bytes()) else {
+        return None;
+    };
+    for link in links(&object) {
+        let Some(kind) = source.kind_of(link.name) else {
+            return Some(link);
+        };
+        if wrong.is_none() && kind != link.kind {
+            *wrong = Some(link);
+        }
+    }
+    None
+}

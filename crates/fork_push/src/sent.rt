@@ -1,0 +1,62 @@
+ghost use Rattle.std.specs.Prelude.{◌≡◌, IsTrue, IfOk, IfErr, IfNone, ◌≢◌};
+ghost use Rattle.std.specs.List.{find};
+ghost use Rattle.std.specs.Option.{option_or};
+ghost use Rattle.std.specs.FinMap as map;
+ghost use Rattle.fork_reach.specs.Faults.{Counts};
+ghost use Rattle.fork_push.specs.Push.{is_missing, is_wrong, link_refusal, links_of_found, links_under};
+
+use crate::linking::judge_links;
+use crate::refusal::PushRefusal;
+use fork_reach::{Source, SourceFault};
+use git_name::Name;
+use git_object::Link;
+use std::alloc::Global;
+
+// What stands against the links of the sent objects, each of which is read once for each time that it
+// was sent.
+pub(crate) fn judge_sent<S: Source>(
+    alloc: Global,
+    source: &mut S,
+    names: &[Name],
+) -> Result<Option<PushRefusal>, SourceFault>
+    ensures found { IsTrue (S.honest source.old) → IfOk result (λ refusal. refusal ≡ link_refusal (S.objects source.old) (links_under (S.objects source.old) names.now)) }
+    ensures kept { S.objects source.new ≡ S.objects source.old }
+    ensures honest { S.honest source.new ≡ S.honest source.old }
+    ensures damaged { IsTrue (S.honest source.old) → IfErr result (λ fault. fault ≢ SourceFault.Damaged) }
+    ensures cause { Counts (S.failures source.old) (S.failures source.new) result }
+{
+    let mut wrong = None;
+    for name in names {
+        match judge_object(alloc, source, *name, &mut wrong) {
+            Ok(None) => {}
+            Ok(Some(link)) => return Ok(Some(PushRefusal::Missing(link.name))),
+            Err(fault) => return Err(fault),
+        }
+    }
+    match wrong {
+        Some(link) => Ok(Some(PushRefusal::WrongType(link.name))),
+        None => Ok(None),
+    }
+}
+
+// The first link of the object of this name whose object is not there. Where there is none, the first
+// link to another kind is noted, unless one was before.
+fn judge_object<S: Source>(
+    alloc: Global,
+    source: &mut S,
+    name: Name,
+    wrong: &mut Option<Link>,
+) -> Result<Option<Link>, SourceFault>
+    ensures missing { IsTrue (S.honest source.old) → IfOk result (λ link. link ≡ find (is_missing (S.objects source.old)) (links_of_found (map.get (S.objects source.old) name))) }
+    ensures wrong { IsTrue (S.honest source.old) → IfOk result (λ link. IfNone link (wrong.new ≡ option_or wrong.old (find (is_wrong (S.objects source.old)) (links_of_found (map.get (S.objects source.old) name))))) }
+    ensures kept { S.objects source.new ≡ S.objects source.old }
+    ensures honest { S.honest source.new ≡ S.honest source.old }
+    ensures damaged { IsTrue (S.honest source.old) → IfErr result (λ fault. fault ≢ SourceFault.Damaged) }
+    ensures cause { Counts (S.failures source.old) (S.failures source.new) result }
+{
+    match source.read(alloc, name) {
+        Ok(Some(sealed)) => Ok(judge_links(source, &sealed, wrong)),
+        Ok(None) => Ok(None),
+        Err(fault) => Err(fault),
+    }
+}

@@ -1,0 +1,13 @@
+ghost use Rattle.std.specs.Prelude.{◌≡◌, nat_le};
+ghost use Rattle.fork_reach.specs.Objects.{use_of};
+
+use fork_reach::Source;
+
+/// Both sides of a push: a source that finds the objects that a tenant sees and those that it sent.
+/// Of several of one name the one that the tenant sees counts, else the first that was sent.
+pub trait Sides: Source {
+    /// Whether all of them together use at most so many bytes. It is a running total's answer, and
+    /// walks no objects.
+    fn is_within(&self, limit: u64) -> bool
+        ensures { result ≡ nat_le (use_of (Self.objects self.now)) limit };
+}

@@ -1,0 +1,2 @@
+pub mod KeptObjects
+pub mod UseLemmas

@@ -1,0 +1,26 @@
+-- Objects that come beside others, and what objects use (own).
+use Rattle.std.specs.Prelude.{◌≡◌, ℕ, ◌+◌, List, [], ◌∷◌, Some, length, sum_by, if◌then◌else◌}
+use Rattle.std.specs.FinMap.{get, insert, contains_key, values}
+use Rattle.git_name.specs.Object.{Object, object_name}
+use Rattle.fork_reach.specs.Source.{Objects}
+
+-- each object stands under its own name
+abbrev pub IsNamed : Objects → Type 0
+IsNamed objects = (name : List ℕ) (object : Object) → get objects name ≡ Some object → object_name object ≡ name
+
+-- objects with one more, unless there is one of its name
+abbrev pub with_object : Objects → Object → Objects
+with_object objects object = if contains_key objects (object_name object) then objects else insert objects (object_name object) object
+
+-- the same with each of these: of several of one name the one that is there counts, else the first
+abbrev pub with_objects : Objects → List Object → Objects
+with_objects objects [] = objects
+with_objects objects (object ∷ sent) = with_objects (with_object objects object) sent
+
+-- what an object uses: its length and 64
+abbrev pub use_of_object : Object → ℕ
+use_of_object object = length object.bytes + 64
+
+-- what objects use together
+unfoldable pub use_of : Objects → ℕ
+use_of objects = sum_by use_of_object (values objects)

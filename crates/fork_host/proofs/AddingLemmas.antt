@@ -1,5 +1,5 @@
 -- When a tenant is added.
-use Rattle.std.proofs.Common.{◌≡◌, ℕ, ◌+◌, ◌<◌, ◌≤◌, Bool, true, false, cond, List, [], Option, Some, None, refl, sym, ap, subst, ◌∙◌, arith, is_some, inl, inr}
+use Rattle.std.proofs.Common.{◌≡◌, ℕ, ◌+◌, ◌<◌, ◌≤◌, Bool, true, false, cond, List, Some, None, sym, ap, subst, ◌∙◌, arith, is_some, inl, inr}
 use Rattle.std.specs.Prelude.{nat_le, nat_lt}
 use Rattle.std.proofs.lemmas.Bool.Decides.{nat_tests}
 use Rattle.std.specs.Ordering.{eq_by_cmp}
@@ -7,10 +7,9 @@ use Rattle.std.specs.Map.{lookup}
 use Rattle.std.specs.BTreeMap.{is_at}
 use Rattle.std.specs.FinMap.{get, get-insert, get-empty, insert, contains_key, len, len-insert, len-empty, empty, from_entries}
 use Rattle.git_name.specs.Name.{name_cmp}
-use Rattle.git_name.specs.Object.{Object}
 use Rattle.git_name.proofs.Names.{name_total}
 use Rattle.git_reftx.specs.Transaction.{References}
-use Rattle.fork_reach.specs.Objects.{IsNamed, use_of}
+use Rattle.fork_reach.specs.Objects.{IsNamed}
 use Rattle.fork_model.specs.Sound.{IsSound, IsSoundWorld}
 use Rattle.fork_model.specs.View.{View}
 use Rattle.push_stream.specs.Upload.{UploadValue}

@@ -1,8 +1,7 @@
 -- What a tenant answers is its part in a step of the world.
-use Rattle.std.proofs.Common.{◌≡◌, ℕ, Bool, true, false, List, refl, sym, ap, subst, ◌∙◌}
+use Rattle.std.proofs.Common.{◌≡◌, false, refl, sym, ap, subst, ◌∙◌}
 use Rattle.fork_request.specs.Asked.{Ask}
 use Rattle.fork_request.specs.Told.{is_host_fault}
-use Rattle.fork_request.specs.declared.host_fault.HostFault.TheVariants.{Memory}
 use Rattle.fork_request.specs.declared.reply.Reply.{Reply}
 use Rattle.fork_request.specs.declared.reply.Reply.TheVariants.{Done, Refused, Failed as Failing}
 use Rattle.fork_model.specs.Answer.{answer}

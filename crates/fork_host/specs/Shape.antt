@@ -1,5 +1,5 @@
 -- What of a view no store can change: its repositories, the names, kinds and lengths of its objects, its limit.
-use Rattle.std.specs.Prelude.{◌≡◌, ℕ, List, Option, length, option_map, map}
+use Rattle.std.specs.Prelude.{◌≡◌, ℕ, List, length, option_map, map}
 use Rattle.std.specs.FinMap.{get, entries}
 use Rattle.git_name.specs.declared.kind.Kind.{Kind}
 use Rattle.git_name.specs.Object.{Object}

@@ -1,8 +1,7 @@
 -- Objects that were put beside others while a push is judged, and how they are taken out again.
-use Rattle.std.specs.Prelude.{◌≡◌, ℕ, List, min, Option, Result, Ok, Err, ⊤}
+use Rattle.std.specs.Prelude.{◌≡◌, ℕ, min, Option, Result, Ok, Err, ⊤}
 use Rattle.fork_reach.specs.Objects.{use_of}
 use Rattle.fork_reach.specs.Source.{Objects}
-use Rattle.git_reftx.specs.Transaction.{References}
 use Rattle.push_stream.specs.declared.body.Body.{Body}
 use Rattle.push_stream.specs.declared.fault.BodyError.{BodyError}
 use Rattle.push_stream.specs.declared.fault.BodyError.TheVariants.{Fault, Memory}

@@ -1,10 +1,9 @@
 -- What an accepted push says, and what stands in a stream that is at its end.
-use Rattle.std.proofs.Common.{◌≡◌, ℕ, ◌≤◌, Bool, true, false, cond, List, [], ◌∷◌, Option, Some, None, Result, Ok, Err, refl, ap, ◌∙◌, arith}
+use Rattle.std.proofs.Common.{◌≡◌, ℕ, ◌≤◌, Bool, true, false, cond, [], ◌∷◌, Option, Some, None, Result, Ok, Err, refl, ap, arith}
 use Rattle.std.specs.Prelude.{nat_lt, ⊤}
 use Rattle.std.specs.List.{find}
 use Rattle.std.specs.Option.{option_map, option_or}
 use Rattle.std.proofs.lemmas.Bool.Decides.{nat_tests}
-use Rattle.git_name.specs.Object.{Object}
 use Rattle.git_object.specs.declared.link.Link.{Link}
 use Rattle.git_reftx.specs.declared.fault.TxRefusal.{TxRefusal}
 use Rattle.git_reftx.specs.Transaction.{References, transacted}

@@ -1,9 +1,9 @@
 -- How each row of the answer goes: it refuses and leaves what a refusal leaves, or it is done and leaves a sound view sound.
-use Rattle.std.proofs.Common.{◌≡◌, ℕ, ◌+◌, ◌≤◌, Bool, true, false, cond, not, List, [], Option, Some, None, Result, Ok, Err, refl, sym, ap, subst, ◌∙◌, arith, is_some, inl, inr, ◌∷◌, length, ◌-◌}
+use Rattle.std.proofs.Common.{◌≡◌, ℕ, ◌+◌, ◌≤◌, Bool, true, false, cond, List, [], Option, Some, None, Result, Ok, Err, refl, sym, ap, subst, ◌∙◌, arith, is_some, inl, inr, ◌∷◌, length, ◌-◌}
 use Rattle.std.specs.Prelude.{nat_le, nat_lt, map}
 use Rattle.std.specs.Option.{option_map}
 use Rattle.std.specs.Ordering.{eq_by_cmp}
-use Rattle.std.specs.FinMap.{get, get-insert, get-remove, get-empty, insert, remove, contains_key, keys, len, len-insert, len-remove, len-empty, len-entries, entries, empty}
+use Rattle.std.specs.FinMap.{get, get-insert, get-remove, get-empty, insert, remove, contains_key, len, len-insert, len-remove, len-empty, len-entries, entries, empty}
 use Rattle.std.proofs.lemmas.Bool.Decides.{nat_tests}
 use Rattle.git_name.specs.Object.{Object, object_name}
 use Rattle.git_name.specs.Name.{name_cmp}
@@ -32,7 +32,7 @@ use Rattle.fork_request.specs.declared.refusal.Refusal.TheVariants.{BadName, Bad
 use Rattle.fork_request.specs.declared.reply.Reply.{Reply}
 use Rattle.fork_request.specs.declared.reply.Reply.TheVariants.{Done, Refused}
 use Rattle.fork_model.specs.Answer.{Held, answer, left_by, without_upload, init_answer, drop_answer, fork_answer, push_answer, part_answer, part_end_answer, part_drop_answer, update_answer, cat_file_answer, references_answer, named_repository, new_repository, dropped, copied, push_into, pushed, taken, open_upload, upload_into, end_in, ended, update_in, carried_out, with_references, told_object, told_references, transaction_refusal, command_refusal, push_refusal}
-use Rattle.fork_model.specs.Sound.{IsReference, AreReferences, IsSound, IsUpload}
+use Rattle.fork_model.specs.Sound.{AreReferences, IsSound, IsUpload}
 use Rattle.fork_model.specs.View.{View, Repositories}
 use Rattle.fork_reach.proofs.KeptObjects.{at_key, kept_all, named_all, tied_names}
 use Rattle.fork_model.proofs.ClosedLemmas.{closed_both, right_both}

@@ -1,22 +1,21 @@
 -- A transaction leaves references that a repository may have.
-use Rattle.std.proofs.Common.{◌≡◌, ℕ, ◌≤◌, Bool, true, false, cond, not, List, [], ◌∷◌, Option, Some, None, Result, Ok, Err, refl, sym, ap, subst, ◌∙◌, arith, is_some, inl, inr}
+use Rattle.std.proofs.Common.{◌≡◌, ℕ, ◌≤◌, Bool, true, false, cond, not, List, [], ◌∷◌, Option, Some, None, Ok, refl, sym, ap, subst, ◌∙◌, arith, is_some, inl, inr}
 use Rattle.std.specs.Prelude.{◌&&◌, nat_lt, is_none}
 use Rattle.std.specs.Option.{option_or, option_map}
 use Rattle.std.specs.Ordering.{eq_by_cmp}
-use Rattle.std.specs.FinMap.{get, get-insert, get-remove, insert, remove, contains_key, keys, len}
+use Rattle.std.specs.FinMap.{get, get-insert, get-remove, keys, len}
 use Rattle.std.proofs.lemmas.Bool.Decides.{nat_tests}
 use Rattle.git_name.specs.declared.kind.Kind.{Kind}
 use Rattle.git_name.specs.Name.{name_cmp}
 use Rattle.git_name.specs.Object.{Object}
 use Rattle.git_name.proofs.Names.{name_total}
 use Rattle.git_refname.specs.declared.rule.Rule.{Rule}
-use Rattle.git_refname.specs.Rule.{IsRefName, least_broken_rule}
+use Rattle.git_refname.specs.Rule.{least_broken_rule}
 use Rattle.git_reftx.specs.declared.command.Command.{Command}
 use Rattle.git_reftx.specs.declared.command.Change.{Change}
 use Rattle.git_reftx.specs.declared.command.Change.TheVariants.{Keep, Remove, Point}
 use Rattle.git_reftx.specs.declared.fault.TxRefusal.{TxRefusal}
-use Rattle.git_reftx.specs.declared.fault.TxRefusal.TheVariants.{BadRef, Missing, NotACommit, RefConflict, TooMany}
-use Rattle.git_reftx.specs.Known.{Kinds}
+use Rattle.git_reftx.specs.declared.fault.TxRefusal.TheVariants.{BadRef, Missing, NotACommit, TooMany}
 use Rattle.git_reftx.specs.Transaction
 use Rattle.git_reftx.specs.Transaction.{References, is_branch, is_commit, least_upper, transacted, changed, changed_by, refusal_of, first_refusal}
 use Rattle.fork_reach.specs.Source.{Objects, kind_in}

@@ -12,7 +12,7 @@ use Rattle.push_stream.specs.Stream.{AreObjects, sent_in}
 use Rattle.push_stream.specs.Upload.{UploadValue}
 use Rattle.fork_reach.specs.Objects.{IsNamed, use_of}
 use Rattle.fork_reach.specs.Source.{Objects, kind_in}
-use Rattle.fork_request.specs.Names.{IsRepositoryName, IsTenantName}
+use Rattle.fork_request.specs.Names.{IsRepositoryName}
 use Rattle.fork_model.specs.View.{View}
 use Rattle.fork_model.specs.World.{World}
 

@@ -1,8 +1,8 @@
 -- The words of a line where there is more than one.
-use Rattle.std.proofs.Common.{◌≡◌, ℕ, List, [], ◌∷◌, None, refl, sym, ap, ◌∙◌}
+use Rattle.std.proofs.Common.{◌≡◌, ℕ, List, ◌∷◌, None, sym, ap, ◌∙◌}
 use Rattle.git_name.specs.Text.{words_of}
 use Rattle.git_name.proofs.TextLemmas.{first_of_words}
-use Rattle.fork_request.specs.Asked.{Ask, asked_verb, asked_words, sole}
+use Rattle.fork_request.specs.Asked.{asked_verb, asked_words, sole}
 
 -- a line of two words or more has no sole one
 pub sole_many : (word rest : List ℕ) → sole (word ∷ words_of rest) ≡ None

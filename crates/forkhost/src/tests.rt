@@ -4,8 +4,11 @@ mod command_line;
 mod frames;
 mod isolation;
 mod objects;
+mod pushes;
 mod references;
 mod runs;
+mod turns;
+mod uploads;
 mod wire;
 
 use crate::program::program;

@@ -1,3 +1,4 @@
+pub mod Examples
 pub mod HeaderLemmas
 pub mod LongerLemmas
 pub mod ObjectLemmas

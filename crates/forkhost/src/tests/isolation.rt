@@ -1,3 +1,4 @@
+use super::turns::Session;
 use super::{ran, streams};
 use std::test::Fail;
 
@@ -96,5 +97,148 @@ fn a_tenant_is_told_what_a_private_host_tells_it(rt: HostRuntime) -> Result<(), 
     }
     assert_eq!(rt; heard.as_slice(), alone.written.as_slice());
     assert!(rt; rest.is_empty());
+    Ok(())
+}
+
+// Whether bob hears this beside alice, and the same on a host that holds him alone.
+fn bob_hears_the_same(rt: &HostRuntime, turns: &[(&str, &str, &str)]) -> Result<bool, Fail> {
+    let alloc = rt.alloc();
+    let mut both = Session::new(alloc);
+    let mut own = Session::new(alloc);
+    for (who, payload, reply) in turns {
+        both.add(alloc, who, payload, reply)?;
+        if *who == "bob" {
+            own.add(alloc, who, payload, reply)?;
+        }
+    }
+    let beside = both.is_told(alloc, ["run", "alice=1000", "bob=300"].as_slice())?;
+    let alone = own.is_told(alloc, ["run", "bob=300"].as_slice())?;
+    Ok(beside && alone)
+}
+
+#[test]
+fn a_reference_does_not_tell_what_another_tenant_holds(rt: HostRuntime) -> Result<(), Fail> {
+    let turns = [
+        ("alice", "init r\n", "ok\n"),
+        ("alice", "push r\n\n$T$C", "ok\n"),
+        ("bob", "init r\n", "ok\n"),
+        (
+            "bob",
+            "push r\ncreate refs/heads/x $c\n\n",
+            "no missing $c\n",
+        ),
+        (
+            "bob",
+            "push r\ncreate refs/heads/x $n\n\n",
+            "no missing $n\n",
+        ),
+        (
+            "bob",
+            "push r\ncreate refs/heads/x $t\n\n",
+            "no missing $t\n",
+        ),
+        ("alice", "push r\ncreate refs/heads/x $c\n\n", "ok\n"),
+        (
+            "bob",
+            "push r\ndelete refs/heads/x $c\n\n",
+            "no stale refs/heads/x\n",
+        ),
+        ("bob", "for-each-ref r\n", "ok\n"),
+    ];
+    assert!(rt; bob_hears_the_same(&rt, turns.as_slice())?);
+    Ok(())
+}
+
+#[test]
+fn a_link_does_not_tell_what_another_tenant_holds(rt: HostRuntime) -> Result<(), Fail> {
+    let turns = [
+        ("alice", "init r\n", "ok\n"),
+        ("alice", "push r\n\n$T$C$E", "ok\n"),
+        ("bob", "init r\n", "ok\n"),
+        ("bob", "push r\n\n$C", "no missing $t\n"),
+        ("bob", "push r\n\n$G", "no missing $c\n"),
+        ("bob", "push r\n\n$N", "no missing $f\n"),
+        ("bob", "push r\n\n$T$C", "ok\n"),
+        ("bob", "cat-file $c\n", "ok\n$C"),
+    ];
+    assert!(rt; bob_hears_the_same(&rt, turns.as_slice())?);
+    Ok(())
+}
+
+#[test]
+fn a_wrong_kind_does_not_tell_what_another_tenant_holds(rt: HostRuntime) -> Result<(), Fail> {
+    let turns = [
+        ("alice", "init r\n", "ok\n"),
+        ("alice", "push r\n\n$E", "ok\n"),
+        ("alice", "push r\n\n$W", "no wrong-type $e\n"),
+        ("bob", "init r\n", "ok\n"),
+        ("bob", "push r\n\n$W", "no missing $e\n"),
+        ("bob", "push r\n\n$U", "no missing $e\n"),
+        (
+            "bob",
+            "push r\ncreate refs/heads/x $e\n\n",
+            "no missing $e\n",
+        ),
+    ];
+    assert!(rt; bob_hears_the_same(&rt, turns.as_slice())?);
+    Ok(())
+}
+
+#[test]
+fn a_limit_does_not_tell_what_another_tenant_holds(rt: HostRuntime) -> Result<(), Fail> {
+    let turns = [
+        ("alice", "init r\n", "ok\n"),
+        ("alice", "push r\n\n$T$C$E$F", "ok\n"),
+        ("bob", "init r\n", "ok\n"),
+        ("bob", "push r\n\n$T$C", "ok\n"),
+        ("bob", "push r\n\n$E", "no over-quota\n"),
+        ("bob", "push r\n\n$T$C", "ok\n"),
+        ("bob", "cat-file $e\n", "no missing $e\n"),
+    ];
+    assert!(rt; bob_hears_the_same(&rt, turns.as_slice())?);
+    Ok(())
+}
+
+#[test]
+fn a_dropped_repository_shows_nothing_to_another_tenant(rt: HostRuntime) -> Result<(), Fail> {
+    let asked = "update-refs r\ncreate refs/heads/x $c\n";
+    let turns = [
+        ("alice", "init r\n", "ok\n"),
+        ("alice", "push r\ncreate refs/heads/x $c\n\n$T$C", "ok\n"),
+        ("bob", "init r\n", "ok\n"),
+        ("bob", "cat-file $c\n", "no missing $c\n"),
+        ("bob", asked, "no missing $c\n"),
+        ("alice", "drop r\n", "ok\n"),
+        ("bob", "cat-file $c\n", "no missing $c\n"),
+        ("bob", asked, "no missing $c\n"),
+        ("bob", "for-each-ref r\n", "ok\n"),
+        ("alice", "cat-file $c\n", "ok\n$C"),
+    ];
+    assert!(rt; bob_hears_the_same(&rt, turns.as_slice())?);
+    Ok(())
+}
+
+#[test]
+fn an_upload_shows_nothing_to_another_tenant(rt: HostRuntime) -> Result<(), Fail> {
+    let turns = [
+        ("bob", "init r\n", "ok\n"),
+        ("alice", "part\n\n$T$C", "ok\n"),
+        ("bob", "cat-file $c\n", "no missing $c\n"),
+        ("bob", "push r\n\n$C", "no missing $t\n"),
+        ("bob", "part-end r\n", "no no-upload\n"),
+        ("bob", "part-drop\n", "no no-upload\n"),
+        ("alice", "part-drop\n", "ok\n"),
+        ("bob", "cat-file $c\n", "no missing $c\n"),
+        (
+            "bob",
+            "push r\ncreate refs/heads/x $c\n\n",
+            "no missing $c\n",
+        ),
+        ("bob", "push r\n\n$C", "no missing $t\n"),
+        ("bob", "part\n\n$C", "ok\n"),
+        ("alice", "part\n$T", "ok\n"),
+        ("bob", "part-end r\n", "no missing $t\n"),
+    ];
+    assert!(rt; bob_hears_the_same(&rt, turns.as_slice())?);
     Ok(())
 }

@@ -1,11 +1,11 @@
-use Rattle.std.proofs.Common.{◌≡◌, ◌+◌, false, sym, ap, subst, ◌∙◌, length, min, ◌∷◌, []}
+use Rattle.std.proofs.Common.{◌≡◌, ◌+◌, false, sym, ap, ◌∙◌, length, min}
 use Rattle.std.specs.FinMap as map
 use Rattle.git_name.specs.Object.{object_name}
-use Rattle.fork_reach.specs.Objects.{use_of, use_of_object, with_object}
+use Rattle.fork_reach.specs.Objects.{use_of, use_of_object}
 use Rattle.fork_reach.proofs.UseLemmas.{use_of-new, with_object-new}
 use Rattle.fork_host.specs.Staged.{capped}
 use Rattle.fork_host.proofs.CappedLemmas.{capped_more}
-use Rattle.fork_host.proofs.TakingBack.{taken_back-append, remove_absent, remove_inserted, taken_back_same}
+use Rattle.fork_host.proofs.TakingBack.{remove_absent, remove_inserted, taken_back_same}
 use Rattle.fork_host.proofs.objects.add_one.Goals as goal
 
 pub returns-in_default-insert-clause-undone : goal.returns-in_default-insert-clause-undone

@@ -1,4 +1,4 @@
-use Rattle.std.proofs.Common.{◌≡◌, ◌∷◌, sym, ap, ◌∙◌}
+use Rattle.std.proofs.Common.{sym, ap, ◌∙◌}
 use Rattle.fork_request.specs.Asked.{asked_words}
 use Rattle.fork_request.proofs.WordLemmas.{verb_many}
 use Rattle.fork_request.proofs.request.read_line.Goals as goal

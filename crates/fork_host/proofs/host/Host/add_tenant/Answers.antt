@@ -1,8 +1,7 @@
-use Rattle.std.proofs.Common.{◌≡◌, ◌<◌, refl, sym, ap, subst, ◌∙◌, arith}
+use Rattle.std.proofs.Common.{◌<◌, refl, sym, ap, subst, ◌∙◌, arith}
 use Rattle.std.specs.FinMap as map
 use Rattle.fork_model.specs.Sound.{IsSoundWorld}
 use Rattle.fork_model.proofs.Hosts.{insert_is, len_is}
-use Rattle.fork_host.specs.Adding.{new_view}
 use Rattle.fork_host.proofs.AddingLemmas.{known, not_refused, refused_limit, refused_many, refused_there, sound_more}
 use Rattle.fork_host.proofs.host.Host.add_tenant.Goals as goal
 

@@ -1,10 +1,9 @@
-use Rattle.std.proofs.Common.{ℕ, List, refl, rules, subst, sym, ap, ◌∙◌}
+use Rattle.std.proofs.Common.{refl, rules, subst, ap}
 use Rattle.std.specs.Option.{option_map}
 use Rattle.std.specs.FinMap as map
 use Rattle.fork_request.specs.Asked.{ask_of}
 use Rattle.fork_model.specs.Runs.{Asks}
 use Rattle.fork_model.specs.Sound.{IsSoundWorld}
-use Rattle.fork_model.specs.World.{Steps}
 use Rattle.fork_model.proofs.Hosts.{step_answered, step_unknown}
 use Rattle.fork_model.proofs.SoundWorlds.{sound_step}
 use Rattle.fork_model.proofs.StepLemmas.{step_kept, step_others}

@@ -1,7 +1,6 @@
-use Rattle.std.proofs.Common.{sym, ◌∙◌, ap}
+use Rattle.std.proofs.Common.{◌∙◌, ap}
 use Rattle.std.specs.FinMap as map
 use Rattle.std.proofs.lemmas.Result.{on_ok_weaker}
-use Rattle.git_name.specs.Object.{object_name}
 use Rattle.git_name.proofs.Names.{name_total, name_exact}
 use Rattle.git_name.proofs.TreeMaps.{entries_after_insert}
 use Rattle.fork_host.proofs.object_map.ObjectMap.insert.Goals as goal

@@ -1,4 +1,4 @@
-use Rattle.std.proofs.Common.{◌≡◌, Ok, Some, sym, ap, subst, rules, ◌∙◌}
+use Rattle.std.proofs.Common.{◌≡◌, Ok, ap, subst, rules, ◌∙◌}
 use Rattle.std.specs.FinMap as map
 use Rattle.std.proofs.lemmas.Result.{on_ok_weaker, on_err_weaker}
 use Rattle.git_name.proofs.Names.{name_total, name_exact}

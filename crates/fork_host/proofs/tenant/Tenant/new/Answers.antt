@@ -1,5 +1,5 @@
 use Rattle.std.proofs.Common.{◌≡◌, ap, ◌∙◌, arith}
-use Rattle.fork_reach.specs.Objects.{IsNamed, use_of}
+use Rattle.fork_reach.specs.Objects.{use_of}
 use Rattle.fork_reach.proofs.UseLemmas.{use_of-empty}
 use Rattle.fork_host.proofs.tenant.Tenant.new.Goals as goal
 

@@ -1,0 +1,183 @@
+//! Turns: who asks, a payload and its reply, as short texts.
+//!
+//! `$c` stands for the name of the object C, and `$C` for its record; `$1`, `$2` and `$3` are the bytes 0
+//! to 100, 100 to 200 and 200 to 279 of a body that has no command and the records T and C. Names and
+//! records are those of Git 2.39.5 in a repository of the SHA-256 format, by `git hash-object -w --literally`
+//! and `git cat-file --batch`.
+
+use super::ran;
+use std::alloc::Global;
+use std::test::Fail;
+
+// The blob `hello` LF.
+const B: &[u8] =
+    b"2cf8d83d9ee29543b34a87727421fdecb7e3f3a183d337639025de576db9ebb4 blob 6\nhello\n\n";
+// A commit of 128 bytes, with the tree T.
+const C: &[u8] =
+    b"ebf19fdd8350b77fa7dc28d348756e6e44686800e9a932ed072db05f9b2b538f commit 128\ntree 6ef19b41225c5369f1c104d45d8d85efa9b057b53b14b4b9b939dd74decc5321\nauthor Ada <a@x> 1 +0000\ncommitter Ada <a@x> 1 +0000\n\none\n\n";
+// The empty blob.
+const E: &[u8] = b"473a0f4c3be8a93681a267e3b1e9a7dcda1185436fe141f7749120a303721813 blob 0\n\n";
+// A tree with a file, E.
+const F: &[u8] =
+    b"5f6f307bcc469c02acba4f7da42d8d4defdda8209777fe732956f1e2fa0db3ff tree 41\n100644 a\x00G:\x0fL;\xe8\xa96\x81\xa2g\xe3\xb1\xe9\xa7\xdc\xda\x11\x85Co\xe1A\xf7t\x91 \xa3\x03r\x18\x13\n";
+// A tag of the commit C.
+const G: &[u8] =
+    b"cd3ee7283d46398b327f75f2c8f768d611bb79af2973d6f112943a0efe4a1e23 tag 120\nobject ebf19fdd8350b77fa7dc28d348756e6e44686800e9a932ed072db05f9b2b538f\ntype commit\ntag v1\ntagger Ada <a@x> 1 +0000\n\nv1\n\n";
+// A commit with the tree E, which is a blob.
+const K: &[u8] =
+    b"85007abe8b0669d4700cb79c085670e400f41646ce1325e0e8e81ae71699cd9b commit 128\ntree 473a0f4c3be8a93681a267e3b1e9a7dcda1185436fe141f7749120a303721813\nauthor Ada <a@x> 1 +0000\ncommitter Ada <a@x> 1 +0000\n\none\n\n";
+// A tree with a gitlink, of the name of 64 digits 1.
+const L: &[u8] =
+    b"82fa27fffe30a5591d333e558efc0e149aec737a5d0360a6a9d51dd74f79b88d tree 41\n160000 m\x00\x11\x11\x11\x11\x11\x11\x11\x11\x11\x11\x11\x11\x11\x11\x11\x11\x11\x11\x11\x11\x11\x11\x11\x11\x11\x11\x11\x11\x11\x11\x11\x11\n";
+// A commit with the tree F and the parent C.
+const N: &[u8] =
+    b"86fae1d6f9818f5dea3089218e1184a052130a510efa07d82be5c3c1b824d360 commit 200\ntree 5f6f307bcc469c02acba4f7da42d8d4defdda8209777fe732956f1e2fa0db3ff\nparent ebf19fdd8350b77fa7dc28d348756e6e44686800e9a932ed072db05f9b2b538f\nauthor Ada <a@x> 1 +0000\ncommitter Ada <a@x> 1 +0000\n\ntwo\n\n";
+// A commit with the tree T and the parent G, which is a tag.
+const P: &[u8] =
+    b"8fce61cb29720edea59c7ed2944833795541f3905e720d682d5baf774ed0b9a3 commit 200\ntree 6ef19b41225c5369f1c104d45d8d85efa9b057b53b14b4b9b939dd74decc5321\nparent cd3ee7283d46398b327f75f2c8f768d611bb79af2973d6f112943a0efe4a1e23\nauthor Ada <a@x> 1 +0000\ncommitter Ada <a@x> 1 +0000\n\none\n\n";
+// The empty tree.
+const T: &[u8] = b"6ef19b41225c5369f1c104d45d8d85efa9b057b53b14b4b9b939dd74decc5321 tree 0\n\n";
+// A tag of the commit E, which is a blob.
+const U: &[u8] =
+    b"2760fcd5e2e0e206f0a913560285401fc51c61d4bb8cf8350770f4ea123408b6 tag 90\nobject 473a0f4c3be8a93681a267e3b1e9a7dcda1185436fe141f7749120a303721813\ntype commit\ntag u\n\n";
+// A tree with a tree, E, which is a blob.
+const W: &[u8] =
+    b"9b66a68f0d7f07a81b1750044c8a8f3c549e317c3b1bc41be016b6d25ca4f02e tree 40\n40000 d\x00G:\x0fL;\xe8\xa96\x81\xa2g\xe3\xb1\xe9\xa7\xdc\xda\x11\x85Co\xe1A\xf7t\x91 \xa3\x03r\x18\x13\n";
+// The byte `x`, which is no tree, no commit and no tag.
+const X: &[u8] = b"dad1a6e9b7544226097292e20f93fad75c5bf8a4bd6f1ed27b76ff2cf67013b1 tree 1\nx\n";
+
+const Y: &[u8] = b"8a2adfb91065d9e72cb3ba9651046ab438975b8757d620acb840465717b39299 commit 1\nx\n";
+
+const Z: &[u8] = b"3ea8d8ebaf79de6ba12c03ead84c43b3f7db6b1f243dc31e54294e8788ee9855 tag 1\nx\n";
+
+// A body of 279 bytes in three pieces.
+const PIECES: [&[u8]; 3] = [
+    b"\n6ef19b41225c5369f1c104d45d8d85efa9b057b53b14b4b9b939dd74decc5321 tree 0\n\nebf19fdd8350b77fa7dc28d348",
+    b"756e6e44686800e9a932ed072db05f9b2b538f commit 128\ntree 6ef19b41225c5369f1c104d45d8d85efa9b057b53b14b",
+    b"4b9b939dd74decc5321\nauthor Ada <a@x> 1 +0000\ncommitter Ada <a@x> 1 +0000\n\none\n\n",
+];
+
+// The record that a capital stands for.
+fn record(letter: u8) -> &'static [u8] {
+    match letter {
+        b'B' => B,
+        b'C' => C,
+        b'E' => E,
+        b'F' => F,
+        b'G' => G,
+        b'K' => K,
+        b'L' => L,
+        b'N' => N,
+        b'P' => P,
+        b'T' => T,
+        b'U' => U,
+        b'W' => W,
+        b'X' => X,
+        b'Y' => Y,
+        b'Z' => Z,
+        _ => b"",
+    }
+}
+
+// What a letter or digit behind `$` stands for.
+fn meant(letter: u8) -> &'static [u8] {
+    match letter {
+        b'1' => PIECES[0],
+        b'2' => PIECES[1],
+        b'3' => PIECES[2],
+        _ if letter.is_ascii_lowercase() => {
+            let whole = record(letter.to_ascii_uppercase());
+            whole.get(..64).unwrap_or(b"")
+        }
+        _ => record(letter),
+    }
+}
+
+/// The bytes that a short text stands for.
+pub fn filled(alloc: Global, text: &str) -> Result<Vec<u8>, Fail> {
+    let mut bytes = Vec::new(alloc);
+    let mut is_marked = false;
+    for byte in text.as_bytes() {
+        if is_marked {
+            bytes.extend_from_slice(meant(*byte))?;
+            is_marked = false;
+        } else if *byte == b'$' {
+            is_marked = true;
+        } else {
+            bytes.push(*byte)?;
+        }
+    }
+    Ok(bytes)
+}
+
+/// A session: the frames of requests, and those of the replies that are wanted.
+#[derive(Drop)]
+pub struct Session {
+    input: Vec<u8>,
+    output: Vec<u8>,
+}
+
+// The frame whose line has these words before its length.
+fn add_frame(alloc: Global, words: &str, text: &str, frames: &mut Vec<u8>) -> Result<(), Fail> {
+    let bytes = filled(alloc, text)?;
+    let len = bytes.len();
+    let line = format!(in alloc; "{words}{len}\n")?;
+    frames.extend_from_slice(line.as_bytes())?;
+    frames.extend_from_slice(bytes.as_slice())?;
+    Ok(())
+}
+
+impl Session {
+    /// A session without turns.
+    pub fn new(alloc: Global) -> Session {
+        Session {
+            input: Vec::new(alloc),
+            output: Vec::new(alloc),
+        }
+    }
+
+    /// One more turn: who asks, the payload and the reply.
+    pub fn add(
+        &mut self,
+        alloc: Global,
+        who: &str,
+        payload: &str,
+        reply: &str,
+    ) -> Result<(), Fail> {
+        let words = format!(in alloc; "{who} ")?;
+        add_frame(alloc, words.as_str(), payload, &mut self.input)?;
+        add_frame(alloc, "", reply, &mut self.output)
+    }
+
+    /// Whether the program, run with these words, tells every reply and ends clean.
+    pub fn is_told(&self, alloc: Global, words: &[&str]) -> Result<bool, Fail> {
+        let told = ran(alloc, words, self.input.as_slice())?;
+        Ok(told.status == 0 && told.written.as_slice() == self.output.as_slice())
+    }
+}
+
+/// Whether alice, who may use this many bytes and has a repository `r`, is answered so.
+pub fn alice_hears(rt: &HostRuntime, limit: &str, pairs: &[(&str, &str)]) -> Result<bool, Fail> {
+    let alloc = rt.alloc();
+    let mut session = Session::new(alloc);
+    session.add(alloc, "alice", "init r\n", "ok\n")?;
+    for (payload, reply) in pairs {
+        session.add(alloc, "alice", payload, reply)?;
+    }
+    let word = format!(in alloc; "alice={limit}")?;
+    session.is_told(alloc, ["run", word.as_str()].as_slice())
+}
+
+/// Whether the program, run with these words, answers every turn so.
+pub fn both_hear(
+    rt: &HostRuntime,
+    words: &[&str],
+    turns: &[(&str, &str, &str)],
+) -> Result<bool, Fail> {
+    let alloc = rt.alloc();
+    let mut session = Session::new(alloc);
+    for (who, payload, reply) in turns {
+        session.add(alloc, who, payload, reply)?;
+    }
+    session.is_told(alloc, words)
+}

@@ -1,7 +1,8 @@
 pub mod AddingLemmas
-pub mod CappedLemmas
+pub mod OwnLemmas
 pub mod RowLemmas
 pub mod ShapeLemmas
-pub mod TakingBack
+pub mod TakingLemmas
 pub mod UpdateLemmas
-pub mod VerdictLemmas
+pub mod WholeLemmas
+pub mod WorldLemmas

@@ -1,19 +1,11 @@
--- A value of a map that is found by its key and written back.
-use Rattle.std.proofs.Common.{◌≡◌, ℕ, cond, List, Option, Some, None, Result, Ok, Err, sym, ap, ◌∙◌}
+-- Values that are found, and maps that are as they were.
+use Rattle.std.proofs.Common.{◌≡◌, ℕ, Bool, true, false, cond, List, Option, Some, None, is_some, Result, Ok, Err, refl, ap, ◌∙◌}
 use Rattle.std.specs.Prelude.{IfErr}
-use Rattle.std.specs.Map.{lookup}
-use Rattle.std.specs.BTreeMap.{is_at}
-use Rattle.std.specs.FinMap.{FinMap, from_entries, get, insert}
+use Rattle.std.specs.Ordering.{eq_by_cmp}
+use Rattle.std.specs.FinMap.{FinMap, contains_key, get, get-insert, get-remove, insert, remove, same_map}
+use Rattle.fork_reach.proofs.KeptObjects.{tied_names}
 use Rattle.git_name.specs.Name.{name_cmp}
 use Rattle.git_name.proofs.Names.{name_total, name_exact}
-use Rattle.git_name.proofs.TreeMaps.{get_of_entries, entries_after_insert}
-
-pub found_in : {X : Type 0} (old : FinMap name_cmp X) (es : List (List ℕ × X)) (k : List ℕ) (v : X) → from_entries es ≡ old → Some v ≡ lookup (is_at (name_cmp k)) es → get old k ≡ Some v
-found_in old es k v is here = ap (λ m. get m k) (sym is) ∙ (get_of_entries name_total es k ∙ sym here)
-
-pub written_back : {X : Type 0} (old : FinMap name_cmp X) (es fs : List (List ℕ × X)) (k : List ℕ) (v : X) → from_entries es ≡ old
-    → ((q : List ℕ) → lookup (is_at (name_cmp q)) fs ≡ cond (is_at (name_cmp k) q) (Some v) (lookup (is_at (name_cmp q)) es)) → from_entries fs ≡ insert old k v
-written_back old es fs k v is set = entries_after_insert name_total name_exact es fs k v set ∙ ap (λ m. insert m k v) is
 
 -- what is found twice is the same
 pub same_value : {X : Type 0} (o : Option X) (v w : X) → o ≡ Some v → o ≡ Some w → v ≡ w
@@ -23,3 +15,16 @@ same_value (Some x) v w here there = cc
 pub if_err_weaker : {T E : Type 0} {P Q : E → Type 0} (r : Result T E) → ((e : E) → P e → Q e) → IfErr r P → IfErr r Q
 if_err_weaker (Ok x) more holds = tt
 if_err_weaker (Err e) more holds = more e holds
+
+-- what is put in anew and taken out leaves the map
+pub put_and_taken : {X : Type 0} (m : FinMap name_cmp X) (k : List ℕ) (v : X) → contains_key m k ≡ false → remove (insert m k v) k ≡ m
+put_and_taken {X} m k v absent =
+    same_map name_total name_exact _ _ (λ q. get-remove name_total (insert m k v) k q ∙ ap (cond (eq_by_cmp name_cmp q k) None) (get-insert name_total m k v q) ∙ at q (eq_by_cmp name_cmp q k) refl)
+  where
+    none : (o : Option X) → is_some o ≡ false → None ≡ o
+    none None is = refl
+    none (Some x) is = absurd (cc)
+
+    at : (q : List ℕ) (b : Bool) → eq_by_cmp name_cmp q k ≡ b → cond b None (cond b (Some v) (get m q)) ≡ get m q
+    at q true same = none (get m q) (ap (contains_key m) (tied_names q k same) ∙ absent)
+    at q false apart = refl

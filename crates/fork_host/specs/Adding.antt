@@ -3,6 +3,7 @@ use Rattle.std.specs.Prelude.{ℕ, List, Option, None, Some, nat_le, nat_lt, if�
 use Rattle.std.specs.FinMap.{contains_key, len, empty}
 use Rattle.fork_model.specs.View.{View}
 use Rattle.fork_model.specs.World.{World}
+use Rattle.fork_host.specs.Shown.{Account}
 use Rattle.fork_host.specs.declared.add_error.AddError.{AddError}
 use Rattle.fork_host.specs.declared.add_error.AddError.TheVariants.{There, TooMany, Limit}
 
@@ -13,6 +14,10 @@ refusal_to_add world name limit =
     else if nat_le 64 (len world) then Some TooMany
     else if nat_lt 1099511627776 limit then Some Limit
     else None
+
+-- an account without repositories, under this limit
+abbrev pub new_account : ℕ → Account
+new_account limit = record { repositories = empty; upload = None; limit = limit }
 
 -- nothing, under this limit
 abbrev pub new_view : ℕ → View

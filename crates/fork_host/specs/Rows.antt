@@ -1,19 +1,20 @@
 -- What a row of the answer comes to: the row itself, or want of memory.
-use Rattle.std.specs.Prelude.{◌≡◌, ◌≤◌, ℕ, ◌+◌, true, false, nat_lt, List, [], length, ⊤}
+use Rattle.std.specs.Prelude.{◌≡◌, ℕ, ◌+◌, true, false, nat_lt, List, [], length, ⊤}
 use Rattle.fork_request.specs.declared.host_fault.HostFault.{HostFault}
 use Rattle.fork_request.specs.declared.host_fault.HostFault.TheVariants.{Memory, Store, Damaged}
 use Rattle.fork_request.specs.declared.refusal.Refusal.TheVariants.{StagedTooLong}
 use Rattle.fork_request.specs.declared.reply.Reply.{Reply}
 use Rattle.fork_request.specs.declared.reply.Reply.TheVariants.{Done, Refused, Failed}
 use Rattle.push_stream.specs.Upload.{UploadValue, continued}
-use Rattle.fork_reach.specs.Objects.{use_of}
 use Rattle.fork_reach.specs.Source.{Objects}
 use Rattle.fork_reach.specs.declared.source.SourceFault.{SourceFault}
 use Rattle.fork_reach.specs.declared.source.SourceFault.TheVariants as source
+use Rattle.fork_ledger.specs.declared.fault.VaultFault.{VaultFault}
+use Rattle.fork_ledger.specs.declared.fault.VaultFault.TheVariants as ledger
 use Rattle.fork_push.specs.declared.verdict.Verdict.{Verdict}
 use Rattle.fork_push.specs.declared.verdict.Verdict.TheVariants.{Accepted}
 use Rattle.fork_push.specs.declared.verdict.Verdict.TheVariants as push
-use Rattle.fork_model.specs.View.{View}
+use Rattle.fork_model.specs.View.{View, Repositories}
 
 pub data Gives (row : Reply × View) (old : View) (reply : Reply) (new : View) : Type 0 where
   -- the row's reply and view
@@ -33,17 +34,28 @@ IsMemoryVerdict (Accepted references) = ⊤
 IsMemoryVerdict (push.Refused refusal) = ⊤
 IsMemoryVerdict (push.Failed fault) = fault ≡ source.Memory
 
--- what is accepted keeps within the limit
-abbrev pub KeepsLimit : ℕ → Objects → Verdict → Type 0
-KeepsLimit limit objects (Accepted references) = use_of objects ≤ limit
-KeepsLimit limit objects (push.Refused refusal) = ⊤
-KeepsLimit limit objects (push.Failed fault) = ⊤
-
 -- how a reply tells a fault of the store
 abbrev pub fault_told : SourceFault → HostFault
 fault_told source.Store = Store
 fault_told source.Damaged = Damaged
 fault_told source.Memory = Memory
+
+-- objects are kept, or want of memory leaves all of them
+pub data IsKept (kept old : Objects) (reply : Reply) (new : Objects) : Type 0 where
+  Kept : reply ≡ Done [] → new ≡ kept → IsKept kept old reply new
+  Unkept : reply ≡ Failed Memory → new ≡ old → IsKept kept old reply new
+
+-- references and objects are taken, or want of memory leaves both
+pub data IsTaken (before after : Repositories) (seen both : Objects) (reply : Reply) (new : Repositories) (objects : Objects) : Type 0 where
+  Took : reply ≡ Done [] → new ≡ after → objects ≡ both → IsTaken before after seen both reply new objects
+  Lacked : reply ≡ Failed Memory → new ≡ before → objects ≡ seen → IsTaken before after seen both reply new objects
+
+-- how a source tells a fault of the vault; two objects of one name never meet in a read
+abbrev pub fault_read : VaultFault → SourceFault
+fault_read ledger.Store = source.Store
+fault_read ledger.Damaged = source.Damaged
+fault_read ledger.Memory = source.Memory
+fault_read ledger.Collision = source.Damaged
 
 -- what a piece of an upload comes to
 pub data IsFed (old : UploadValue) (piece : List ℕ) (reply : Reply) (new : UploadValue) : Type 0 where

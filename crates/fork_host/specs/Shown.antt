@@ -1,14 +1,67 @@
--- What a host shows. Its state is its world so far; of a store nothing is known yet.
-use Rattle.std.specs.Prelude.{⊤}
+-- What a host shows: each tenant's account, and what the vault shows that tenant. Of a store nothing is known yet.
+use Rattle.std.specs.Prelude.{◌≡◌, ℕ, List, Option, map, refl, ⊤}
+use Rattle.std.specs.Coded.{Coded, code_by, coded×, coded_ℕ, coded_list, coded_option}
+use Rattle.std.specs.FinMap.{FinMap, code, contains_key, entries, from_sorted}
+use Rattle.git_name.specs.Name.{name_cmp}
+use Rattle.push_stream.specs.Upload.{UploadValue, upload_code}
+use Rattle.fork_reach.specs.Source.{Objects}
+use Rattle.fork_ledger.specs.Tenants.{VaultState, vault_code}
+use Rattle.fork_model.specs.Sound.{IsSoundWorld}
+use Rattle.fork_model.specs.View.{View, Repositories}
 use Rattle.fork_model.specs.World.{World}
+use Rattle.fork_host.specs.Own.{both_in, visible_in}
 
-abbrev pub HostState : Type 0
-HostState = World
+-- what a host keeps of a tenant beside its objects
+pub record Account : Type 0 where
+  pub repositories : Repositories
+  pub upload : Option UploadValue
+  pub limit : ℕ
+
+abbrev pub Accounts : Type 0
+Accounts = FinMap name_cmp Account
+
+pub record HostState : Type 0 where
+  pub accounts : Accounts
+  pub vault : VaultState
+
+-- the state of these accounts over a vault
+abbrev pub state_of : Accounts → VaultState → HostState
+state_of accounts vault = record { accounts = accounts; vault = vault }
+
+-- the view of a tenant of this account that sees these objects
+abbrev pub seen_by : Account → Objects → View
+seen_by account objects = record { repositories = account.repositories; objects = objects; upload = account.upload; limit = account.limit }
+
+-- the view of a tenant of this account over a vault
+abbrev pub shown : Account → VaultState → List ℕ → View
+shown account vault tenant = seen_by account (visible_in vault tenant)
+
+-- a tenant and its view
+abbrev pub entry_shown : VaultState → List ℕ × Account → List ℕ × View
+entry_shown vault entry = (entry.0, shown entry.1 vault entry.0)
 
 -- the world that a state shows
-abbrev pub world_of : HostState → World
-world_of state = state
+unfoldable pub world_of : HostState → World
+world_of state = from_sorted (map (entry_shown state.vault) (entries state.accounts))
+
+-- the world is sound, the vault has the tenants of the accounts, and between requests nothing is staged
+pub record IsWhole (state : HostState) : Type 0 where
+  pub sound : IsSoundWorld (world_of state)
+  pub there : (tenant : List ℕ) → contains_key state.vault.tenants tenant ≡ contains_key state.accounts tenant
+  pub quiet : (tenant : List ℕ) → both_in state.vault tenant ≡ visible_in state.vault tenant
 
 -- the store gives what it was given
 abbrev pub Trusted : HostState → Type 0
 Trusted state = ⊤
+
+-- accounts and states have codes, so that they can be a model's value
+abbrev bytes_code : Coded (List ℕ)
+bytes_code = coded_list coded_ℕ
+
+abbrev pub account_code : Coded Account
+account_code =
+    code_by (Repositories × (Option UploadValue × ℕ)) (coded× (code bytes_code (code bytes_code bytes_code)) (coded× (coded_option upload_code) coded_ℕ))
+    (λ a. (a.repositories, (a.upload, a.limit))) (λ p. record { repositories = p.0; upload = p.1.0; limit = p.1.1 }) (λ _. refl)
+
+abbrev pub host_code : Coded HostState
+host_code = code_by (Accounts × VaultState) (coded× (code bytes_code account_code) vault_code) (λ s. (s.accounts, s.vault)) (λ p. record { accounts = p.0; vault = p.1 }) (λ _. refl)

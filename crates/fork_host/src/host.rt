@@ -6,18 +6,19 @@ ghost use Rattle.fork_model.specs.Runs.{Asks, HostAsks};
 ghost use Rattle.fork_model.specs.Sound.{IsSoundWorld};
 ghost use Rattle.fork_model.specs.View.{View};
 ghost use Rattle.fork_model.specs.World.{Steps, Explains, IsUnfaulted, alone, own, told};
-ghost use Rattle.fork_host.specs.Adding.{new_view, refusal_to_add};
+ghost use Rattle.fork_ledger.specs.Tenants.{with_tenant};
+ghost use Rattle.fork_host.specs.Adding.{new_account, new_view, refusal_to_add};
 ghost use Rattle.fork_host.specs.Rows.{IsMemoryAtMost};
 ghost use Rattle.fork_host.specs.Shape.{SameShape};
 ghost use Rattle.fork_host.specs.Shown.{Trusted, world_of};
 
+use crate::accounts::Accounts;
 use crate::add_error::AddError;
 use crate::step::HostStep;
-use crate::tenant::Tenant;
+use fork_ledger::Vault;
 use fork_model::a_run_is_private;
 use fork_request::{HostRequest, MAX_LIMIT, Refusal, Reply, Request, TenantName};
-use std::alloc::Global;
-use std::collections::BTreeMap;
+use std::alloc::{AllocError, Global};
 use std::marker::Model;
 use thiserror::Error;
 
@@ -32,23 +33,20 @@ pub struct NoMemory;
 /// A host of at most 64 tenants.
 #[derive(Drop)]
 pub struct Host {
-    tenants: BTreeMap<TenantName, Tenant>,
+    accounts: Accounts,
+    vault: Vault,
 }
 
 impl Model for Host {
-    ghost use Rattle.std.specs.FinMap as map;
-    ghost use Rattle.std.specs.Coded.{coded_list, coded_ℕ};
-    ghost use Rattle.fork_model.specs.Sound.{IsSoundWorld};
-    ghost use Rattle.fork_model.specs.View.{view_code};
-    ghost use Rattle.fork_host.specs.Shown.{HostState};
+    ghost use Rattle.fork_host.specs.Shown.{HostState, IsWhole, host_code, state_of};
 
     ghost Value = { HostState };
 
-    ghost coded = { map.code (coded_list coded_ℕ) view_code };
+    ghost coded = { host_code };
 
-    ghost view = { λ a. map.from_entries a.tenants.entries };
+    ghost view = { λ a. state_of a.accounts a.vault };
 
-    ghost invariant = { λ a. IsSoundWorld (map.from_entries a.tenants.entries) };
+    ghost invariant = { λ a. IsWhole (state_of a.accounts a.vault) };
 }
 
 impl Host {
@@ -58,7 +56,8 @@ impl Host {
         ensures trusted { Trusted result }
     {
         Host {
-            tenants: BTreeMap::new(alloc),
+            accounts: Accounts::new(alloc),
+            vault: Vault::new(alloc),
         }
     }
 
@@ -67,7 +66,7 @@ impl Host {
         ensures value { result ≡ map.len (world_of self.now) }
         ensures sound { IsSoundWorld (world_of self.now) }
     {
-        self.tenants.len()
+        self.accounts.len()
     }
 
     /// Adds a tenant that sees nothing and may use so many bytes. Where it fails, the host is as it
@@ -84,19 +83,19 @@ impl Host {
         ensures err { OnErr result (self.new ≡ self.old) }
         ensures trusted { Trusted self.old → Trusted self.new }
     {
-        if self.tenants.contains_key(&name) {
+        if self.accounts.contains(&name) {
             return Err(AddError::There);
         }
-        if self.tenants.len() >= MOST_TENANTS {
+        if self.accounts.len() >= MOST_TENANTS {
             return Err(AddError::TooMany);
         }
         if limit > MAX_LIMIT {
             return Err(AddError::Limit);
         }
-        match self.tenants.insert(name, Tenant::new(alloc, limit)) {
-            Ok(_) => Ok(()),
-            Err(_) => Err(AddError::Memory),
-        }
+        let Ok(()) = open_account(alloc, &mut self.accounts, &mut self.vault, name, limit) else {
+            return Err(AddError::Memory);
+        };
+        Ok(())
     }
 
     /// Answers a tenant's request from that tenant's view.
@@ -112,10 +111,7 @@ impl Host {
         // There is no store yet that could fail, lose an object or find two of one name.
         ensures faults { IsMemoryAtMost result }
     {
-        let Some(tenant) = self.tenants.get_mut(name) else {
-            return Reply::Refused(Refusal::UnknownTenant);
-        };
-        tenant.answer(alloc, request)
+        self.accounts.answer(alloc, &mut self.vault, name, request)
     }
 
     /// Answers a request of the host's own, which changes no view.
@@ -126,7 +122,7 @@ impl Host {
         ensures kept { (tenant : List ℕ) → SameShape tenant (world_of self.old) (world_of self.new) }
         ensures faults { IsMemoryAtMost result }
     {
-        let _tenants = &self.tenants;
+        let _accounts = &self.accounts;
         match request {
             HostRequest::Bad => Reply::Refused(Refusal::BadRequest),
         }
@@ -166,7 +162,7 @@ impl Host {
             → IsUnfaulted tenant (events_of steps.now) replies.items
             → map.get (world_of self.new) tenant ≡ Some (alone view (own tenant (events_of steps.now))).1) }
     {
-        let _tenants = &self.tenants;
+        let _accounts = &self.accounts;
         let Ok(mut replies) = Vec::with_capacity(alloc, steps.len()) else {
             return Err(NoMemory);
         };
@@ -177,4 +173,30 @@ impl Host {
         a_run_is_private();
         Ok(replies)
     }
+}
+
+// Adds an account that is not there, and its place in the vault. Where there is no memory, nothing
+// was added.
+fn open_account(
+    alloc: Global,
+    accounts: &mut Accounts,
+    vault: &mut Vault,
+    name: TenantName,
+    limit: u64,
+) -> Result<(), AllocError>
+    requires new { map.contains_key accounts.old name ≡ false }
+    ensures ok { OnOk result (accounts.new ≡ map.insert accounts.old name (new_account limit)) }
+    ensures vault { OnOk result (vault.new.tenants ≡ with_tenant vault.old.tenants name) }
+    ensures err { OnErr result (accounts.new ≡ accounts.old) }
+    ensures kept { OnErr result (vault.new.tenants ≡ vault.old.tenants) }
+{
+    let key = name.copy();
+    let Ok(()) = accounts.insert(alloc, name.copy(), limit) else {
+        return Err(AllocError);
+    };
+    let Ok(()) = vault.add(alloc, name) else {
+        accounts.remove(&key);
+        return Err(AllocError);
+    };
+    Ok(())
 }

@@ -1,19 +1,23 @@
-//! A host of many tenants: each tenant's repositories and objects are its own, and each request is
-//! answered from the asking tenant's view alone.
+//! A host of many tenants over one vault: each request is answered from the asking tenant's
+//! repositories and private objects alone.
 //! What a tenant is told is what a private host that holds it alone would tell it, whatever others
 //! do between.
 #![tactic(auto)]
 
+mod accounts;
 mod add_error;
+mod both;
 mod host;
-mod object_map;
-mod objects;
+mod pruning;
 mod replies;
 mod repositories;
+mod staging;
 mod step;
 mod taking;
 mod tenant;
 mod uploading;
+mod vault_fault;
+mod visible;
 
 pub use crate::add_error::AddError;
 pub use crate::host::{Host, NoMemory};

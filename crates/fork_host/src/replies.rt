@@ -1,5 +1,5 @@
 // What a tenant is told where a request gives no data.
-ghost use Rattle.std.specs.Prelude.{◌≡◌, ◌⊎◌, []};
+ghost use Rattle.std.specs.Prelude.{◌≡◌, ◌⊎◌, [], ◌++◌, codes, decimal};
 ghost use Rattle.fork_request.specs.declared.refusal.Refusal.TheVariants.{BadName};
 ghost use Rattle.fork_model.specs.Answer.{command_refusal, push_refusal, stream_refusal, transaction_refusal};
 ghost use Rattle.fork_host.specs.Rows.{fault_told};
@@ -10,12 +10,24 @@ use fork_request::{ByteString, HostFault, Refusal, Reply};
 use git_reftx::{CommandFault, TxRefusal};
 use push_stream::StreamFault;
 use std::alloc::Global;
+use std::io::Write;
 
 // There is nothing more to tell.
 pub(crate) fn done(alloc: Global) -> Reply
     ensures { result ≡ Reply.Done [] }
 {
     Reply::Done(ByteString::new(Vec::new(alloc)))
+}
+
+// What is used, and the limit.
+pub(crate) fn told_use(alloc: Global, used: u128, limit: u64) -> Reply
+    ensures { (result ≡ Reply.Done (decimal used ++ codes " " ++ decimal limit ++ codes "\n")) ⊎ (result ≡ Reply.Failed HostFault.Memory) }
+{
+    let mut text = Vec::new(alloc);
+    match writeln!(text, "{} {}", used, limit) {
+        Ok(()) => Reply::Done(ByteString::new(text)),
+        Err(_) => Reply::Failed(HostFault::Memory),
+    }
 }
 
 // A word that is no name of a repository.

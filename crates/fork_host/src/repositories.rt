@@ -1,12 +1,14 @@
-ghost use Rattle.std.specs.Prelude.{◌≡◌, OnOk, OnErr, IfErr, Ok, Err, Some, true};
+ghost use Rattle.std.specs.Prelude.{◌≡◌, ◌++◌, OnOk, OnErr, IfOk, IfErr, Ok, Err, Some, true};
 ghost use Rattle.std.specs.Option.{option_copied};
 ghost use Rattle.std.specs.FinMap as map;
 ghost use Rattle.std.specs.BTreeMap.{IsUnchanged, Updates};
 ghost use Rattle.git_name.specs.Name.{name_cmp};
 ghost use Rattle.git_reftx.specs.Transaction.{References, transacted};
 ghost use Rattle.git_reftx.specs.Judging.{TellsTransacted};
+ghost use Rattle.fork_model.specs.Answer.{targets_of};
 
 use fork_request::RepositoryName;
+use git_name::Name;
 use git_reftx::{ApplyError, Command, Known, Refs};
 use std::alloc::{AllocError, Global};
 use std::collections::BTreeMap;
@@ -93,12 +95,34 @@ impl Repositories {
         references.apply(alloc, commands, known)
     }
 
+    // The names of the objects at which references point, in the order of the repositories and of
+    // their references.
+    pub(crate) fn targets(&self, alloc: Global) -> Result<Vec<Name>, AllocError>
+        ensures { IfOk result (λ names. names.items ≡ targets_of self.now) }
+    {
+        let mut names = Vec::new(alloc);
+        for references in self.repositories.values() {
+            add_targets(&mut names, references)?;
+        }
+        Ok(names)
+    }
+
     // Takes out the one of this name, if it is there. It takes no memory.
     pub(crate) fn remove(&mut self, name: &RepositoryName)
         ensures { self.new ≡ map.remove self.old name.now }
     {
         take_out(&mut self.repositories, name)
     }
+}
+
+// Adds the names at which these references point.
+fn add_targets(names: &mut Vec<Name>, references: &Refs) -> Result<(), AllocError>
+    ensures { OnOk result (names.new.items ≡ names.old.items ++ map.values references.now) }
+{
+    for (_, target) in references.iter() {
+        names.push(*target)?;
+    }
+    Ok(())
 }
 
 fn put(

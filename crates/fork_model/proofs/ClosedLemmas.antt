@@ -16,7 +16,8 @@ use Rattle.push_stream.specs.Stream.{AreObjects}
 use Rattle.fork_reach.specs.Objects.{with_object, with_objects}
 use Rattle.fork_reach.specs.Source.{Objects, kind_in}
 use Rattle.fork_reach.proofs.KeptObjects.{at_key, kept_all, tied_names}
-use Rattle.fork_push.specs.Push.{links_of_found, links_under, same_kind, has_kind, is_wrong}
+use Rattle.fork_reach.specs.Reach.{links_of_found}
+use Rattle.fork_push.specs.Push.{links_under, same_kind, has_kind, is_wrong}
 use Rattle.fork_model.specs.Sound.{AreRight, IsClosed, IsMet}
 
 -- what holds of all of a list holds of its front and of what is behind it

@@ -1,6 +1,8 @@
 pub mod ClosedLemmas
+pub mod HostLemmas
 pub mod Hosts
 pub mod Isolation
+pub mod KeptLemmas
 pub mod PushLemmas
 pub mod Refusals
 pub mod Rows

@@ -22,20 +22,23 @@ use Rattle.fork_push.specs.declared.refusal.PushRefusal.{PushRefusal}
 use Rattle.fork_push.specs.declared.refusal.PushRefusal.TheVariants.{Stream}
 use Rattle.fork_push.specs.Push.{judged}
 use Rattle.fork_reach.specs.Objects.{with_objects}
+use Rattle.fork_reach.specs.Reach.{is_reached, linked_names}
+use Rattle.fork_reach.proofs.ReachLemmas.{next_reached, root_reached}
 use Rattle.fork_reach.specs.Source.{Objects, kind_in}
 use Rattle.fork_query.specs.References.{listing}
-use Rattle.fork_request.specs.Asked.{Ask, Inits, Drops, Forks, Pushes, SendsPart, EndsParts, DropsParts, Updates, AsksObject, AsksReferences, NoRequest}
+use Rattle.fork_request.specs.Asked.{Ask, Inits, Drops, Forks, Pushes, SendsPart, EndsParts, DropsParts, Updates, AsksObject, AsksReferences, AsksUse, Prunes, NoRequest}
 use Rattle.fork_request.specs.Names.{IsRepositoryName, is_plain_name}
 use Rattle.fork_request.proofs.NameLemmas.{plain_name}
 use Rattle.fork_request.specs.declared.refusal.Refusal.{Refusal}
 use Rattle.fork_request.specs.declared.refusal.Refusal.TheVariants.{BadName, BadRequest, Missing, NoRepository, NoUpload, RepositoryExists, StagedTooLong, TooMany, UploadOpen}
 use Rattle.fork_request.specs.declared.reply.Reply.{Reply}
 use Rattle.fork_request.specs.declared.reply.Reply.TheVariants.{Done, Refused}
-use Rattle.fork_model.specs.Answer.{Held, answer, left_by, without_upload, init_answer, drop_answer, fork_answer, push_answer, part_answer, part_end_answer, part_drop_answer, update_answer, cat_file_answer, references_answer, named_repository, new_repository, dropped, copied, push_into, pushed, taken, open_upload, upload_into, end_in, ended, update_in, carried_out, with_references, told_object, told_references, transaction_refusal, command_refusal, push_refusal}
+use Rattle.fork_model.specs.Answer.{Held, answer, left_by, without_upload, init_answer, drop_answer, fork_answer, push_answer, part_answer, part_end_answer, part_drop_answer, update_answer, cat_file_answer, references_answer, quota_answer, prune_answer, pruned, targets_of, named_repository, new_repository, dropped, copied, push_into, pushed, taken, open_upload, upload_into, end_in, ended, update_in, carried_out, with_references, told_object, told_references, transaction_refusal, command_refusal, push_refusal}
 use Rattle.fork_model.specs.Sound.{AreReferences, IsSound, IsUpload}
 use Rattle.fork_model.specs.View.{View, Repositories}
 use Rattle.fork_reach.proofs.KeptObjects.{at_key, kept_all, named_all, tied_names}
 use Rattle.fork_model.proofs.ClosedLemmas.{closed_both, right_both}
+use Rattle.fork_model.proofs.KeptLemmas.{closed_kept, named_kept, references_right, right_kept, target_among, use_of-kept}
 use Rattle.fork_model.proofs.PushLemmas.{AreHeld, IsAccepted, accepted, held_right}
 use Rattle.fork_model.proofs.TransactionLemmas.{sound_transacted}
 
@@ -287,9 +290,30 @@ listing_row : (view : View) (word : List ℕ) (prefix : Option (List ℕ)) (o : 
 listing_row view word prefix None = refuses view (NoRepository word)
 listing_row view word prefix (Some references) = Does (listing view.objects references prefix) refl (λ sound. sound)
 
+-- where nothing goes that a reference reaches, the view stays sound
+sound_pruned : (view : View) → IsSound view → IsSound (pruned view)
+sound_pruned view sound =
+    let next = linked_names view.objects in
+    let roots = targets_of view.repositories in
+    let kept = is_reached next view.objects roots in
+    let fits = use_of-kept view.objects kept in
+    let before = sound.within_limit in
+    record {
+      named = named_kept view.objects kept sound.named;
+      right = right_kept view.objects kept sound.right;
+      closed = closed_kept view.objects kept (λ from name. next_reached next view.objects roots from name) sound.closed;
+      upload = sound.upload;
+      within_limit = omega arith;
+      limit = sound.limit;
+      few_repositories = sound.few_repositories;
+      repositories = sound.repositories;
+      references = λ word references is. references_right view.objects kept references
+          (λ reference target points. root_reached next view.objects roots target (target_among view.repositories word references reference target is points)) (sound.references word references is);
+    }
+
 -- each answer is such a row
 pub answer_row : (view : View) (ask : Ask) → GoesTo view (left_by view ask) (answer view ask)
-unfolding answer init_answer drop_answer fork_answer push_answer part_end_answer update_answer cat_file_answer references_answer
+unfolding answer init_answer drop_answer fork_answer push_answer part_end_answer update_answer cat_file_answer references_answer quota_answer prune_answer
 answer_row view (Inits word) = named_row view word (new_repository view word empty) (λ right. new_row view word empty right (λ _. none_right view.objects))
 answer_row view (Drops word) = named_row view word (dropped view word) (λ _. dropped_row view word)
 answer_row view (Forks source copy) =
@@ -305,4 +329,6 @@ answer_row view (Updates word body) = named_row view word (update_in view word b
 answer_row view (AsksObject name) = object_row view name (get view.objects name)
 answer_row view (AsksReferences word prefix) =
     named_row view word (told_references view word prefix (get view.repositories word), view) (λ _. listing_row view word prefix (get view.repositories word))
+answer_row view AsksUse = Does _ refl (λ sound. sound)
+answer_row view Prunes = Does [] refl (sound_pruned view)
 answer_row view NoRequest = refuses view BadRequest

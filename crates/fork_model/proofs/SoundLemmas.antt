@@ -1,6 +1,6 @@
 -- Answers keep views sound.
 use Rattle.std.proofs.Common.{sym, subst}
-use Rattle.fork_request.specs.Asked.{Ask, Inits, Drops, Forks, Pushes, SendsPart, EndsParts, DropsParts, Updates, AsksObject, AsksReferences, NoRequest}
+use Rattle.fork_request.specs.Asked.{Ask, Inits, Drops, Forks, Pushes, SendsPart, EndsParts, DropsParts, Updates, AsksObject, AsksReferences, AsksUse, Prunes, NoRequest}
 use Rattle.fork_request.specs.declared.reply.Reply.{Reply}
 use Rattle.fork_model.specs.Answer.{answer, left_by}
 use Rattle.fork_model.specs.Sound.{IsSound}
@@ -19,6 +19,8 @@ sound_left view DropsParts sound = sound
 sound_left view (Updates repository body) sound = sound
 sound_left view (AsksObject name) sound = sound
 sound_left view (AsksReferences repository prefix) sound = sound
+sound_left view AsksUse sound = sound
+sound_left view Prunes sound = sound
 sound_left view NoRequest sound = sound
 
 row_sound : (view left : View) (row : Reply × View) → GoesTo view left row → IsSound view → IsSound left → IsSound row.1

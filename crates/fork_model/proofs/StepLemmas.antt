@@ -7,7 +7,7 @@ use Rattle.std.specs.Ordering.{eq_by_cmp, is_eq}
 use Rattle.std.specs.FinMap.{get, get-insert}
 use Rattle.git_name.specs.Name.{name_cmp}
 use Rattle.git_name.proofs.Names.{name_total, name_exact}
-use Rattle.fork_request.specs.Asked.{Ask, Inits, Drops, Forks, Pushes, SendsPart, EndsParts, DropsParts, Updates, AsksObject, AsksReferences, NoRequest}
+use Rattle.fork_request.specs.Asked.{Ask, Inits, Drops, Forks, Pushes, SendsPart, EndsParts, DropsParts, Updates, AsksObject, AsksReferences, AsksUse, Prunes, NoRequest}
 use Rattle.fork_request.specs.Told.{is_done, is_host_fault}
 use Rattle.fork_request.specs.declared.reply.Reply.{Reply}
 use Rattle.fork_request.specs.declared.reply.Reply.TheVariants.{Done, Refused, Failed}
@@ -53,6 +53,8 @@ left_but_upload view DropsParts = refl
 left_but_upload view (Updates repository body) = refl
 left_but_upload view (AsksObject name) = refl
 left_but_upload view (AsksReferences repository prefix) = refl
+left_but_upload view AsksUse = refl
+left_but_upload view Prunes = refl
 left_but_upload view NoRequest = refl
 
 kept_at : (old : World) (t q : List ℕ) (view new : View) (b : Bool) → get old t ≡ Some view → without_upload new ≡ without_upload view → eq_by_cmp name_cmp q t ≡ b

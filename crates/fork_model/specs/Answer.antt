@@ -1,6 +1,7 @@
 -- The answer to each request: the reply, and the view afterwards. Refusals stand in the order in which they are judged.
-use Rattle.std.specs.Prelude.{ℕ, ◌+◌, nat_le, nat_lt, List, [], length, Option, Some, None, is_some, Result, Ok, Err, if◌then◌else◌}
-use Rattle.std.specs.FinMap.{get, insert, remove, contains_key, len, empty}
+use Rattle.std.specs.Prelude.{ℕ, ◌+◌, nat_le, nat_lt, List, [], ◌++◌, length, codes, decimal, Option, Some, None, is_some, Result, Ok, Err, if◌then◌else◌}
+use Rattle.std.specs.List.{flat_map}
+use Rattle.std.specs.FinMap.{get, insert, remove, contains_key, len, empty, retain_keys, values}
 use Rattle.git_name.specs.Object.{Object}
 use Rattle.git_reftx.specs.declared.command.Command.{Command}
 use Rattle.git_reftx.specs.declared.fault.CommandFault.{CommandFault}
@@ -18,16 +19,17 @@ use Rattle.push_stream.specs.Upload.{UploadValue, continued, upload_of}
 use Rattle.fork_push.specs.declared.refusal.PushRefusal.{PushRefusal}
 use Rattle.fork_push.specs.declared.refusal.PushRefusal.TheVariants as push
 use Rattle.fork_push.specs.Push.{judged}
-use Rattle.fork_reach.specs.Objects.{with_objects}
+use Rattle.fork_reach.specs.Objects.{use_of, with_objects}
+use Rattle.fork_reach.specs.Reach.{is_reached, linked_names}
 use Rattle.fork_reach.specs.Source.{Objects, kind_in}
 use Rattle.fork_query.specs.References.{listing}
-use Rattle.fork_request.specs.Asked.{Ask, Inits, Drops, Forks, Pushes, SendsPart, EndsParts, DropsParts, Updates, AsksObject, AsksReferences, NoRequest}
+use Rattle.fork_request.specs.Asked.{Ask, Inits, Drops, Forks, Pushes, SendsPart, EndsParts, DropsParts, Updates, AsksObject, AsksReferences, AsksUse, Prunes, NoRequest}
 use Rattle.fork_request.specs.Names.{is_plain_name}
 use Rattle.fork_request.specs.declared.refusal.Refusal.{Refusal}
 use Rattle.fork_request.specs.declared.refusal.Refusal.TheVariants.{BadRequest, BadName, RepositoryExists, NoRepository, BadRef, RepeatedRef, Stale, RefConflict, NotACommit, Missing, WrongType, OverQuota, TooMany, Syntax, WrongName, BadObject, Truncated, TooLarge, StagedTooLong, NoUpload, UploadOpen}
 use Rattle.fork_request.specs.declared.reply.Reply.{Reply}
 use Rattle.fork_request.specs.declared.reply.Reply.TheVariants.{Done, Refused}
-use Rattle.fork_model.specs.View.{View}
+use Rattle.fork_model.specs.View.{View, Repositories}
 
 -- the answer to a word in a repository's place: a refusal of the word, or the row's answer
 abbrev pub named_repository : View → List ℕ → Reply × View → Reply × View
@@ -190,6 +192,21 @@ told_references view repository prefix (Some references) = Done (listing view.ob
 unfoldable pub references_answer : View → List ℕ → Option (List ℕ) → Reply × View
 references_answer view word prefix = named_repository view word (told_references view word prefix (get view.repositories word), view)
 
+-- `quota`: what the objects use, SP, the limit, LF
+unfoldable pub quota_answer : View → Reply × View
+quota_answer view = (Done (decimal (use_of view.objects) ++ codes " " ++ decimal view.limit ++ codes "\n"), view)
+
+-- the objects at which references of these repositories point
+abbrev pub targets_of : Repositories → List (List ℕ)
+targets_of repositories = flat_map values (values repositories)
+
+-- `prune`: objects that no reference of a repository reaches go
+abbrev pub pruned : View → View
+pruned view = record view { objects = retain_keys view.objects (is_reached (linked_names view.objects) view.objects (targets_of view.repositories)) }
+
+unfoldable pub prune_answer : View → Reply × View
+prune_answer view = (Done [], pruned view)
+
 -- the reply to a request, and the view afterwards
 unfoldable pub answer : View → Ask → Reply × View
 answer view (Inits repository) = init_answer view repository
@@ -202,6 +219,8 @@ answer view DropsParts = part_drop_answer view
 answer view (Updates repository body) = update_answer view repository body
 answer view (AsksObject name) = cat_file_answer view name
 answer view (AsksReferences repository prefix) = references_answer view repository prefix
+answer view AsksUse = quota_answer view
+answer view Prunes = prune_answer view
 answer view NoRequest = (Refused BadRequest, view)
 
 -- what a refusal leaves: the view, and without the upload where its end was asked for

@@ -54,3 +54,16 @@ pub fn runs_keep_worlds_sound()
     ensures view { (view : View) (ask : Ask) → IsSound view → IsSound (answer view ask).1 }
     ensures world { (old new : World) (steps : List Event) (replies : List Reply) → Explains old steps replies new → IsSoundWorld old → IsSoundWorld new }
 {}
+
+ghost use Rattle.std.specs.Prelude.{◌⊎◌, true};
+ghost use Rattle.fork_request.specs.Told.{is_host_fault};
+ghost use Rattle.fork_request.specs.declared.host_request.HostRequest.TheVariants.{Bad};
+ghost use Rattle.fork_request.specs.declared.refusal.Refusal.TheVariants.{BadRequest};
+ghost use Rattle.fork_model.specs.Runs.{HostAsks};
+ghost use Rattle.fork_model.specs.World.{Steps};
+
+/// A bad request of the host's own is refused as that, or met by a host fault, and leaves the world.
+pub fn bad_host_requests_are_refused()
+    ensures reply { (old new : World) (reply : Reply) → Steps old (HostAsks Bad) reply new → (reply ≡ Refused BadRequest) ⊎ (is_host_fault reply ≡ true) }
+    ensures world { (old new : World) (reply : Reply) → Steps old (HostAsks Bad) reply new → new ≡ old }
+{}

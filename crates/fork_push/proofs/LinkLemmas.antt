@@ -7,9 +7,10 @@ use Rattle.std.proofs.lemmas.List.{drop_more}
 use Rattle.std.proofs.lemmas.List.Folds.{find-append}
 use Rattle.git_object.specs.declared.link.Link.{Link}
 use Rattle.git_reftx.proofs.RefusalLemmas.{option_or_assoc}
+use Rattle.fork_reach.specs.Reach.{links_of_found}
 use Rattle.fork_reach.specs.Source.{Objects}
 use Rattle.fork_push.specs.declared.refusal.PushRefusal.TheVariants.{Missing}
-use Rattle.fork_push.specs.Push.{is_missing, link_refusal, links_of_found, links_under, wrong_type}
+use Rattle.fork_push.specs.Push.{is_missing, link_refusal, links_under, wrong_type}
 
 -- what is found in the links from an object on is found in its own, or else in those behind it
 found_from : (test : Link → Bool) (both : Objects) (names : List (List ℕ)) (i : ℕ) (name : List ℕ) → i < length names → name ≡ get_or names i name

@@ -1,26 +1,20 @@
 -- What a push comes to: its links, its transaction and the limit, judged in this order (own).
-use Rattle.std.specs.Prelude.{ℕ, Bool, true, false, not, nat_lt, List, [], Option, None, Some, Result, Ok, Err, is_none, if◌then◌else◌}
+use Rattle.std.specs.Prelude.{ℕ, Bool, true, false, not, nat_lt, List, Option, None, Some, Result, Ok, Err, is_none, if◌then◌else◌}
 use Rattle.std.specs.List.{find, flat_map}
 use Rattle.std.specs.Option.{option_map, option_or}
 use Rattle.std.specs.FinMap.{get}
 use Rattle.git_name.specs.declared.kind.Kind.{Kind}
 use Rattle.git_name.specs.declared.kind.Kind.TheVariants.{Blob, Tree, Commit, Tag}
-use Rattle.git_name.specs.Object.{Object}
 use Rattle.git_object.specs.declared.link.Link.{Link}
-use Rattle.git_object.specs.ObjectIn.{links_in}
 use Rattle.git_reftx.specs.declared.fault.TxRefusal.{TxRefusal}
 use Rattle.git_reftx.specs.Transaction.{References, transacted}
 use Rattle.push_stream.specs.declared.fault.StreamFault.{StreamFault}
 use Rattle.push_stream.specs.Brief.{BriefValue}
 use Rattle.fork_reach.specs.Objects.{use_of}
+use Rattle.fork_reach.specs.Reach.{links_of_found}
 use Rattle.fork_reach.specs.Source.{Objects, kind_in}
 use Rattle.fork_push.specs.declared.refusal.PushRefusal.{PushRefusal}
 use Rattle.fork_push.specs.declared.refusal.PushRefusal.TheVariants.{Stream, Missing, WrongType, Transaction, OverQuota}
-
--- the links of an object, where there is one
-abbrev pub links_of_found : Option Object → List Link
-links_of_found None = []
-links_of_found (Some object) = links_in object.kind object.bytes
 
 -- the links of the objects of these names, in their order
 abbrev pub links_under : Objects → List (List ℕ) → List Link

@@ -28,6 +28,7 @@ pub fn judge<S: Sides>(
     ensures judged { IsTrue (S.honest sides.old) → TellsJudged (judged (S.objects sides.old) references.now limit (brief_shown finished.now)) result }
     ensures kept { S.objects sides.new ≡ S.objects sides.old }
     ensures honest { S.honest sides.new ≡ S.honest sides.old }
+    ensures rest { S.rest sides.new ≡ S.rest sides.old }
     ensures damaged { IsTrue (S.honest sides.old) → IsUndamaged result }
     ensures cause { CountsVerdict (S.failures sides.old) (S.failures sides.new) result }
 {
@@ -49,6 +50,7 @@ fn judge_brief<S: Sides>(
     ensures judged { IsTrue (S.honest sides.old) → TellsJudged (judged (S.objects sides.old) references.now limit (Ok (brief.now.commands.items, brief.now.names.items))) result }
     ensures kept { S.objects sides.new ≡ S.objects sides.old }
     ensures honest { S.honest sides.new ≡ S.honest sides.old }
+    ensures rest { S.rest sides.new ≡ S.rest sides.old }
     ensures damaged { IsTrue (S.honest sides.old) → IsUndamaged result }
     ensures cause { CountsVerdict (S.failures sides.old) (S.failures sides.new) result }
 {

@@ -3,7 +3,8 @@ ghost use Rattle.std.specs.List.{find};
 ghost use Rattle.std.specs.Option.{option_or};
 ghost use Rattle.std.specs.FinMap as map;
 ghost use Rattle.fork_reach.specs.Faults.{Counts};
-ghost use Rattle.fork_push.specs.Push.{is_missing, is_wrong, link_refusal, links_of_found, links_under};
+ghost use Rattle.fork_push.specs.Push.{is_missing, is_wrong, link_refusal, links_under};
+ghost use Rattle.fork_reach.specs.Reach.{links_of_found};
 
 use crate::linking::judge_links;
 use crate::refusal::PushRefusal;
@@ -22,6 +23,7 @@ pub(crate) fn judge_sent<S: Source>(
     ensures found { IsTrue (S.honest source.old) → IfOk result (λ refusal. refusal ≡ link_refusal (S.objects source.old) (links_under (S.objects source.old) names.now)) }
     ensures kept { S.objects source.new ≡ S.objects source.old }
     ensures honest { S.honest source.new ≡ S.honest source.old }
+    ensures rest { S.rest source.new ≡ S.rest source.old }
     ensures damaged { IsTrue (S.honest source.old) → IfErr result (λ fault. fault ≢ SourceFault.Damaged) }
     ensures cause { Counts (S.failures source.old) (S.failures source.new) result }
 {
@@ -51,6 +53,7 @@ fn judge_object<S: Source>(
     ensures wrong { IsTrue (S.honest source.old) → IfOk result (λ link. IfNone link (wrong.new ≡ option_or wrong.old (find (is_wrong (S.objects source.old)) (links_of_found (map.get (S.objects source.old) name))))) }
     ensures kept { S.objects source.new ≡ S.objects source.old }
     ensures honest { S.honest source.new ≡ S.honest source.old }
+    ensures rest { S.rest source.new ≡ S.rest source.old }
     ensures damaged { IsTrue (S.honest source.old) → IfErr result (λ fault. fault ≢ SourceFault.Damaged) }
     ensures cause { Counts (S.failures source.old) (S.failures source.new) result }
 {

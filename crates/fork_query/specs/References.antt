@@ -1,5 +1,5 @@
 -- The listing of references (git-for-each-ref(1); the form of its rows is own): NAME SP TYPE TAB REF LF, ascending by REF.
-use Rattle.std.specs.Prelude.{ℕ, Bool, true, ◌||◌, ◌&&◌, List, [], ◌∷◌, ◌++◌, Option, None, Some, codes, drop, length, if◌then◌else◌}
+use Rattle.std.specs.Prelude.{ℕ, Bool, true, ◌||◌, ◌&&◌, List, [], ◌++◌, Option, None, Some, codes, drop, length, if◌then◌else◌}
 use Rattle.std.specs.List.{flat_map}
 use Rattle.std.specs.FinMap.{entries}
 use Rattle.std.specs.Str.{bytes_eq}

@@ -1,2 +1,9 @@
+pub mod AlongLemmas
+pub mod Examples
 pub mod KeptObjects
+pub mod NameLemmas
+pub mod ReachLemmas
+pub mod SeeingLemmas
+pub mod UnseenLemmas
 pub mod UseLemmas
+pub mod WalkLemmas

@@ -1,3 +1,6 @@
+pub mod Along
 pub mod Faults
 pub mod Objects
+pub mod Reach
+pub mod Seeing
 pub mod Source

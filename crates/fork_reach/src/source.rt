@@ -31,6 +31,11 @@ pub trait Source {
     /// How often what lies under it failed.
     ghost failures: { Self → ℕ };
 
+    /// What it stands on, beside the objects that it finds. A read leaves that as it was.
+    ghost Rest: { Type 0 };
+
+    ghost rest: { Self → Rest };
+
     /// The kind of the object of this name. It reads no bytes of it.
     fn kind_of(&self, name: Name) -> Option<Kind>
         ensures { result ≡ kind_in (objects self.now) name };
@@ -42,6 +47,7 @@ pub trait Source {
         ensures named { IfOk result (λ found. IfSome found (λ object. object_name object ≡ name)) }
         ensures kept { objects self.new ≡ objects self.old }
         ensures honest { honest self.new ≡ honest self.old }
+        ensures rest { rest self.new ≡ rest self.old }
         ensures damaged { IsTrue (honest self.old) → IfErr result (λ fault. fault ≢ SourceFault.Damaged) }
         ensures cause { Counts (failures self.old) (failures self.new) result };
 }

@@ -4,7 +4,7 @@ use Rattle.std.specs.Str.{bytes_eq}
 use Rattle.git_name.specs.Name.{name_in}
 use Rattle.git_name.specs.Text.{split_once, words_of}
 use Rattle.fork_request.specs.declared.request.Request.{Request}
-use Rattle.fork_request.specs.declared.request.Request.TheVariants.{Init, Drop, Fork, Push, Part, PartEnd, PartDrop, UpdateRefs, CatFile, ForEachRef, Bad}
+use Rattle.fork_request.specs.declared.request.Request.TheVariants.{Init, Drop, Fork, Push, Part, PartEnd, PartDrop, UpdateRefs, CatFile, ForEachRef, Quota, Prune, Bad}
 use Rattle.fork_request.specs.declared.host_request.HostRequest.{HostRequest}
 use Rattle.fork_request.specs.declared.host_request.HostRequest.TheVariants.{Bad as Bad_host}
 
@@ -20,6 +20,8 @@ pub data Ask : Type 0 where
   Updates : (repository : List ℕ) (body : List ℕ) → Ask
   AsksObject : (name : List ℕ) → Ask
   AsksReferences : (repository : List ℕ) (prefix : Option (List ℕ)) → Ask
+  AsksUse : Ask
+  Prunes : Ask
   NoRequest : Ask
 
 -- the value of a request
@@ -34,6 +36,8 @@ ask_of PartDrop = DropsParts
 ask_of (UpdateRefs repository body) = Updates repository.now body.now
 ask_of (CatFile name) = AsksObject name
 ask_of (ForEachRef repository prefix) = AsksReferences repository.now (option_map (λ word. word.now) prefix)
+ask_of Quota = AsksUse
+ask_of Prune = Prunes
 ask_of Bad = NoRequest
 
 -- a word, where it isn't empty
@@ -96,10 +100,10 @@ asked_part_end (Some repository) [] = EndsParts repository
 asked_part_end (Some repository) (b ∷ body) = NoRequest
 asked_part_end None body = NoRequest
 
--- `part-drop`
-abbrev pub asked_part_drop : List ℕ → Ask
-asked_part_drop [] = DropsParts
-asked_part_drop (b ∷ body) = NoRequest
+-- a verb alone, and nothing behind it
+abbrev pub asked_plain : Ask → List ℕ → Ask
+asked_plain ask [] = ask
+asked_plain ask (b ∷ body) = NoRequest
 
 -- `update-refs REPO` and a body
 abbrev pub asked_update : Option (List ℕ) → List ℕ → Ask
@@ -136,11 +140,13 @@ asked_verb verb words body =
     else if bytes_eq verb (codes "for-each-ref") then asked_references (one_or_two words) body
     else NoRequest
 
--- by a verb that stands alone: `part` and a body, `part-drop`
+-- by a verb that stands alone: `part` and a body, `part-drop`, `quota`, `prune`
 abbrev pub asked_alone : List ℕ → List ℕ → Ask
 asked_alone verb body =
     if bytes_eq verb (codes "part") then SendsPart body
-    else if bytes_eq verb (codes "part-drop") then asked_part_drop body
+    else if bytes_eq verb (codes "part-drop") then asked_plain DropsParts body
+    else if bytes_eq verb (codes "quota") then asked_plain AsksUse body
+    else if bytes_eq verb (codes "prune") then asked_plain Prunes body
     else NoRequest
 
 -- by the line's first word

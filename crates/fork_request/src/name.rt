@@ -54,6 +54,16 @@ impl<const MOST: usize> PlainName<MOST> {
         })
     }
 
+    /// The same name once more. It takes no memory.
+    pub fn copy(&self) -> PlainName<MOST>
+        ensures { result ≡ self.now }
+    {
+        PlainName {
+            bytes: self.bytes,
+            len: self.len,
+        }
+    }
+
     /// The bytes of the name.
     pub fn as_bytes(&self) -> &[u8]
         ensures bytes { result.now ≡ self.now }

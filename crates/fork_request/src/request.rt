@@ -31,6 +31,10 @@ pub enum Request<'a> {
     CatFile([u8; 32]),
     /// `for-each-ref REPO [PREFIX]`: the references of a repository.
     ForEachRef(&'a [u8], Option<&'a [u8]>),
+    /// `quota`: what the objects that are seen use, and the limit.
+    Quota,
+    /// `prune`: objects go that no reference reaches.
+    Prune,
     /// What is no request.
     Bad,
 }
@@ -54,7 +58,7 @@ impl<'a> Request<'a> {
 }
 
 ghost use Rattle.git_name.specs.Text.{words_of};
-ghost use Rattle.fork_request.specs.Asked.{ask_of, asked_words, asked_verb, asked_init, asked_drop, asked_fork, asked_push, asked_part_end, asked_part_drop, asked_update, asked_alone, asked_cat_file, asked_references};
+ghost use Rattle.fork_request.specs.Asked.{ask_of, asked_words, asked_verb, asked_init, asked_drop, asked_fork, asked_push, asked_part_end, asked_plain, asked_update, asked_alone, asked_cat_file, asked_references};
 
 // What a line and the body behind it ask.
 fn read_line<'a>(line: &'a [u8], body: &'a [u8]) -> Request<'a>
@@ -74,7 +78,13 @@ fn read_verb<'a>(verb: &'a [u8], body: &'a [u8]) -> Request<'a>
         return Request::Part(body);
     }
     if is_word(verb, b"part-drop") {
-        return part_drop(body);
+        return plain(Request::PartDrop, body);
+    }
+    if is_word(verb, b"quota") {
+        return plain(Request::Quota, body);
+    }
+    if is_word(verb, b"prune") {
+        return plain(Request::Prune, body);
     }
     Request::Bad
 }
@@ -161,11 +171,11 @@ fn part_end<'a>(sole: Option<&'a [u8]>, body: &'a [u8]) -> Request<'a>
     }
 }
 
-fn part_drop<'a>(body: &'a [u8]) -> Request<'a>
-    ensures { ask_of result ≡ asked_part_drop body.now }
+fn plain<'a>(request: Request<'a>, body: &'a [u8]) -> Request<'a>
+    ensures { ask_of result ≡ asked_plain (ask_of request.entry) body.now }
 {
     if body.is_empty() {
-        Request::PartDrop
+        request
     } else {
         Request::Bad
     }

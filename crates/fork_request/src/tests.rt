@@ -98,6 +98,14 @@ fn names_are_ordered_by_their_bytes(rt: HostRuntime) -> Result<(), Fail> {
     Ok(())
 }
 
+#[test]
+fn a_copy_is_the_same_name(rt: HostRuntime) -> Result<(), Fail> {
+    let name = repository(b"a-long_name")?;
+    assert_eq!(rt; name.copy().as_bytes(), b"a-long_name".as_slice());
+    assert!(rt; name.copy() == name);
+    Ok(())
+}
+
 // Whether the payload asks this of this word, with this body or second word.
 fn asks(payload: &[u8], verb: &[u8], word: &[u8], body: &[u8]) -> bool {
     match Request::read(payload) {
@@ -125,6 +133,8 @@ fn asks(payload: &[u8], verb: &[u8], word: &[u8], body: &[u8]) -> bool {
         Request::ForEachRef(repository, None) => verb == b"for-each-ref".as_slice()
             && repository == word
             && body == b"no prefix".as_slice(),
+        Request::Quota => verb == b"quota".as_slice() && word.is_empty() && body.is_empty(),
+        Request::Prune => verb == b"prune".as_slice() && word.is_empty() && body.is_empty(),
         Request::CatFile(_) => false,
         Request::Bad => false,
     }
@@ -136,7 +146,7 @@ fn is_bad(payload: &[u8]) -> bool {
 
 #[test]
 fn a_right_line_and_its_body_are_a_request(rt: HostRuntime) -> Result<(), Fail> {
-    let rows: [(&[u8], &[u8], &[u8], &[u8]); 24] = [
+    let rows: [(&[u8], &[u8], &[u8], &[u8]); 26] = [
         (b"init r\n", b"init", b"r", b""),
         (b"init .No/name\xff\n", b"init", b".No/name\xff", b""),
         (b"init r\r\n", b"init", b"r\r", b""),
@@ -171,6 +181,8 @@ fn a_right_line_and_its_body_are_a_request(rt: HostRuntime) -> Result<(), Fail> 
             b"refs/heads/",
         ),
         (b"for-each-ref r r\n", b"for-each-ref", b"r", b"r"),
+        (b"quota\n", b"quota", b"", b""),
+        (b"prune\n", b"prune", b"", b""),
     ];
     for (payload, verb, word, body) in rows {
         assert!(rt; asks(payload, verb, word, body), "{payload:?}");
@@ -188,7 +200,7 @@ fn a_right_line_and_its_body_are_a_request(rt: HostRuntime) -> Result<(), Fail> 
 
 #[test]
 fn any_other_payload_is_a_bad_request(rt: HostRuntime) {
-    let payloads: [&[u8]; 76] = [
+    let payloads: [&[u8]; 89] = [
         b"",
         b"\n",
         b"\n\n",
@@ -265,6 +277,19 @@ fn any_other_payload_is_a_bad_request(rt: HostRuntime) {
         b"for-each-ref r s t\n",
         b"for-each-ref r\nx",
         b"for-each-ref r s\n\n",
+        b"quota",
+        b"quota \n",
+        b"quota r\n",
+        b"quota\nx",
+        b"quota\n\n",
+        b"Quota\n",
+        b"prune",
+        b"prune \n",
+        b"prune r\n",
+        b"prune\nx",
+        b"prune\n\n",
+        b" prune\n",
+        b"prunes\n",
     ];
     for payload in payloads {
         assert!(rt; is_bad(payload), "{payload:?}");

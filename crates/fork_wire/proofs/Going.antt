@@ -1,11 +1,11 @@
 -- A session goes on by one frame, and ends.
-use Rattle.std.specs.Prelude.{IfSome, flat_map, map}
-use Rattle.std.proofs.Common.{◌≡◌, Option, Some, None, ℕ, All, List, [], ◌∷◌, ◌++◌, refl, sym, ap, ◌∙◌, subst}
+use Rattle.std.specs.Prelude.{IfSome}
+use Rattle.std.proofs.Common.{◌≡◌, Option, Some, None, ℕ, All, List, [], ◌∷◌, ◌++◌, sym, ap, ◌∙◌, subst}
 use Rattle.std.proofs.lemmas.Grind.{flat_map-append}
-use Rattle.std.proofs.lemmas.List.{append-nil, append_assoc, map-append}
-use Rattle.std.proofs.lemmas.List.Elements.{All-nil, All-push}
+use Rattle.std.proofs.lemmas.List.{append-nil, map-append}
+use Rattle.std.proofs.lemmas.List.Elements.{All-push}
 use Rattle.std.proofs.KnownBytes.{Consumes-trans, Appends-trans}
-use Rattle.std.specs.Io.KnownBytes.{Appends, Consumes, IsAtEnd}
+use Rattle.std.specs.Io.KnownBytes.{Appends, Consumes}
 use Rattle.git_name.specs.Name.{name_cmp}
 use Rattle.git_name.proofs.Names.{name_total}
 use Rattle.fork_request.specs.Told.{bytes_of, is_host_fault}
@@ -18,13 +18,12 @@ use Rattle.fork_model.proofs.Isolation.{run_alone}
 use Rattle.fork_model.proofs.Hosts.{run_more}
 use Rattle.fork_host.specs.Rows.{IsMemoryAtMost}
 use Rattle.fork_frame.specs.declared.frame.Frame.{Frame}
-use Rattle.fork_frame.specs.declared.ended.Ended.{Ended}
-use Rattle.fork_frame.specs.Frame.{AreFrames, EndsAt, IsFrame, frame_bytes}
+use Rattle.fork_frame.specs.Frame.{AreFrames, IsBad, IsFrame, frame_bytes}
 use Rattle.fork_frame.specs.Reply.{reply_frame}
-use Rattle.fork_frame.proofs.StreamLemmas.{no_frames, frames_more}
+use Rattle.fork_frame.proofs.StreamLemmas.{frames_more}
 use Rattle.fork_wire.specs.declared.fault.SessionFault.{SessionFault}
 use Rattle.fork_wire.specs.declared.fault.SessionFault.TheVariants.{Read}
-use Rattle.fork_wire.specs.Sessions.{BeginsWith, IsPrivateRun, IsStopped, event_of, events_of, frames_of}
+use Rattle.fork_wire.specs.Sessions.{BeginsWith, IsPrivateRun, IsStopped, IsTelling, event_of, events_of, frames_of}
 
 -- what came so far was answered by what went out so far
 pub record Going (old new : World) (input left before after : Option (List ℕ)) : Type 0 where
@@ -77,6 +76,10 @@ private_of : (old new : World) (events : List Event) (replies : List Reply) → 
 private_of old new events replies run tenant view here fine =
     run_alone name_cmp name_total answer (Refused UnknownTenant) is_host_fault HostSays tenant old new events replies view run fine here
 
+telling_more : (frames : List Frame) (frame : Frame) (input : Option (List ℕ)) → IsTelling (frames ++ frame ∷ []) input
+telling_more [] frame input = tt
+telling_more (first ∷ frames) frame input = tt
+
 -- a frame was answered, and its reply did not go out, or not wholly
 pub unsent : (old mid new : World) (input left now before during after : Option (List ℕ)) (frame : Frame) (reply : Reply) (fault : SessionFault) → Going old mid input left before during → IsFrame frame → Consumes left now (frame_bytes frame)
     → Steps mid (event_of frame) reply new → IsMemoryAtMost reply → (fault ≡ Read → ⊥) → IsStopped old new input before after fault
@@ -91,4 +94,21 @@ unsent old mid new input left now before during after frame reply fault so_far r
       answered = record { explained = run; private_run = private_of old new (events_of frames) replies run; faults = All-push IsMemoryAtMost so_far.replies reply so_far.faults alone_fault };
       read = begins input now came frames (Consumes-trans input left now so_far.came (frame_bytes frame) so_far.taken taken) (frames_more so_far.frames so_far.came frame so_far.right right);
       written = λ is. absurd (other is);
+      told = λ is. telling_more so_far.frames frame input;
     }
+
+-- what comes next is no frame
+pub telling_bad : (old new : World) (input left before after : Option (List ℕ)) (so_far : Going old new input left before after) → IfSome left IsBad → IsTelling so_far.frames input
+telling_bad old new input left before after so_far bad = by so_far.frames so_far.right
+  where
+    same : (bytes : Option (List ℕ)) → Consumes bytes left so_far.came → so_far.came ≡ [] → IfSome left IsBad → IfSome bytes IsBad
+    same None taken none is_bad = tt
+    same (Some bytes) taken none is_bad = from left (subst (Consumes (Some bytes) left) none taken) is_bad
+      where
+        from : (rest : Option (List ℕ)) → Consumes (Some bytes) rest [] → IfSome rest IsBad → IsBad bytes
+        from None taken is = absurd taken
+        from (Some rest) taken is = subst IsBad (sym taken) is
+
+    by : (frames : List Frame) → AreFrames frames so_far.came → IsTelling frames input
+    by [] right = same input so_far.taken right.spelled bad
+    by (frame ∷ frames) right = tt

@@ -1,5 +1,5 @@
 -- What a session does: the frames that came, the replies that go out, and the worlds that the host shows.
-use Rattle.std.specs.Prelude.{◌≡◌, ℕ, All, IfSome, List, ◌++◌, Option, Some, flat_map, map}
+use Rattle.std.specs.Prelude.{◌≡◌, ℕ, All, IfSome, List, [], ◌∷◌, ◌++◌, Option, Some, flat_map, map, ⊤}
 use Rattle.std.specs.FinMap.{get}
 use Rattle.std.specs.Io.KnownBytes.{Appends}
 use Rattle.fork_request.specs.Asked.{asked, asked_host}
@@ -9,14 +9,14 @@ use Rattle.fork_model.specs.Runs.{Asks, HostAsks}
 use Rattle.fork_model.specs.View.{View}
 use Rattle.fork_model.specs.World.{World, Event, Explains, IsUnfaulted, alone, own, told}
 use Rattle.fork_host.specs.Rows.{IsMemoryAtMost}
-use Rattle.fork_frame.specs.Frame.{AreFrames, IsRequestStream}
+use Rattle.fork_frame.specs.Frame.{AreFrames, IsBad, IsRequestStream}
 use Rattle.fork_frame.specs.Reply.{last_line, reply_frame}
 use Rattle.fork_frame.specs.declared.asker.Asker.{Asker}
 use Rattle.fork_frame.specs.declared.asker.Asker.TheVariants.{Tenant, Host}
 use Rattle.fork_frame.specs.declared.ended.Ended.{Ended}
 use Rattle.fork_frame.specs.declared.frame.Frame.{Frame}
 use Rattle.fork_wire.specs.declared.fault.SessionFault.{SessionFault}
-use Rattle.fork_wire.specs.declared.fault.SessionFault.TheVariants.{Read}
+use Rattle.fork_wire.specs.declared.fault.SessionFault.TheVariants.{Read, Write}
 
 -- what a payload asks, by who sends it
 abbrev pub event_by : Asker → List ℕ → Event
@@ -56,10 +56,17 @@ pub record IsServed (old new : World) (input before after : Option (List ℕ)) (
 abbrev pub BeginsWith : List Frame → List ℕ → Type 0
 BeginsWith frames input = (came : List ℕ) × (rest : List ℕ) × AreFrames frames came × (input ≡ came ++ rest)
 
--- a session that a fault stopped: the first frames of the input were answered; where reading failed all their replies went out
+-- something is to be told: an answer, or that what came is no frame
+abbrev pub IsTelling : List Frame → Option (List ℕ) → Type 0
+IsTelling [] input = IfSome input IsBad
+IsTelling (frame ∷ frames) input = ⊤
+
+-- a session that a fault stopped: the first frames of the input were answered; where reading failed all their replies went out,
+-- and writing fails only where something is to be told
 pub record IsStopped (old new : World) (input before after : Option (List ℕ)) (fault : SessionFault) : Type 0 where
   pub frames : List Frame
   pub replies : List Reply
   pub answered : IsAnswered old new frames replies
   pub read : IfSome input (BeginsWith frames)
   pub written : fault ≡ Read → Appends before after (frames_of replies)
+  pub told : fault ≡ Write → IsTelling frames input

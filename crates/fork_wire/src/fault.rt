@@ -15,7 +15,9 @@ pub enum SessionFault {
 }
 
 // The fault of a frame that could not be read.
-pub(crate) fn of_frame(fault: FrameFault) -> SessionFault {
+pub(crate) fn of_frame(fault: FrameFault) -> SessionFault
+    ensures { result ≢ SessionFault.Write }
+{
     match fault {
         FrameFault::Read => SessionFault::Read,
         FrameFault::Memory => SessionFault::Memory,

@@ -35,7 +35,6 @@ pub record AreFronts (fronts : List Bool) (met : List (List ℕ)) (last : List �
 -- how many bytes two names have in common
 pub record IsCommon (common : ℕ) (last name : List ℕ) : Type 0 where
   pub fits_last : common ≤ length last
-  pub fits : common ≤ length name
   pub same : take common last ≡ take common name
   pub most : (k : ℕ) → k ≤ length last → k ≤ length name → take k last ≡ take k name → k ≤ common
 

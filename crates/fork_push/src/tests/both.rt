@@ -38,7 +38,7 @@ impl Both {
 }
 
 impl Source for Both {
-    ghost use Rattle.std.specs.Prelude.{true};
+    ghost use Rattle.std.specs.Prelude.{true, ⊤};
     ghost use Rattle.std.specs.FinMap as map;
 
     ghost objects = { λ both. map.from_entries both.objects.entries };
@@ -46,6 +46,10 @@ impl Source for Both {
     ghost honest = { λ _. true };
 
     ghost failures = { λ _. 0 };
+
+    ghost Rest = { ⊤ };
+
+    ghost rest = { λ _. tt };
 
     fn kind_of(&self, name: Name) -> Option<Kind> {
         match self.find(name) {

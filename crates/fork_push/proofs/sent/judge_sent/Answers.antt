@@ -2,7 +2,8 @@ use Rattle.std.proofs.Common.{◌≡◌, IfNone, IsTrue, sym, ap, subst, ◌∙�
 use Rattle.std.specs.FinMap.{get}
 use Rattle.std.specs.List.{find}
 use Rattle.std.specs.Option.{option_or}
-use Rattle.fork_push.specs.Push.{is_missing, is_wrong, links_of_found}
+use Rattle.fork_push.specs.Push.{is_missing, is_wrong}
+use Rattle.fork_reach.specs.Reach.{links_of_found}
 use Rattle.fork_push.proofs.LinkLemmas.{none_found, found_noted, missing_at}
 use Rattle.fork_push.proofs.sent.judge_sent.Goals as goal
 
@@ -26,6 +27,7 @@ loop-name-preserved g c =
     record {
       kept = told.kept ∙ before.kept;
       honest = told.honest ∙ before.honest;
+      rest = told.rest ∙ before.rest;
       failures = told.cause ∙ before.failures;
       missing = λ honest. none_found (is_missing both) both names at name _ (omega arith) c.name-item.is (before.missing honest)
           (sym c.in-Ok-None.field-0-is ∙ told.missing (subst IsTrue (sym before.honest) honest) ∙ ap (λ all. find (is_missing all) (links_of_found (get all name))) before.kept);

@@ -1,4 +1,3 @@
-use Rattle.std.proofs.Common.{ap}
 use Rattle.fork_wire.proofs.session.answer.Goals as goal
 
 pub returns-in-Tenant-clause-explained : goal.returns-in-Tenant-clause-explained

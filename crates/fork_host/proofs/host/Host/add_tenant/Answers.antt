@@ -1,38 +1,45 @@
-use Rattle.std.proofs.Common.{◌<◌, refl, sym, ap, subst, ◌∙◌, arith}
+use Rattle.std.proofs.Common.{◌<◌, ap, sym, ◌∙◌, arith}
 use Rattle.std.specs.FinMap as map
-use Rattle.fork_model.specs.Sound.{IsSoundWorld}
-use Rattle.fork_model.proofs.Hosts.{insert_is, len_is}
-use Rattle.fork_host.proofs.AddingLemmas.{known, not_refused, refused_limit, refused_many, refused_there, sound_more}
+use Rattle.fork_host.specs.Adding.{new_view}
+use Rattle.fork_host.specs.Shown.{state_of, world_of}
+use Rattle.fork_host.proofs.AddingLemmas.{not_refused, refused_limit, refused_many, refused_there}
+use Rattle.fork_host.proofs.WholeLemmas.{whole_more, world_more}
+use Rattle.fork_host.proofs.WorldLemmas.{known_world, len_world}
 use Rattle.fork_host.proofs.host.Host.add_tenant.Goals as goal
 
-pub returns-then-contains_key-clause-cause : goal.returns-then-contains_key-clause-cause
-returns-then-contains_key-clause-cause c _ =
-    refused_there c.args.self.now c.args.name c.args.limit (known c.args.self.now c.self.inside.tenants.entries c.args.name _ c.self.view_is c.contains_key.ensures ∙ c.if-contains_key.true)
+pub returns-then-contains-clause-cause : goal.returns-then-contains-clause-cause
+returns-then-contains-clause-cause c _ =
+    let known = ap (λ s. map.contains_key (world_of s) c.args.name) (sym c.self.view_is) ∙ known_world (state_of c.self.inside.accounts c.self.inside.vault) c.args.name in
+    refused_there (world_of c.args.self.now) c.args.name c.args.limit (known ∙ sym c.contains.ensures ∙ c.if-contains.true)
 
 pub returns-then-len-ge-MOST_TENANTS-clause-cause : goal.returns-then-len-ge-MOST_TENANTS-clause-cause
 returns-then-len-ge-MOST_TENANTS-clause-cause c _ =
-    let count = len_is c.args.self.now c.self.inside.tenants.entries c.self.view_is c.len.ensures.ordered in
-    refused_many c.args.self.now c.args.name c.args.limit (known c.args.self.now c.self.inside.tenants.entries c.args.name _ c.self.view_is c.contains_key.ensures ∙ c.if-contains_key.false) (omega (arith, count, c.len.ensures.len))
+    let known = ap (λ s. map.contains_key (world_of s) c.args.name) (sym c.self.view_is) ∙ known_world (state_of c.self.inside.accounts c.self.inside.vault) c.args.name in
+    let count = ap (λ s. map.len (world_of s)) (sym c.self.view_is) ∙ len_world (state_of c.self.inside.accounts c.self.inside.vault) ∙ sym c.len.ensures in
+    refused_many (world_of c.args.self.now) c.args.name c.args.limit (known ∙ sym c.contains.ensures ∙ c.if-contains.false) (omega (arith, count))
 
 pub returns-then-limit-gt-MAX_LIMIT-clause-cause : goal.returns-then-limit-gt-MAX_LIMIT-clause-cause
 returns-then-limit-gt-MAX_LIMIT-clause-cause c _ =
-    let count = len_is c.args.self.now c.self.inside.tenants.entries c.self.view_is c.len.ensures.ordered in
-    refused_limit c.args.self.now c.args.name c.args.limit (known c.args.self.now c.self.inside.tenants.entries c.args.name _ c.self.view_is c.contains_key.ensures ∙ c.if-contains_key.false) (omega (arith, count, c.len.ensures.len)) c.if-limit-gt-MAX_LIMIT.true
+    let known = ap (λ s. map.contains_key (world_of s) c.args.name) (sym c.self.view_is) ∙ known_world (state_of c.self.inside.accounts c.self.inside.vault) c.args.name in
+    let count = ap (λ s. map.len (world_of s)) (sym c.self.view_is) ∙ len_world (state_of c.self.inside.accounts c.self.inside.vault) ∙ sym c.len.ensures in
+    refused_limit (world_of c.args.self.now) c.args.name c.args.limit (known ∙ sym c.contains.ensures ∙ c.if-contains.false) (omega (arith, count)) c.if-limit-gt-MAX_LIMIT.true
 
-pub returns-in-Ok-clause-ok : goal.returns-in-Ok-clause-ok
-returns-in-Ok-clause-ok c =
-    insert_is c.args.self.now c.self.inside.tenants.entries c.insert.new.self.entries c.args.name c.new.result c.self.view_is c.in-Ok.ensures.updates.0 ∙ ap (map.insert c.args.self.now c.args.name) c.new.ensures
+pub returns-clause-ok : goal.returns-clause-ok
+returns-clause-ok c =
+    let old = state_of c.self.inside.accounts c.self.inside.vault in
+    let new = state_of c.open_account.new.accounts c.open_account.new.vault in
+    world_more old new c.args.name c.args.limit c.self.invariant (sym c.contains.ensures ∙ c.if-contains.false) c.in-Ok.ensures.ok c.in-Ok.ensures.vault
+    ∙ ap (λ s. map.insert (world_of s) c.args.name (new_view c.args.limit)) c.self.view_is
 
-pub returns-in-Ok-clause-free : goal.returns-in-Ok-clause-free
-returns-in-Ok-clause-free c =
-    let count = len_is c.args.self.now c.self.inside.tenants.entries c.self.view_is c.len.ensures.ordered in
-    not_refused c.args.self.now c.args.name c.args.limit (known c.args.self.now c.self.inside.tenants.entries c.args.name _ c.self.view_is c.contains_key.ensures ∙ c.if-contains_key.false) (omega (arith, count, c.len.ensures.len)) c.if-limit-gt-MAX_LIMIT.false
+pub returns-clause-free : goal.returns-clause-free
+returns-clause-free c =
+    let known = ap (λ s. map.contains_key (world_of s) c.args.name) (sym c.self.view_is) ∙ known_world (state_of c.self.inside.accounts c.self.inside.vault) c.args.name in
+    let count = ap (λ s. map.len (world_of s)) (sym c.self.view_is) ∙ len_world (state_of c.self.inside.accounts c.self.inside.vault) ∙ sym c.len.ensures in
+    not_refused (world_of c.args.self.now) c.args.name c.args.limit (known ∙ sym c.contains.ensures ∙ c.if-contains.false) (omega (arith, count)) c.if-limit-gt-MAX_LIMIT.false
 
-pub invariant_of-self : goal.invariant_of-self
-invariant_of-self c =
-    let old = map.from_entries c.self.inside.tenants.entries in
-    let count = len_is old c.self.inside.tenants.entries refl c.len.ensures.ordered in
-    let few : map.len old < 64 = omega (arith, count, c.len.ensures.len) in
-    let absent = known old c.self.inside.tenants.entries c.args.name _ refl c.contains_key.ensures ∙ c.if-contains_key.false in
-    let set = insert_is old c.self.inside.tenants.entries c.insert.new.self.entries c.args.name c.new.result refl c.in-Ok.ensures.updates.0 ∙ ap (map.insert old c.args.name) c.new.ensures in
-    subst IsSoundWorld (sym set) (sound_more old c.args.name c.args.limit absent few c.if-limit-gt-MAX_LIMIT.false c.self.invariant)
+pub invariant_of-self-2 : goal.invariant_of-self-2
+invariant_of-self-2 c =
+    let old = state_of c.self.inside.accounts c.self.inside.vault in
+    let new = state_of c.open_account.new.accounts c.open_account.new.vault in
+    let few : map.len c.self.inside.accounts < 64 = omega arith in
+    whole_more old new c.args.name c.args.limit c.self.invariant (sym c.contains.ensures ∙ c.if-contains.false) few c.if-limit-gt-MAX_LIMIT.false c.in-Ok.ensures.ok c.in-Ok.ensures.vault

@@ -1,8 +1,8 @@
-use Rattle.std.proofs.Common.{sym, ap, subst}
-use Rattle.std.specs.FinMap.{from_entries}
-use Rattle.fork_model.specs.Sound.{IsSoundWorld}
-use Rattle.fork_host.proofs.AddingLemmas.{sound_none}
+use Rattle.fork_host.proofs.WholeLemmas.{whole_none, world_none}
 use Rattle.fork_host.proofs.host.Host.new.Goals as goal
 
 pub invariant_of-result : goal.invariant_of-result
-invariant_of-result c = subst IsSoundWorld (sym (ap from_entries c.new.ensures.empty)) sound_none
+invariant_of-result c = whole_none c.new.result c.new-2.result c.new.ensures c.new-2.ensures
+
+pub returns-clause-empty : goal.returns-clause-empty
+returns-clause-empty c = world_none c.new.result c.new-2.result c.new.ensures

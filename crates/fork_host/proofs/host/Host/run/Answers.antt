@@ -7,6 +7,7 @@ use Rattle.fork_model.proofs.Hosts.{run_more}
 use Rattle.fork_host.specs.declared.step.HostStep.{HostStep}
 use Rattle.fork_host.specs.Given.{event_of, events_of}
 use Rattle.fork_host.specs.Rows.{IsMemoryAtMost}
+use Rattle.fork_host.specs.Shown.{world_of}
 use Rattle.fork_host.proofs.host.Host.run.Goals as goal
 
 -- the run goes on by the step at i
@@ -23,7 +24,7 @@ faults_more replies more reply grown all one = All-same IsMemoryAtMost _ _ grown
 pub loop-step-preserved : goal.loop-step-preserved
 loop-step-preserved c = record {
   trusted = λ trusted. c.step-reply.ensures.trusted (c.loop-step.invariant.trusted trusted);
-  ran = λ trusted. turn c.args.self.now c.loop-step.self c.step-reply.new.self c.args.steps.now c.loop-step.step-index c.step-item.result c.loop-step.replies.items c.push_reserved.new.self.items c.step-reply.result c.loop-step-test.true c.step-item.is c.push_reserved.ensures.items (c.loop-step.invariant.ran trusted) (c.step-reply.ensures.explained (c.loop-step.invariant.trusted trusted));
+  ran = λ trusted. turn (world_of c.args.self.now) (world_of c.loop-step.self) (world_of c.step-reply.new.self) c.args.steps.now c.loop-step.step-index c.step-item.result c.loop-step.replies.items c.push_reserved.new.self.items c.step-reply.result c.loop-step-test.true c.step-item.is c.push_reserved.ensures.items (c.loop-step.invariant.ran trusted) (c.step-reply.ensures.explained (c.loop-step.invariant.trusted trusted));
   sound = c.step-reply.ensures.sound;
   faults = faults_more c.loop-step.replies.items c.push_reserved.new.self.items c.step-reply.result c.push_reserved.ensures.items c.loop-step.invariant.faults c.step-reply.ensures.faults;
   told = omega arith;

@@ -1,10 +1,8 @@
-use Rattle.std.proofs.Common.{sym, ◌∙◌, ap, length}
-use Rattle.std.specs.FinMap as map
-use Rattle.git_name.proofs.Names.{name_total}
-use Rattle.git_name.proofs.TreeMaps.{entries_of_ordered}
+use Rattle.std.proofs.Common.{sym, ap, ◌∙◌}
+use Rattle.std.specs.FinMap.{len}
+use Rattle.fork_host.specs.Shown.{state_of, world_of}
+use Rattle.fork_host.proofs.WorldLemmas.{len_world}
 use Rattle.fork_host.proofs.host.Host.tenants.Goals as goal
 
 pub returns-clause-value : goal.returns-clause-value
-returns-clause-value c =
-    c.len.ensures.len ∙ ap (λ es. length es) (sym (entries_of_ordered name_total c.self.inside.tenants.entries c.len.ensures.ordered))
-    ∙ sym (map.len-entries (map.from_entries c.self.inside.tenants.entries)) ∙ ap map.len c.self.view_is
+returns-clause-value c = c.len.ensures ∙ sym (len_world (state_of c.self.inside.accounts c.self.inside.vault)) ∙ ap (λ s. len (world_of s)) c.self.view_is

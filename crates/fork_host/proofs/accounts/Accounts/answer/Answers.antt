@@ -1,0 +1,44 @@
+use Rattle.std.proofs.Common.{Some, rules, ap, sym, subst, ◌∙◌}
+use Rattle.std.specs.FinMap as map
+use Rattle.git_name.proofs.Names.{name_total}
+use Rattle.git_name.proofs.TreeMaps.{get_of_entries}
+use Rattle.fork_request.specs.Asked.{ask_of}
+use Rattle.fork_model.specs.Runs.{Asks}
+use Rattle.fork_model.specs.World.{Steps}
+use Rattle.fork_host.specs.Shown.{state_of, world_of}
+use Rattle.fork_host.proofs.RowLemmas.{memory_of}
+use Rattle.fork_ledger.proofs.UpdateLemmas.{found_in, written_back}
+use Rattle.fork_host.proofs.WholeLemmas.{answered_step, ready, unknown_step, whole_after}
+use Rattle.fork_host.proofs.accounts.Accounts.answer.Goals as goal
+
+pub returns-in_default-clause-explained : goal.returns-in_default-clause-explained
+returns-in_default-clause-explained c =
+    let none = ap (λ m. map.get m c.args.name.now) (sym c.self.view_is) ∙ get_of_entries name_total c.self.inside.tenants.entries c.args.name.now ∙ sym c.in_default.ensures.value in
+    let stays = ap map.from_entries (ap (λ t. t.entries) c.get_mut.follows.holds-at-none) ∙ c.self.view_is in
+    subst (λ accounts. Steps (world_of (state_of c.args.self.now c.args.vault.now)) (Asks c.args.name.now (ask_of c.args.request)) _ (world_of (state_of accounts c.args.vault.now))) (sym stays)
+    (unknown_step (state_of c.args.self.now c.args.vault.now) c.args.name.now (ask_of c.args.request) none)
+
+pub answer-requires : goal.answer-requires
+answer-requires c =
+    let here = found_in c.args.self.now c.self.inside.tenants.entries c.args.name.now (Some c.in-Some.tenant.now) c.self.view_is c.in-Some.ensures.value in
+    record { ready = ready (state_of c.args.self.now c.args.vault.now) c.args.name.now c.in-Some.tenant.now c.requires.whole here }
+
+pub returns-clause-explained : goal.returns-clause-explained
+returns-clause-explained c =
+    let stays = (c.get_mut.follows.holds c.answer.new.self).3 (search rules) in
+    let entries = c.self.inside.tenants.entries in
+    let here = found_in c.args.self.now entries c.args.name.now (Some c.in-Some.tenant.now) c.self.view_is c.in-Some.ensures.value in
+    let set = written_back c.args.self.now entries (c.get_mut.follows.lender c.answer.new.self).entries c.args.name.now c.answer.new.self c.self.view_is stays.0 in
+    answered_step (state_of c.args.self.now c.args.vault.now) (state_of _ c.answer.new.vault) c.args.name.now (ask_of c.args.request) c.in-Some.tenant.now c.answer.new.self c.answer.result here set c.answer.ensures.row c.answer.ensures.own
+
+pub returns-clause-whole : goal.returns-clause-whole
+returns-clause-whole c =
+    let stays = (c.get_mut.follows.holds c.answer.new.self).3 (search rules) in
+    let entries = c.self.inside.tenants.entries in
+    let here = found_in c.args.self.now entries c.args.name.now (Some c.in-Some.tenant.now) c.self.view_is c.in-Some.ensures.value in
+    let set = written_back c.args.self.now entries (c.get_mut.follows.lender c.answer.new.self).entries c.args.name.now c.answer.new.self c.self.view_is stays.0 in
+    whole_after (state_of c.args.self.now c.args.vault.now) (state_of _ c.answer.new.vault) c.args.name.now (ask_of c.args.request) c.in-Some.tenant.now c.answer.new.self c.answer.result
+    c.requires.whole here set (returns-clause-explained c) c.answer.ensures.own
+
+pub returns-clause-faults : goal.returns-clause-faults
+returns-clause-faults c = memory_of _ _ (ask_of c.args.request) c.answer.result c.answer.ensures.row

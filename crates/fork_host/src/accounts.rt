@@ -1,0 +1,117 @@
+ghost use Rattle.std.specs.Prelude.{◌≡◌, OnOk, OnErr, Some, None, false};
+ghost use Rattle.std.specs.FinMap as map;
+ghost use Rattle.std.specs.BTreeMap.{IsUnchanged, Updates};
+ghost use Rattle.git_name.specs.Name.{name_cmp};
+ghost use Rattle.fork_request.specs.Asked.{ask_of};
+ghost use Rattle.fork_model.specs.Runs.{Asks};
+ghost use Rattle.fork_model.specs.World.{Steps};
+ghost use Rattle.fork_host.specs.Adding.{new_account};
+ghost use Rattle.fork_host.specs.Rows.{IsMemoryAtMost};
+ghost use Rattle.fork_host.specs.Shown.{IsWhole, state_of, world_of};
+
+use crate::tenant::Tenant;
+use fork_ledger::Vault;
+use fork_request::{Refusal, Reply, Request, TenantName};
+use std::alloc::{AllocError, Global};
+use std::collections::BTreeMap;
+use std::marker::Model;
+
+// Tenants under their names, each with its account.
+#[derive(Drop)]
+pub(crate) struct Accounts {
+    tenants: BTreeMap<TenantName, Tenant>,
+}
+
+impl Model for Accounts {
+    ghost use Rattle.std.specs.FinMap as map;
+    ghost use Rattle.std.specs.Coded.{coded_list, coded_ℕ};
+    ghost use Rattle.fork_host.specs.Shown.{Accounts, account_code};
+
+    ghost Value = { Accounts };
+
+    ghost coded = { map.code (coded_list coded_ℕ) account_code };
+
+    ghost view = { λ a. map.from_entries a.tenants.entries };
+}
+
+impl Accounts {
+    // No tenants.
+    pub(crate) fn new(alloc: Global) -> Accounts
+        ensures { result ≡ map.empty }
+    {
+        Accounts {
+            tenants: BTreeMap::new(alloc),
+        }
+    }
+
+    // How many there are.
+    pub(crate) fn len(&self) -> usize
+        ensures { result ≡ map.len self.now }
+    {
+        self.tenants.len()
+    }
+
+    // Whether there is one of this name.
+    pub(crate) fn contains(&self, name: &TenantName) -> bool
+        ensures { result ≡ map.contains_key self.now name.now }
+    {
+        self.tenants.contains_key(name)
+    }
+
+    // Puts a new account under a name.
+    pub(crate) fn insert(
+        &mut self,
+        alloc: Global,
+        name: TenantName,
+        limit: u64,
+    ) -> Result<(), AllocError>
+        ensures ok { OnOk result (self.new ≡ map.insert self.old name (new_account limit)) }
+        ensures err { OnErr result (self.new ≡ self.old) }
+    {
+        put(&mut self.tenants, name, Tenant::new(alloc, limit))
+    }
+
+    // Takes out the one of this name. It takes no memory.
+    pub(crate) fn remove(&mut self, name: &TenantName)
+        ensures { self.new ≡ map.remove self.old name.now }
+    {
+        take_out(&mut self.tenants, name)
+    }
+
+    // Answers a tenant's request from its account and its own part of the vault.
+    pub(crate) fn answer(
+        &mut self,
+        alloc: Global,
+        vault: &mut Vault,
+        name: &TenantName,
+        request: Request<'_>,
+    ) -> Reply
+        requires whole { IsWhole (state_of self.old vault.old) }
+        ensures explained { Steps (world_of (state_of self.old vault.old)) (Asks name.now (ask_of request.entry)) result (world_of (state_of self.new vault.new)) }
+        ensures whole { IsWhole (state_of self.new vault.new) }
+        ensures faults { IsMemoryAtMost result }
+    {
+        let Some(tenant) = self.tenants.get_mut(name) else {
+            return Reply::Refused(Refusal::UnknownTenant);
+        };
+        tenant.answer(alloc, vault, name, request)
+    }
+}
+
+fn put(
+    tenants: &mut BTreeMap<TenantName, Tenant>,
+    name: TenantName,
+    tenant: Tenant,
+) -> Result<(), AllocError>
+    ensures ok { OnOk result (Updates name_cmp tenants.old tenants.new name (Some tenant)) }
+    ensures err { OnErr result (IsUnchanged tenants.old tenants.new) }
+{
+    tenants.insert(name, tenant)?;
+    Ok(())
+}
+
+fn take_out(tenants: &mut BTreeMap<TenantName, Tenant>, name: &TenantName)
+    ensures { Updates name_cmp tenants.old tenants.new name.now None }
+{
+    tenants.remove(name);
+}

@@ -1,0 +1,16 @@
+ghost use Rattle.std.specs.Prelude.{◌≡◌};
+ghost use Rattle.fork_host.specs.Rows.{fault_read};
+
+use fork_ledger::VaultFault;
+use fork_reach::SourceFault;
+
+// How a source tells a fault of the vault. Two objects of one name never meet in a read.
+pub(crate) fn source_fault(fault: VaultFault) -> SourceFault
+    ensures { result ≡ fault_read fault }
+{
+    match fault {
+        VaultFault::Store => SourceFault::Store,
+        VaultFault::Memory => SourceFault::Memory,
+        VaultFault::Damaged | VaultFault::Collision => SourceFault::Damaged,
+    }
+}

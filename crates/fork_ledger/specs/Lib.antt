@@ -1,0 +1,4 @@
+pub mod Private
+pub mod Staged
+pub mod Tenants
+pub mod Used

@@ -1,0 +1,31 @@
+-- The private maps of all tenants (own): a tenant's calls change its own.
+use Rattle.std.specs.Prelude.{ℕ, List, if◌then◌else◌, refl}
+use Rattle.std.specs.Option.{unwrap_or}
+use Rattle.std.specs.Coded.{Coded, code_by, coded_ℕ, coded_list}
+use Rattle.std.specs.FinMap.{FinMap, get, insert, contains_key, code}
+use Rattle.git_name.specs.Name.{name_cmp}
+use Rattle.fork_ledger.specs.Private.{Private, nothing, private_code}
+
+-- each tenant's private maps, under its name
+abbrev pub Tenants : Type 0
+Tenants = FinMap name_cmp Private
+
+-- what a vault shows
+pub record VaultState : Type 0 where
+  pub tenants : Tenants
+
+-- a tenant's private maps; an unknown one has no objects
+abbrev pub private_of : Tenants → List ℕ → Private
+private_of tenants tenant = unwrap_or (get tenants tenant) nothing
+
+-- with one more tenant, which has no objects, unless it is there already
+abbrev pub with_tenant : Tenants → List ℕ → Tenants
+with_tenant tenants tenant = if contains_key tenants tenant then tenants else insert tenants tenant nothing
+
+-- with one tenant's private maps changed; of an unknown one nothing changes
+abbrev pub at_tenant : Tenants → List ℕ → (Private → Private) → Tenants
+at_tenant tenants tenant change = if contains_key tenants tenant then insert tenants tenant (change (private_of tenants tenant)) else tenants
+
+-- what a vault shows has a code, so that it can be a model's value
+abbrev pub vault_code : Coded VaultState
+vault_code = code_by Tenants (code (coded_list coded_ℕ) private_code) (λ state. state.tenants) (λ tenants. record { tenants = tenants }) (λ _. refl)

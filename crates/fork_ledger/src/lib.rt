@@ -1,0 +1,15 @@
+//! Each tenant's own objects: those that it sees, and those that it has staged beside them.
+//! A call for one tenant reads and changes no other's, and a call that fails changes none.
+#![tactic(auto)]
+
+mod fault;
+mod held;
+mod object_map;
+mod private;
+#[cfg(test)]
+mod tests;
+mod vault;
+
+pub use crate::fault::VaultFault;
+pub use crate::held::Held;
+pub use crate::vault::Vault;

@@ -1,0 +1,198 @@
+ghost use Rattle.std.specs.Prelude.{◌≡◌, OnOk, OnErr, IfOk, IfErr, IfSome, false, nat_le};
+ghost use Rattle.std.specs.Option.{option_copied};
+ghost use Rattle.std.specs.FinMap as map;
+ghost use Rattle.std.specs.BTreeSet.{IsEmpty, contains};
+ghost use Rattle.git_name.specs.Name.{name_cmp};
+ghost use Rattle.git_name.specs.Object.{object_name};
+ghost use Rattle.fork_reach.specs.Objects.{use_of};
+ghost use Rattle.fork_reach.specs.Source.{kind_in};
+ghost use Rattle.fork_ledger.specs.Private.{held_in, kind_seen, held_of, nothing, with_discarded, with_kept, with_published, with_staged};
+ghost use Rattle.fork_ledger.specs.Staged.{seen};
+ghost use Rattle.fork_ledger.specs.Used.{capped};
+
+use crate::fault::VaultFault;
+use crate::held::Held;
+use crate::object_map::ObjectMap;
+use git_name::{Name, Sealed};
+use std::alloc::{AllocError, Global};
+use std::collections::BTreeSet;
+use std::marker::Model;
+
+// One tenant's objects under their names, the names of those that are staged, and what the visible
+// ones and what all of them use.
+#[derive(Drop)]
+pub(crate) struct Private {
+    objects: ObjectMap,
+    staged: BTreeSet<Name>,
+    used: u128,
+    total: u128,
+}
+
+impl Model for Private {
+    ghost use Rattle.fork_ledger.specs.Private.{Private, private_code};
+    ghost use Rattle.fork_ledger.specs.Staged.{seen};
+    ghost use Rattle.fork_ledger.specs.Used.{IsCounted};
+
+    ghost Value = { Private };
+
+    ghost coded = { private_code };
+
+    ghost view = { λ a. record { visible = seen a.staged a.objects; both = a.objects } };
+
+    ghost invariant = { λ a. IsCounted a.objects a.staged a.used a.total };
+}
+
+impl Private {
+    // No objects.
+    pub(crate) fn new(alloc: Global) -> Private
+        ensures { result ≡ nothing }
+    {
+        Private {
+            objects: ObjectMap::new(alloc),
+            staged: BTreeSet::new(alloc),
+            used: 0,
+            total: 0,
+        }
+    }
+
+    // The object that the tenant sees under this name.
+    pub(crate) fn get(&self, alloc: Global, name: Name) -> Result<Option<Sealed>, VaultFault>
+        ensures found { IfOk result (λ found. found ≡ map.get self.now.visible name) }
+        ensures named { IfOk result (λ found. IfSome found (λ object. object_name object ≡ name)) }
+        ensures faults { IfErr result (λ fault. fault ≡ VaultFault.Memory) }
+    {
+        if self.staged.contains(&name) {
+            return Ok(None);
+        }
+        copy_of(alloc, self.objects.get(name))
+    }
+
+    // The object that the tenant sees or has staged under this name.
+    pub(crate) fn find(&self, alloc: Global, name: Name) -> Result<Option<Sealed>, VaultFault>
+        ensures found { IfOk result (λ found. found ≡ map.get self.now.both name) }
+        ensures named { IfOk result (λ found. IfSome found (λ object. object_name object ≡ name)) }
+        ensures faults { IfErr result (λ fault. fault ≡ VaultFault.Memory) }
+    {
+        let found = self.objects.get(name);
+        copy_of(alloc, found)
+    }
+
+    // What is known of the object of this name. It reads no bytes of it.
+    pub(crate) fn kind_of(&self, name: Name) -> Option<Held>
+        ensures held { result ≡ held_in self.now name }
+        ensures seen { kind_seen result ≡ kind_in self.now.visible name }
+    {
+        let Some(sealed) = self.objects.get(name) else {
+            return None;
+        };
+        let staged = self.staged.contains(&name);
+        Some(Held {
+            kind: sealed.kind(),
+            length: sealed.bytes().len() as u64,
+            visible: !staged,
+            staged,
+        })
+    }
+
+    // Stages an object, unless there is one of its name.
+    pub(crate) fn stage(&mut self, sealed: Sealed) -> Result<(), AllocError>
+        ensures ok { OnOk result (self.new ≡ with_staged sealed self.old) }
+        ensures err { OnErr result (self.new ≡ self.old) }
+    {
+        if self.objects.contains(sealed.name()) {
+            return Ok(());
+        }
+        let size = sealed.bytes().len() as u128 + 64;
+        let Ok(()) = stage_new(&mut self.objects, &mut self.staged, sealed) else {
+            return Err(AllocError);
+        };
+        self.total = self.total.saturating_add(size);
+        Ok(())
+    }
+
+    // What is staged becomes visible. It takes no memory, and its time is that of the staged names.
+    pub(crate) fn publish(&mut self)
+        ensures { self.new ≡ with_published self.old }
+    {
+        self.staged.clear();
+        self.used = self.total;
+    }
+
+    // What is staged goes. It takes no memory, and looks at what is staged alone.
+    pub(crate) fn discard(&mut self)
+        ensures { self.new ≡ with_discarded self.old }
+    {
+        take_out_all(&mut self.objects, &mut self.staged);
+        self.total = self.used;
+    }
+
+    // Of what is visible keeps these names alone. It takes no memory.
+    pub(crate) fn keep_only(&mut self, names: &BTreeSet<Name>)
+        ensures { self.new ≡ with_kept (λ name. contains name_cmp names.now name) self.old }
+    {
+        self.objects.keep_only(names, &self.staged);
+        let (used, total) = self.objects.uses(&self.staged);
+        self.used = used;
+        self.total = total;
+    }
+
+    // What the visible objects use.
+    pub(crate) fn used(&self) -> u128
+        ensures { result ≡ capped (use_of self.now.visible) }
+    {
+        self.used
+    }
+
+    // Whether the visible and the staged objects together use so many bytes at the most.
+    pub(crate) fn is_within(&self, limit: u64) -> bool
+        ensures { result ≡ nat_le (use_of self.now.both) limit }
+    {
+        self.total <= limit as u128
+    }
+}
+
+// A copy of an object that was found.
+fn copy_of(alloc: Global, found: Option<&Sealed>) -> Result<Option<Sealed>, VaultFault>
+    ensures found { IfOk result (λ copy. copy ≡ option_copied found.entry) }
+    ensures faults { IfErr result (λ fault. fault ≡ VaultFault.Memory) }
+{
+    let Some(sealed) = found else {
+        return Ok(None);
+    };
+    match sealed.clone() {
+        Ok(copy) => Ok(Some(copy)),
+        Err(_) => Err(VaultFault::Memory),
+    }
+}
+
+// Puts a new object under its name, which is noted as staged.
+fn stage_new(
+    objects: &mut ObjectMap,
+    staged: &mut BTreeSet<Name>,
+    sealed: Sealed,
+) -> Result<(), AllocError>
+    requires { map.contains_key objects.old (object_name sealed) ≡ false }
+    ensures ok { OnOk result (objects.new ≡ map.insert objects.old (object_name sealed) sealed) }
+    ensures err { OnErr result (objects.new ≡ objects.old) }
+    ensures visible { seen staged.new objects.new ≡ seen staged.old objects.old }
+{
+    let name = sealed.name();
+    let Ok(_) = staged.insert(name) else {
+        return Err(AllocError);
+    };
+    let Ok(()) = objects.insert(sealed) else {
+        staged.remove(&name);
+        return Err(AllocError);
+    };
+    Ok(())
+}
+
+// Takes out the objects of these names. It takes no memory.
+fn take_out_all(objects: &mut ObjectMap, names: &mut BTreeSet<Name>)
+    ensures objects { objects.new ≡ seen names.old objects.old }
+    ensures names { IsEmpty names.new }
+{
+    while let Some(name) = names.pop_first() {
+        objects.remove(name);
+    }
+}

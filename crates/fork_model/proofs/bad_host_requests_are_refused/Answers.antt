@@ -1,0 +1,8 @@
+use Rattle.fork_model.proofs.HostLemmas.{bad_reply, same_world}
+use Rattle.fork_model.proofs.bad_host_requests_are_refused.Goals as goal
+
+pub returns-clause-reply : goal.returns-clause-reply
+returns-clause-reply c = bad_reply
+
+pub returns-clause-world : goal.returns-clause-world
+returns-clause-world c = same_world

@@ -1,0 +1,63 @@
+-- What a walk over objects reaches (own): from some roots on, along links or along parents.
+use Rattle.std.specs.Prelude.{◌≡◌, ℕ, zero, suc, ◌&&◌, ◌||◌, Bool, true, List, [], map, Contains, Option, None, Some}
+use Rattle.std.specs.List.{list_any}
+use Rattle.std.specs.FinMap.{get, contains_key, keys, len}
+use Rattle.std.specs.Str.{bytes_eq}
+use Rattle.git_name.specs.declared.kind.Kind.{Kind}
+use Rattle.git_name.specs.declared.kind.Kind.TheVariants.{Blob, Tree, Commit, Tag}
+use Rattle.git_name.specs.Object.{Object}
+use Rattle.git_commit.specs.Commit.{CommitValue}
+use Rattle.git_commit.specs.CommitIn.{commit_in}
+use Rattle.git_object.specs.declared.link.Link.{Link}
+use Rattle.git_object.specs.ObjectIn.{links_in}
+use Rattle.fork_reach.specs.Source.{Objects}
+
+-- the links of an object, where there is one
+abbrev pub links_of_found : Option Object → List Link
+links_of_found None = []
+links_of_found (Some object) = links_in object.kind object.bytes
+
+-- the names that the object of a name links to, in their order
+abbrev pub linked_names : Objects → List ℕ → List (List ℕ)
+linked_names objects name = map (λ link. link.name) (links_of_found (get objects name))
+
+-- the parents of a commit, where there is one
+abbrev pub parents_or_none : Option CommitValue → List (List ℕ)
+parents_or_none None = []
+parents_or_none (Some commit) = commit.parents
+
+-- the parents of the commit that bytes of a kind are; any other object has none
+abbrev pub parents_in : Kind → List ℕ → List (List ℕ)
+parents_in Blob bytes = []
+parents_in Tree bytes = []
+parents_in Commit bytes = parents_or_none (commit_in bytes)
+parents_in Tag bytes = []
+
+-- the parents of an object, where there is one
+abbrev pub parents_of_found : Option Object → List (List ℕ)
+parents_of_found None = []
+parents_of_found (Some object) = parents_in object.kind object.bytes
+
+-- the names of the parents of the commit of a name, in their order
+abbrev pub parent_names : Objects → List ℕ → List (List ℕ)
+parent_names objects name = parents_of_found (get objects name)
+
+-- an object is reached: it is a root that is there, or one that is there and that a reached one leads to
+pub data IsReached (next : List ℕ → List (List ℕ)) (objects : Objects) (roots : List (List ℕ)) : List ℕ → Type 0 where
+  Root : (name : List ℕ) → Contains roots name → contains_key objects name ≡ true → IsReached next objects roots name
+  Next : (from name : List ℕ) → IsReached next objects roots from → Contains (next from) name → contains_key objects name ≡ true → IsReached next objects roots name
+
+-- whether a name is one of these
+abbrev pub is_among : List (List ℕ) → List ℕ → Bool
+is_among names name = list_any (bytes_eq name) names
+
+-- whether a name is reached from a root in so many steps at the most, over objects that are there
+abbrev pub leads_within : (List ℕ → List (List ℕ)) → Objects → List (List ℕ) → ℕ → List ℕ → Bool
+leads_within next objects roots zero name = contains_key objects name && is_among roots name
+leads_within next objects roots (suc most) name =
+    leads_within next objects roots most name
+    || contains_key objects name && list_any (λ from. leads_within next objects roots most from && is_among (next from) name) (keys objects)
+
+-- whether it is reached at all: no more steps are needed than there are objects
+unfoldable pub is_reached : (List ℕ → List (List ℕ)) → Objects → List (List ℕ) → List ℕ → Bool
+is_reached next objects roots name = leads_within next objects roots (len objects) name

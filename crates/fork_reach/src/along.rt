@@ -1,0 +1,103 @@
+ghost use Rattle.std.specs.Prelude.{◌≡◌, ◌≢◌, [], List, ℕ, map, IsTrue, IfOk, IfErr};
+ghost use Rattle.std.specs.Bool.{OnFalse};
+ghost use Rattle.git_object.specs.ObjectIn.{links_in};
+ghost use Rattle.fork_reach.specs.Along.{names_along, names_in};
+ghost use Rattle.fork_reach.specs.Faults.{Counts};
+ghost use Rattle.fork_reach.specs.Reach.{parents_in};
+
+use crate::source::{Source, SourceFault};
+use git_commit::Commit;
+use git_name::{Kind, Name, Sealed};
+use git_object::{Object, links};
+use std::alloc::{AllocError, Global};
+
+// What a walk goes along.
+#[derive(Clone, Copy)]
+pub(crate) enum Along {
+    // Each link of each object.
+    Links,
+    // The parents of commits alone.
+    Parents,
+}
+
+#[tactic(auto, using(crate::proofs::AlongLemmas::blob_goes_on))]
+// Whether objects of the kind go on to others at all.
+fn goes_on(along: Along, kind: Kind) -> bool
+    ensures { OnFalse result ((bytes : List ℕ) → names_in along kind bytes ≡ []) }
+{
+    match (along, kind) {
+        (_, Kind::Blob) => false,
+        (Along::Links, _) => true,
+        (Along::Parents, Kind::Commit) => true,
+        (Along::Parents, _) => false,
+    }
+}
+
+// The names of the object's links, in their order.
+fn link_names(alloc: Global, sealed: &Sealed) -> Result<Vec<Name>, AllocError>
+    ensures { IfOk result (λ names. names.items ≡ map (λ link. link.name) (links_in sealed.now.kind sealed.now.bytes)) }
+{
+    let mut names = Vec::new(alloc);
+    let Ok(object) = Object::read(sealed.kind(), sealed.bytes()) else {
+        return Ok(names);
+    };
+    for link in links(&object) {
+        names.push(link.name)?;
+    }
+    Ok(names)
+}
+
+// The names of the commit's parents, in their order.
+fn commit_parents(alloc: Global, sealed: &Sealed) -> Result<Vec<Name>, AllocError>
+    ensures { IfOk result (λ names. names.items ≡ parents_in sealed.now.kind sealed.now.bytes) }
+{
+    let mut names = Vec::new(alloc);
+    if !matches!(sealed.kind(), Kind::Commit) {
+        return Ok(names);
+    }
+    let Ok(commit) = Commit::read(sealed.bytes()) else {
+        return Ok(names);
+    };
+    for parent in commit.parents() {
+        names.push(parent)?;
+    }
+    Ok(names)
+}
+
+// The names that the object goes on to.
+fn names_of(alloc: Global, along: Along, sealed: &Sealed) -> Result<Vec<Name>, AllocError>
+    ensures { IfOk result (λ names. names.items ≡ names_in along sealed.now.kind sealed.now.bytes) }
+{
+    match along {
+        Along::Links => link_names(alloc, sealed),
+        Along::Parents => commit_parents(alloc, sealed),
+    }
+}
+
+// The names that the object of this name goes on to. It is read at the most once, and not at all
+// where its kind goes on to none.
+pub(crate) fn next_names<S: Source>(
+    alloc: Global,
+    source: &mut S,
+    along: Along,
+    name: Name,
+) -> Result<Vec<Name>, SourceFault>
+    ensures next { IsTrue (S.honest source.old) → IfOk result (λ names. names.items ≡ names_along along (S.objects source.old) name) }
+    ensures kept { S.objects source.new ≡ S.objects source.old }
+    ensures honest { S.honest source.new ≡ S.honest source.old }
+    ensures rest { S.rest source.new ≡ S.rest source.old }
+    ensures damaged { IsTrue (S.honest source.old) → IfErr result (λ fault. fault ≢ SourceFault.Damaged) }
+    ensures cause { Counts (S.failures source.old) (S.failures source.new) result }
+{
+    let Some(kind) = source.kind_of(name) else {
+        return Ok(Vec::new(alloc));
+    };
+    if !goes_on(along, kind) {
+        return Ok(Vec::new(alloc));
+    }
+    match source.read(alloc, name) {
+        Ok(Some(sealed)) => names_of(alloc, along, &sealed).map_err(|_| SourceFault::Memory),
+        Ok(None) => Ok(Vec::new(alloc)),
+        Err(fault) => Err(fault),
+    }
+}

@@ -1,0 +1,49 @@
+ghost use Rattle.std.specs.Prelude.{◌≡◌, ◌≢◌, true, List, ℕ, IsTrue, IfOk, IfErr};
+ghost use Rattle.std.specs.BTreeSet.{contains};
+ghost use Rattle.std.specs.FinMap as map;
+ghost use Rattle.git_name.specs.Name.{name_cmp};
+ghost use Rattle.fork_reach.specs.Along.{names_along};
+ghost use Rattle.fork_reach.specs.Faults.{Counts};
+ghost use Rattle.fork_reach.specs.Reach.{is_reached};
+
+use crate::along::{Along, next_names};
+use crate::noting::note_all;
+use crate::source::{Source, SourceFault};
+use git_name::Name;
+use std::alloc::Global;
+use std::collections::BTreeSet;
+
+// The names that are reached from the roots. A name is seen when it is put on the list of those that
+// wait to be followed, so that each is followed once.
+pub(crate) fn walk<S: Source>(
+    alloc: Global,
+    source: &mut S,
+    along: Along,
+    roots: &[Name],
+) -> Result<BTreeSet<Name>, SourceFault>
+    ensures found { IsTrue (S.honest source.old) → IfOk result (λ found. (name : List ℕ) → contains name_cmp found name ≡ is_reached (names_along along (S.objects source.old)) (S.objects source.old) roots.now name) }
+    ensures there { IfOk result (λ found. (name : List ℕ) → contains name_cmp found name ≡ true → map.contains_key (S.objects source.old) name ≡ true) }
+    ensures kept { S.objects source.new ≡ S.objects source.old }
+    ensures honest { S.honest source.new ≡ S.honest source.old }
+    ensures rest { S.rest source.new ≡ S.rest source.old }
+    ensures damaged { IsTrue (S.honest source.old) → IfErr result (λ fault. fault ≢ SourceFault.Damaged) }
+    ensures cause { Counts (S.failures source.old) (S.failures source.new) result }
+{
+    let mut seen = BTreeSet::new(alloc);
+    let mut waiting = Vec::new(alloc);
+    match note_all(source, roots, &mut seen, &mut waiting) {
+        Ok(()) => {}
+        Err(fault) => return Err(fault),
+    }
+    'waiting: while let Some(name) = waiting.pop() {
+        let names = match next_names(alloc, source, along, name) {
+            Ok(names) => names,
+            Err(fault) => return Err(fault),
+        };
+        match note_all(source, names.as_slice(), &mut seen, &mut waiting) {
+            Ok(()) => {}
+            Err(fault) => return Err(fault),
+        }
+    }
+    Ok(seen)
+}

@@ -1,4 +1,4 @@
-use super::ran;
+use super::{Outcome, ran};
 use crate::program::{Untold, program};
 use std::alloc::Global;
 use std::io;
@@ -85,23 +85,26 @@ fn a_tenant_given_twice_is_told_by_its_name(rt: HostRuntime) -> Result<(), Fail>
     Ok(())
 }
 
-#[test]
-fn there_are_64_tenants_at_most(rt: HostRuntime) -> Result<(), Fail> {
-    let alloc = rt.alloc();
+// What a run with so many tenants answers.
+fn ran_with(alloc: Global, count: u8) -> Result<Outcome, Fail> {
     let mut texts = Vec::new(alloc);
-    for number in 0..65u8 {
+    for number in 0..count {
         texts.push(format!(in alloc; "t{number}=1099511627776")?)?;
     }
     let mut words = Vec::new(alloc);
     words.push("run")?;
-    for text in texts.iter().take(64) {
+    for text in &texts {
         words.push(text.as_str())?;
     }
-    let right = ran(alloc, words.as_slice(), b"")?;
+    ran(alloc, words.as_slice(), b"")
+}
+
+#[test]
+fn there_are_64_tenants_at_most(rt: HostRuntime) -> Result<(), Fail> {
+    let alloc = rt.alloc();
+    let right = ran_with(alloc, 64)?;
     assert_eq!(rt; right.status, 0);
-    let last = texts.last().ok_or("none")?;
-    words.push(last.as_str())?;
-    let wrong = ran(alloc, words.as_slice(), b"")?;
+    let wrong = ran_with(alloc, 65)?;
     assert_eq!(rt; wrong.status, 1);
     assert_eq!(rt;
         wrong.faults.as_slice(),

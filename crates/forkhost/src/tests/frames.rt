@@ -1,56 +1,34 @@
-use super::{ran, streams};
+use super::ran;
+use super::turns::both_hear;
+use std::alloc::Global;
 use std::test::Fail;
 
 const TENANTS: [&str; 3] = ["run", "alice=1000", "bob=1000"];
 
 #[test]
 fn one_tenant_is_told_missing_what_another_holds(rt: HostRuntime) -> Result<(), Fail> {
-    let alloc = rt.alloc();
-    let turns = [
+    const TURNS: &[(&str, &str, &str)] = &[
         ("alice", "init r\n", "ok\n"),
-        (
-            "alice",
-            "push r\n\n473a0f4c3be8a93681a267e3b1e9a7dcda1185436fe141f7749120a303721813 blob 0\n\n",
-            "ok\n",
-        ),
-        (
-            "bob",
-            "cat-file 473a0f4c3be8a93681a267e3b1e9a7dcda1185436fe141f7749120a303721813\n",
-            "no missing 473a0f4c3be8a93681a267e3b1e9a7dcda1185436fe141f7749120a303721813\n",
-        ),
-        (
-            "alice",
-            "cat-file 473a0f4c3be8a93681a267e3b1e9a7dcda1185436fe141f7749120a303721813\n",
-            "ok\n473a0f4c3be8a93681a267e3b1e9a7dcda1185436fe141f7749120a303721813 blob 0\n\n",
-        ),
+        ("alice", "push r\n\n$E", "ok\n"),
+        ("bob", "cat-file $e\n", "no missing $e\n"),
+        ("alice", "cat-file $e\n", "ok\n$E"),
         ("bob", "init r\n", "ok\n"),
-        (
-            "bob",
-            "push r\n\n473a0f4c3be8a93681a267e3b1e9a7dcda1185436fe141f7749120a303721813 blob 0\n\n",
-            "ok\n",
-        ),
-        (
-            "bob",
-            "cat-file 473a0f4c3be8a93681a267e3b1e9a7dcda1185436fe141f7749120a303721813\n",
-            "ok\n473a0f4c3be8a93681a267e3b1e9a7dcda1185436fe141f7749120a303721813 blob 0\n\n",
-        ),
+        ("bob", "push r\n\n$E", "ok\n"),
+        ("bob", "cat-file $e\n", "ok\n$E"),
     ];
-    let (input, output) = streams(alloc, turns.as_slice())?;
-    let told = ran(alloc, TENANTS.as_slice(), input.as_bytes())?;
-    assert_eq!(rt; told.status, 0);
-    assert_eq!(rt; told.written.as_slice(), output.as_bytes());
-    assert!(rt; told.faults.is_empty());
+    assert!(rt; both_hear(&rt, TENANTS.as_slice(), TURNS)?);
     Ok(())
 }
 
 #[test]
 fn requests_that_are_none_and_tenants_that_are_not_there(rt: HostRuntime) -> Result<(), Fail> {
-    let alloc = rt.alloc();
-    let turns = [
+    const TURNS: &[(&str, &str, &str)] = &[
         ("carol", "quota\n", "no unknown-tenant\n"),
         ("carol", "", "no unknown-tenant\n"),
         ("alice", "", "no bad-request\n"),
-        ("alice", "quota\n", "no bad-request\n"),
+        ("alice", "quota\n", "ok\n0 1000\n"),
+        ("alice", "census\n", "no bad-request\n"),
+        ("alice", "ls-tree r\n", "no bad-request\n"),
         ("alice", "init\n", "no bad-request\n"),
         ("alice", "init r", "no bad-request\n"),
         ("alice", "init r\nx", "no bad-request\n"),
@@ -66,12 +44,22 @@ fn requests_that_are_none_and_tenants_that_are_not_there(rt: HostRuntime) -> Res
         ("alice", "cat-file 473A\n", "no bad-request\n"),
         ("@host", "", "no bad-request\n"),
         ("@host", "census\n", "no bad-request\n"),
+        ("@host", "prune\n", "no bad-request\n"),
     ];
-    let (input, output) = streams(alloc, turns.as_slice())?;
-    let told = ran(alloc, TENANTS.as_slice(), input.as_bytes())?;
-    assert_eq!(rt; told.status, 0);
-    assert_eq!(rt; told.written.as_slice(), output.as_bytes());
+    assert!(rt; both_hear(&rt, TENANTS.as_slice(), TURNS)?);
     Ok(())
+}
+
+// Whether this input is told so, with this status, and a fault where that is not 0.
+fn is_told(alloc: Global, input: &str, output: &str, status: u8) -> Result<bool, Fail> {
+    let told = ran(alloc, TENANTS.as_slice(), input.as_bytes())?;
+    let faults: &[u8] = if status == 0 {
+        b""
+    } else {
+        b"forkhost: bad frame\n"
+    };
+    let is_same = told.written.as_slice() == output.as_bytes();
+    Ok(is_same && told.status == status && told.faults.as_slice() == faults)
 }
 
 #[test]
@@ -90,15 +78,7 @@ fn what_is_no_frame_ends_the_session(rt: HostRuntime) -> Result<(), Fail> {
         ),
     ];
     for (input, output, status) in cases {
-        let told = ran(alloc, TENANTS.as_slice(), input.as_bytes())?;
-        assert_eq!(rt; told.status, status, "{input}");
-        assert_eq!(rt; told.written.as_slice(), output.as_bytes(), "{input}");
-        let faults: &[u8] = if status == 0 {
-            b""
-        } else {
-            b"forkhost: bad frame\n"
-        };
-        assert_eq!(rt; told.faults.as_slice(), faults, "{input}");
+        assert!(rt; is_told(alloc, input, output, status)?, "{input}");
     }
     Ok(())
 }

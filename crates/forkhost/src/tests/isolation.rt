@@ -1,124 +1,71 @@
-use super::turns::Session;
-use super::{ran, streams};
+use super::turns::{Session, both_hear};
 use std::test::Fail;
 
-// What bob asks.
-const BOB: [(&str, &str, &str); 7] = [
-    (
-        "bob",
-        "cat-file 2cf8d83d9ee29543b34a87727421fdecb7e3f3a183d337639025de576db9ebb4\n",
-        "",
-    ),
-    ("bob", "init r\n", ""),
-    ("bob", "init r\n", ""),
-    (
-        "bob",
-        "push r\n\n473a0f4c3be8a93681a267e3b1e9a7dcda1185436fe141f7749120a303721813 blob 0\n\n",
-        "",
-    ),
-    (
-        "bob",
-        "push r\n\n2cf8d83d9ee29543b34a87727421fdecb7e3f3a183d337639025de576db9ebb4 blob 6\nhello\n\n",
-        "",
-    ),
-    (
-        "bob",
-        "cat-file 473a0f4c3be8a93681a267e3b1e9a7dcda1185436fe141f7749120a303721813\n",
-        "",
-    ),
-    (
-        "bob",
-        "cat-file 449e9b795420cd16fe60ad5298cf680f15a7cd2ac9b44adaf7ed3edc0d08dd78\n",
-        "",
-    ),
-];
+// Whether a tenant, on a host that holds it alone, hears what it hears in these turns.
+fn hears_alone(
+    rt: &HostRuntime,
+    who: &str,
+    limit: &str,
+    turns: &[(&str, &str, &str)],
+) -> Result<bool, Fail> {
+    let alloc = rt.alloc();
+    let mut own = Session::new(alloc);
+    for (asker, payload, reply) in turns {
+        if *asker == who {
+            own.add(alloc, asker, payload, reply)?;
+        }
+    }
+    let word = format!(in alloc; "{who}={limit}")?;
+    own.is_told(alloc, ["run", word.as_str()].as_slice())
+}
 
-// What alice asks before each request of bob's.
-const ALICE: [(&str, &str, &str); 7] = [
-    ("alice", "init r\n", "ok\n"),
-    (
-        "alice",
-        "push r\n\n2cf8d83d9ee29543b34a87727421fdecb7e3f3a183d337639025de576db9ebb4 blob 6\nhello\n\n",
-        "ok\n",
-    ),
-    ("alice", "init s\n", "ok\n"),
-    (
-        "alice",
-        "push s\n\n473a0f4c3be8a93681a267e3b1e9a7dcda1185436fe141f7749120a303721813 blob 0\n\n",
-        "ok\n",
-    ),
-    ("alice", "push r\nx", "no truncated\n"),
-    (
-        "alice",
-        "push r\n\n449e9b795420cd16fe60ad5298cf680f15a7cd2ac9b44adaf7ed3edc0d08dd78 blob 1\n\0\n",
-        "ok\n",
-    ),
-    ("alice", "quota\n", "no bad-request\n"),
-];
+// Whether alice, and bob with this limit, hear this beside one another, and each the same alone.
+fn each_hears_the_same(
+    rt: &HostRuntime,
+    limit: &str,
+    turns: &[(&str, &str, &str)],
+) -> Result<bool, Fail> {
+    let word = format!(in rt.alloc(); "bob={limit}")?;
+    let words = ["run", "alice=1000", word.as_str()];
+    let beside = both_hear(rt, words.as_slice(), turns)?;
+    let alice = hears_alone(rt, "alice", "1000", turns)?;
+    let bob = hears_alone(rt, "bob", limit, turns)?;
+    Ok(beside && alice && bob)
+}
 
 #[test]
 fn a_tenant_is_told_what_a_private_host_tells_it(rt: HostRuntime) -> Result<(), Fail> {
-    let alloc = rt.alloc();
-    let (own, _) = streams(alloc, BOB.as_slice())?;
-    let alone = ran(alloc, ["run", "bob=200"].as_slice(), own.as_bytes())?;
-    assert_eq!(rt; alone.status, 0);
-    let mut input = Vec::new(alloc);
-    let mut others = Vec::new(alloc);
-    for (first, second) in ALICE.iter().zip(BOB.iter()) {
-        let (asked, told) = streams(alloc, [*first].as_slice())?;
-        input.extend_from_slice(asked.as_bytes())?;
-        others.push(told)?;
-        let (asked, _) = streams(alloc, [*second].as_slice())?;
-        input.extend_from_slice(asked.as_bytes())?;
-    }
-    let beside = ran(
-        alloc,
-        ["run", "alice=1000", "bob=200"].as_slice(),
-        input.as_slice(),
-    )?;
-    assert_eq!(rt; beside.status, 0);
-    let mut rest = beside.written.as_slice();
-    let mut heard = Vec::new(alloc);
-    for told in &others {
-        let begins = rest.starts_with(told.as_bytes());
-        assert!(rt; begins);
-        rest = rest.get(told.len()..).ok_or("short")?;
-        let digits = rest
-            .iter()
-            .position(|byte| *byte == b'\n')
-            .ok_or("no line")?;
-        let line = rest.get(..digits).ok_or("short")?;
-        let len = git_name::decimal(line).ok_or("no length")?;
-        let end = digits
-            .saturating_add(1)
-            .saturating_add((len % 1_000_000) as usize);
-        heard.extend_from_slice(rest.get(..end).ok_or("short")?)?;
-        rest = rest.get(end..).ok_or("short")?;
-    }
-    assert_eq!(rt; heard.as_slice(), alone.written.as_slice());
-    assert!(rt; rest.is_empty());
+    const TURNS: &[(&str, &str, &str)] = &[
+        ("alice", "init r\n", "ok\n"),
+        ("bob", "cat-file $b\n", "no missing $b\n"),
+        ("alice", "push r\n\n$B", "ok\n"),
+        ("bob", "init r\n", "ok\n"),
+        ("alice", "init s\n", "ok\n"),
+        ("bob", "init r\n", "no repository-exists r\n"),
+        ("alice", "push s\n\n$E", "ok\n"),
+        ("bob", "push r\n\n$E", "ok\n"),
+        ("alice", "push r\nx", "no truncated\n"),
+        ("bob", "push r\n\n$B", "ok\n"),
+        (
+            "alice",
+            "push r\n\n449e9b795420cd16fe60ad5298cf680f15a7cd2ac9b44adaf7ed3edc0d08dd78 blob 1\n\0\n",
+            "ok\n",
+        ),
+        ("bob", "cat-file $e\n", "ok\n$E"),
+        ("alice", "quota\n", "ok\n199 1000\n"),
+        (
+            "bob",
+            "cat-file 449e9b795420cd16fe60ad5298cf680f15a7cd2ac9b44adaf7ed3edc0d08dd78\n",
+            "no missing 449e9b795420cd16fe60ad5298cf680f15a7cd2ac9b44adaf7ed3edc0d08dd78\n",
+        ),
+    ];
+    assert!(rt; each_hears_the_same(&rt, "200", TURNS)?);
     Ok(())
-}
-
-// Whether bob hears this beside alice, and the same on a host that holds him alone.
-fn bob_hears_the_same(rt: &HostRuntime, turns: &[(&str, &str, &str)]) -> Result<bool, Fail> {
-    let alloc = rt.alloc();
-    let mut both = Session::new(alloc);
-    let mut own = Session::new(alloc);
-    for (who, payload, reply) in turns {
-        both.add(alloc, who, payload, reply)?;
-        if *who == "bob" {
-            own.add(alloc, who, payload, reply)?;
-        }
-    }
-    let beside = both.is_told(alloc, ["run", "alice=1000", "bob=300"].as_slice())?;
-    let alone = own.is_told(alloc, ["run", "bob=300"].as_slice())?;
-    Ok(beside && alone)
 }
 
 #[test]
 fn a_reference_does_not_tell_what_another_tenant_holds(rt: HostRuntime) -> Result<(), Fail> {
-    let turns = [
+    const TURNS: &[(&str, &str, &str)] = &[
         ("alice", "init r\n", "ok\n"),
         ("alice", "push r\n\n$T$C", "ok\n"),
         ("bob", "init r\n", "ok\n"),
@@ -145,13 +92,13 @@ fn a_reference_does_not_tell_what_another_tenant_holds(rt: HostRuntime) -> Resul
         ),
         ("bob", "for-each-ref r\n", "ok\n"),
     ];
-    assert!(rt; bob_hears_the_same(&rt, turns.as_slice())?);
+    assert!(rt; each_hears_the_same(&rt, "300", TURNS)?);
     Ok(())
 }
 
 #[test]
 fn a_link_does_not_tell_what_another_tenant_holds(rt: HostRuntime) -> Result<(), Fail> {
-    let turns = [
+    const TURNS: &[(&str, &str, &str)] = &[
         ("alice", "init r\n", "ok\n"),
         ("alice", "push r\n\n$T$C$E", "ok\n"),
         ("bob", "init r\n", "ok\n"),
@@ -161,13 +108,13 @@ fn a_link_does_not_tell_what_another_tenant_holds(rt: HostRuntime) -> Result<(),
         ("bob", "push r\n\n$T$C", "ok\n"),
         ("bob", "cat-file $c\n", "ok\n$C"),
     ];
-    assert!(rt; bob_hears_the_same(&rt, turns.as_slice())?);
+    assert!(rt; each_hears_the_same(&rt, "300", TURNS)?);
     Ok(())
 }
 
 #[test]
 fn a_wrong_kind_does_not_tell_what_another_tenant_holds(rt: HostRuntime) -> Result<(), Fail> {
-    let turns = [
+    const TURNS: &[(&str, &str, &str)] = &[
         ("alice", "init r\n", "ok\n"),
         ("alice", "push r\n\n$E", "ok\n"),
         ("alice", "push r\n\n$W", "no wrong-type $e\n"),
@@ -180,13 +127,13 @@ fn a_wrong_kind_does_not_tell_what_another_tenant_holds(rt: HostRuntime) -> Resu
             "no missing $e\n",
         ),
     ];
-    assert!(rt; bob_hears_the_same(&rt, turns.as_slice())?);
+    assert!(rt; each_hears_the_same(&rt, "300", TURNS)?);
     Ok(())
 }
 
 #[test]
 fn a_limit_does_not_tell_what_another_tenant_holds(rt: HostRuntime) -> Result<(), Fail> {
-    let turns = [
+    const TURNS: &[(&str, &str, &str)] = &[
         ("alice", "init r\n", "ok\n"),
         ("alice", "push r\n\n$T$C$E$F", "ok\n"),
         ("bob", "init r\n", "ok\n"),
@@ -195,32 +142,39 @@ fn a_limit_does_not_tell_what_another_tenant_holds(rt: HostRuntime) -> Result<()
         ("bob", "push r\n\n$T$C", "ok\n"),
         ("bob", "cat-file $e\n", "no missing $e\n"),
     ];
-    assert!(rt; bob_hears_the_same(&rt, turns.as_slice())?);
+    assert!(rt; each_hears_the_same(&rt, "300", TURNS)?);
     Ok(())
 }
 
 #[test]
 fn a_dropped_repository_shows_nothing_to_another_tenant(rt: HostRuntime) -> Result<(), Fail> {
-    let asked = "update-refs r\ncreate refs/heads/x $c\n";
-    let turns = [
+    const TURNS: &[(&str, &str, &str)] = &[
         ("alice", "init r\n", "ok\n"),
         ("alice", "push r\ncreate refs/heads/x $c\n\n$T$C", "ok\n"),
         ("bob", "init r\n", "ok\n"),
         ("bob", "cat-file $c\n", "no missing $c\n"),
-        ("bob", asked, "no missing $c\n"),
+        (
+            "bob",
+            "update-refs r\ncreate refs/heads/x $c\n",
+            "no missing $c\n",
+        ),
         ("alice", "drop r\n", "ok\n"),
         ("bob", "cat-file $c\n", "no missing $c\n"),
-        ("bob", asked, "no missing $c\n"),
+        (
+            "bob",
+            "update-refs r\ncreate refs/heads/x $c\n",
+            "no missing $c\n",
+        ),
         ("bob", "for-each-ref r\n", "ok\n"),
         ("alice", "cat-file $c\n", "ok\n$C"),
     ];
-    assert!(rt; bob_hears_the_same(&rt, turns.as_slice())?);
+    assert!(rt; each_hears_the_same(&rt, "300", TURNS)?);
     Ok(())
 }
 
 #[test]
 fn an_upload_shows_nothing_to_another_tenant(rt: HostRuntime) -> Result<(), Fail> {
-    let turns = [
+    const TURNS: &[(&str, &str, &str)] = &[
         ("bob", "init r\n", "ok\n"),
         ("alice", "part\n\n$T$C", "ok\n"),
         ("bob", "cat-file $c\n", "no missing $c\n"),
@@ -239,6 +193,120 @@ fn an_upload_shows_nothing_to_another_tenant(rt: HostRuntime) -> Result<(), Fail
         ("alice", "part\n$T", "ok\n"),
         ("bob", "part-end r\n", "no missing $t\n"),
     ];
-    assert!(rt; bob_hears_the_same(&rt, turns.as_slice())?);
+    assert!(rt; each_hears_the_same(&rt, "300", TURNS)?);
+    Ok(())
+}
+
+#[test]
+fn a_quota_does_not_tell_what_another_tenant_holds(rt: HostRuntime) -> Result<(), Fail> {
+    const TURNS: &[(&str, &str, &str)] = &[
+        ("alice", "init r\n", "ok\n"),
+        ("alice", "push r\n\n$E$B", "ok\n"),
+        ("bob", "quota\n", "ok\n0 300\n"),
+        ("bob", "init r\n", "ok\n"),
+        ("bob", "push r\n\n$E", "ok\n"),
+        ("bob", "quota\n", "ok\n64 300\n"),
+        ("bob", "push r\n\n$E", "ok\n"),
+        ("bob", "quota\n", "ok\n64 300\n"),
+        ("alice", "quota\n", "ok\n134 1000\n"),
+        ("alice", "part\n\n$T$C", "ok\n"),
+        ("bob", "push r\n\n$T", "ok\n"),
+        ("bob", "quota\n", "ok\n128 300\n"),
+        ("alice", "part-end r\n", "ok\n"),
+        ("alice", "quota\n", "ok\n390 1000\n"),
+        ("bob", "quota\n", "ok\n128 300\n"),
+        ("alice", "prune\n", "ok\n"),
+        ("alice", "quota\n", "ok\n0 1000\n"),
+        ("bob", "quota\n", "ok\n128 300\n"),
+    ];
+    assert!(rt; each_hears_the_same(&rt, "300", TURNS)?);
+    Ok(())
+}
+
+#[test]
+fn a_tenant_may_use_its_limit_whatever_others_use(rt: HostRuntime) -> Result<(), Fail> {
+    const TURNS: &[(&str, &str, &str)] = &[
+        ("alice", "init r\n", "ok\n"),
+        ("alice", "push r\n\n$N$F$E$C$T$G$B", "ok\n"),
+        ("alice", "quota\n", "ok\n943 1000\n"),
+        ("alice", "push r\n\n$L", "no over-quota\n"),
+        ("bob", "init r\n", "ok\n"),
+        ("bob", "push r\n\n$T$C", "ok\n"),
+        ("bob", "quota\n", "ok\n256 256\n"),
+        ("bob", "push r\n\n$E", "no over-quota\n"),
+        ("alice", "prune\n", "ok\n"),
+        ("bob", "push r\n\n$E", "no over-quota\n"),
+        ("alice", "push r\n\n$L", "ok\n"),
+        ("bob", "quota\n", "ok\n256 256\n"),
+    ];
+    assert!(rt; each_hears_the_same(&rt, "256", TURNS)?);
+    Ok(())
+}
+
+#[test]
+fn a_prune_is_not_stopped_by_what_another_tenant_refers_to(rt: HostRuntime) -> Result<(), Fail> {
+    const TURNS: &[(&str, &str, &str)] = &[
+        ("alice", "init r\n", "ok\n"),
+        ("alice", "push r\ncreate refs/heads/x $c\n\n$T$C", "ok\n"),
+        ("bob", "init r\n", "ok\n"),
+        ("bob", "push r\n\n$T$C", "ok\n"),
+        ("bob", "cat-file $c\n", "ok\n$C"),
+        ("bob", "prune\n", "ok\n"),
+        ("bob", "cat-file $c\n", "no missing $c\n"),
+        ("bob", "cat-file $t\n", "no missing $t\n"),
+        ("bob", "quota\n", "ok\n0 300\n"),
+        ("bob", "push r\n\n$C", "no missing $t\n"),
+        ("alice", "cat-file $c\n", "ok\n$C"),
+        ("alice", "cat-file $t\n", "ok\n$T"),
+        ("alice", "prune\n", "ok\n"),
+        ("alice", "cat-file $c\n", "ok\n$C"),
+        ("alice", "quota\n", "ok\n256 1000\n"),
+        ("alice", "for-each-ref r\n", "ok\n$c commit\trefs/heads/x\n"),
+    ];
+    assert!(rt; each_hears_the_same(&rt, "300", TURNS)?);
+    Ok(())
+}
+
+#[test]
+fn a_prune_takes_nothing_from_another_tenant(rt: HostRuntime) -> Result<(), Fail> {
+    const TURNS: &[(&str, &str, &str)] = &[
+        ("alice", "init r\n", "ok\n"),
+        ("alice", "push r\n\n$T$C$E", "ok\n"),
+        ("bob", "init r\n", "ok\n"),
+        ("bob", "push r\ncreate refs/heads/x $c\n\n$T$C", "ok\n"),
+        ("alice", "prune\n", "ok\n"),
+        ("alice", "cat-file $c\n", "no missing $c\n"),
+        ("bob", "cat-file $c\n", "ok\n$C"),
+        ("bob", "cat-file $t\n", "ok\n$T"),
+        ("bob", "quota\n", "ok\n256 300\n"),
+        ("bob", "drop r\n", "ok\n"),
+        ("alice", "prune\n", "ok\n"),
+        ("bob", "cat-file $c\n", "ok\n$C"),
+        ("bob", "prune\n", "ok\n"),
+        ("bob", "cat-file $c\n", "no missing $c\n"),
+        ("alice", "push r\n\n$C", "no missing $t\n"),
+        ("alice", "push r\n\n$T$C", "ok\n"),
+        ("bob", "cat-file $c\n", "no missing $c\n"),
+    ];
+    assert!(rt; each_hears_the_same(&rt, "300", TURNS)?);
+    Ok(())
+}
+
+#[test]
+fn a_prune_leaves_the_upload_of_another_tenant(rt: HostRuntime) -> Result<(), Fail> {
+    const TURNS: &[(&str, &str, &str)] = &[
+        ("alice", "init r\n", "ok\n"),
+        ("alice", "push r\n\n$T", "ok\n"),
+        ("alice", "part\n\n$C", "ok\n"),
+        ("bob", "init r\n", "ok\n"),
+        ("bob", "push r\n\n$T", "ok\n"),
+        ("bob", "part\n\n$C", "ok\n"),
+        ("bob", "prune\n", "ok\n"),
+        ("alice", "part-end r\n", "ok\n"),
+        ("bob", "part-end r\n", "no missing $t\n"),
+        ("alice", "cat-file $c\n", "ok\n$C"),
+        ("bob", "cat-file $c\n", "no missing $c\n"),
+    ];
+    assert!(rt; each_hears_the_same(&rt, "300", TURNS)?);
     Ok(())
 }

@@ -24,6 +24,14 @@ const MADE_BY_GIT: [(&str, &[u8], &str); 3] = [
 // The name of the empty tree, as `git hash-object -t tree` prints it.
 const T: &str = "6ef19b41225c5369f1c104d45d8d85efa9b057b53b14b4b9b939dd74decc5321";
 
+// Whether this content is told to have this name, and no fault.
+fn is_named(alloc: Global, words: &[&str], content: &[u8], name: &str) -> Result<bool, Fail> {
+    let told = ran(alloc, words, content)?;
+    let line = format!(in alloc; "{name}\n")?;
+    let is_clean = told.status == 0 && told.faults.is_empty();
+    Ok(is_clean && told.written.as_slice() == line.as_bytes())
+}
+
 #[test]
 fn names_of_blobs(rt: HostRuntime) -> Result<(), Fail> {
     let alloc = rt.alloc();
@@ -39,13 +47,8 @@ fn names_of_blobs(rt: HostRuntime) -> Result<(), Fail> {
         ),
     ];
     for (input, name) in cases {
-        let told = ran(alloc, &["hash-object"], input)?;
-        assert_eq!(rt; told.status, 0);
-        let line = format!(in alloc; "{name}\n")?;
-        assert_eq!(rt; told.written.as_slice(), line.as_bytes());
-        assert!(rt; told.faults.is_empty());
-        let again = ran(alloc, &["hash-object", "--type", "blob"], input)?;
-        assert_eq!(rt; again.written.as_slice(), line.as_bytes());
+        assert!(rt; is_named(alloc, &["hash-object"], input, name)?);
+        assert!(rt; is_named(alloc, &["hash-object", "--type", "blob"], input, name)?);
     }
     Ok(())
 }
@@ -54,16 +57,12 @@ fn names_of_blobs(rt: HostRuntime) -> Result<(), Fail> {
 fn names_of_other_kinds(rt: HostRuntime) -> Result<(), Fail> {
     let alloc = rt.alloc();
     for (kind, input, name) in MADE_BY_GIT {
-        let told = ran(alloc, &["hash-object", "--type", kind], input)?;
-        let line = format!(in alloc; "{name}\n")?;
-        assert_eq!(rt; told.status, 0);
-        assert_eq!(rt; told.written.as_slice(), line.as_bytes());
-        assert!(rt; told.faults.is_empty());
+        assert!(rt;
+            is_named(alloc, &["hash-object", "--type", kind], input, name)?,
+            "{kind}"
+        );
     }
-    let empty = ran(alloc, &["hash-object", "--type=tree"], b"")?;
-    let line = format!(in alloc; "{T}\n")?;
-    assert_eq!(rt; empty.status, 0);
-    assert_eq!(rt; empty.written.as_slice(), line.as_bytes());
+    assert!(rt; is_named(alloc, &["hash-object", "--type=tree"], b"", T)?);
     Ok(())
 }
 
@@ -101,6 +100,12 @@ fn content_in_no_grammar_is_told(rt: HostRuntime) -> Result<(), Fail> {
             }
         }
     }
+    Ok(())
+}
+
+#[test]
+fn a_tree_that_is_none_is_told(rt: HostRuntime) -> Result<(), Fail> {
+    let alloc = rt.alloc();
     let rows: [&[&str]; 6] = [
         &["100644 a", "100644 a"],
         &["100644 a", "40000 a"],
@@ -113,11 +118,24 @@ fn content_in_no_grammar_is_told(rt: HostRuntime) -> Result<(), Fail> {
         let content = entries(alloc, row)?;
         assert!(rt; is_no_object(alloc, "tree", content.as_slice())?, "{row:?}");
     }
+    Ok(())
+}
+
+#[test]
+fn a_tree_that_is_cut_is_told(rt: HostRuntime) -> Result<(), Fail> {
+    let alloc = rt.alloc();
     let right = entries(alloc, &["100644 a", "100644 b"])?;
     assert!(rt; !is_no_object(alloc, "tree", right.as_slice())?);
     let short = right.as_slice().get(..40).ok_or("short")?;
     assert!(rt; is_no_object(alloc, "tree", short)?);
     Ok(())
+}
+
+// Whether content is told to be too large, and nothing else is written.
+fn is_too_large(alloc: Global, kind: &str, content: &[u8]) -> Result<bool, Fail> {
+    let told = ran(alloc, &["hash-object", "--type", kind], content)?;
+    let is_untold = told.status == 1 && told.written.is_empty();
+    Ok(is_untold && told.faults.as_slice() == b"forkhost: too-large\n".as_slice())
 }
 
 #[test]
@@ -130,14 +148,7 @@ fn content_above_the_limit_is_too_large(rt: HostRuntime) -> Result<(), Fail> {
     assert!(rt; is_no_object(alloc, "commit", content.as_slice())?);
     content.push(0)?;
     for kind in ["blob", "tree", "commit", "tag"] {
-        let wrong = ran(alloc, &["hash-object", "--type", kind], content.as_slice())?;
-        assert_eq!(rt; wrong.status, 1, "{kind}");
-        assert!(rt; wrong.written.is_empty(), "{kind}");
-        assert_eq!(rt;
-            wrong.faults.as_slice(),
-            b"forkhost: too-large\n".as_slice(),
-            "{kind}"
-        );
+        assert!(rt; is_too_large(alloc, kind, content.as_slice())?, "{kind}");
     }
     Ok(())
 }

@@ -5,7 +5,7 @@ use std::test::Fail;
 
 #[test]
 fn objects_of_all_kinds_come_with_their_references(rt: HostRuntime) -> Result<(), Fail> {
-    let turns = [
+    const TURNS: &[(&str, &str)] = &[
         (
             "push r\ncreate refs/heads/main $c\ncreate refs/tags/v1 $g\ncreate refs/t $t\ncreate refs/e $e\n\n$E$T$C$G",
             "ok\n",
@@ -19,13 +19,13 @@ fn objects_of_all_kinds_come_with_their_references(rt: HostRuntime) -> Result<()
         ("cat-file $c\n", "ok\n$C"),
         ("cat-file $g\n", "ok\n$G"),
     ];
-    assert!(rt; alice_hears(&rt, "1000", turns.as_slice())?);
+    assert!(rt; alice_hears(&rt, "1000", TURNS)?);
     Ok(())
 }
 
 #[test]
 fn a_later_push_brings_what_is_new_and_moves_references(rt: HostRuntime) -> Result<(), Fail> {
-    let turns = [
+    const TURNS: &[(&str, &str)] = &[
         (
             "push r\ncreate refs/heads/main $c\ncreate refs/tags/v1 $g\n\n$T$C$G",
             "ok\n",
@@ -41,13 +41,13 @@ fn a_later_push_brings_what_is_new_and_moves_references(rt: HostRuntime) -> Resu
         ("for-each-ref r\n", "ok\n"),
         ("cat-file $g\n", "ok\n$G"),
     ];
-    assert!(rt; alice_hears(&rt, "1000", turns.as_slice())?);
+    assert!(rt; alice_hears(&rt, "1000", TURNS)?);
     Ok(())
 }
 
 #[test]
 fn objects_may_stand_before_what_they_link_to(rt: HostRuntime) -> Result<(), Fail> {
-    let turns = [
+    const TURNS: &[(&str, &str)] = &[
         ("push r\n\n$G$N$F$E$C$T", "ok\n"),
         ("cat-file $g\n", "ok\n$G"),
         ("cat-file $n\n", "ok\n$N"),
@@ -57,20 +57,20 @@ fn objects_may_stand_before_what_they_link_to(rt: HostRuntime) -> Result<(), Fai
         ("cat-file $t\n", "ok\n$T"),
         ("push r\n\n$T$C$E$F$N$G", "ok\n"),
     ];
-    assert!(rt; alice_hears(&rt, "1000", turns.as_slice())?);
+    assert!(rt; alice_hears(&rt, "1000", TURNS)?);
     Ok(())
 }
 
 #[test]
 fn what_a_gitlink_names_need_not_be_there(rt: HostRuntime) -> Result<(), Fail> {
-    let turns = [("push r\n\n$L", "ok\n"), ("cat-file $l\n", "ok\n$L")];
-    assert!(rt; alice_hears(&rt, "1000", turns.as_slice())?);
+    const TURNS: &[(&str, &str)] = &[("push r\n\n$L", "ok\n"), ("cat-file $l\n", "ok\n$L")];
+    assert!(rt; alice_hears(&rt, "1000", TURNS)?);
     Ok(())
 }
 
 #[test]
 fn the_first_link_that_is_not_there_is_told(rt: HostRuntime) -> Result<(), Fail> {
-    let turns = [
+    const TURNS: &[(&str, &str)] = &[
         ("push r\n\n$C", "no missing $t\n"),
         ("push r\n\n$G", "no missing $c\n"),
         ("push r\n\n$F", "no missing $e\n"),
@@ -83,13 +83,13 @@ fn the_first_link_that_is_not_there_is_told(rt: HostRuntime) -> Result<(), Fail>
         ("push r\n\n$E$T", "ok\n"),
         ("push r\n\n$N$C$F", "ok\n"),
     ];
-    assert!(rt; alice_hears(&rt, "1000", turns.as_slice())?);
+    assert!(rt; alice_hears(&rt, "1000", TURNS)?);
     Ok(())
 }
 
 #[test]
 fn a_link_to_an_object_of_another_kind_is_told(rt: HostRuntime) -> Result<(), Fail> {
-    let turns = [
+    const TURNS: &[(&str, &str)] = &[
         ("push r\n\n$W$E", "no wrong-type $e\n"),
         ("push r\n\n$K$E", "no wrong-type $e\n"),
         ("push r\n\n$E$U", "no wrong-type $e\n"),
@@ -100,23 +100,23 @@ fn a_link_to_an_object_of_another_kind_is_told(rt: HostRuntime) -> Result<(), Fa
         ("push r\n\n$E", "ok\n"),
         ("push r\n\n$W", "no wrong-type $e\n"),
     ];
-    assert!(rt; alice_hears(&rt, "1000", turns.as_slice())?);
+    assert!(rt; alice_hears(&rt, "1000", TURNS)?);
     Ok(())
 }
 
 #[test]
 fn what_is_missing_is_told_before_a_wrong_kind(rt: HostRuntime) -> Result<(), Fail> {
-    let turns = [
+    const TURNS: &[(&str, &str)] = &[
         ("push r\n\n$E$W$C", "no missing $t\n"),
         ("push r\n\n$E$W$C$T", "no wrong-type $e\n"),
     ];
-    assert!(rt; alice_hears(&rt, "1000", turns.as_slice())?);
+    assert!(rt; alice_hears(&rt, "1000", TURNS)?);
     Ok(())
 }
 
 #[test]
 fn a_content_that_is_no_object_is_told_behind_its_name(rt: HostRuntime) -> Result<(), Fail> {
-    let turns = [
+    const TURNS: &[(&str, &str)] = &[
         ("push r\n\n$X", "no bad-object $x\n"),
         ("push r\n\n$Y", "no bad-object $y\n"),
         ("push r\n\n$Z", "no bad-object $z\n"),
@@ -126,13 +126,13 @@ fn a_content_that_is_no_object_is_told_behind_its_name(rt: HostRuntime) -> Resul
         ("push r\n\n$C$X", "no bad-object $x\n"),
         ("push r\n\n$X$t tree 1\nx\n", "no bad-object $x\n"),
     ];
-    assert!(rt; alice_hears(&rt, "1000", turns.as_slice())?);
+    assert!(rt; alice_hears(&rt, "1000", TURNS)?);
     Ok(())
 }
 
 #[test]
 fn the_first_wrong_item_of_a_body_is_told(rt: HostRuntime) -> Result<(), Fail> {
-    let turns = [
+    const TURNS: &[(&str, &str)] = &[
         ("push r\n", "no truncated\n"),
         ("push r\n\n", "ok\n"),
         ("push r\nx", "no truncated\n"),
@@ -158,13 +158,13 @@ fn the_first_wrong_item_of_a_body_is_told(rt: HostRuntime) -> Result<(), Fail> {
         ),
         ("cat-file $e\n", "no missing $e\n"),
     ];
-    assert!(rt; alice_hears(&rt, "1000", turns.as_slice())?);
+    assert!(rt; alice_hears(&rt, "1000", TURNS)?);
     Ok(())
 }
 
 #[test]
 fn points_are_judged_one_after_another(rt: HostRuntime) -> Result<(), Fail> {
-    let turns = [
+    const TURNS: &[(&str, &str)] = &[
         ("push R\nx\n", "no bad-name R\n"),
         ("push s\nx\n", "no no-repository s\n"),
         ("push r\ncreate x $e\nx\n\n$E$W$C", "no syntax\n"),
@@ -172,13 +172,13 @@ fn points_are_judged_one_after_another(rt: HostRuntime) -> Result<(), Fail> {
         ("push r\ncreate x $e\n\n$E$W", "no wrong-type $e\n"),
         ("push r\ncreate x $e\n\n$E", "no bad-ref x\n"),
     ];
-    assert!(rt; alice_hears(&rt, "10", turns.as_slice())?);
+    assert!(rt; alice_hears(&rt, "10", TURNS)?);
     Ok(())
 }
 
 #[test]
 fn a_refused_transaction_leaves_its_objects_unseen(rt: HostRuntime) -> Result<(), Fail> {
-    let turns = [
+    const TURNS: &[(&str, &str)] = &[
         ("push r\ncreate refs/a $n\n\n$T$C", "no missing $n\n"),
         (
             "push r\ncreate refs/heads/a $e\n\n$E",
@@ -198,13 +198,13 @@ fn a_refused_transaction_leaves_its_objects_unseen(rt: HostRuntime) -> Result<()
         ("for-each-ref r\n", "ok\n"),
         ("update-refs r\ncreate refs/a $e\n", "no missing $e\n"),
     ];
-    assert!(rt; alice_hears(&rt, "1000", turns.as_slice())?);
+    assert!(rt; alice_hears(&rt, "1000", TURNS)?);
     Ok(())
 }
 
 #[test]
 fn the_limit_is_judged_behind_the_transaction(rt: HostRuntime) -> Result<(), Fail> {
-    let turns = [
+    const TURNS: &[(&str, &str)] = &[
         (
             "push r\ncreate refs/heads/a $e\n\n$E",
             "no not-a-commit $e\n",
@@ -216,14 +216,14 @@ fn the_limit_is_judged_behind_the_transaction(rt: HostRuntime) -> Result<(), Fai
         ("for-each-ref r\n", "ok\n"),
         ("push r\n\n", "ok\n"),
     ];
-    assert!(rt; alice_hears(&rt, "63", turns.as_slice())?);
+    assert!(rt; alice_hears(&rt, "63", TURNS)?);
     Ok(())
 }
 
 #[test]
 fn a_limit_is_met_exactly(rt: HostRuntime) -> Result<(), Fail> {
     let words = ["run", "alice=256", "bob=255"];
-    let turns = [
+    const TURNS: &[(&str, &str, &str)] = &[
         ("alice", "init r\n", "ok\n"),
         ("bob", "init r\n", "ok\n"),
         ("bob", "push r\n\n$T$C", "no over-quota\n"),
@@ -234,13 +234,13 @@ fn a_limit_is_met_exactly(rt: HostRuntime) -> Result<(), Fail> {
         ("alice", "push r\n\n$E", "no over-quota\n"),
         ("alice", "push r\ncreate refs/heads/a $c\n\n$C$T", "ok\n"),
     ];
-    assert!(rt; both_hear(&rt, words.as_slice(), turns.as_slice())?);
+    assert!(rt; both_hear(&rt, words.as_slice(), TURNS)?);
     Ok(())
 }
 
 #[test]
 fn an_object_that_is_sent_twice_or_seen_counts_once(rt: HostRuntime) -> Result<(), Fail> {
-    let turns = [
+    const TURNS: &[(&str, &str)] = &[
         ("push r\n\n$E$E", "ok\n"),
         ("push r\n\n$E$E", "ok\n"),
         ("push r\n\n$E$B", "no over-quota\n"),
@@ -249,13 +249,13 @@ fn an_object_that_is_sent_twice_or_seen_counts_once(rt: HostRuntime) -> Result<(
         ("init s\n", "ok\n"),
         ("push s\n\n$T", "no over-quota\n"),
     ];
-    assert!(rt; alice_hears(&rt, "64", turns.as_slice())?);
+    assert!(rt; alice_hears(&rt, "64", TURNS)?);
     Ok(())
 }
 
 #[test]
 fn objects_are_the_tenants_whatever_repository_was_named(rt: HostRuntime) -> Result<(), Fail> {
-    let turns = [
+    const TURNS: &[(&str, &str)] = &[
         ("init s\n", "ok\n"),
         ("push r\ncreate refs/heads/a $c\n\n$T$C", "ok\n"),
         ("push s\ncreate refs/heads/b $n\n\n$N$F$E", "ok\n"),
@@ -264,7 +264,7 @@ fn objects_are_the_tenants_whatever_repository_was_named(rt: HostRuntime) -> Res
         ("drop r\n", "ok\n"),
         ("cat-file $c\n", "ok\n$C"),
     ];
-    assert!(rt; alice_hears(&rt, "1000", turns.as_slice())?);
+    assert!(rt; alice_hears(&rt, "1000", TURNS)?);
     Ok(())
 }
 

@@ -1,59 +1,39 @@
-use super::{E, ran, streams};
+use super::turns::alice_hears;
 use std::test::Fail;
-
-// The empty blob is a record of this body.
-const PUSH: &str =
-    "push r\n\n473a0f4c3be8a93681a267e3b1e9a7dcda1185436fe141f7749120a303721813 blob 0\n\n";
-
-// Runs alice's turns on a host of hers, and compares every reply.
-fn tells(rt: &HostRuntime, turns: &[(&str, &str)]) -> Result<bool, Fail> {
-    let alloc = rt.alloc();
-    let mut all = Vec::new(alloc);
-    for (payload, told) in turns {
-        all.push(("alice", *payload, *told))?;
-    }
-    let (input, output) = streams(alloc, all.as_slice())?;
-    let answered = ran(alloc, ["run", "alice=1000"].as_slice(), input.as_bytes())?;
-    Ok(answered.status == 0 && answered.written.as_slice() == output.as_bytes())
-}
 
 #[test]
 fn references_are_made_listed_copied_and_dropped(rt: HostRuntime) -> Result<(), Fail> {
-    let alloc = rt.alloc();
-    let row = format!(in alloc; "ok\n{E} blob\trefs/tags/e\n")?;
-    let branch = format!(in alloc; "update-refs r\ncreate refs/heads/e {E}\n")?;
-    let no_branch = format!(in alloc; "no not-a-commit {E}\n")?;
-    let tag = format!(in alloc; "update-refs r\ncreate refs/tags/e {E}\n")?;
-    let turns = [
-        ("init r\n", "ok\n"),
+    const TURNS: &[(&str, &str)] = &[
         ("for-each-ref r\n", "ok\n"),
-        (PUSH, "ok\n"),
-        (branch.as_str(), no_branch.as_str()),
+        ("push r\n\n$E", "ok\n"),
+        (
+            "update-refs r\ncreate refs/heads/e $e\n",
+            "no not-a-commit $e\n",
+        ),
         ("for-each-ref r\n", "ok\n"),
-        (tag.as_str(), "ok\n"),
-        ("for-each-ref r\n", row.as_str()),
+        ("update-refs r\ncreate refs/tags/e $e\n", "ok\n"),
+        ("for-each-ref r\n", "ok\n$e blob\trefs/tags/e\n"),
         ("for-each-ref r refs/ta\n", "ok\n"),
-        ("for-each-ref r refs/tags\n", row.as_str()),
-        ("for-each-ref r refs/tags/\n", row.as_str()),
-        ("for-each-ref r refs/tags/e\n", row.as_str()),
+        ("for-each-ref r refs/tags\n", "ok\n$e blob\trefs/tags/e\n"),
+        ("for-each-ref r refs/tags/\n", "ok\n$e blob\trefs/tags/e\n"),
+        ("for-each-ref r refs/tags/e\n", "ok\n$e blob\trefs/tags/e\n"),
         ("for-each-ref r refs/tags/e/\n", "ok\n"),
         ("fork r s\n", "ok\n"),
-        ("for-each-ref s\n", row.as_str()),
+        ("for-each-ref s\n", "ok\n$e blob\trefs/tags/e\n"),
         ("update-refs r\ndelete refs/tags/e\n", "ok\n"),
         ("for-each-ref r\n", "ok\n"),
-        ("for-each-ref s\n", row.as_str()),
+        ("for-each-ref s\n", "ok\n$e blob\trefs/tags/e\n"),
         ("drop s\n", "ok\n"),
         ("for-each-ref s\n", "no no-repository s\n"),
         ("drop s\n", "no no-repository s\n"),
     ];
-    assert!(rt; tells(&rt, turns.as_slice())?);
+    assert!(rt; alice_hears(&rt, "1000", TURNS)?);
     Ok(())
 }
 
 #[test]
 fn refusals_of_repositories_stand_in_their_order(rt: HostRuntime) -> Result<(), Fail> {
-    let turns = [
-        ("init r\n", "ok\n"),
+    const TURNS: &[(&str, &str)] = &[
         ("init s\n", "ok\n"),
         ("drop .\n", "no bad-name .\n"),
         ("drop t\n", "no no-repository t\n"),
@@ -86,28 +66,33 @@ fn refusals_of_repositories_stand_in_their_order(rt: HostRuntime) -> Result<(), 
             "no repeated-ref refs/a\n",
         ),
     ];
-    assert!(rt; tells(&rt, turns.as_slice())?);
+    assert!(rt; alice_hears(&rt, "1000", TURNS)?);
     Ok(())
 }
 
 #[test]
 fn a_conflict_tells_the_shorter_name(rt: HostRuntime) -> Result<(), Fail> {
-    let alloc = rt.alloc();
-    let both = format!(in alloc; "update-refs r\ncreate refs/t/a {E}\ncreate refs/t/a/b {E}\n")?;
-    let upper = format!(in alloc; "update-refs r\ncreate refs/t/a {E}\n")?;
-    let lower = format!(in alloc; "update-refs r\ncreate refs/t/a/b {E}\n")?;
-    let moved = format!(in alloc; "update-refs r\ndelete refs/t/a {E}\ncreate refs/t/a/b {E}\n")?;
-    let row = format!(in alloc; "ok\n{E} blob\trefs/t/a/b\n")?;
-    let turns = [
-        ("init r\n", "ok\n"),
-        (PUSH, "ok\n"),
-        (both.as_str(), "no ref-conflict refs/t/a\n"),
-        (upper.as_str(), "ok\n"),
-        (lower.as_str(), "no ref-conflict refs/t/a\n"),
-        (moved.as_str(), "ok\n"),
-        ("for-each-ref r\n", row.as_str()),
-        (upper.as_str(), "no ref-conflict refs/t/a\n"),
+    const TURNS: &[(&str, &str)] = &[
+        ("push r\n\n$E", "ok\n"),
+        (
+            "update-refs r\ncreate refs/t/a $e\ncreate refs/t/a/b $e\n",
+            "no ref-conflict refs/t/a\n",
+        ),
+        ("update-refs r\ncreate refs/t/a $e\n", "ok\n"),
+        (
+            "update-refs r\ncreate refs/t/a/b $e\n",
+            "no ref-conflict refs/t/a\n",
+        ),
+        (
+            "update-refs r\ndelete refs/t/a $e\ncreate refs/t/a/b $e\n",
+            "ok\n",
+        ),
+        ("for-each-ref r\n", "ok\n$e blob\trefs/t/a/b\n"),
+        (
+            "update-refs r\ncreate refs/t/a $e\n",
+            "no ref-conflict refs/t/a\n",
+        ),
     ];
-    assert!(rt; tells(&rt, turns.as_slice())?);
+    assert!(rt; alice_hears(&rt, "1000", TURNS)?);
     Ok(())
 }

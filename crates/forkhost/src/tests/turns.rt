@@ -149,10 +149,11 @@ impl Session {
         add_frame(alloc, "", reply, &mut self.output)
     }
 
-    /// Whether the program, run with these words, tells every reply and ends clean.
+    /// Whether the program, run with these words, tells every reply, and no fault, and ends clean.
     pub fn is_told(&self, alloc: Global, words: &[&str]) -> Result<bool, Fail> {
         let told = ran(alloc, words, self.input.as_slice())?;
-        Ok(told.status == 0 && told.written.as_slice() == self.output.as_slice())
+        let is_clean = told.status == 0 && told.faults.is_empty();
+        Ok(is_clean && told.written.as_slice() == self.output.as_slice())
     }
 }
 

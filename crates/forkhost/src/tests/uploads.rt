@@ -4,13 +4,17 @@ use std::alloc::Global;
 use std::test::Fail;
 
 #[test]
-fn an_upload_in_parts_is_what_its_parts_are_together(rt: HostRuntime) -> Result<(), Fail> {
+fn the_three_parts_are_a_body_of_two_records(rt: HostRuntime) -> Result<(), Fail> {
     let alloc = rt.alloc();
     let whole = filled(alloc, "\n$T$C")?;
     let parts = filled(alloc, "$1$2$3")?;
-    assert_eq!(rt; parts.len(), 279);
-    assert_eq!(rt; parts.as_slice(), whole.as_slice());
-    let turns = [
+    assert!(rt; parts.len() == 279 && parts.as_slice() == whole.as_slice());
+    Ok(())
+}
+
+#[test]
+fn an_upload_in_parts_is_what_its_parts_are_together(rt: HostRuntime) -> Result<(), Fail> {
+    const TURNS: &[(&str, &str)] = &[
         ("part\n$1", "ok\n"),
         ("part\n$2", "ok\n"),
         ("part\n$3", "ok\n"),
@@ -19,13 +23,13 @@ fn an_upload_in_parts_is_what_its_parts_are_together(rt: HostRuntime) -> Result<
         ("cat-file $c\n", "ok\n$C"),
         ("part-end r\n", "no no-upload\n"),
     ];
-    assert!(rt; alice_hears(&rt, "256", turns.as_slice())?);
+    assert!(rt; alice_hears(&rt, "256", TURNS)?);
     Ok(())
 }
 
 #[test]
 fn nothing_is_seen_of_an_upload_before_its_end(rt: HostRuntime) -> Result<(), Fail> {
-    let turns = [
+    const TURNS: &[(&str, &str)] = &[
         ("part\n$1", "ok\n"),
         ("cat-file $t\n", "no missing $t\n"),
         ("part\n$2", "ok\n"),
@@ -37,13 +41,13 @@ fn nothing_is_seen_of_an_upload_before_its_end(rt: HostRuntime) -> Result<(), Fa
         ("update-refs r\ncreate refs/heads/a $c\n", "ok\n"),
         ("for-each-ref r\n", "ok\n$c commit\trefs/heads/a\n"),
     ];
-    assert!(rt; alice_hears(&rt, "256", turns.as_slice())?);
+    assert!(rt; alice_hears(&rt, "256", TURNS)?);
     Ok(())
 }
 
 #[test]
 fn a_command_may_be_cut_between_two_parts(rt: HostRuntime) -> Result<(), Fail> {
-    let turns = [
+    const TURNS: &[(&str, &str)] = &[
         ("part\ncreate refs/he", "ok\n"),
         ("part\n", "ok\n"),
         ("part\nads/a $c", "ok\n"),
@@ -53,13 +57,13 @@ fn a_command_may_be_cut_between_two_parts(rt: HostRuntime) -> Result<(), Fail> {
         ("part-end r\n", "ok\n"),
         ("for-each-ref r\n", "ok\n$c commit\trefs/heads/a\n"),
     ];
-    assert!(rt; alice_hears(&rt, "1000", turns.as_slice())?);
+    assert!(rt; alice_hears(&rt, "1000", TURNS)?);
     Ok(())
 }
 
 #[test]
 fn a_fault_in_the_bytes_is_told_at_the_end(rt: HostRuntime) -> Result<(), Fail> {
-    let turns = [
+    const TURNS: &[(&str, &str)] = &[
         ("part\n\n$e blob 00\n", "ok\n"),
         ("part\n$e blob 1\nx\n", "ok\n"),
         ("part-end r\n", "no syntax\n"),
@@ -75,13 +79,13 @@ fn a_fault_in_the_bytes_is_told_at_the_end(rt: HostRuntime) -> Result<(), Fail> 
         ("part-end r\n", "no too-large $e\n"),
         ("cat-file $e\n", "no missing $e\n"),
     ];
-    assert!(rt; alice_hears(&rt, "1000", turns.as_slice())?);
+    assert!(rt; alice_hears(&rt, "1000", TURNS)?);
     Ok(())
 }
 
 #[test]
 fn an_upload_is_judged_as_a_push(rt: HostRuntime) -> Result<(), Fail> {
-    let turns = [
+    const TURNS: &[(&str, &str)] = &[
         ("part\n\n$C", "ok\n"),
         ("part-end r\n", "no missing $t\n"),
         ("part\n\n$W$E", "ok\n"),
@@ -94,13 +98,13 @@ fn an_upload_is_judged_as_a_push(rt: HostRuntime) -> Result<(), Fail> {
         ("cat-file $t\n", "no missing $t\n"),
         ("push r\n\n$T$C", "ok\n"),
     ];
-    assert!(rt; alice_hears(&rt, "256", turns.as_slice())?);
+    assert!(rt; alice_hears(&rt, "256", TURNS)?);
     Ok(())
 }
 
 #[test]
 fn a_wrong_repository_ends_an_upload(rt: HostRuntime) -> Result<(), Fail> {
-    let turns = [
+    const TURNS: &[(&str, &str)] = &[
         ("part-end R\n", "no bad-name R\n"),
         ("part-end s\n", "no no-repository s\n"),
         ("part-end r\n", "no no-upload\n"),
@@ -112,13 +116,13 @@ fn a_wrong_repository_ends_an_upload(rt: HostRuntime) -> Result<(), Fail> {
         ("part-end r\n", "no no-upload\n"),
         ("cat-file $e\n", "no missing $e\n"),
     ];
-    assert!(rt; alice_hears(&rt, "1000", turns.as_slice())?);
+    assert!(rt; alice_hears(&rt, "1000", TURNS)?);
     Ok(())
 }
 
 #[test]
 fn a_push_waits_until_no_upload_is_open(rt: HostRuntime) -> Result<(), Fail> {
-    let turns = [
+    const TURNS: &[(&str, &str)] = &[
         ("part\n\n$E", "ok\n"),
         ("push R\n\n", "no bad-name R\n"),
         ("push s\n\n", "no no-repository s\n"),
@@ -131,13 +135,13 @@ fn a_push_waits_until_no_upload_is_open(rt: HostRuntime) -> Result<(), Fail> {
         ("push r\n\n$C", "no missing $t\n"),
         ("cat-file $e\n", "ok\n$E"),
     ];
-    assert!(rt; alice_hears(&rt, "1000", turns.as_slice())?);
+    assert!(rt; alice_hears(&rt, "1000", TURNS)?);
     Ok(())
 }
 
 #[test]
 fn an_upload_may_be_dropped(rt: HostRuntime) -> Result<(), Fail> {
-    let turns = [
+    const TURNS: &[(&str, &str)] = &[
         ("part-drop\n", "no no-upload\n"),
         ("part\n\n$E", "ok\n"),
         ("part-drop\n", "ok\n"),
@@ -148,13 +152,13 @@ fn an_upload_may_be_dropped(rt: HostRuntime) -> Result<(), Fail> {
         ("part-end r\n", "ok\n"),
         ("push r\n\n$T", "ok\n"),
     ];
-    assert!(rt; alice_hears(&rt, "1000", turns.as_slice())?);
+    assert!(rt; alice_hears(&rt, "1000", TURNS)?);
     Ok(())
 }
 
 #[test]
 fn an_empty_part_begins_an_upload(rt: HostRuntime) -> Result<(), Fail> {
-    let turns = [
+    const TURNS: &[(&str, &str)] = &[
         ("part\n", "ok\n"),
         ("push r\n\n", "no upload-open\n"),
         ("part-end r\n", "no truncated\n"),
@@ -162,13 +166,13 @@ fn an_empty_part_begins_an_upload(rt: HostRuntime) -> Result<(), Fail> {
         ("part-drop\n", "ok\n"),
         ("push r\n\n", "ok\n"),
     ];
-    assert!(rt; alice_hears(&rt, "1000", turns.as_slice())?);
+    assert!(rt; alice_hears(&rt, "1000", TURNS)?);
     Ok(())
 }
 
 #[test]
 fn other_requests_leave_the_upload(rt: HostRuntime) -> Result<(), Fail> {
-    let turns = [
+    const TURNS: &[(&str, &str)] = &[
         ("push r\n\n$E", "ok\n"),
         ("part\n$1", "ok\n"),
         ("init s\n", "ok\n"),
@@ -184,14 +188,14 @@ fn other_requests_leave_the_upload(rt: HostRuntime) -> Result<(), Fail> {
         ("part-end t\n", "ok\n"),
         ("cat-file $c\n", "ok\n$C"),
     ];
-    assert!(rt; alice_hears(&rt, "1000", turns.as_slice())?);
+    assert!(rt; alice_hears(&rt, "1000", TURNS)?);
     Ok(())
 }
 
 #[test]
 fn uploads_of_two_tenants_do_not_mix(rt: HostRuntime) -> Result<(), Fail> {
     let words = ["run", "alice=1000", "bob=1000"];
-    let turns = [
+    const TURNS: &[(&str, &str, &str)] = &[
         ("alice", "init r\n", "ok\n"),
         ("bob", "init r\n", "ok\n"),
         ("alice", "part\n$1", "ok\n"),
@@ -209,13 +213,13 @@ fn uploads_of_two_tenants_do_not_mix(rt: HostRuntime) -> Result<(), Fail> {
         ("bob", "cat-file $e\n", "ok\n$E"),
         ("bob", "cat-file $c\n", "no missing $c\n"),
     ];
-    assert!(rt; both_hear(&rt, words.as_slice(), turns.as_slice())?);
+    assert!(rt; both_hear(&rt, words.as_slice(), TURNS)?);
     Ok(())
 }
 
 #[test]
 fn requests_of_uploads_have_one_form(rt: HostRuntime) -> Result<(), Fail> {
-    let turns = [
+    const TURNS: &[(&str, &str)] = &[
         ("part", "no bad-request\n"),
         ("part x\n", "no bad-request\n"),
         ("part \n", "no bad-request\n"),
@@ -228,7 +232,7 @@ fn requests_of_uploads_have_one_form(rt: HostRuntime) -> Result<(), Fail> {
         ("part-drop\n\n", "no bad-request\n"),
         ("part-end r\n", "no no-upload\n"),
     ];
-    assert!(rt; alice_hears(&rt, "1000", turns.as_slice())?);
+    assert!(rt; alice_hears(&rt, "1000", TURNS)?);
     Ok(())
 }
 

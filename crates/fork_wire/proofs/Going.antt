@@ -18,7 +18,7 @@ use Rattle.fork_model.proofs.Isolation.{run_alone}
 use Rattle.fork_model.proofs.Hosts.{run_more}
 use Rattle.fork_host.specs.Rows.{IsMemoryAtMost}
 use Rattle.fork_frame.specs.declared.frame.Frame.{Frame}
-use Rattle.fork_frame.specs.Frame.{AreFrames, IsBad, IsFrame, frame_bytes}
+use Rattle.fork_frame.specs.Frame.{AreFrames, IsFrame, frame_bytes}
 use Rattle.fork_frame.specs.Reply.{reply_frame}
 use Rattle.fork_frame.proofs.StreamLemmas.{frames_more}
 use Rattle.fork_wire.specs.declared.fault.SessionFault.{SessionFault}
@@ -96,19 +96,3 @@ unsent old mid new input left now before during after frame reply fault so_far r
       written = λ is. absurd (other is);
       told = λ is. telling_more so_far.frames frame input;
     }
-
--- what comes next is no frame
-pub telling_bad : (old new : World) (input left before after : Option (List ℕ)) (so_far : Going old new input left before after) → IfSome left IsBad → IsTelling so_far.frames input
-telling_bad old new input left before after so_far bad = by so_far.frames so_far.right
-  where
-    same : (bytes : Option (List ℕ)) → Consumes bytes left so_far.came → so_far.came ≡ [] → IfSome left IsBad → IfSome bytes IsBad
-    same None taken none is_bad = tt
-    same (Some bytes) taken none is_bad = from left (subst (Consumes (Some bytes) left) none taken) is_bad
-      where
-        from : (rest : Option (List ℕ)) → Consumes (Some bytes) rest [] → IfSome rest IsBad → IsBad bytes
-        from None taken is = absurd taken
-        from (Some rest) taken is = subst IsBad (sym taken) is
-
-    by : (frames : List Frame) → AreFrames frames so_far.came → IsTelling frames input
-    by [] right = same input so_far.taken right.spelled bad
-    by (frame ∷ frames) right = tt

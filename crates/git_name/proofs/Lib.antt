@@ -1,4 +1,5 @@
 pub mod DecimalLemmas
+pub mod MapLemmas
 pub mod Names
 pub mod ReadingLemmas
 pub mod TextLemmas

@@ -1,4 +1,5 @@
 pub mod Kind
+pub mod Maps
 pub mod Name
 pub mod Number
 pub mod Object

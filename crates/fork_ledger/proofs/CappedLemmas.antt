@@ -1,5 +1,5 @@
 -- Totals that stay at a greatest number.
-use Rattle.std.proofs.Common.{◌≡◌, ℕ, ◌+◌, ◌≤◌, Bool, true, false, refl, sym, ap, ◌∙◌, arith, zero-add, add-zero, add_assoc}
+use Rattle.std.proofs.Common.{◌≡◌, ℕ, ◌+◌, ◌<◌, ◌≤◌, ◌^◌, Bool, true, false, refl, sym, ap, ◌∙◌, arith, zero-add, add-zero, add_assoc}
 use Rattle.std.specs.Prelude.{min, nat_le}
 use Rattle.std.proofs.lemmas.Bool.Decides.{nat_tests}
 use Rattle.std.proofs.Math.Nat.{min-eq_left, min-eq_right}
@@ -51,3 +51,17 @@ counts_all all total counts = counts.is_capped ∙ ap capped (sym (add-zero coun
 -- nothing is within every limit
 pub nothing_within : (limit used : ℕ) → used ≡ 0 → true ≡ nat_le used limit
 nothing_within limit used is = grind (arith, nat_tests)
+
+-- a total that is capped above a limit is within it where the whole one is
+within_most : (most u limit : ℕ) → limit < most → nat_le (min u most) limit ≡ nat_le u limit
+within_most most u limit low = by (nat_le u most) refl
+  where
+    too_many : (n : ℕ) → most ≤ n → nat_le n limit ≡ false
+    too_many n is = grind (arith, nat_tests)
+
+    by : (b : Bool) → nat_le u most ≡ b → nat_le (min u most) limit ≡ nat_le u limit
+    by true is = ap (λ n. nat_le n limit) (min-eq_left (below u most is))
+    by false is = ap (λ n. nat_le n limit) (min-eq_right (above u most is)) ∙ too_many most (omega arith) ∙ sym (too_many u (above u most is))
+
+pub capped_within : (u limit : ℕ) → limit < 2 ^ 64 → nat_le (capped u) limit ≡ nat_le u limit
+capped_within u limit low = within_most 340282366920938463463374607431768211455 u limit (omega arith)

@@ -1,7 +1,11 @@
 pub mod CappedLemmas
+pub mod CountedLemmas
 pub mod KeepingLemmas
 pub mod PrivateLemmas
 pub mod SeenLemmas
+pub mod StagedLemmas
+pub mod StagingLemmas
+pub mod StoreLemmas
 pub mod TenantEntries
 pub mod TenantLemmas
 pub mod UpdateLemmas

@@ -1,5 +1,5 @@
 -- Objects without those of some names: what is seen beside what is staged.
-use Rattle.std.proofs.Common.{◌≡◌, ℕ, ◌<◌, Bool, true, false, cond, not, List, [], ◌∷◌, length, arith, Option, None, Some, refl, sym, ap, ◌∙◌, is_some}
+use Rattle.std.proofs.Common.{◌&&◌, ◌≡◌, ℕ, ◌<◌, Bool, true, false, cond, not, List, [], ◌∷◌, length, arith, Option, None, Some, refl, sym, ap, ◌∙◌, is_some}
 use Rattle.std.specs.Ordering.{eq_by_cmp}
 use Rattle.std.specs.Cmp.{eq_by_cmp_equiv}
 use Rattle.std.specs.List.{list_any}
@@ -12,7 +12,7 @@ use Rattle.git_name.proofs.Names.{name_total, name_exact}
 use Rattle.fork_reach.specs.Objects.{IsNamed}
 use Rattle.fork_reach.specs.Source.{Objects}
 use Rattle.fork_reach.proofs.KeptObjects.{tied_names}
-use Rattle.fork_ledger.specs.Staged.{seen}
+use Rattle.fork_ledger.specs.Staged.{is_hidden, seen}
 
 -- the objects whose names do not pass
 abbrev pub without : (List ℕ → Bool) → Objects → Objects
@@ -74,15 +74,43 @@ seen_removed objects old new name here others = same_map name_total name_exact _
     at q true same = nothing_either (new q) None refl ∙ sym (hidden (old q) (get objects q) (ap old (tied_names q name same) ∙ here))
     at q false same = ap (λ b. cond (not b) (get objects q) None) (others q (apart q name same))
 
+-- names that are hidden alike show the same
+pub seen_alike : (objects : Objects) (old new : List ℕ → Bool) → ((q : List ℕ) → new q ≡ old q) → without new objects ≡ without old objects
+seen_alike objects old new same = ap (λ p. without p objects) (λ i q. same q i)
+
+hidden_less : (b s t g : Bool) → t ≡ cond b false s → (b ≡ true → g ≡ true) → (t && not g) ≡ (s && not g)
+hidden_less true s t true is again = none_hidden t s
+  where
+    none_hidden : (x y : Bool) → (x && false) ≡ (y && false)
+    none_hidden true true = refl
+    none_hidden true false = refl
+    none_hidden false true = refl
+    none_hidden false false = refl
+hidden_less true s t false is again = absurd (cc (again refl))
+hidden_less false s t g is again = ap (λ x. x && not g) is
+
+-- one staged name less, whose object goes unless it is seen again
+pub seen_less : (objects : Objects) {now : Objects} (staged left again : BTreeSet (List ℕ)) (name : List ℕ) (stays : Bool) → contains name_cmp staged name ≡ true
+    → ((q : List ℕ) → contains name_cmp left q ≡ cond (is_at (name_cmp name) q) false (contains name_cmp staged q)) → stays ≡ contains name_cmp again name
+    → now ≡ cond stays objects (remove objects name) → seen left again now ≡ seen staged again objects
+seen_less objects {now} staged left again name true there less is set =
+    ap (seen left again) set
+    ∙ seen_alike objects (is_hidden staged again) (is_hidden left again) (λ q. hidden_less (is_at (name_cmp name) q) (contains name_cmp staged q) (contains name_cmp left q) (contains name_cmp again q) (less q)
+      (λ same. ap (contains name_cmp again) (sym (tied_names name q same)) ∙ sym is))
+seen_less objects {now} staged left again name false there less is set =
+    ap (seen left again) set
+    ∙ seen_removed objects (is_hidden staged again) (is_hidden left again) name (ap (λ b. b && not (contains name_cmp again name)) there ∙ ap not (sym is))
+      (λ q apart. ap (λ b. b && not (contains name_cmp again q)) (less q ∙ ap (λ b. cond b false (contains name_cmp staged q)) apart))
+
 -- a list that is not longer than none
 pub none_left : (names : List (List ℕ)) → (0 < length names → ⊥) → names ≡ []
 none_left [] none = refl
 none_left (name ∷ names) none = absurd (none (omega arith))
 
 -- where nothing is staged, all is seen
-pub seen_all : (objects : Objects) (staged : BTreeSet (List ℕ)) → staged.keys ≡ [] → seen staged objects ≡ objects
-seen_all objects staged none = same_map name_total name_exact _ _ (λ q.
-    get_without objects (contains name_cmp staged) q ∙ ap (λ keys. cond (not (list_any (is_at (name_cmp q)) keys)) (get objects q) None) none)
+pub seen_all : (objects : Objects) (staged again : BTreeSet (List ℕ)) → staged.keys ≡ [] → seen staged again objects ≡ objects
+seen_all objects staged again none = same_map name_total name_exact _ _ (λ q.
+    get_without objects (is_hidden staged again) q ∙ ap (λ keys. cond (not (list_any (is_at (name_cmp q)) keys && not (contains name_cmp again q))) (get objects q) None) none)
 
 found_before : (b : Bool) (o : Option Object) (object : Object) → cond b o None ≡ Some object → o ≡ Some object
 found_before true o object is = is

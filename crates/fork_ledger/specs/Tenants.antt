@@ -1,18 +1,22 @@
 -- The private maps of all tenants (own): a tenant's calls change its own.
-use Rattle.std.specs.Prelude.{ℕ, List, if◌then◌else◌, refl}
+use Rattle.std.specs.Prelude.{ℕ, Bool, List, if◌then◌else◌, refl}
 use Rattle.std.specs.Option.{unwrap_or}
-use Rattle.std.specs.Coded.{Coded, code_by, coded_ℕ, coded_list}
+use Rattle.std.specs.Coded.{Coded, code_by, coded×, coded_bool, coded_ℕ, coded_list}
 use Rattle.std.specs.FinMap.{FinMap, get, insert, contains_key, code}
+use Rattle.git_name.specs.Maps.{map_values}
 use Rattle.git_name.specs.Name.{name_cmp}
-use Rattle.fork_ledger.specs.Private.{Private, nothing, private_code}
+use Rattle.fork_reach.specs.Objects.{Measures}
+use Rattle.fork_ledger.specs.Private.{Private, nothing, private_code, private_measures}
 
 -- each tenant's private maps, under its name
 abbrev pub Tenants : Type 0
 Tenants = FinMap name_cmp Private
 
--- what a vault shows
+-- what a vault shows: the private maps; whether the store gives what it was given, and how often it failed
 pub record VaultState : Type 0 where
   pub tenants : Tenants
+  pub honest : Bool
+  pub failures : ℕ
 
 -- a tenant's private maps; an unknown one has no objects
 abbrev pub private_of : Tenants → List ℕ → Private
@@ -26,6 +30,12 @@ with_tenant tenants tenant = if contains_key tenants tenant then tenants else in
 abbrev pub at_tenant : Tenants → List ℕ → (Private → Private) → Tenants
 at_tenant tenants tenant change = if contains_key tenants tenant then insert tenants tenant (change (private_of tenants tenant)) else tenants
 
+-- what of all private maps no store can change: who is there, and the names, kinds and lengths of each
+abbrev pub shape_of : Tenants → FinMap name_cmp (Measures × Measures)
+shape_of tenants = map_values private_measures tenants
+
 -- what a vault shows has a code, so that it can be a model's value
 abbrev pub vault_code : Coded VaultState
-vault_code = code_by Tenants (code (coded_list coded_ℕ) private_code) (λ state. state.tenants) (λ tenants. record { tenants = tenants }) (λ _. refl)
+vault_code =
+    code_by (Tenants × (Bool × ℕ)) (coded× (code (coded_list coded_ℕ) private_code) (coded× coded_bool coded_ℕ)) (λ state. (state.tenants, (state.honest, state.failures)))
+    (λ p. record { tenants = p.0; honest = p.1.0; failures = p.1.1 }) (λ _. refl)

@@ -4,6 +4,7 @@
 
 mod fault;
 mod held;
+mod hidden;
 mod object_map;
 mod private;
 #[cfg(test)]

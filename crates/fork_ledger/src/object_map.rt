@@ -7,9 +7,10 @@ ghost use Rattle.std.specs.BTreeSet.{contains};
 ghost use Rattle.git_name.specs.Name.{name_cmp};
 ghost use Rattle.git_name.specs.Object.{object_name};
 ghost use Rattle.fork_reach.specs.Objects.{use_of, use_of_object};
-ghost use Rattle.fork_ledger.specs.Staged.{seen};
+ghost use Rattle.fork_ledger.specs.Staged.{is_hidden, seen};
 ghost use Rattle.fork_ledger.specs.Used.{capped};
 
+use crate::hidden::is_hidden;
 use git_name::{Name, Sealed};
 use std::alloc::{AllocError, Global};
 use std::collections::{BTreeMap, BTreeSet};
@@ -81,12 +82,12 @@ impl ObjectMap {
         keep_in(&mut self.objects, names, others);
     }
 
-    // What those objects use whose names are not staged, and what all use.
-    pub(crate) fn uses(&self, staged: &BTreeSet<Name>) -> (u128, u128)
-        ensures visible { result.0 ≡ capped (use_of (seen staged.now self.now)) }
+    // What those objects use whose names are not hidden, and what all use.
+    pub(crate) fn uses(&self, staged: &BTreeSet<Name>, again: &BTreeSet<Name>) -> (u128, u128)
+        ensures visible { result.0 ≡ capped (use_of (seen staged.now again.now self.now)) }
         ensures both { result.1 ≡ capped (use_of self.now) }
     {
-        uses_in(&self.objects, staged)
+        uses_in(&self.objects, staged, again)
     }
 }
 
@@ -117,8 +118,12 @@ fn is_in_either(names: &BTreeSet<Name>, others: &BTreeSet<Name>, name: &Name) ->
 }
 
 // Both totals in one pass over the entries.
-fn uses_in(objects: &BTreeMap<Name, Sealed>, staged: &BTreeSet<Name>) -> (u128, u128)
-    ensures visible { result.0 ≡ capped (sum_by use_of_object (values_of (filter (λ e. not (contains name_cmp staged.now e.0)) objects.now.entries))) }
+fn uses_in(
+    objects: &BTreeMap<Name, Sealed>,
+    staged: &BTreeSet<Name>,
+    again: &BTreeSet<Name>,
+) -> (u128, u128)
+    ensures visible { result.0 ≡ capped (sum_by use_of_object (values_of (filter (λ e. not (is_hidden staged.now again.now e.0)) objects.now.entries))) }
     ensures both { result.1 ≡ capped (sum_by use_of_object (values_of objects.now.entries)) }
     ensures ordered { IsOrdered name_cmp objects.now }
 {
@@ -126,7 +131,7 @@ fn uses_in(objects: &BTreeMap<Name, Sealed>, staged: &BTreeSet<Name>) -> (u128, 
     let mut both = 0u128;
     for (name, sealed) in objects {
         let size = size_of(sealed);
-        visible = visible.saturating_add(size_unless(staged.contains(name), size));
+        visible = visible.saturating_add(size_unless(is_hidden(staged, again, name), size));
         both = both.saturating_add(size);
     }
     (visible, both)
@@ -139,9 +144,9 @@ fn size_of(sealed: &Sealed) -> u128
     sealed.bytes().len() as u128 + 64
 }
 
-// What an object counts for where staged ones do not count.
-fn size_unless(is_staged: bool, size: u128) -> u128
-    ensures { result ≡ (if is_staged then 0 else size) }
+// What an object counts for where hidden ones do not count.
+fn size_unless(is_hidden: bool, size: u128) -> u128
+    ensures { result ≡ (if is_hidden then 0 else size) }
 {
-    if is_staged { 0 } else { size }
+    if is_hidden { 0 } else { size }
 }

@@ -1,12 +1,12 @@
-ghost use Rattle.std.specs.Prelude.{◌≡◌, OnOk, OnErr, IfOk, IfErr, IfSome, nat_le};
+ghost use Rattle.std.specs.Prelude.{◌≡◌, ◌≢◌, true, IsTrue, OnOk, OnErr, IfOk, IfErr, IfSome, is_some, nat_le};
 ghost use Rattle.std.specs.FinMap as map;
 ghost use Rattle.std.specs.BTreeSet.{contains};
 ghost use Rattle.git_name.specs.Name.{name_cmp};
 ghost use Rattle.git_name.specs.Object.{object_name};
 ghost use Rattle.fork_reach.specs.Objects.{use_of};
-ghost use Rattle.fork_reach.specs.Source.{kind_in};
-ghost use Rattle.fork_ledger.specs.Private.{held_in, kind_seen, with_discarded, with_kept, with_published, with_staged};
-ghost use Rattle.fork_ledger.specs.Tenants.{at_tenant, private_of, with_tenant};
+ghost use Rattle.fork_ledger.specs.Private.{both_of, held_in, with_discarded, with_kept, with_published, with_staged};
+ghost use Rattle.fork_ledger.specs.Store.{AsksStore, LeavesStore, fault_in};
+ghost use Rattle.fork_ledger.specs.Tenants.{at_tenant, private_of, shape_of, with_tenant};
 ghost use Rattle.fork_ledger.specs.Used.{capped};
 
 use crate::fault::VaultFault;
@@ -19,13 +19,17 @@ use std::collections::{BTreeMap, BTreeSet};
 use std::marker::Model;
 
 /// The objects of many tenants, each tenant's its own. What a tenant stages stands beside what it
-/// sees, until it is published or discarded.
+/// sees, until it is published or discarded; an object may be both.
+///
+/// The clauses speak of a store under it, though there is none yet: what holds where the store is
+/// honest, and what of the private maps' shape holds over any.
 #[derive(Drop)]
 pub struct Vault {
     tenants: BTreeMap<TenantName, Private>,
 }
 
 impl Model for Vault {
+    ghost use Rattle.std.specs.Prelude.{true};
     ghost use Rattle.std.specs.FinMap as map;
     ghost use Rattle.fork_ledger.specs.Tenants.{VaultState, vault_code};
 
@@ -33,13 +37,14 @@ impl Model for Vault {
 
     ghost coded = { vault_code };
 
-    ghost view = { λ a. record { tenants = map.from_entries a.tenants.entries } };
+    ghost view = { λ a. record { tenants = map.from_entries a.tenants.entries; honest = true; failures = 0 } };
 }
 
 impl Vault {
     /// No tenants.
     pub fn new(alloc: Global) -> Vault
-        ensures { result.tenants ≡ map.empty }
+        ensures empty { result.tenants ≡ map.empty }
+        ensures honest { result.honest ≡ true }
     {
         Vault {
             tenants: BTreeMap::new(alloc),
@@ -50,6 +55,7 @@ impl Vault {
     pub fn add(&mut self, alloc: Global, tenant: TenantName) -> Result<(), AllocError>
         ensures ok { OnOk result (self.new.tenants ≡ with_tenant self.old.tenants tenant) }
         ensures err { OnErr result (self.new.tenants ≡ self.old.tenants) }
+        ensures store { LeavesStore self.old self.new }
     {
         if self.tenants.contains_key(&tenant) {
             return Ok(());
@@ -74,9 +80,16 @@ impl Vault {
         tenant: &TenantName,
         name: Name,
     ) -> Result<Option<Sealed>, VaultFault>
-        ensures found { IfOk result (λ found. found ≡ map.get (private_of self.old.tenants tenant.now).visible name) }
+        ensures found { IsTrue self.old.honest → IfOk result (λ found. found ≡ map.get (private_of self.old.tenants tenant.now).visible name) }
+        ensures kept { IsTrue self.old.honest → self.new.tenants ≡ self.old.tenants }
+
+        // Over any store.
+        ensures there { IfOk result (λ found. is_some found ≡ map.contains_key (private_of self.old.tenants tenant.now).visible name) }
         ensures named { IfOk result (λ found. IfSome found (λ object. object_name object ≡ name)) }
-        ensures kept { self.new.tenants ≡ self.old.tenants }
+        ensures shape { shape_of self.new.tenants ≡ shape_of self.old.tenants }
+        ensures store { AsksStore self.old self.new (fault_in result) }
+
+        // There is no store yet that could fail.
         ensures faults { IfErr result (λ fault. fault ≡ VaultFault.Memory) }
     {
         let Some(own) = self.tenants.get(tenant) else {
@@ -85,29 +98,34 @@ impl Vault {
         own.get(alloc, name)
     }
 
-    /// The object that a tenant sees or has staged under this name, as a copy.
-    pub fn find(
+    /// The object that a tenant has staged under this name, as a copy.
+    pub fn get_staged(
         &mut self,
         alloc: Global,
         tenant: &TenantName,
         name: Name,
     ) -> Result<Option<Sealed>, VaultFault>
-        ensures found { IfOk result (λ found. found ≡ map.get (private_of self.old.tenants tenant.now).both name) }
+        ensures found { IsTrue self.old.honest → IfOk result (λ found. found ≡ map.get (private_of self.old.tenants tenant.now).staged name) }
+        ensures kept { IsTrue self.old.honest → self.new.tenants ≡ self.old.tenants }
+
+        // Over any store.
+        ensures there { IfOk result (λ found. is_some found ≡ map.contains_key (private_of self.old.tenants tenant.now).staged name) }
         ensures named { IfOk result (λ found. IfSome found (λ object. object_name object ≡ name)) }
-        ensures kept { self.new.tenants ≡ self.old.tenants }
+        ensures shape { shape_of self.new.tenants ≡ shape_of self.old.tenants }
+        ensures store { AsksStore self.old self.new (fault_in result) }
+
+        // There is no store yet that could fail.
         ensures faults { IfErr result (λ fault. fault ≡ VaultFault.Memory) }
     {
         let Some(own) = self.tenants.get(tenant) else {
             return Ok(None);
         };
-        own.find(alloc, name)
+        own.get_staged(alloc, name)
     }
 
-    /// What is known of the object that a tenant sees or has staged under this name. It reads no
-    /// bytes of it.
+    /// What is known of the object that a tenant sees or has staged under this name. It asks no store.
     pub fn kind_of(&self, tenant: &TenantName, name: Name) -> Option<Held>
-        ensures held { result ≡ held_in (private_of self.now.tenants tenant.now) name }
-        ensures seen { kind_seen result ≡ kind_in (private_of self.now.tenants tenant.now).visible name }
+        ensures { result ≡ held_in (private_of self.now.tenants tenant.now) name }
     {
         let Some(own) = self.tenants.get(tenant) else {
             return None;
@@ -115,16 +133,23 @@ impl Vault {
         own.kind_of(name)
     }
 
-    /// Stages an object for a tenant. Where the tenant sees or has staged one of its name, that one
-    /// stays.
+    /// Stages an object for a tenant. Where the tenant has staged one of its name, that one stays;
+    /// where it sees one, that one stands for it.
     pub fn stage(
         &mut self,
         _alloc: Global,
         tenant: &TenantName,
         sealed: Sealed,
     ) -> Result<(), VaultFault>
-        ensures ok { OnOk result (self.new.tenants ≡ at_tenant self.old.tenants tenant.now (with_staged sealed)) }
-        ensures err { OnErr result (self.new.tenants ≡ self.old.tenants) }
+        ensures ok { IsTrue self.old.honest → OnOk result (self.new.tenants ≡ at_tenant self.old.tenants tenant.now (with_staged sealed)) }
+        ensures err { IsTrue self.old.honest → OnErr result (self.new.tenants ≡ self.old.tenants) }
+
+        // Over any store.
+        ensures shape { OnOk result (shape_of self.new.tenants ≡ shape_of (at_tenant self.old.tenants tenant.now (with_staged sealed))) }
+        ensures kept { OnErr result (shape_of self.new.tenants ≡ shape_of self.old.tenants) }
+        ensures store { AsksStore self.old self.new (fault_in result) }
+
+        // There is no store yet that could fail.
         ensures faults { IfErr result (λ fault. fault ≡ VaultFault.Memory) }
     {
         let Some(own) = self.tenants.get_mut(tenant) else {
@@ -136,9 +161,10 @@ impl Vault {
         Ok(())
     }
 
-    /// What a tenant has staged becomes visible to it. It takes no memory.
+    /// What a tenant has staged becomes visible to it. It takes no memory, and asks no store.
     pub fn publish(&mut self, tenant: &TenantName)
-        ensures { self.new.tenants ≡ at_tenant self.old.tenants tenant.now with_published }
+        ensures tenants { self.new.tenants ≡ at_tenant self.old.tenants tenant.now with_published }
+        ensures store { LeavesStore self.old self.new }
     {
         let Some(own) = self.tenants.get_mut(tenant) else {
             return;
@@ -146,9 +172,10 @@ impl Vault {
         own.publish();
     }
 
-    /// What a tenant has staged goes. It takes no memory.
+    /// What a tenant has staged goes. It takes no memory, and asks no store.
     pub fn discard(&mut self, tenant: &TenantName)
-        ensures { self.new.tenants ≡ at_tenant self.old.tenants tenant.now with_discarded }
+        ensures tenants { self.new.tenants ≡ at_tenant self.old.tenants tenant.now with_discarded }
+        ensures store { LeavesStore self.old self.new }
     {
         let Some(own) = self.tenants.get_mut(tenant) else {
             return;
@@ -156,9 +183,11 @@ impl Vault {
         own.discard();
     }
 
-    /// Of what a tenant sees, keeps the objects of these names alone. It takes no memory.
+    /// Of what a tenant sees, keeps the objects of these names alone. It takes no memory, and asks no
+    /// store.
     pub fn keep_only(&mut self, tenant: &TenantName, names: &BTreeSet<Name>)
-        ensures { self.new.tenants ≡ at_tenant self.old.tenants tenant.now (with_kept (λ name. contains name_cmp names.now name)) }
+        ensures tenants { self.new.tenants ≡ at_tenant self.old.tenants tenant.now (with_kept (λ name. contains name_cmp names.now name)) }
+        ensures store { LeavesStore self.old self.new }
     {
         let Some(own) = self.tenants.get_mut(tenant) else {
             return;
@@ -179,7 +208,7 @@ impl Vault {
     /// Whether what a tenant sees and has staged is of so many bytes of use at the most, in constant
     /// time behind the look-up of the tenant.
     pub fn is_within(&self, tenant: &TenantName, limit: u64) -> bool
-        ensures { result ≡ nat_le (use_of (private_of self.now.tenants tenant.now).both) limit }
+        ensures { result ≡ nat_le (use_of (both_of (private_of self.now.tenants tenant.now))) limit }
     {
         let Some(own) = self.tenants.get(tenant) else {
             return true;

@@ -1,6 +1,5 @@
 use Rattle.std.proofs.Common.{◌≡◌, ◌+◌, cond, sym, ap, subst, ◌∙◌}
-use Rattle.std.specs.BTreeSet.{contains}
-use Rattle.git_name.specs.Name.{name_cmp}
+use Rattle.fork_ledger.specs.Staged.{is_hidden}
 use Rattle.fork_reach.specs.Objects.{use_of_object}
 use Rattle.fork_ledger.proofs.CappedLemmas.{CountsTo, counts_all, counts_more, counts_none}
 use Rattle.fork_ledger.proofs.UseOfEntries.{left_of, use_in, use_in-cons, use_left-cons}
@@ -10,17 +9,17 @@ pub loop-name-init : goal.loop-name-init
 loop-name-init c =
     let all = c.into_iter-name-iterator.ensures.into_iter_gives.0 in
     record {
-      visible = subst (λ es. CountsTo (use_in (left_of (contains name_cmp c.args.staged.now) c.args.objects.now.entries)) (use_in (left_of (contains name_cmp c.args.staged.now) es)) 0) (sym all) (counts_none (use_in (left_of (contains name_cmp c.args.staged.now) c.args.objects.now.entries)));
+      visible = subst (λ es. CountsTo (use_in (left_of (is_hidden c.args.staged.now c.args.again.now) c.args.objects.now.entries)) (use_in (left_of (is_hidden c.args.staged.now c.args.again.now) es)) 0) (sym all) (counts_none (use_in (left_of (is_hidden c.args.staged.now c.args.again.now) c.args.objects.now.entries)));
       both = subst (λ es. CountsTo (use_in c.args.objects.now.entries) (use_in es) 0) (sym all) (counts_none (use_in c.args.objects.now.entries));
     }
 
 pub loop-name-preserved : goal.loop-name-preserved
 loop-name-preserved c =
     let next = c.in-Some.ensures.steps in
-    let hides = contains name_cmp c.args.staged.now in
+    let hides = is_hidden c.args.staged.now c.args.again.now in
     let size : use_of_object c.in-Some.sealed.now ≡ c.size_of-size.result = sym c.size_of-size.ensures in
     let shown : cond (hides c.in-Some.name.now) 0 (use_of_object c.in-Some.sealed.now) ≡ c.size_unless.result =
-    ap (cond (hides c.in-Some.name.now) 0) size ∙ ap (λ b. cond b 0 c.size_of-size.result) (sym c.contains.ensures) ∙ sym c.size_unless.ensures in
+    ap (cond (hides c.in-Some.name.now) 0) size ∙ ap (λ b. cond b 0 c.size_of-size.result) (sym c.is_hidden.ensures) ∙ sym c.size_unless.ensures in
     record {
       visible = subst (CountsTo _ _) (sym c.saturating_add-visible.ensures)
           (counts_more _ _ _ c.loop-name.visible c.size_unless.result
@@ -34,7 +33,7 @@ loop-name-preserved c =
 
 pub returns-clause-visible : goal.returns-clause-visible
 returns-clause-visible c =
-    let hides = contains name_cmp c.args.staged.now in
+    let hides = is_hidden c.args.staged.now c.args.again.now in
     counts_all _ _ (subst (λ es. CountsTo (use_in (left_of hides c.args.objects.now.entries)) (use_in (left_of hides es)) c.loop-name.visible) c.in-None.ensures.steps.0 c.loop-name.invariant.visible)
 
 pub returns-clause-both : goal.returns-clause-both

@@ -1,18 +1,28 @@
-use Rattle.std.proofs.Common.{ap, rules}
+use Rattle.std.proofs.Common.{ap, rules, sym}
 use Rattle.fork_ledger.specs.Private.{with_staged}
+use Rattle.fork_ledger.specs.Tenants.{shape_of}
 use Rattle.fork_ledger.proofs.TenantEntries.{changed_is, same_is, unknown_is}
 use Rattle.fork_ledger.proofs.vault.Vault.stage.Goals as goal
 
 pub returns-in_default-clause-ok : goal.returns-in_default-clause-ok
-returns-in_default-clause-ok c =
+returns-in_default-clause-ok c _ =
     rw c.get_mut.follows.holds-at-none (unknown_is c.args.self.now.tenants c.self.inside.tenants.entries c.args.tenant.now (with_staged c.args.sealed) (ap (λ s. s.tenants) c.self.view_is) c.in_default.ensures.value)
 
 pub returns-in_default-stage-clause-err : goal.returns-in_default-stage-clause-err
-returns-in_default-stage-clause-err c =
+returns-in_default-stage-clause-err c _ =
     let stays = (c.get_mut.follows.holds c.stage.new.self).3 (search rules) in
     same_is c.args.self.now.tenants c.self.inside.tenants.entries (c.get_mut.follows.lender c.stage.new.self).entries c.args.tenant.now c.in-Some.own.now c.stage.new.self (ap (λ s. s.tenants) c.self.view_is) c.in-Some.ensures.value stays.0 c.in_default-stage.ensures.err
 
 pub returns-clause-ok : goal.returns-clause-ok
-returns-clause-ok c =
+returns-clause-ok c _ =
     let stays = (c.get_mut.follows.holds c.stage.new.self).3 (search rules) in
     changed_is c.args.self.now.tenants c.self.inside.tenants.entries (c.get_mut.follows.lender c.stage.new.self).entries c.args.tenant.now c.in-Some.own.now c.stage.new.self (with_staged c.args.sealed) (ap (λ s. s.tenants) c.self.view_is) c.in-Some.ensures.value stays.0 c.in-Ok.ensures.ok
+
+pub returns-in_default-clause-shape : goal.returns-in_default-clause-shape
+returns-in_default-clause-shape c = ap shape_of (returns-in_default-clause-ok c (sym (ap (λ s. s.honest) c.self.view_is)))
+
+pub returns-in_default-stage-clause-kept : goal.returns-in_default-stage-clause-kept
+returns-in_default-stage-clause-kept c = ap shape_of (returns-in_default-stage-clause-err c (sym (ap (λ s. s.honest) c.self.view_is)))
+
+pub returns-clause-shape : goal.returns-clause-shape
+returns-clause-shape c = ap shape_of (returns-clause-ok c (sym (ap (λ s. s.honest) c.self.view_is)))

@@ -2,7 +2,7 @@ ghost use Rattle.std.specs.Prelude.{◌≡◌, IsTrue, IfOk, IfErr, IfNone, ◌�
 ghost use Rattle.std.specs.List.{find};
 ghost use Rattle.std.specs.Option.{option_or};
 ghost use Rattle.std.specs.FinMap as map;
-ghost use Rattle.fork_reach.specs.Faults.{Counts};
+ghost use Rattle.fork_reach.specs.Faults.{IsAsked, fault_in};
 ghost use Rattle.fork_push.specs.Push.{is_missing, is_wrong, link_refusal, links_under};
 ghost use Rattle.fork_reach.specs.Reach.{links_of_found};
 
@@ -20,12 +20,8 @@ pub(crate) fn judge_sent<S: Source>(
     source: &mut S,
     names: &[Name],
 ) -> Result<Option<PushRefusal>, SourceFault>
-    ensures found { IsTrue (S.honest source.old) → IfOk result (λ refusal. refusal ≡ link_refusal (S.objects source.old) (links_under (S.objects source.old) names.now)) }
-    ensures kept { S.objects source.new ≡ S.objects source.old }
-    ensures honest { S.honest source.new ≡ S.honest source.old }
-    ensures rest { S.rest source.new ≡ S.rest source.old }
-    ensures damaged { IsTrue (S.honest source.old) → IfErr result (λ fault. fault ≢ SourceFault.Damaged) }
-    ensures cause { Counts (S.failures source.old) (S.failures source.new) result }
+    ensures found { IsTrue (S.state source.old).honest → IfOk result (λ refusal. refusal ≡ link_refusal (S.state source.old).objects (links_under (S.state source.old).objects names.now)) }
+    ensures asked { IsAsked (S.state source.old) (S.state source.new) (fault_in result) }
 {
     let mut wrong = None;
     for name in names {
@@ -49,13 +45,9 @@ fn judge_object<S: Source>(
     name: Name,
     wrong: &mut Option<Link>,
 ) -> Result<Option<Link>, SourceFault>
-    ensures missing { IsTrue (S.honest source.old) → IfOk result (λ link. link ≡ find (is_missing (S.objects source.old)) (links_of_found (map.get (S.objects source.old) name))) }
-    ensures wrong { IsTrue (S.honest source.old) → IfOk result (λ link. IfNone link (wrong.new ≡ option_or wrong.old (find (is_wrong (S.objects source.old)) (links_of_found (map.get (S.objects source.old) name))))) }
-    ensures kept { S.objects source.new ≡ S.objects source.old }
-    ensures honest { S.honest source.new ≡ S.honest source.old }
-    ensures rest { S.rest source.new ≡ S.rest source.old }
-    ensures damaged { IsTrue (S.honest source.old) → IfErr result (λ fault. fault ≢ SourceFault.Damaged) }
-    ensures cause { Counts (S.failures source.old) (S.failures source.new) result }
+    ensures missing { IsTrue (S.state source.old).honest → IfOk result (λ link. link ≡ find (is_missing (S.state source.old).objects) (links_of_found (map.get (S.state source.old).objects name))) }
+    ensures wrong { IsTrue (S.state source.old).honest → IfOk result (λ link. IfNone link (wrong.new ≡ option_or wrong.old (find (is_wrong (S.state source.old).objects) (links_of_found (map.get (S.state source.old).objects name))))) }
+    ensures asked { IsAsked (S.state source.old) (S.state source.new) (fault_in result) }
 {
     match source.read(alloc, name) {
         Ok(Some(sealed)) => Ok(judge_links(source, &sealed, wrong)),

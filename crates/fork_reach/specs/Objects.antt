@@ -1,6 +1,9 @@
--- Objects that come beside others, and what objects use (own).
+-- Objects that come beside others, what objects use, and what of them no store can change (own).
 use Rattle.std.specs.Prelude.{◌≡◌, ℕ, ◌+◌, List, [], ◌∷◌, Some, length, sum_by, if◌then◌else◌}
-use Rattle.std.specs.FinMap.{get, insert, contains_key, values}
+use Rattle.std.specs.FinMap.{FinMap, get, insert, contains_key, values}
+use Rattle.git_name.specs.Maps.{map_values}
+use Rattle.git_name.specs.Name.{name_cmp}
+use Rattle.git_name.specs.declared.kind.Kind.{Kind}
 use Rattle.git_name.specs.Object.{Object, object_name}
 use Rattle.fork_reach.specs.Source.{Objects}
 
@@ -24,3 +27,15 @@ use_of_object object = length object.bytes + 64
 -- what objects use together
 unfoldable pub use_of : Objects → ℕ
 use_of objects = sum_by use_of_object (values objects)
+
+-- what of an object no store can change: its kind and its length
+abbrev pub measure_of : Object → Kind × ℕ
+measure_of object = (object.kind, length object.bytes)
+
+-- names, kinds and lengths
+abbrev pub Measures : Type 0
+Measures = FinMap name_cmp (Kind × ℕ)
+
+-- the names of objects with their kinds and lengths
+abbrev pub measures_of : Objects → Measures
+measures_of objects = map_values measure_of objects

@@ -41,15 +41,11 @@ impl Source for Both {
     ghost use Rattle.std.specs.Prelude.{true, ⊤};
     ghost use Rattle.std.specs.FinMap as map;
 
-    ghost objects = { λ both. map.from_entries both.objects.entries };
-
-    ghost honest = { λ _. true };
-
-    ghost failures = { λ _. 0 };
+    ghost Base = { ⊤ };
 
     ghost Rest = { ⊤ };
 
-    ghost rest = { λ _. tt };
+    ghost state = { λ both. record { objects = map.from_entries both.objects.entries; honest = true; failures = 0; base = tt; rest = tt } };
 
     fn kind_of(&self, name: Name) -> Option<Kind> {
         match self.find(name) {

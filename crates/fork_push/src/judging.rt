@@ -18,7 +18,7 @@ use std::alloc::Global;
 
 #[tactic(auto, unfolding(crate::specs::Push::judged))]
 /// Judges a push into a repository of these references, under a limit on what all objects may use.
-/// It changes nothing, and reads the sent objects alone.
+/// It changes nothing. It reads the sent objects that are no blobs, and no others.
 pub fn judge<S: Sides>(
     alloc: Global,
     sides: &mut S,

@@ -1,20 +1,22 @@
-ghost use Rattle.std.specs.Prelude.{◌≡◌, IsTrue, IfOk, IfErr, IfNone, ◌≢◌};
+ghost use Rattle.std.specs.Prelude.{◌≡◌, IsTrue, Some, IfOk, IfNone};
+ghost use Rattle.std.specs.Bool.{OnTrue};
 ghost use Rattle.std.specs.List.{find};
 ghost use Rattle.std.specs.Option.{option_or};
 ghost use Rattle.std.specs.FinMap as map;
 ghost use Rattle.fork_reach.specs.Faults.{IsAsked, fault_in};
 ghost use Rattle.fork_push.specs.Push.{is_missing, is_wrong, link_refusal, links_under};
 ghost use Rattle.fork_reach.specs.Reach.{links_of_found};
+ghost use Rattle.fork_reach.specs.Source.{kind_in};
 
 use crate::linking::judge_links;
 use crate::refusal::PushRefusal;
 use fork_reach::{Source, SourceFault};
-use git_name::Name;
+use git_name::{Kind, Name};
 use git_object::Link;
 use std::alloc::Global;
 
-// What stands against the links of the sent objects, each of which is read once for each time that it
-// was sent.
+// What stands against the links of the sent objects. A blob has none and is not read; each other one
+// is read once for each time that it was sent.
 pub(crate) fn judge_sent<S: Source>(
     alloc: Global,
     source: &mut S,
@@ -37,6 +39,16 @@ pub(crate) fn judge_sent<S: Source>(
     }
 }
 
+// Whether the object of this name is there, and a blob.
+fn is_blob<S: Source>(source: &S, name: Name) -> bool
+    ensures { OnTrue result (kind_in (S.state source.now).objects name ≡ Some Kind.Blob) }
+{
+    match source.kind_of(name) {
+        Some(Kind::Blob) => true,
+        _ => false,
+    }
+}
+
 // The first link of the object of this name whose object is not there. Where there is none, the first
 // link to another kind is noted, unless one was before.
 fn judge_object<S: Source>(
@@ -49,6 +61,9 @@ fn judge_object<S: Source>(
     ensures wrong { IsTrue (S.state source.old).honest → IfOk result (λ link. IfNone link (wrong.new ≡ option_or wrong.old (find (is_wrong (S.state source.old).objects) (links_of_found (map.get (S.state source.old).objects name))))) }
     ensures asked { IsAsked (S.state source.old) (S.state source.new) (fault_in result) }
 {
+    if is_blob(source, name) {
+        return Ok(None);
+    }
     match source.read(alloc, name) {
         Ok(Some(sealed)) => Ok(judge_links(source, &sealed, wrong)),
         Ok(None) => Ok(None),

@@ -1,16 +1,43 @@
 -- Links of sent objects, one object after another.
-use Rattle.std.proofs.Common.{◌≡◌, ℕ, ◌+◌, ◌<◌, Bool, List, ◌∷◌, Option, None, Some, sym, ap, ◌∙◌, length, drop, get_or}
+use Rattle.std.proofs.Common.{◌≡◌, ℕ, ◌+◌, ◌<◌, Bool, List, [], ◌∷◌, Option, None, Some, refl, sym, ap, ◌∙◌, length, drop, get_or}
 use Rattle.std.specs.FinMap.{get}
 use Rattle.std.specs.List.{find}
 use Rattle.std.specs.Option.{option_map, option_or}
 use Rattle.std.proofs.lemmas.List.{drop_more}
 use Rattle.std.proofs.lemmas.List.Folds.{find-append}
+use Rattle.git_name.specs.Object.{Object}
+use Rattle.git_name.specs.declared.kind.Kind.TheVariants.{Blob}
 use Rattle.git_object.specs.declared.link.Link.{Link}
+use Rattle.git_object.specs.ObjectIn.{links_in, object_in}
 use Rattle.git_reftx.proofs.RefusalLemmas.{option_or_assoc}
 use Rattle.fork_reach.specs.Reach.{links_of_found}
-use Rattle.fork_reach.specs.Source.{Objects}
+use Rattle.fork_reach.specs.Source.{Objects, kind_in}
 use Rattle.fork_push.specs.declared.refusal.PushRefusal.TheVariants.{Missing}
 use Rattle.fork_push.specs.Push.{is_missing, link_refusal, links_under, wrong_type}
+
+no_links : (bytes : List ℕ) → links_in Blob bytes ≡ []
+unfolding links_in object_in
+no_links bytes = refl
+
+-- a blob has no links
+blob_links : (both : Objects) (name : List ℕ) → kind_in both name ≡ Some Blob → links_of_found (get both name) ≡ []
+blob_links both name blob = by (get both name) blob
+  where
+    by : (found : Option Object) → option_map (λ object. object.kind) found ≡ Some Blob → links_of_found found ≡ []
+    by None is = refl
+    by (Some object) is = (let same : object.kind ≡ Blob = cc in ap (λ kind. links_in kind object.bytes) same ∙ no_links object.bytes)
+
+-- so nothing is found in them
+pub blob_found : (test : Link → Bool) (both : Objects) (name : List ℕ) → kind_in both name ≡ Some Blob → None ≡ find test (links_of_found (get both name))
+blob_found test both name blob = sym (ap (find test) (blob_links both name blob))
+
+or_none : (o : Option Link) → o ≡ option_or o None
+or_none None = refl
+or_none (Some link) = refl
+
+-- and what was noted before stays
+pub blob_noted : (test : Link → Bool) (both : Objects) (name : List ℕ) (old : Option Link) → kind_in both name ≡ Some Blob → old ≡ option_or old (find test (links_of_found (get both name)))
+blob_noted test both name old blob = or_none old ∙ ap (option_or old) (blob_found test both name blob)
 
 -- what is found in the links from an object on is found in its own, or else in those behind it
 found_from : (test : Link → Bool) (both : Objects) (names : List (List ℕ)) (i : ℕ) (name : List ℕ) → i < length names → name ≡ get_or names i name

@@ -1,8 +1,7 @@
 -- What a verdict tells.
-use Rattle.std.specs.Prelude.{◌≡◌, ◌≢◌, ℕ, Result, Ok, Err, ⊤}
+use Rattle.std.specs.Prelude.{◌≡◌, Option, None, Some, Result, Ok, Err, ⊤}
 use Rattle.git_reftx.specs.Transaction.{References}
-use Rattle.fork_reach.specs.declared.source.SourceFault.TheVariants.{Damaged}
-use Rattle.fork_reach.specs.Faults.{CountsFault}
+use Rattle.fork_reach.specs.declared.source.SourceFault.{SourceFault}
 use Rattle.fork_push.specs.declared.refusal.PushRefusal.{PushRefusal}
 use Rattle.fork_push.specs.declared.verdict.Verdict.{Verdict}
 use Rattle.fork_push.specs.declared.verdict.Verdict.TheVariants.{Accepted, Refused, Failed}
@@ -13,14 +12,8 @@ TellsJudged judged (Accepted new) = judged ≡ Ok new
 TellsJudged judged (Refused refusal) = judged ≡ Err refusal
 TellsJudged judged (Failed fault) = ⊤
 
--- a failure of the store is counted, and nothing else is
-abbrev pub CountsVerdict : ℕ → ℕ → Verdict → Type 0
-CountsVerdict before now (Accepted new) = now ≡ before
-CountsVerdict before now (Refused refusal) = now ≡ before
-CountsVerdict before now (Failed fault) = CountsFault before now fault
-
--- it isn't a fault for a damaged object
-abbrev pub IsUndamaged : Verdict → Type 0
-IsUndamaged (Accepted new) = ⊤
-IsUndamaged (Refused refusal) = ⊤
-IsUndamaged (Failed fault) = fault ≢ Damaged
+-- the fault that a verdict tells
+abbrev pub fault_of_verdict : Verdict → Option SourceFault
+fault_of_verdict (Accepted new) = None
+fault_of_verdict (Refused refusal) = None
+fault_of_verdict (Failed fault) = Some fault

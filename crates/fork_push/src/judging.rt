@@ -1,9 +1,10 @@
 ghost use Rattle.std.specs.Prelude.{◌≡◌, Ok, IsTrue};
 ghost use Rattle.push_stream.specs.Brief.{brief_shown};
 ghost use Rattle.git_reftx.specs.Transaction.{transacted};
+ghost use Rattle.fork_reach.specs.Faults.{IsAsked};
 ghost use Rattle.fork_reach.specs.Source.{kind_in};
 ghost use Rattle.fork_push.specs.Push.{judged, within_limit};
-ghost use Rattle.fork_push.specs.Verdict.{CountsVerdict, IsUndamaged, TellsJudged};
+ghost use Rattle.fork_push.specs.Verdict.{TellsJudged, fault_of_verdict};
 
 use crate::both_kinds::BothKinds;
 use crate::refusal::PushRefusal;
@@ -17,7 +18,7 @@ use std::alloc::Global;
 
 #[tactic(auto, unfolding(crate::specs::Push::judged))]
 /// Judges a push into a repository of these references, under a limit on what all objects may use.
-/// It changes nothing, and reads the sent objects alone.
+/// It changes nothing. It reads the sent objects that are no blobs, and no others.
 pub fn judge<S: Sides>(
     alloc: Global,
     sides: &mut S,
@@ -25,12 +26,8 @@ pub fn judge<S: Sides>(
     references: &Refs,
     limit: u64,
 ) -> Verdict
-    ensures judged { IsTrue (S.honest sides.old) → TellsJudged (judged (S.objects sides.old) references.now limit (brief_shown finished.now)) result }
-    ensures kept { S.objects sides.new ≡ S.objects sides.old }
-    ensures honest { S.honest sides.new ≡ S.honest sides.old }
-    ensures rest { S.rest sides.new ≡ S.rest sides.old }
-    ensures damaged { IsTrue (S.honest sides.old) → IsUndamaged result }
-    ensures cause { CountsVerdict (S.failures sides.old) (S.failures sides.new) result }
+    ensures judged { IsTrue (S.state sides.old).honest → TellsJudged (judged (S.state sides.old).objects references.now limit (brief_shown finished.now)) result }
+    ensures asked { IsAsked (S.state sides.old) (S.state sides.new) (fault_of_verdict result) }
 {
     match finished {
         Ok(brief) => judge_brief(alloc, sides, brief, references, limit),
@@ -47,12 +44,8 @@ fn judge_brief<S: Sides>(
     references: &Refs,
     limit: u64,
 ) -> Verdict
-    ensures judged { IsTrue (S.honest sides.old) → TellsJudged (judged (S.objects sides.old) references.now limit (Ok (brief.now.commands.items, brief.now.names.items))) result }
-    ensures kept { S.objects sides.new ≡ S.objects sides.old }
-    ensures honest { S.honest sides.new ≡ S.honest sides.old }
-    ensures rest { S.rest sides.new ≡ S.rest sides.old }
-    ensures damaged { IsTrue (S.honest sides.old) → IsUndamaged result }
-    ensures cause { CountsVerdict (S.failures sides.old) (S.failures sides.new) result }
+    ensures judged { IsTrue (S.state sides.old).honest → TellsJudged (judged (S.state sides.old).objects references.now limit (Ok (brief.now.commands.items, brief.now.names.items))) result }
+    ensures asked { IsAsked (S.state sides.old) (S.state sides.new) (fault_of_verdict result) }
 {
     match judge_sent(alloc, sides, brief.names.as_slice()) {
         Ok(None) => judge_transaction(alloc, sides, brief.commands.as_slice(), references, limit),
@@ -69,9 +62,8 @@ fn judge_transaction<S: Sides>(
     references: &Refs,
     limit: u64,
 ) -> Verdict
-    ensures judged { TellsJudged (within_limit (S.objects sides.now) limit (transacted references.now commands.now (kind_in (S.objects sides.now)))) result }
-    ensures damaged { IsUndamaged result }
-    ensures cause { CountsVerdict (S.failures sides.now) (S.failures sides.now) result }
+    ensures judged { TellsJudged (within_limit (S.state sides.now).objects limit (transacted references.now commands.now (kind_in (S.state sides.now).objects))) result }
+    ensures asked { IsAsked (S.state sides.now) (S.state sides.now) (fault_of_verdict result) }
 {
     let new = match references.transacted(alloc, commands, &BothKinds(sides)) {
         Ok(new) => new,

@@ -15,8 +15,8 @@ pub(crate) fn judge_links<S: Source>(
     sealed: &Sealed,
     wrong: &mut Option<Link>,
 ) -> Option<Link>
-    ensures missing { result ≡ find (is_missing (S.objects source.now)) (links_in sealed.now.kind sealed.now.bytes) }
-    ensures wrong { IfNone result (wrong.new ≡ option_or wrong.old (find (is_wrong (S.objects source.now)) (links_in sealed.now.kind sealed.now.bytes))) }
+    ensures missing { result ≡ find (is_missing (S.state source.now).objects) (links_in sealed.now.kind sealed.now.bytes) }
+    ensures wrong { IfNone result (wrong.new ≡ option_or wrong.old (find (is_wrong (S.state source.now).objects) (links_in sealed.now.kind sealed.now.bytes))) }
 {
     let Ok(object) = Object::read(sealed.kind(), sealed.bytes()) else {
         return None;

@@ -1,31 +1,29 @@
-ghost use Rattle.std.specs.Prelude.{◌≡◌, IsTrue, IfOk, IfErr, IfNone, ◌≢◌};
+ghost use Rattle.std.specs.Prelude.{◌≡◌, IsTrue, Some, IfOk, IfNone};
+ghost use Rattle.std.specs.Bool.{OnTrue};
 ghost use Rattle.std.specs.List.{find};
 ghost use Rattle.std.specs.Option.{option_or};
 ghost use Rattle.std.specs.FinMap as map;
-ghost use Rattle.fork_reach.specs.Faults.{Counts};
+ghost use Rattle.fork_reach.specs.Faults.{IsAsked, fault_in};
 ghost use Rattle.fork_push.specs.Push.{is_missing, is_wrong, link_refusal, links_under};
 ghost use Rattle.fork_reach.specs.Reach.{links_of_found};
+ghost use Rattle.fork_reach.specs.Source.{kind_in};
 
 use crate::linking::judge_links;
 use crate::refusal::PushRefusal;
 use fork_reach::{Source, SourceFault};
-use git_name::Name;
+use git_name::{Kind, Name};
 use git_object::Link;
 use std::alloc::Global;
 
-// What stands against the links of the sent objects, each of which is read once for each time that it
-// was sent.
+// What stands against the links of the sent objects. A blob has none and is not read; each other one
+// is read once for each time that it was sent.
 pub(crate) fn judge_sent<S: Source>(
     alloc: Global,
     source: &mut S,
     names: &[Name],
 ) -> Result<Option<PushRefusal>, SourceFault>
-    ensures found { IsTrue (S.honest source.old) → IfOk result (λ refusal. refusal ≡ link_refusal (S.objects source.old) (links_under (S.objects source.old) names.now)) }
-    ensures kept { S.objects source.new ≡ S.objects source.old }
-    ensures honest { S.honest source.new ≡ S.honest source.old }
-    ensures rest { S.rest source.new ≡ S.rest source.old }
-    ensures damaged { IsTrue (S.honest source.old) → IfErr result (λ fault. fault ≢ SourceFault.Damaged) }
-    ensures cause { Counts (S.failures source.old) (S.failures source.new) result }
+    ensures found { IsTrue (S.state source.old).honest → IfOk result (λ refusal. refusal ≡ link_refusal (S.state source.old).objects (links_under (S.state source.old).objects names.now)) }
+    ensures asked { IsAsked (S.state source.old) (S.state source.new) (fault_in result) }
 {
     let mut wrong = None;
     for name in names {
@@ -41,6 +39,16 @@ pub(crate) fn judge_sent<S: Source>(
     }
 }
 
+// Whether the object of this name is there, and a blob.
+fn is_blob<S: Source>(source: &S, name: Name) -> bool
+    ensures { OnTrue result (kind_in (S.state source.now).objects name ≡ Some Kind.Blob) }
+{
+    match source.kind_of(name) {
+        Some(Kind::Blob) => true,
+        _ => false,
+    }
+}
+
 // The first link of the object of this name whose object is not there. Where there is none, the first
 // link to another kind is noted, unless one was before.
 fn judge_object<S: Source>(
@@ -49,14 +57,13 @@ fn judge_object<S: Source>(
     name: Name,
     wrong: &mut Option<Link>,
 ) -> Result<Option<Link>, SourceFault>
-    ensures missing { IsTrue (S.honest source.old) → IfOk result (λ link. link ≡ find (is_missing (S.objects source.old)) (links_of_found (map.get (S.objects source.old) name))) }
-    ensures wrong { IsTrue (S.honest source.old) → IfOk result (λ link. IfNone link (wrong.new ≡ option_or wrong.old (find (is_wrong (S.objects source.old)) (links_of_found (map.get (S.objects source.old) name))))) }
-    ensures kept { S.objects source.new ≡ S.objects source.old }
-    ensures honest { S.honest source.new ≡ S.honest source.old }
-    ensures rest { S.rest source.new ≡ S.rest source.old }
-    ensures damaged { IsTrue (S.honest source.old) → IfErr result (λ fault. fault ≢ SourceFault.Damaged) }
-    ensures cause { Counts (S.failures source.old) (S.failures source.new) result }
+    ensures missing { IsTrue (S.state source.old).honest → IfOk result (λ link. link ≡ find (is_missing (S.state source.old).objects) (links_of_found (map.get (S.state source.old).objects name))) }
+    ensures wrong { IsTrue (S.state source.old).honest → IfOk result (λ link. IfNone link (wrong.new ≡ option_or wrong.old (find (is_wrong (S.state source.old).objects) (links_of_found (map.get (S.state source.old).objects name))))) }
+    ensures asked { IsAsked (S.state source.old) (S.state source.new) (fault_in result) }
 {
+    if is_blob(source, name) {
+        return Ok(None);
+    }
     match source.read(alloc, name) {
         Ok(Some(sealed)) => Ok(judge_links(source, &sealed, wrong)),
         Ok(None) => Ok(None),

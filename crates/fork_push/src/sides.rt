@@ -9,5 +9,5 @@ pub trait Sides: Source {
     /// Whether all of them together use at most so many bytes. It is a running total's answer, and
     /// walks no objects.
     fn is_within(&self, limit: u64) -> bool
-        ensures { result ≡ nat_le (use_of (Self.objects self.now)) limit };
+        ensures { result ≡ nat_le (use_of (Self.state self.now).objects) limit };
 }

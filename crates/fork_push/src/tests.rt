@@ -159,6 +159,32 @@ fn a_push_whose_objects_cannot_be_read_fails(rt: HostRuntime) -> Result<(), Fail
     Ok(())
 }
 
+// How many objects are read to judge a push of the objects of these letters.
+fn reads_of(alloc: Global, letters: &[u8]) -> Result<u64, AllocError> {
+    let mut both = Both::new(alloc, true);
+    let names = filled(alloc, &mut both)?;
+    let brief = sent(alloc, names, letters, b"refs/tags/a")?;
+    let _verdict = judge(alloc, &mut both, &Ok(brief), &Refs::new(alloc), USED);
+    Ok(both.reads)
+}
+
+#[test]
+fn no_blob_is_read(rt: HostRuntime) -> Result<(), Fail> {
+    // The objects that were sent, and how many are read: up to the first missing link, and no blob.
+    let rows: [(&[u8], u64); 6] = [
+        (b"", 0),
+        (b"b", 0),
+        (b"bbb", 0),
+        (b"btb", 1),
+        (b"bwt", 2),
+        (b"bmt", 1),
+    ];
+    for (letters, reads) in rows {
+        assert_eq!(rt; reads_of(rt.alloc(), letters)?, reads, "{letters:?}");
+    }
+    Ok(())
+}
+
 // The name that a refusal for links tells.
 fn told_name(verdict: &Verdict) -> Option<Name> {
     match verdict {

@@ -17,7 +17,7 @@ pub fn for_each_ref<S: Source>(
     references: &Refs,
     prefix: Option<&[u8]>,
 ) -> Result<Vec<u8>, AllocError>
-    ensures { IfOk result (λ text. text.items ≡ listing (S.objects source.now) references.now (option_map (λ word. word.now) prefix.entry)) }
+    ensures { IfOk result (λ text. text.items ≡ listing (S.state source.now).objects references.now (option_map (λ word. word.now) prefix.entry)) }
 {
     let mut text = Vec::new(alloc);
     for (name, target) in references.iter() {

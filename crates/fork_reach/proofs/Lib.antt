@@ -1,6 +1,8 @@
 pub mod AlongLemmas
+pub mod AskedLemmas
 pub mod Examples
 pub mod KeptObjects
+pub mod MeasureLemmas
 pub mod NameLemmas
 pub mod ReachLemmas
 pub mod SeeingLemmas

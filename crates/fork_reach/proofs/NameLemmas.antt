@@ -1,7 +1,7 @@
 -- Names among names: the test, and what it finds.
 use Rattle.std.proofs.Common.{◌≡◌, ℕ, Bool, true, false, List, [], subst, sym, ◌∙◌}
 use Rattle.std.specs.List.{Contains, list_any}
-use Rattle.std.specs.FinMap.{contains_key, contains_key-keys, keys}
+use Rattle.std.specs.FinMap.{FinMap, contains_key, contains_key-keys, keys}
 use Rattle.std.specs.Ordering.{eq_by_cmp}
 use Rattle.std.proofs.lemmas.Cmp.{nat_list_eq_equiv}
 use Rattle.std.proofs.lemmas.List.Folds.{list_any-from_Any}
@@ -9,7 +9,6 @@ use Rattle.std.proofs.lemmas.Map.Views.{Contains-from_any, list_any-from_Contain
 use Rattle.std.proofs.lemmas.Slice.Eq.{bytes_eq-Decides}
 use Rattle.git_name.specs.Name.{name_cmp}
 use Rattle.fork_reach.specs.Reach.{is_among}
-use Rattle.fork_reach.specs.Source.{Objects}
 use Rattle.fork_reach.proofs.KeptObjects.{tied_names}
 
 pub among-Contains : (names : List (List ℕ)) (name : List ℕ) → is_among names name ≡ true → Contains names name
@@ -18,9 +17,9 @@ among-Contains names name among = Contains-from_any (λ x y. (bytes_eq-Decides x
 pub among-from_Contains : (names : List (List ℕ)) (name : List ℕ) → Contains names name → is_among names name ≡ true
 among-from_Contains names name among = list_any-from_Contains nat_list_eq_equiv name names among
 
--- an object that is there stands under one of the keys
-pub Contains-keys : (objects : Objects) (name : List ℕ) → contains_key objects name ≡ true → Contains (keys objects) name
-Contains-keys objects name there = Contains-from_any {eq = eq_by_cmp name_cmp} tied_names name (keys objects) (sym (contains_key-keys objects name) ∙ there)
+-- a name that has a value stands among the keys
+pub Contains-keys : {X : Type 0} (values : FinMap name_cmp X) (name : List ℕ) → contains_key values name ≡ true → Contains (keys values) name
+Contains-keys values name there = Contains-from_any {eq = eq_by_cmp name_cmp} tied_names name (keys values) (sym (contains_key-keys values name) ∙ there)
 
 -- one name that passes a test settles it
 pub any_passes : (test : List ℕ → Bool) (names : List (List ℕ)) (name : List ℕ) → Contains names name → test name ≡ true → list_any test names ≡ true

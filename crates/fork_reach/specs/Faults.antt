@@ -1,18 +1,32 @@
--- What the faults of a source may be (own).
-use Rattle.std.specs.Prelude.{◌≡◌, ◌⊎◌, ℕ, ◌+◌, Result, Ok, Err}
+-- What asking a source leaves of it, and what its faults may be (own).
+use Rattle.std.specs.Prelude.{◌≡◌, ◌≢◌, ◌⊎◌, ℕ, ◌+◌, IsTrue, Option, None, Some, Result, Ok, Err}
 use Rattle.fork_reach.specs.declared.source.SourceFault.{SourceFault}
 use Rattle.fork_reach.specs.declared.source.SourceFault.TheVariants.{Store, Damaged, Memory}
+use Rattle.fork_reach.specs.Objects.{measures_of}
+use Rattle.fork_reach.specs.Source.{SourceState}
 
 -- a count of failures rises by one, and stays at the greatest of 64 bits
 abbrev pub Rises : ℕ → ℕ → Type 0
 Rises before now = (now ≡ before + 1) ⊎ ((before ≡ 18446744073709551615) × (now ≡ before))
 
--- a failure of the store is counted, and nothing else is
-abbrev pub CountsFault : ℕ → ℕ → SourceFault → Type 0
-CountsFault before now Store = Rises before now
-CountsFault before now Damaged = now ≡ before
-CountsFault before now Memory = now ≡ before
+-- the fault of a result
+abbrev pub fault_in : {A : Type 0} → Result A SourceFault → Option SourceFault
+fault_in (Ok a) = None
+fault_in (Err fault) = Some fault
 
-abbrev pub Counts : {A : Type 0} → ℕ → ℕ → Result A SourceFault → Type 0
-Counts before now (Ok a) = now ≡ before
-Counts before now (Err fault) = CountsFault before now fault
+-- a failure of the store is counted, and nothing else is
+abbrev pub CountsFault : ℕ → ℕ → Option SourceFault → Type 0
+CountsFault before now None = now ≡ before
+CountsFault before now (Some Store) = Rises before now
+CountsFault before now (Some Damaged) = now ≡ before
+CountsFault before now (Some Memory) = now ≡ before
+
+-- what asking a source leaves of it, and which faults may come
+pub record IsAsked {Base Rest : Type 0} (old new : SourceState Base Rest) (fault : Option SourceFault) : Type 0 where
+  pub measures : measures_of new.objects ≡ measures_of old.objects
+  pub honest : new.honest ≡ old.honest
+  pub base : new.base ≡ old.base
+  pub counted : CountsFault old.failures new.failures fault
+  pub objects : IsTrue old.honest → new.objects ≡ old.objects
+  pub rest : IsTrue old.honest → new.rest ≡ old.rest
+  pub undamaged : IsTrue old.honest → fault ≢ Some Damaged

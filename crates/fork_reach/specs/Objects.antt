@@ -1,9 +1,9 @@
--- Objects that come beside others, and what objects use (own).
+-- Objects that come beside others, what objects use, and what of them no store can change (own).
 use Rattle.std.specs.Prelude.{◌≡◌, ℕ, ◌+◌, List, [], ◌∷◌, Some, length, sum_by, if◌then◌else◌}
 use Rattle.std.specs.FinMap.{FinMap, get, insert, contains_key, values}
-use Rattle.git_name.specs.declared.kind.Kind.{Kind}
 use Rattle.git_name.specs.Maps.{map_values}
 use Rattle.git_name.specs.Name.{name_cmp}
+use Rattle.git_name.specs.declared.kind.Kind.{Kind}
 use Rattle.git_name.specs.Object.{Object, object_name}
 use Rattle.fork_reach.specs.Source.{Objects}
 

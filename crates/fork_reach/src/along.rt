@@ -2,7 +2,7 @@ ghost use Rattle.std.specs.Prelude.{◌≡◌, ◌≢◌, [], List, ℕ, map, Is
 ghost use Rattle.std.specs.Bool.{OnFalse};
 ghost use Rattle.git_object.specs.ObjectIn.{links_in};
 ghost use Rattle.fork_reach.specs.Along.{names_along, names_in};
-ghost use Rattle.fork_reach.specs.Faults.{Counts};
+ghost use Rattle.fork_reach.specs.Faults.{IsAsked, fault_in};
 ghost use Rattle.fork_reach.specs.Reach.{parents_in};
 
 use crate::source::{Source, SourceFault};
@@ -82,12 +82,8 @@ pub(crate) fn next_names<S: Source>(
     along: Along,
     name: Name,
 ) -> Result<Vec<Name>, SourceFault>
-    ensures next { IsTrue (S.honest source.old) → IfOk result (λ names. names.items ≡ names_along along (S.objects source.old) name) }
-    ensures kept { S.objects source.new ≡ S.objects source.old }
-    ensures honest { S.honest source.new ≡ S.honest source.old }
-    ensures rest { S.rest source.new ≡ S.rest source.old }
-    ensures damaged { IsTrue (S.honest source.old) → IfErr result (λ fault. fault ≢ SourceFault.Damaged) }
-    ensures cause { Counts (S.failures source.old) (S.failures source.new) result }
+    ensures next { IsTrue (S.state source.old).honest → IfOk result (λ names. names.items ≡ names_along along (S.state source.old).objects name) }
+    ensures asked { IsAsked (S.state source.old) (S.state source.new) (fault_in result) }
 {
     let Some(kind) = source.kind_of(name) else {
         return Ok(Vec::new(alloc));

@@ -1,6 +1,7 @@
 ghost use Rattle.std.specs.Prelude.{◌≡◌, [], ◌∷◌, IfErr, OnOk};
 ghost use Rattle.std.specs.BTreeSet.{contains};
 ghost use Rattle.git_name.specs.Name.{name_cmp};
+ghost use Rattle.fork_reach.specs.Objects.{measures_of};
 ghost use Rattle.fork_reach.specs.Seeing.{Sees};
 
 use crate::source::{Source, SourceFault};
@@ -14,7 +15,7 @@ fn note<S: Source>(
     seen: &mut BTreeSet<Name>,
     waiting: &mut Vec<Name>,
 ) -> Result<(), SourceFault>
-    ensures noted { OnOk result (Sees (S.objects source.now) (name ∷ []) (contains name_cmp seen.old) waiting.old.items (contains name_cmp seen.new) waiting.new.items) }
+    ensures noted { OnOk result (Sees (measures_of (S.state source.now).objects) (name ∷ []) (contains name_cmp seen.old) waiting.old.items (contains name_cmp seen.new) waiting.new.items) }
     ensures memory { IfErr result (λ fault. fault ≡ SourceFault.Memory) }
 {
     if source.kind_of(name).is_none() {
@@ -39,7 +40,7 @@ pub(crate) fn note_all<S: Source>(
     seen: &mut BTreeSet<Name>,
     waiting: &mut Vec<Name>,
 ) -> Result<(), SourceFault>
-    ensures noted { OnOk result (Sees (S.objects source.now) names.now (contains name_cmp seen.old) waiting.old.items (contains name_cmp seen.new) waiting.new.items) }
+    ensures noted { OnOk result (Sees (measures_of (S.state source.now).objects) names.now (contains name_cmp seen.old) waiting.old.items (contains name_cmp seen.new) waiting.new.items) }
     ensures memory { IfErr result (λ fault. fault ≡ SourceFault.Memory) }
 {
     for name in names {

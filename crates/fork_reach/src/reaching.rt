@@ -2,7 +2,7 @@ ghost use Rattle.std.specs.Prelude.{◌≡◌, ◌≢◌, true, List, ℕ, IsTru
 ghost use Rattle.std.specs.BTreeSet.{contains};
 ghost use Rattle.std.specs.FinMap as map;
 ghost use Rattle.git_name.specs.Name.{name_cmp};
-ghost use Rattle.fork_reach.specs.Faults.{Counts};
+ghost use Rattle.fork_reach.specs.Faults.{IsAsked, fault_in};
 ghost use Rattle.fork_reach.specs.Reach.{is_reached, linked_names, parent_names};
 
 use crate::along::Along;
@@ -20,14 +20,10 @@ pub fn reach<S: Source>(
     source: &mut S,
     roots: &[Name],
 ) -> Result<BTreeSet<Name>, SourceFault>
-    ensures found { IsTrue (S.honest source.old) → IfOk result (λ found. (name : List ℕ) → contains name_cmp found name ≡ is_reached (linked_names (S.objects source.old)) (S.objects source.old) roots.now name) }
+    ensures found { IsTrue (S.state source.old).honest → IfOk result (λ found. (name : List ℕ) → contains name_cmp found name ≡ is_reached (linked_names (S.state source.old).objects) (S.state source.old).objects roots.now name) }
     // Over any source.
-    ensures there { IfOk result (λ found. (name : List ℕ) → contains name_cmp found name ≡ true → map.contains_key (S.objects source.old) name ≡ true) }
-    ensures kept { S.objects source.new ≡ S.objects source.old }
-    ensures honest { S.honest source.new ≡ S.honest source.old }
-    ensures rest { S.rest source.new ≡ S.rest source.old }
-    ensures damaged { IsTrue (S.honest source.old) → IfErr result (λ fault. fault ≢ SourceFault.Damaged) }
-    ensures cause { Counts (S.failures source.old) (S.failures source.new) result }
+    ensures there { IfOk result (λ found. (name : List ℕ) → contains name_cmp found name ≡ true → map.contains_key (S.state source.old).objects name ≡ true) }
+    ensures asked { IsAsked (S.state source.old) (S.state source.new) (fault_in result) }
 {
     walk(alloc, source, Along::Links, roots)
 }
@@ -39,14 +35,10 @@ pub fn ancestors<S: Source>(
     source: &mut S,
     commits: &[Name],
 ) -> Result<BTreeSet<Name>, SourceFault>
-    ensures found { IsTrue (S.honest source.old) → IfOk result (λ found. (name : List ℕ) → contains name_cmp found name ≡ is_reached (parent_names (S.objects source.old)) (S.objects source.old) commits.now name) }
+    ensures found { IsTrue (S.state source.old).honest → IfOk result (λ found. (name : List ℕ) → contains name_cmp found name ≡ is_reached (parent_names (S.state source.old).objects) (S.state source.old).objects commits.now name) }
     // Over any source.
-    ensures there { IfOk result (λ found. (name : List ℕ) → contains name_cmp found name ≡ true → map.contains_key (S.objects source.old) name ≡ true) }
-    ensures kept { S.objects source.new ≡ S.objects source.old }
-    ensures honest { S.honest source.new ≡ S.honest source.old }
-    ensures rest { S.rest source.new ≡ S.rest source.old }
-    ensures damaged { IsTrue (S.honest source.old) → IfErr result (λ fault. fault ≢ SourceFault.Damaged) }
-    ensures cause { Counts (S.failures source.old) (S.failures source.new) result }
+    ensures there { IfOk result (λ found. (name : List ℕ) → contains name_cmp found name ≡ true → map.contains_key (S.state source.old).objects name ≡ true) }
+    ensures asked { IsAsked (S.state source.old) (S.state source.new) (fault_in result) }
 {
     walk(alloc, source, Along::Parents, commits)
 }

@@ -1,8 +1,8 @@
-ghost use Rattle.std.specs.Prelude.{◌≡◌, ◌≢◌, ℕ, Bool, IsTrue, IfOk, IfErr, IfSome, is_some};
+ghost use Rattle.std.specs.Prelude.{◌≡◌, IsTrue, IfOk, IfSome, is_some};
 ghost use Rattle.std.specs.FinMap as map;
 ghost use Rattle.git_name.specs.Object.{object_name};
-ghost use Rattle.fork_reach.specs.Faults.{Counts};
-ghost use Rattle.fork_reach.specs.Source.{Objects, kind_in};
+ghost use Rattle.fork_reach.specs.Faults.{IsAsked, fault_in};
+ghost use Rattle.fork_reach.specs.Source.{SourceState, kind_in};
 
 use git_name::{Kind, Name, Sealed};
 use std::alloc::Global;
@@ -21,33 +21,24 @@ pub enum SourceFault {
 
 /// Finds objects by their names, as a finite map does.
 pub trait Source {
-    /// The objects that it finds.
-    ghost objects: { Self → Objects };
+    /// What it stands on that stays over any store.
+    ghost Base: { Type 0 };
 
-    /// Whether what lies under it gives what it was given. Where it does not, the names and kinds
-    /// that are found stay the same, and no bytes are given under a false name.
-    ghost honest: { Self → Bool };
-
-    /// How often what lies under it failed.
-    ghost failures: { Self → ℕ };
-
-    /// What it stands on, beside the objects that it finds. A read leaves that as it was.
+    /// What it stands on that stays over an honest store.
     ghost Rest: { Type 0 };
 
-    ghost rest: { Self → Rest };
+    /// What it shows. Over a store that does not give what it was given, the names, kinds and lengths
+    /// of its objects stay the same, and no bytes are given under a false name.
+    ghost state: { Self → SourceState Base Rest };
 
     /// The kind of the object of this name. It reads no bytes of it.
     fn kind_of(&self, name: Name) -> Option<Kind>
-        ensures { result ≡ kind_in (objects self.now) name };
+        ensures { result ≡ kind_in (state self.now).objects name };
 
     /// The object of this name, read whole.
     fn read(&mut self, alloc: Global, name: Name) -> Result<Option<Sealed>, SourceFault>
-        ensures found { IsTrue (honest self.old) → IfOk result (λ found. found ≡ map.get (objects self.old) name) }
-        ensures there { IfOk result (λ found. is_some found ≡ map.contains_key (objects self.old) name) }
+        ensures found { IsTrue (state self.old).honest → IfOk result (λ found. found ≡ map.get (state self.old).objects name) }
+        ensures there { IfOk result (λ found. is_some found ≡ map.contains_key (state self.old).objects name) }
         ensures named { IfOk result (λ found. IfSome found (λ object. object_name object ≡ name)) }
-        ensures kept { objects self.new ≡ objects self.old }
-        ensures honest { honest self.new ≡ honest self.old }
-        ensures rest { rest self.new ≡ rest self.old }
-        ensures damaged { IsTrue (honest self.old) → IfErr result (λ fault. fault ≢ SourceFault.Damaged) }
-        ensures cause { Counts (failures self.old) (failures self.new) result };
+        ensures asked { IsAsked (state self.old) (state self.new) (fault_in result) };
 }

@@ -5,8 +5,10 @@ use std::collections::BTreeSet;
 use std::test::Fail;
 
 mod kept;
+mod lying;
 
 use crate::tests::kept::Kept;
+use crate::tests::lying::Lying;
 
 const TIMES: &[u8] = b"author A <a@x> 0 +0000\ncommitter A <a@x> 0 +0000\n\n";
 
@@ -236,6 +238,37 @@ fn a_commit_has_many_parents(rt: HostRuntime) -> Result<(), Fail> {
     assert!(rt; found.contains(&names.parent));
     assert!(rt; found.contains(&names.commit));
     assert_eq!(rt; kept.reads, 3);
+    Ok(())
+}
+
+// Whether a walk from the root of this letter comes to a lost object, and how many failures of the
+// store were counted.
+fn over_a_store_that_lies(alloc: Global, root: u8, lost: u8) -> Result<(bool, u64), Fail> {
+    let mut kept = Kept::new(alloc, 0);
+    let names = filled(alloc, &mut kept)?;
+    let lost = named(&names, lost);
+    let mut lying = Lying { kept, lost };
+    match reach(alloc, &mut lying, &[named(&names, root)]) {
+        Ok(_) => Ok((false, lying.kept.failures)),
+        Err(SourceFault::Damaged) => Ok((true, lying.kept.failures)),
+        Err(_) => Err("reach")?,
+    }
+}
+
+#[test]
+fn a_lost_object_is_told_where_it_is_read(rt: HostRuntime) -> Result<(), Fail> {
+    // The root, the object that is lost, and whether the walk reads it.
+    let rows: [(u8, u8, bool); 5] = [
+        (b'g', b'g', true),
+        (b'g', b'u', true),
+        (b'p', b't', false),
+        (b't', b'b', false),
+        (b't', b'0', false),
+    ];
+    for (root, lost, is_read) in rows {
+        let told = over_a_store_that_lies(rt.alloc(), root, lost)?;
+        assert_eq!(rt; told, (is_read, 0), "{root} {lost}");
+    }
     Ok(())
 }
 

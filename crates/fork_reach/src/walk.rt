@@ -3,7 +3,7 @@ ghost use Rattle.std.specs.BTreeSet.{contains};
 ghost use Rattle.std.specs.FinMap as map;
 ghost use Rattle.git_name.specs.Name.{name_cmp};
 ghost use Rattle.fork_reach.specs.Along.{names_along};
-ghost use Rattle.fork_reach.specs.Faults.{Counts};
+ghost use Rattle.fork_reach.specs.Faults.{IsAsked, fault_in};
 ghost use Rattle.fork_reach.specs.Reach.{is_reached};
 
 use crate::along::{Along, next_names};
@@ -21,13 +21,9 @@ pub(crate) fn walk<S: Source>(
     along: Along,
     roots: &[Name],
 ) -> Result<BTreeSet<Name>, SourceFault>
-    ensures found { IsTrue (S.honest source.old) → IfOk result (λ found. (name : List ℕ) → contains name_cmp found name ≡ is_reached (names_along along (S.objects source.old)) (S.objects source.old) roots.now name) }
-    ensures there { IfOk result (λ found. (name : List ℕ) → contains name_cmp found name ≡ true → map.contains_key (S.objects source.old) name ≡ true) }
-    ensures kept { S.objects source.new ≡ S.objects source.old }
-    ensures honest { S.honest source.new ≡ S.honest source.old }
-    ensures rest { S.rest source.new ≡ S.rest source.old }
-    ensures damaged { IsTrue (S.honest source.old) → IfErr result (λ fault. fault ≢ SourceFault.Damaged) }
-    ensures cause { Counts (S.failures source.old) (S.failures source.new) result }
+    ensures found { IsTrue (S.state source.old).honest → IfOk result (λ found. (name : List ℕ) → contains name_cmp found name ≡ is_reached (names_along along (S.state source.old).objects) (S.state source.old).objects roots.now name) }
+    ensures there { IfOk result (λ found. (name : List ℕ) → contains name_cmp found name ≡ true → map.contains_key (S.state source.old).objects name ≡ true) }
+    ensures asked { IsAsked (S.state source.old) (S.state source.new) (fault_in result) }
 {
     let mut seen = BTreeSet::new(alloc);
     let mut waiting = Vec::new(alloc);

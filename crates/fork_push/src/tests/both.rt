@@ -9,11 +9,12 @@ use git_name::{Kind, Name, Sealed};
 use std::alloc::{AllocError, Global};
 use std::collections::BTreeMap;
 
-// The objects of both sides in memory. A source that has no memory reads none of them.
+// The objects of both sides in memory, of which each read is counted. A source that has no memory reads none of them.
 #[derive(Drop)]
 pub(crate) struct Both {
     objects: BTreeMap<Name, Sealed>,
     has_memory: bool,
+    pub(crate) reads: u64,
 }
 
 impl Both {
@@ -21,6 +22,7 @@ impl Both {
         Both {
             objects: BTreeMap::new(alloc),
             has_memory,
+            reads: 0,
         }
     }
 
@@ -41,15 +43,11 @@ impl Source for Both {
     ghost use Rattle.std.specs.Prelude.{true, ⊤};
     ghost use Rattle.std.specs.FinMap as map;
 
-    ghost objects = { λ both. map.from_entries both.objects.entries };
-
-    ghost honest = { λ _. true };
-
-    ghost failures = { λ _. 0 };
+    ghost Base = { ⊤ };
 
     ghost Rest = { ⊤ };
 
-    ghost rest = { λ _. tt };
+    ghost state = { λ both. record { objects = map.from_entries both.objects.entries; honest = true; failures = 0; base = tt; rest = tt } };
 
     fn kind_of(&self, name: Name) -> Option<Kind> {
         match self.find(name) {
@@ -59,6 +57,7 @@ impl Source for Both {
     }
 
     fn read(&mut self, _alloc: Global, name: Name) -> Result<Option<Sealed>, SourceFault> {
+        self.reads = self.reads.saturating_add(1);
         if !self.has_memory {
             return Err(SourceFault::Memory);
         }

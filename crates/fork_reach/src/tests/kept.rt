@@ -46,15 +46,11 @@ impl Source for Kept {
     ghost use Rattle.std.specs.Prelude.{true, ⊤};
     ghost use Rattle.std.specs.FinMap as map;
 
-    ghost objects = { λ kept. map.from_entries kept.objects.entries };
-
-    ghost honest = { λ _. true };
-
-    ghost failures = { λ kept. kept.failures };
+    ghost Base = { ⊤ };
 
     ghost Rest = { ⊤ };
 
-    ghost rest = { λ _. tt };
+    ghost state = { λ kept. record { objects = map.from_entries kept.objects.entries; honest = true; failures = kept.failures; base = tt; rest = tt } };
 
     fn kind_of(&self, name: Name) -> Option<Kind> {
         match self.find(name) {

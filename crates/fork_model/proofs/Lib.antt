@@ -3,6 +3,7 @@ pub mod HostLemmas
 pub mod Hosts
 pub mod Isolation
 pub mod KeptLemmas
+pub mod MissingLemmas
 pub mod PushLemmas
 pub mod Refusals
 pub mod Rows

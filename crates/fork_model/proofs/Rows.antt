@@ -3,7 +3,7 @@ use Rattle.std.proofs.Common.{◌≡◌, ℕ, ◌+◌, ◌≤◌, Bool, true, fa
 use Rattle.std.specs.Prelude.{nat_le, nat_lt, map}
 use Rattle.std.specs.Option.{option_map}
 use Rattle.std.specs.Ordering.{eq_by_cmp}
-use Rattle.std.specs.FinMap.{get, get-insert, get-remove, get-empty, insert, remove, contains_key, len, len-insert, len-remove, len-empty, len-entries, entries, empty}
+use Rattle.std.specs.FinMap.{get, get-insert, get-remove, get-empty, insert, remove, retain_keys, contains_key, len, len-insert, len-remove, len-empty, len-entries, entries, empty}
 use Rattle.std.proofs.lemmas.Bool.Decides.{nat_tests}
 use Rattle.git_name.specs.Object.{Object, object_name}
 use Rattle.git_name.specs.Name.{name_cmp}
@@ -34,7 +34,7 @@ use Rattle.fork_request.specs.declared.refusal.Refusal.TheVariants.{BadName, Bad
 use Rattle.fork_request.specs.declared.reply.Reply.{Reply}
 use Rattle.fork_request.specs.declared.reply.Reply.TheVariants.{Done, Refused}
 use Rattle.fork_model.specs.Answer.{Held, answer, left_by, without_upload, init_answer, drop_answer, fork_answer, push_answer, part_answer, part_end_answer, part_drop_answer, update_answer, cat_file_answer, references_answer, quota_answer, prune_answer, pruned, targets_of, named_repository, new_repository, dropped, copied, push_into, pushed, taken, open_upload, upload_into, end_in, ended, update_in, carried_out, with_references, told_object, told_references, transaction_refusal, command_refusal, push_refusal}
-use Rattle.fork_model.specs.Sound.{AreReferences, IsSound, IsUpload}
+use Rattle.fork_model.specs.Sound.{AreReferences, IsOrderly, IsRight}
 use Rattle.fork_model.specs.View.{View, Repositories}
 use Rattle.fork_reach.proofs.KeptObjects.{at_key, kept_all, named_all, tied_names}
 use Rattle.fork_model.proofs.ClosedLemmas.{closed_both, right_both}
@@ -45,8 +45,8 @@ use Rattle.fork_model.proofs.TransactionLemmas.{sound_transacted}
 pub data GoesTo (view left : View) (row : Reply × View) : Type 0 where
   -- a refusal, which leaves this
   Refuses : (refusal : Refusal) → row.0 ≡ Refused refusal → row.1 ≡ left → GoesTo view left row
-  -- data, and a view that is sound where the view was
-  Does : (text : List ℕ) → row.0 ≡ Done text → (IsSound view → IsSound row.1) → GoesTo view left row
+  -- data, and a view that is in order and right where the view was
+  Does : (text : List ℕ) → row.0 ≡ Done text → (IsOrderly view → IsOrderly row.1) → (IsRight view → IsRight row.1) → GoesTo view left row
 
 -- a row whose refusal leaves the view
 abbrev IsRow : View → Reply × View → Type 0
@@ -64,21 +64,22 @@ either view false x y left right = right refl
 named_row : (view : View) (word : List ℕ) (row : Reply × View) → (IsRepositoryName word → IsRow view row) → IsRow view (named_repository view word row)
 named_row view word row right = either view (is_plain_name 64 word) row (Refused (BadName word), view) (λ is. right (plain_name 64 word is)) (λ _. refuses view (BadName word))
 
--- other repositories, each with a right name and right references, make a sound view
-with_repositories : (view : View) (repositories : Repositories) → IsSound view → len repositories ≤ 256
+-- other repositories, each with a right name and right references, make an orderly view
+with_repositories : (view : View) (repositories : Repositories) → IsOrderly view → len repositories ≤ 256
     → ((name : List ℕ) (references : References) → get repositories name ≡ Some references → IsRepositoryName name × AreReferences view.objects references)
-    → IsSound (record view { repositories = repositories })
-with_repositories view repositories sound few each = record {
-  named = sound.named;
-  right = sound.right;
-  closed = sound.closed;
-  upload = sound.upload;
-  within_limit = sound.within_limit;
-  limit = sound.limit;
+    → IsOrderly (record view { repositories = repositories })
+with_repositories view repositories orderly few each = record {
+  upload = orderly.upload;
+  within_limit = orderly.within_limit;
+  limit = orderly.limit;
   few_repositories = few;
   repositories = λ name references is. (each name references is).0;
   references = λ name references is. (each name references is).1;
 }
+
+-- and leave it right
+still_right : (view : View) (repositories : Repositories) → IsRight view → IsRight (record view { repositories = repositories })
+still_right view repositories right = record { named = right.named; right = right.right; closed = right.closed; upload = right.upload }
 
 -- a repository put beside others that are right over some objects
 each_inserted : (objects : Objects) (repositories : Repositories) (word : List ℕ) (new : References) → IsRepositoryName word → AreReferences objects new
@@ -90,21 +91,22 @@ each_inserted objects repositories word new right sound_new others name referenc
       | inr there ↦ others name references there
     ]
 
--- those of a sound view are
-sound_each : (view : View) → IsSound view → (name : List ℕ) (references : References) → get view.repositories name ≡ Some references → IsRepositoryName name × AreReferences view.objects references
+-- those of an orderly view are
+sound_each : (view : View) → IsOrderly view → (name : List ℕ) (references : References) → get view.repositories name ≡ Some references → IsRepositoryName name × AreReferences view.objects references
 sound_each view sound name references is = (sound.repositories name references is, sound.references name references is)
 
 few_more : (here : Bool) (n : ℕ) → nat_le 256 n ≡ false → n ≤ 256 → cond here n (n + 1) ≤ 256
 few_more true n room few = few
 few_more false n room few = grind (arith, nat_tests)
 
-new_row : (view : View) (word : List ℕ) (references : References) → IsRepositoryName word → (IsSound view → AreReferences view.objects references) → IsRow view (new_repository view word references)
+new_row : (view : View) (word : List ℕ) (references : References) → IsRepositoryName word → (IsOrderly view → AreReferences view.objects references) → IsRow view (new_repository view word references)
 new_row view word references right right_new =
     either view (contains_key view.repositories word) (Refused (RepositoryExists word), view) _ (λ _. refuses view (RepositoryExists word)) (λ _.
     either view (nat_le 256 (len view.repositories)) (Refused TooMany, view) (Done [], record view { repositories = insert view.repositories word references }) (λ _. refuses view TooMany) (λ room.
     Does [] refl (λ sound. with_repositories view (insert view.repositories word references) sound
     (subst (λ n. n ≤ 256) (sym (len-insert name_total view.repositories word references)) (few_more (contains_key view.repositories word) (len view.repositories) room sound.few_repositories))
-    (each_inserted view.objects view.repositories word references right (right_new sound) (sound_each view sound)))))
+    (each_inserted view.objects view.repositories word references right (right_new sound) (sound_each view sound)))
+    (still_right view (insert view.repositories word references))))
 
 some_absent : {X : Type 0} (x : X) → None ≡ Some x → ⊥
 some_absent x is = cc
@@ -142,7 +144,8 @@ dropped_row view word =
     (subst (λ n. n ≤ 256) (sym (len-remove name_total view.repositories word)) (fewer (contains_key view.repositories word) (len view.repositories) sound.few_repositories))
     (λ name references is.
     let before = found_before (eq_by_cmp name_cmp name word) (get view.repositories name) references (sym (get-remove name_total view.repositories word name) ∙ is) in
-    (sound.repositories name references before, sound.references name references before))))
+    (sound.repositories name references before, sound.references name references before)))
+    (still_right view (remove view.repositories word)))
     (λ _. refuses view (NoRepository word))
 
 copied_row : (view : View) (source copy : List ℕ) (o : Option References) → get view.repositories source ≡ o → IsRepositoryName copy → IsRow view (copied view source copy o)
@@ -168,40 +171,50 @@ still_few : (view : View) (word : List ℕ) (old new : References) → get view.
 still_few view word old new there few =
     subst (λ n. n ≤ 256) (sym (len-insert name_total view.repositories word new ∙ ap (λ b. cond b (len view.repositories) (len view.repositories + 1)) (ap is_some there))) few
 
--- an accepted push leaves a sound view
-sound_pushed : (view : View) (word : List ℕ) (old new : References) (held : List Command × List Object) → get view.repositories word ≡ Some old → IsRepositoryName word → AreObjects held.1
-    → IsAccepted (with_objects view.objects held.1) old view.limit (held.0, map object_name held.1) new → IsSound view
-    → IsSound (record view { repositories = insert view.repositories word new; objects = with_objects view.objects held.1 })
-sound_pushed view word old new held there right are accepted sound =
+-- an accepted push leaves an orderly view
+orderly_pushed : (view : View) (word : List ℕ) (old new : References) (held : List Command × List Object) → get view.repositories word ≡ Some old → IsRepositoryName word
+    → IsAccepted (with_objects view.objects held.1) old view.limit (held.0, map object_name held.1) new → IsOrderly view
+    → IsOrderly (record view { repositories = insert view.repositories word new; objects = with_objects view.objects held.1 })
+orderly_pushed view word old new held there right accepted orderly =
     let both = with_objects view.objects held.1 in
     let each = each_inserted both view.repositories word new right
-    (sound_transacted both old new held.0 (references_kept view.objects held.1 old (sound.references word old there)) accepted.carried)
-    (λ name references is. (sound.repositories name references is, references_kept view.objects held.1 references (sound.references name references is))) in
+    (sound_transacted both old new held.0 (references_kept view.objects held.1 old (orderly.references word old there)) accepted.carried)
+    (λ name references is. (orderly.repositories name references is, references_kept view.objects held.1 references (orderly.references name references is))) in
     record {
-      named = named_all view.objects held.1 sound.named;
-      right = right_both view.objects held.1 sound.right are;
-      closed = closed_both view.objects held.1 sound.closed accepted.met;
-      upload = sound.upload;
+      upload = orderly.upload;
       within_limit = accepted.within;
-      limit = sound.limit;
-      few_repositories = still_few view word old new there sound.few_repositories;
+      limit = orderly.limit;
+      few_repositories = still_few view word old new there orderly.few_repositories;
       repositories = λ name references is. (each name references is).0;
       references = λ name references is. (each name references is).1;
     }
 
+-- and a right one
+right_pushed : (view : View) (word : List ℕ) (old new : References) (held : List Command × List Object) → AreObjects held.1
+    → IsAccepted (with_objects view.objects held.1) old view.limit (held.0, map object_name held.1) new → IsRight view
+    → IsRight (record view { repositories = insert view.repositories word new; objects = with_objects view.objects held.1 })
+right_pushed view word old new held are accepted right = record {
+  named = named_all view.objects held.1 right.named;
+  right = right_both view.objects held.1 right.right are;
+  closed = closed_both view.objects held.1 right.closed accepted.met;
+  upload = right.upload;
+}
+
 taken_row : (view : View) (word : List ℕ) (objects : Objects) (value : Result References PushRefusal)
-    → ((new : References) → value ≡ Ok new → IsSound view → IsSound (record view { repositories = insert view.repositories word new; objects = objects })) → IsRow view (taken view word objects value)
-taken_row view word objects (Ok new) sound = Does [] refl (sound new refl)
-taken_row view word objects (Err refusal) sound = refuses view (push_refusal refusal)
+    → ((new : References) → value ≡ Ok new → IsOrderly view → IsOrderly (record view { repositories = insert view.repositories word new; objects = objects }))
+    → ((new : References) → value ≡ Ok new → IsRight view → IsRight (record view { repositories = insert view.repositories word new; objects = objects })) → IsRow view (taken view word objects value)
+taken_row view word objects (Ok new) orderly right = Does [] refl (orderly new refl) (right new refl)
+taken_row view word objects (Err refusal) orderly right = refuses view (push_refusal refusal)
 
 faulty_row : (view : View) (word : List ℕ) (old : References) (fault : StreamFault) → IsRow view (pushed view word old (Err fault))
 unfolding judged
 faulty_row view word old fault = refuses view (push_refusal (Stream fault))
 
-pushed_row : (view : View) (word : List ℕ) (old : References) (held : Held) → get view.repositories word ≡ Some old → IsRepositoryName word → (IsSound view → AreHeld held) → IsRow view (pushed view word old held)
+pushed_row : (view : View) (word : List ℕ) (old : References) (held : Held) → get view.repositories word ≡ Some old → IsRepositoryName word → (IsRight view → AreHeld held) → IsRow view (pushed view word old held)
 pushed_row view word old (Ok held) there right are =
     taken_row view word (with_objects view.objects held.1) (judged (with_objects view.objects held.1) old view.limit (Ok (held.0, map object_name held.1)))
-    (λ new is sound. sound_pushed view word old new held there right (are sound) (accepted (with_objects view.objects held.1) old view.limit (held.0, map object_name held.1) new is) sound)
+    (λ new is orderly. orderly_pushed view word old new held there right (accepted (with_objects view.objects held.1) old view.limit (held.0, map object_name held.1) new is) orderly)
+    (λ new is was. right_pushed view word old new held (are was) (accepted (with_objects view.objects held.1) old view.limit (held.0, map object_name held.1) new is) was)
 pushed_row view word old (Err fault) there right are = faulty_row view word old fault
 
 into_row : (view : View) (word body : List ℕ) (o : Option References) → get view.repositories word ≡ o → IsRepositoryName word → IsRow view (push_into view word body o)
@@ -211,24 +224,27 @@ into_row view word body (Some old) there right =
     (λ _. pushed_row view word old (finished (stream_of body)) there right (λ _. held_right (stream_of body) (stream_right body)))
 
 -- a view with another upload, or none
-with_upload : (view : View) (upload : Option UploadValue) → ((value : UploadValue) → upload ≡ Some value → IsUpload value) → IsSound view → IsSound (record view { upload = upload })
-with_upload view upload right sound = record {
-  named = sound.named;
-  right = sound.right;
-  closed = sound.closed;
-  upload = right;
-  within_limit = sound.within_limit;
-  limit = sound.limit;
-  few_repositories = sound.few_repositories;
-  repositories = sound.repositories;
-  references = sound.references;
+orderly_upload : (view : View) (upload : Option UploadValue) → ((value : UploadValue) → upload ≡ Some value → value.count ≤ 33554432) → IsOrderly view → IsOrderly (record view { upload = upload })
+orderly_upload view upload few orderly = record {
+  upload = few;
+  within_limit = orderly.within_limit;
+  limit = orderly.limit;
+  few_repositories = orderly.few_repositories;
+  repositories = orderly.repositories;
+  references = orderly.references;
 }
 
-pub sound_without : (view : View) → IsSound view → IsSound (without_upload view)
-sound_without view sound = with_upload view None (λ value is. absurd (some_absent value is)) sound
+right_upload : (view : View) (upload : Option UploadValue) → ((value : UploadValue) → upload ≡ Some value → AreObjects (sent_in value.stream)) → IsRight view → IsRight (record view { upload = upload })
+right_upload view upload are right = record { named = right.named; right = right.right; closed = right.closed; upload = are }
 
-open_right : (upload : Option UploadValue) → ((value : UploadValue) → upload ≡ Some value → IsUpload value) → AreObjects (sent_in (open_upload upload).stream)
-open_right (Some upload) right = (right upload refl).right
+pub orderly_without : (view : View) → IsOrderly view → IsOrderly (without_upload view)
+orderly_without view orderly = orderly_upload view None (λ value is. absurd (some_absent value is)) orderly
+
+pub right_without : (view : View) → IsRight view → IsRight (without_upload view)
+right_without view right = right_upload view None (λ value is. absurd (some_absent value is)) right
+
+open_right : (upload : Option UploadValue) → ((value : UploadValue) → upload ≡ Some value → AreObjects (sent_in value.stream)) → AreObjects (sent_in (open_upload upload).stream)
+open_right (Some upload) right = right upload refl
 open_right None right = stream_right []
 
 counted : (upload : UploadValue) (piece : List ℕ) → nat_lt 33554432 (upload.count + length piece) ≡ false → (continued upload piece).count ≤ 33554432
@@ -239,15 +255,15 @@ part_row : (view : View) (body : List ℕ) → IsRow view (part_answer view body
 unfolding part_answer
 part_row view body =
     either view (nat_lt 33554432 ((open_upload view.upload).count + length body)) (Refused StagedTooLong, view) _ (λ _. refuses view StagedTooLong)
-    (λ fits. Does [] refl (λ sound. with_upload view (Some (continued (open_upload view.upload) body)) (λ value is. subst IsUpload (some_same (continued (open_upload view.upload) body) value is) (record {
-      few = counted (open_upload view.upload) body fits;
-      right = continued_right (open_upload view.upload) body (open_right view.upload sound.upload);
-    })) sound))
+    (λ fits. Does [] refl
+    (orderly_upload view (Some (continued (open_upload view.upload) body)) (λ value is. subst (λ (u : UploadValue). u.count ≤ 33554432) (some_same (continued (open_upload view.upload) body) value is) (counted (open_upload view.upload) body fits)))
+    (λ right. right_upload view (Some (continued (open_upload view.upload) body)) (λ value is.
+      subst (λ (u : UploadValue). AreObjects (sent_in u.stream)) (some_same (continued (open_upload view.upload) body) value is) (continued_right (open_upload view.upload) body (open_right view.upload right.upload))) right))
 
 upload_row : (view : View) (word : List ℕ) (old : References) (o : Option UploadValue) → view.upload ≡ o → get view.repositories word ≡ Some old → IsRepositoryName word → IsRow view (upload_into view word old o)
 upload_row view word old None is there right = refuses view NoUpload
 upload_row view word old (Some upload) is there right =
-    pushed_row view word old (finished upload.stream) there right (λ sound. held_right upload.stream (sound.upload upload is).right)
+    pushed_row view word old (finished upload.stream) there right (λ was. held_right upload.stream (was.upload upload is))
 
 end_row : (view : View) (word : List ℕ) (o : Option References) → get view.repositories word ≡ o → IsRepositoryName word → IsRow view (end_in view word o)
 end_row view word None there right = refuses view (NoRepository word)
@@ -256,21 +272,22 @@ end_row view word (Some old) there right = upload_row view word old view.upload 
 -- a row that ends the upload whatever it answers
 ended_row : (view : View) (row : Reply × View) → IsRow view row → GoesTo view (without_upload view) (ended row)
 ended_row view row (Refuses refusal told kept) = Refuses refusal told (ap without_upload kept)
-ended_row view row (Does text told sound) = Does text told (λ before. sound_without row.1 (sound before))
+ended_row view row (Does text told orderly right) = Does text told (λ before. orderly_without row.1 (orderly before)) (λ before. right_without row.1 (right before))
 
 dropped_upload_row : (view : View) → IsRow view (part_drop_answer view)
 unfolding part_drop_answer
 dropped_upload_row view =
-    either view (is_some view.upload) (Done [], without_upload view) (Refused NoUpload, view) (λ _. Does [] refl (sound_without view)) (λ _. refuses view NoUpload)
+    either view (is_some view.upload) (Done [], without_upload view) (Refused NoUpload, view) (λ _. Does [] refl (orderly_without view) (right_without view)) (λ _. refuses view NoUpload)
 
 -- a repository that is there has other references
 with_references_row : (view : View) (word : List ℕ) (old : References) (value : Result References TxRefusal) → get view.repositories word ≡ Some old → IsRepositoryName word
-    → ((new : References) → value ≡ Ok new → IsSound view → AreReferences view.objects new) → IsRow view (with_references view word value)
+    → ((new : References) → value ≡ Ok new → IsOrderly view → AreReferences view.objects new) → IsRow view (with_references view word value)
 with_references_row view word old (Err refusal) there right right_new = refuses view (transaction_refusal refusal)
 with_references_row view word old (Ok new) there right right_new =
     Does [] refl (λ sound. with_repositories view (insert view.repositories word new) sound
     (subst (λ n. n ≤ 256) (sym (len-insert name_total view.repositories word new ∙ ap (λ b. cond b (len view.repositories) (len view.repositories + 1)) (ap is_some there))) sound.few_repositories)
     (each_inserted view.objects view.repositories word new right (right_new new refl sound) (sound_each view sound)))
+    (still_right view (insert view.repositories word new))
 
 carried_row : (view : View) (word : List ℕ) (old : References) (value : Result (List Command) CommandFault) → get view.repositories word ≡ Some old → IsRepositoryName word → IsRow view (carried_out view word old value)
 carried_row view word old (Err fault) there right = refuses view (command_refusal fault)
@@ -284,31 +301,45 @@ update_row view word body (Some old) there right = carried_row view word old (co
 
 object_row : (view : View) (name : List ℕ) (o : Option Object) → IsRow view (told_object name o, view)
 object_row view name None = refuses view (Missing name)
-object_row view name (Some object) = Does (record_of object) refl (λ sound. sound)
+object_row view name (Some object) = Does (record_of object) refl (λ was. was) (λ was. was)
 
 listing_row : (view : View) (word : List ℕ) (prefix : Option (List ℕ)) (o : Option References) → IsRow view (told_references view word prefix o, view)
 listing_row view word prefix None = refuses view (NoRepository word)
-listing_row view word prefix (Some references) = Does (listing view.objects references prefix) refl (λ sound. sound)
+listing_row view word prefix (Some references) = Does (listing view.objects references prefix) refl (λ was. was) (λ was. was)
 
--- where nothing goes that a reference reaches, the view stays sound
-sound_pruned : (view : View) → IsSound view → IsSound (pruned view)
-sound_pruned view sound =
+-- where nothing goes at which a reference points, the view stays in order
+pub orderly_kept : (view : View) (kept : List ℕ → Bool) → ((word : List ℕ) (references : References) (reference target : List ℕ) → get view.repositories word ≡ Some references → get references reference ≡ Some target
+    → contains_key view.objects target ≡ true → kept target ≡ true) → IsOrderly view → IsOrderly (record view { objects = retain_keys view.objects kept })
+orderly_kept view kept stays orderly =
+    let fits = use_of-kept view.objects kept in
+    let before = orderly.within_limit in
+    record {
+      upload = orderly.upload;
+      within_limit = omega arith;
+      limit = orderly.limit;
+      few_repositories = orderly.few_repositories;
+      repositories = orderly.repositories;
+      references = λ word references is. references_right view.objects kept references (λ reference target points. stays word references reference target is points) (orderly.references word references is);
+    }
+
+orderly_pruned : (view : View) → IsOrderly view → IsOrderly (pruned view)
+orderly_pruned view orderly =
+    let next = linked_names view.objects in
+    let roots = targets_of view.repositories in
+    orderly_kept view (is_reached next view.objects roots)
+    (λ word references reference target is points. root_reached next view.objects roots target (target_among view.repositories word references reference target is points)) orderly
+
+-- where nothing goes that a reference reaches, it stays right
+right_pruned : (view : View) → IsRight view → IsRight (pruned view)
+right_pruned view right =
     let next = linked_names view.objects in
     let roots = targets_of view.repositories in
     let kept = is_reached next view.objects roots in
-    let fits = use_of-kept view.objects kept in
-    let before = sound.within_limit in
     record {
-      named = named_kept view.objects kept sound.named;
-      right = right_kept view.objects kept sound.right;
-      closed = closed_kept view.objects kept (λ from name. next_reached next view.objects roots from name) sound.closed;
-      upload = sound.upload;
-      within_limit = omega arith;
-      limit = sound.limit;
-      few_repositories = sound.few_repositories;
-      repositories = sound.repositories;
-      references = λ word references is. references_right view.objects kept references
-          (λ reference target points. root_reached next view.objects roots target (target_among view.repositories word references reference target is points)) (sound.references word references is);
+      named = named_kept view.objects kept right.named;
+      right = right_kept view.objects kept right.right;
+      closed = closed_kept view.objects kept (λ from name. next_reached next view.objects roots from name) right.closed;
+      upload = right.upload;
     }
 
 -- each answer is such a row
@@ -329,6 +360,6 @@ answer_row view (Updates word body) = named_row view word (update_in view word b
 answer_row view (AsksObject name) = object_row view name (get view.objects name)
 answer_row view (AsksReferences word prefix) =
     named_row view word (told_references view word prefix (get view.repositories word), view) (λ _. listing_row view word prefix (get view.repositories word))
-answer_row view AsksUse = Does _ refl (λ sound. sound)
-answer_row view Prunes = Does [] refl (sound_pruned view)
+answer_row view AsksUse = Does _ refl (λ was. was) (λ was. was)
+answer_row view Prunes = Does [] refl (orderly_pruned view) (right_pruned view)
 answer_row view NoRequest = refuses view BadRequest

@@ -1,31 +1,38 @@
--- Answers keep views sound.
+-- Answers keep views in order, and right.
 use Rattle.std.proofs.Common.{sym, subst}
 use Rattle.fork_request.specs.Asked.{Ask, Inits, Drops, Forks, Pushes, SendsPart, EndsParts, DropsParts, Updates, AsksObject, AsksReferences, AsksUse, Prunes, NoRequest}
 use Rattle.fork_request.specs.declared.reply.Reply.{Reply}
-use Rattle.fork_model.specs.Answer.{answer, left_by}
-use Rattle.fork_model.specs.Sound.{IsSound}
+use Rattle.fork_model.specs.Answer.{answer, left_by, without_upload}
+use Rattle.fork_model.specs.Sound.{IsOrderly, IsRight}
 use Rattle.fork_model.specs.View.{View}
-use Rattle.fork_model.proofs.Rows.{GoesTo, Refuses, Does, answer_row, sound_without}
+use Rattle.fork_model.proofs.Rows.{GoesTo, Refuses, Does, answer_row, orderly_without, right_without}
 
--- what a refusal leaves is sound
-sound_left : (view : View) (ask : Ask) → IsSound view → IsSound (left_by view ask)
-sound_left view (Inits repository) sound = sound
-sound_left view (Drops repository) sound = sound
-sound_left view (Forks source copy) sound = sound
-sound_left view (Pushes repository body) sound = sound
-sound_left view (SendsPart body) sound = sound
-sound_left view (EndsParts repository) sound = sound_without view sound
-sound_left view DropsParts sound = sound
-sound_left view (Updates repository body) sound = sound
-sound_left view (AsksObject name) sound = sound
-sound_left view (AsksReferences repository prefix) sound = sound
-sound_left view AsksUse sound = sound
-sound_left view Prunes sound = sound
-sound_left view NoRequest sound = sound
+-- what holds of a view, and of it without the upload, holds of what a refusal leaves
+left_holds : (P : View → Type 0) → ((view : View) → P view → P (without_upload view)) → (view : View) (ask : Ask) → P view → P (left_by view ask)
+left_holds P without view (Inits repository) holds = holds
+left_holds P without view (Drops repository) holds = holds
+left_holds P without view (Forks source copy) holds = holds
+left_holds P without view (Pushes repository body) holds = holds
+left_holds P without view (SendsPart body) holds = holds
+left_holds P without view (EndsParts repository) holds = without view holds
+left_holds P without view DropsParts holds = holds
+left_holds P without view (Updates repository body) holds = holds
+left_holds P without view (AsksObject name) holds = holds
+left_holds P without view (AsksReferences repository prefix) holds = holds
+left_holds P without view AsksUse holds = holds
+left_holds P without view Prunes holds = holds
+left_holds P without view NoRequest holds = holds
 
-row_sound : (view left : View) (row : Reply × View) → GoesTo view left row → IsSound view → IsSound left → IsSound row.1
-row_sound view left row (Refuses why told kept) sound sound_after = subst IsSound (sym kept) sound_after
-row_sound view left row (Does text told keeps) sound sound_after = keeps sound
+row_orderly : (view left : View) (row : Reply × View) → GoesTo view left row → IsOrderly view → IsOrderly left → IsOrderly row.1
+row_orderly view left row (Refuses why told kept) was after = subst IsOrderly (sym kept) after
+row_orderly view left row (Does text told orderly right) was after = orderly was
 
-pub sound_answer : (view : View) (ask : Ask) → IsSound view → IsSound (answer view ask).1
-sound_answer view ask sound = row_sound view (left_by view ask) (answer view ask) (answer_row view ask) sound (sound_left view ask sound)
+row_right : (view left : View) (row : Reply × View) → GoesTo view left row → IsRight view → IsRight left → IsRight row.1
+row_right view left row (Refuses why told kept) was after = subst IsRight (sym kept) after
+row_right view left row (Does text told orderly right) was after = right was
+
+pub orderly_answer : (view : View) (ask : Ask) → IsOrderly view → IsOrderly (answer view ask).1
+orderly_answer view ask was = row_orderly view (left_by view ask) (answer view ask) (answer_row view ask) was (left_holds IsOrderly orderly_without view ask was)
+
+pub right_answer : (view : View) (ask : Ask) → IsRight view → IsRight (answer view ask).1
+right_answer view ask was = row_right view (left_by view ask) (answer view ask) (answer_row view ask) was (left_holds IsRight right_without view ask was)

@@ -1,39 +1,69 @@
--- Runs keep worlds sound.
-use Rattle.std.proofs.Common.{◌≡◌, ℕ, ◌+◌, ◌≤◌, true, cond, List, [], ◌∷◌, sym, ap, subst, ◌∙◌, is_some, inl, inr}
+-- Runs keep worlds in order, and right.
+use Rattle.std.proofs.Common.{◌≡◌, ℕ, ◌+◌, ◌≤◌, Bool, true, false, cond, refl, List, [], ◌∷◌, Some, sym, ap, subst, ◌∙◌, is_some, inl, inr}
 use Rattle.std.specs.Ordering.{eq_by_cmp}
-use Rattle.std.specs.FinMap.{get, get-insert, insert, len, len-insert}
+use Rattle.std.specs.FinMap.{contains_key, get, get-insert, insert, len, len-insert}
 use Rattle.git_name.specs.Name.{name_cmp}
 use Rattle.git_name.proofs.Names.{name_total}
 use Rattle.fork_request.specs.declared.reply.Reply.{Reply}
 use Rattle.fork_model.specs.Answer.{answer}
 use Rattle.fork_model.specs.Runs.{Asks, HostAsks, Answered, Unknown, Faulted, HostAnswered, HostFaulted}
-use Rattle.fork_model.specs.Sound.{IsSound, IsSoundWorld}
+use Rattle.fork_model.specs.Sound.{IsOrderly, IsOrderlyWorld, IsRight, IsRightWorld}
 use Rattle.fork_model.specs.View.{View}
 use Rattle.fork_model.specs.World.{World, Event, Steps, Explains}
-use Rattle.fork_reach.proofs.KeptObjects.{at_key}
-use Rattle.fork_model.proofs.SoundLemmas.{sound_answer}
+use Rattle.fork_reach.proofs.KeptObjects.{at_key, tied_names}
+use Rattle.fork_model.proofs.SoundLemmas.{orderly_answer, right_answer}
 
--- a world with another sound view in a tenant's place
-pub sound_insert : (world : World) (t : List ℕ) (view : View) → IsSoundWorld world → is_some (get world t) ≡ true → IsSound view → IsSoundWorld (insert world t view)
-sound_insert world t view sound here right = record {
-  few = subst (λ n. n ≤ 64) (sym (len-insert name_total world t view ∙ ap (λ b. cond b (len world) (len world + 1)) here)) sound.few;
-  views = λ q other is. elim (at_key (eq_by_cmp name_cmp q t) view other (get world q) (sym (get-insert name_total world t view q) ∙ is)) [
-    | inl set ↦ subst IsSound set.1 right
-    | inr stays ↦ sound.views q other stays
-  ];
+-- a world with another view in a tenant's place
+pub few_still : (world : World) (t : List ℕ) (view : View) → contains_key world t ≡ true → len world ≤ 64 → len (insert world t view) ≤ 64
+few_still world t view here few = subst (λ n. n ≤ 64) (sym (len-insert name_total world t view ∙ ap (λ b. cond b (len world) (len world + 1)) here)) few
+
+pub each_still : (P : View → Type 0) (world : World) (t : List ℕ) (view : View) → ((q : List ℕ) (other : View) → get world q ≡ Some other → P other) → P view
+    → (q : List ℕ) (other : View) → get (insert world t view) q ≡ Some other → P other
+each_still P world t view all one q other is = elim (at_key (eq_by_cmp name_cmp q t) view other (get world q) (sym (get-insert name_total world t view q) ∙ is)) [
+  | inl set ↦ subst P set.1 one
+  | inr stays ↦ all q other stays
+]
+
+known_still : (world : World) (t q : List ℕ) (view : View) → contains_key world t ≡ true → contains_key (insert world t view) q ≡ true → contains_key world q ≡ true
+known_still world t q view here is = by (eq_by_cmp name_cmp q t) refl (sym (ap is_some (get-insert name_total world t view q)) ∙ is)
+  where
+    by : (b : Bool) → eq_by_cmp name_cmp q t ≡ b → is_some (cond b (Some view) (get world q)) ≡ true → contains_key world q ≡ true
+    by true same there = ap (contains_key world) (tied_names q t same) ∙ here
+    by false apart there = there
+
+pub orderly_insert : (world : World) (t : List ℕ) (view : View) → IsOrderlyWorld world → contains_key world t ≡ true → IsOrderly view → IsOrderlyWorld (insert world t view)
+orderly_insert world t view orderly here one = record {
+  few = few_still world t view here orderly.few;
+  named = λ q is. orderly.named q (known_still world t q view here is);
+  views = each_still IsOrderly world t view orderly.views one;
 }
 
-pub sound_step : (old new : World) (step : Event) (reply : Reply) → IsSoundWorld old → Steps old step reply new → IsSoundWorld new
-sound_step old new (Asks t ask) reply sound (Answered view here told set) =
-    subst IsSoundWorld (sym set) (sound_insert old t (answer view ask).1 sound (ap is_some here) (sound_answer view ask (sound.views t view here)))
-sound_step old new (Asks t ask) reply sound (Unknown none told stays) = subst IsSoundWorld (sym stays) sound
-sound_step old new (Asks t ask) reply sound (Faulted bad stays) = subst IsSoundWorld (sym stays) sound
-sound_step old new (HostAsks ask) reply sound (HostAnswered says stays) = subst IsSoundWorld (sym stays) sound
-sound_step old new (HostAsks ask) reply sound (HostFaulted bad stays) = subst IsSoundWorld (sym stays) sound
+pub orderly_step : (old new : World) (step : Event) (reply : Reply) → IsOrderlyWorld old → Steps old step reply new → IsOrderlyWorld new
+orderly_step old new (Asks t ask) reply was (Answered view here told set) =
+    subst IsOrderlyWorld (sym set) (orderly_insert old t (answer view ask).1 was (ap is_some here) (orderly_answer view ask (was.views t view here)))
+orderly_step old new (Asks t ask) reply was (Unknown none told stays) = subst IsOrderlyWorld (sym stays) was
+orderly_step old new (Asks t ask) reply was (Faulted bad stays) = subst IsOrderlyWorld (sym stays) was
+orderly_step old new (HostAsks ask) reply was (HostAnswered says stays) = subst IsOrderlyWorld (sym stays) was
+orderly_step old new (HostAsks ask) reply was (HostFaulted bad stays) = subst IsOrderlyWorld (sym stays) was
 
--- a run leaves a sound world
-pub sound_run : (old new : World) (steps : List Event) (replies : List Reply) → Explains old steps replies new → IsSoundWorld old → IsSoundWorld new
-sound_run old new [] [] run sound = subst IsSoundWorld (sym run) sound
-sound_run old new [] (reply ∷ replies) run sound = absurd run
-sound_run old new (step ∷ steps) [] run sound = absurd run
-sound_run old new (step ∷ steps) (reply ∷ replies) run sound = sound_run run.0 new steps replies run.2 (sound_step old run.0 step reply sound run.1)
+pub right_step : (old new : World) (step : Event) (reply : Reply) → IsRightWorld old → Steps old step reply new → IsRightWorld new
+right_step old new (Asks t ask) reply was (Answered view here told set) =
+    subst IsRightWorld (sym set) (each_still IsRight old t (answer view ask).1 was (right_answer view ask (was t view here)))
+right_step old new (Asks t ask) reply was (Unknown none told stays) = subst IsRightWorld (sym stays) was
+right_step old new (Asks t ask) reply was (Faulted bad stays) = subst IsRightWorld (sym stays) was
+right_step old new (HostAsks ask) reply was (HostAnswered says stays) = subst IsRightWorld (sym stays) was
+right_step old new (HostAsks ask) reply was (HostFaulted bad stays) = subst IsRightWorld (sym stays) was
+
+-- what each step keeps, a run keeps
+run_keeps : (P : World → Type 0) → ((old new : World) (step : Event) (reply : Reply) → P old → Steps old step reply new → P new)
+    → (old new : World) (steps : List Event) (replies : List Reply) → Explains old steps replies new → P old → P new
+run_keeps P keeps old new [] [] run was = subst P (sym run) was
+run_keeps P keeps old new [] (reply ∷ replies) run was = absurd run
+run_keeps P keeps old new (step ∷ steps) [] run was = absurd run
+run_keeps P keeps old new (step ∷ steps) (reply ∷ replies) run was = run_keeps P keeps run.0 new steps replies run.2 (keeps old run.0 step reply was run.1)
+
+pub orderly_run : (old new : World) (steps : List Event) (replies : List Reply) → Explains old steps replies new → IsOrderlyWorld old → IsOrderlyWorld new
+orderly_run = run_keeps IsOrderlyWorld orderly_step
+
+pub right_run : (old new : World) (steps : List Event) (replies : List Reply) → Explains old steps replies new → IsRightWorld old → IsRightWorld new
+right_run = run_keeps IsRightWorld right_step

@@ -1,5 +1,5 @@
--- Sound views: objects stand under their own names, are in their grammars and link to what is there, references name what
--- is there, and the limits hold (own).
+-- Sound views (own): in order, which is that references name what is there and the limits hold; and right, which is that
+-- objects stand under their own names, are in their grammars and link to what is there.
 use Rattle.std.specs.Prelude.{◌≡◌, ◌≢◌, ℕ, ◌≤◌, true, List, Some, None}
 use Rattle.std.specs.List.{AllByRecursion}
 use Rattle.std.specs.FinMap.{get, contains_key, keys, len}
@@ -12,7 +12,7 @@ use Rattle.push_stream.specs.Stream.{AreObjects, sent_in}
 use Rattle.push_stream.specs.Upload.{UploadValue}
 use Rattle.fork_reach.specs.Objects.{IsNamed, use_of}
 use Rattle.fork_reach.specs.Source.{Objects, kind_in}
-use Rattle.fork_request.specs.Names.{IsRepositoryName}
+use Rattle.fork_request.specs.Names.{IsRepositoryName, IsTenantName}
 use Rattle.fork_model.specs.View.{View}
 use Rattle.fork_model.specs.World.{World}
 
@@ -28,11 +28,6 @@ IsMet objects link = kind_in objects link.name ≡ Some link.kind
 abbrev pub IsClosed : Objects → Type 0
 IsClosed objects = (name : List ℕ) (object : Object) → get objects name ≡ Some object → AllByRecursion (IsMet objects) (links_in object.kind object.bytes)
 
--- an upload has 33,554,432 bytes at the most, and its objects are in the grammars of their kinds
-pub record IsUpload (upload : UploadValue) : Type 0 where
-  pub few : upload.count ≤ 33554432
-  pub right : AreObjects (sent_in upload.stream)
-
 -- a reference has a right name and points at an object that is there, a branch at a commit
 pub record IsReference (objects : Objects) (reference target : List ℕ) : Type 0 where
   pub named : IsRefName reference
@@ -45,19 +40,38 @@ pub record AreReferences (objects : Objects) (references : References) : Type 0 
   pub apart : least_upper (keys references) ≡ None
   pub few : len references ≤ 4096
 
--- a view that a host may show
-pub record IsSound (view : View) : Type 0 where
-  pub named : IsNamed view.objects
-  pub right : AreRight view.objects
-  pub closed : IsClosed view.objects
-  pub upload : (upload : UploadValue) → view.upload ≡ Some upload → IsUpload upload
+-- what names, kinds, lengths, references and limits decide of a view: it holds over any store
+pub record IsOrderly (view : View) : Type 0 where
+  pub upload : (upload : UploadValue) → view.upload ≡ Some upload → upload.count ≤ 33554432
   pub within_limit : use_of view.objects ≤ view.limit
   pub limit : view.limit ≤ 1099511627776
   pub few_repositories : len view.repositories ≤ 256
   pub repositories : (name : List ℕ) (references : References) → get view.repositories name ≡ Some references → IsRepositoryName name
   pub references : (name : List ℕ) (references : References) → get view.repositories name ≡ Some references → AreReferences view.objects references
 
--- a world that a host may show: at most 64 tenants, each with a sound view
-pub record IsSoundWorld (world : World) : Type 0 where
+-- what bytes decide of a view: it holds where the store is honest
+pub record IsRight (view : View) : Type 0 where
+  pub named : IsNamed view.objects
+  pub right : AreRight view.objects
+  pub closed : IsClosed view.objects
+  pub upload : (upload : UploadValue) → view.upload ≡ Some upload → AreObjects (sent_in upload.stream)
+
+-- a view that a host may show
+pub record IsSound (view : View) : Type 0 where
+  pub orderly : IsOrderly view
+  pub right : IsRight view
+
+-- at most 64 tenants, of right names, each with an orderly view
+pub record IsOrderlyWorld (world : World) : Type 0 where
   pub few : len world ≤ 64
-  pub views : (tenant : List ℕ) (view : View) → get world tenant ≡ Some view → IsSound view
+  pub named : (tenant : List ℕ) → contains_key world tenant ≡ true → IsTenantName tenant
+  pub views : (tenant : List ℕ) (view : View) → get world tenant ≡ Some view → IsOrderly view
+
+-- what bytes decide of each view
+abbrev pub IsRightWorld : World → Type 0
+IsRightWorld world = (tenant : List ℕ) (view : View) → get world tenant ≡ Some view → IsRight view
+
+-- a world that a host may show
+pub record IsSoundWorld (world : World) : Type 0 where
+  pub orderly : IsOrderlyWorld world
+  pub right : IsRightWorld world

@@ -4,7 +4,7 @@
 //! would tell it.
 #![tactic(auto)]
 
-ghost use Rattle.std.specs.Prelude.{◌≡◌, ℕ, List, Some};
+ghost use Rattle.std.specs.Prelude.{◌≡◌, ℕ, List, Some, false};
 ghost use Rattle.std.specs.FinMap.{get};
 ghost use Rattle.fork_request.specs.declared.reply.Reply.{Reply};
 ghost use Rattle.fork_model.specs.View.{View};
@@ -42,21 +42,26 @@ ghost use Rattle.fork_request.specs.Asked.{Ask};
 ghost use Rattle.fork_request.specs.declared.refusal.Refusal.{Refusal};
 ghost use Rattle.fork_request.specs.declared.reply.Reply.TheVariants.{Refused};
 ghost use Rattle.fork_model.specs.Answer.{answer, left_by};
-ghost use Rattle.fork_model.specs.Sound.{IsSound, IsSoundWorld};
+ghost use Rattle.fork_model.specs.Sound.{IsOrderly, IsOrderlyWorld, IsRight, IsRightWorld};
+ghost use Rattle.fork_request.specs.Told.{is_host_fault};
 
-/// A refused request leaves the view as it was, but that a refused `part-end` takes the upload away.
+/// A refused request leaves the view as it was, but that a refused `part-end` takes the upload away;
+/// and no answer of the model is a host fault.
 pub fn refusals_leave_the_view()
-    ensures { (view : View) (ask : Ask) (refusal : Refusal) → (answer view ask).0 ≡ Refused refusal → (answer view ask).1 ≡ left_by view ask }
+    ensures view { (view : View) (ask : Ask) (refusal : Refusal) → (answer view ask).0 ≡ Refused refusal → (answer view ask).1 ≡ left_by view ask }
+    ensures reply { (view : View) (ask : Ask) → is_host_fault (answer view ask).0 ≡ false }
 {}
 
-/// Answers keep a view sound, and runs a world.
+/// Answers keep a view in order and right, and runs a world: what names, kinds, lengths, references
+/// and limits decide needs nothing of what bytes decide.
 pub fn runs_keep_worlds_sound()
-    ensures view { (view : View) (ask : Ask) → IsSound view → IsSound (answer view ask).1 }
-    ensures world { (old new : World) (steps : List Event) (replies : List Reply) → Explains old steps replies new → IsSoundWorld old → IsSoundWorld new }
+    ensures orderly { (view : View) (ask : Ask) → IsOrderly view → IsOrderly (answer view ask).1 }
+    ensures right { (view : View) (ask : Ask) → IsRight view → IsRight (answer view ask).1 }
+    ensures orderly_world { (old new : World) (steps : List Event) (replies : List Reply) → Explains old steps replies new → IsOrderlyWorld old → IsOrderlyWorld new }
+    ensures right_world { (old new : World) (steps : List Event) (replies : List Reply) → Explains old steps replies new → IsRightWorld old → IsRightWorld new }
 {}
 
 ghost use Rattle.std.specs.Prelude.{◌⊎◌, true};
-ghost use Rattle.fork_request.specs.Told.{is_host_fault};
 ghost use Rattle.fork_request.specs.declared.host_request.HostRequest.TheVariants.{Bad};
 ghost use Rattle.fork_request.specs.declared.refusal.Refusal.TheVariants.{BadRequest};
 ghost use Rattle.fork_model.specs.Runs.{HostAsks};
@@ -66,4 +71,19 @@ ghost use Rattle.fork_model.specs.World.{Steps};
 pub fn bad_host_requests_are_refused()
     ensures reply { (old new : World) (reply : Reply) → Steps old (HostAsks Bad) reply new → (reply ≡ Refused BadRequest) ⊎ (is_host_fault reply ≡ true) }
     ensures world { (old new : World) (reply : Reply) → Steps old (HostAsks Bad) reply new → new ≡ old }
+{}
+
+ghost use Rattle.std.specs.Prelude.{None};
+ghost use Rattle.fork_request.specs.Asked.{AsksObject};
+ghost use Rattle.fork_request.specs.declared.refusal.Refusal.TheVariants.{Missing};
+ghost use Rattle.fork_model.specs.Runs.{Asks};
+
+/// An object that a tenant does not hold is told to be missing, whatever others hold: by the answer,
+/// and so in each step that no host fault answers.
+pub fn what_is_not_held_is_missing()
+    ensures answer { (view : View) (name : List ℕ) → get view.objects name ≡ None → answer view (AsksObject name) ≡ (Refused (Missing name), view) }
+    ensures step { (old new : World) (tenant : List ℕ) (view : View) (name : List ℕ) (reply : Reply)
+        → get old tenant ≡ Some view → get view.objects name ≡ None
+        → Steps old (Asks tenant (AsksObject name)) reply new → is_host_fault reply ≡ false
+        → reply ≡ Refused (Missing name) }
 {}

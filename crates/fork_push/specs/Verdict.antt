@@ -1,6 +1,9 @@
 -- What a verdict tells.
-use Rattle.std.specs.Prelude.{◌≡◌, Option, None, Some, Result, Ok, Err, ⊤}
-use Rattle.git_reftx.specs.Transaction.{References}
+use Rattle.std.specs.Prelude.{◌≡◌, ℕ, ◌≤◌, List, Option, None, Some, Result, Ok, Err, ⊤}
+use Rattle.git_reftx.specs.declared.command.Command.{Command}
+use Rattle.git_reftx.specs.Transaction.{References, transacted}
+use Rattle.fork_reach.specs.Objects.{use_of}
+use Rattle.fork_reach.specs.Source.{Objects, kind_in}
 use Rattle.fork_reach.specs.declared.source.SourceFault.{SourceFault}
 use Rattle.fork_push.specs.declared.refusal.PushRefusal.{PushRefusal}
 use Rattle.fork_push.specs.declared.verdict.Verdict.{Verdict}
@@ -17,3 +20,14 @@ abbrev pub fault_of_verdict : Verdict → Option SourceFault
 fault_of_verdict (Accepted new) = None
 fault_of_verdict (Refused refusal) = None
 fault_of_verdict (Failed fault) = Some fault
+
+-- what is accepted passed its transaction and the limit
+pub record IsOrderly (both : Objects) (old : References) (limit : ℕ) (new : References) : Type 0 where
+  pub commands : List Command
+  pub carried : transacted old commands (kind_in both) ≡ Ok new
+  pub within : use_of both ≤ limit
+
+abbrev pub IfAccepted : Verdict → (References → Type 0) → Type 0
+IfAccepted (Accepted new) P = P new
+IfAccepted (Refused refusal) P = ⊤
+IfAccepted (Failed fault) P = ⊤

@@ -1,12 +1,15 @@
 -- What of objects no store can change: who is there, and of what kind.
-use Rattle.std.proofs.Common.{◌≡◌, ℕ, List, Option, None, Some, refl, sym, ap, ◌∙◌, is_some}
-use Rattle.std.specs.FinMap.{contains_key, get}
+use Rattle.std.proofs.Common.{◌≡◌, ℕ, ◌+◌, List, [], ◌∷◌, Option, None, Some, refl, sym, ap, ◌∙◌, is_some}
+use Rattle.std.specs.Prelude.{map, sum_by}
+use Rattle.std.specs.FinMap.{contains_key, entries, get}
+use Rattle.std.proofs.lemmas.List.Sums.{sum_by-cons}
 use Rattle.std.specs.Option.{option_map}
 use Rattle.git_name.specs.declared.kind.Kind.{Kind}
 use Rattle.git_name.specs.Object.{Object}
-use Rattle.git_name.proofs.MapLemmas.{get_map_values}
+use Rattle.git_name.specs.Maps.{mapped}
+use Rattle.git_name.proofs.MapLemmas.{entries_map_values, get_map_values}
 use Rattle.git_name.proofs.Names.{name_total}
-use Rattle.fork_reach.specs.Objects.{Measures, measure_of, measures_of}
+use Rattle.fork_reach.specs.Objects.{Measures, measure_of, measures_of, use_of, use_of_object}
 use Rattle.fork_reach.specs.Source.{Objects, kind_in}
 
 some_measured : (found : Option Object) → is_some (option_map measure_of found) ≡ is_some found
@@ -35,3 +38,17 @@ measured_kind objects name = ap (option_map (λ measure. measure.0)) (get_map_va
 -- the kinds are the same where the measures are
 pub same_kinds : (objects others : Objects) (name : List ℕ) → measures_of objects ≡ measures_of others → kind_in objects name ≡ kind_in others name
 same_kinds objects others name same = sym (measured_kind objects name) ∙ ap (λ m. kind_at m name) same ∙ measured_kind others name
+
+-- what a measured object uses
+abbrev use_at : List ℕ × (Kind × ℕ) → ℕ
+use_at entry = entry.1.1 + 64
+
+use_measured : (es : List (List ℕ × Object)) → sum_by use_of_object (map (λ e. e.1) es) ≡ sum_by use_at (mapped measure_of es)
+use_measured [] = refl
+use_measured (e ∷ es) = sum_by-cons use_of_object e.1 (map (λ f. f.1) es) ∙ ap (λ n. use_of_object e.1 + n) (use_measured es) ∙ sym (sum_by-cons use_at (e.0, measure_of e.1) (mapped measure_of es))
+
+-- what objects use is the same where their measures are
+pub same_use : (objects others : Objects) → measures_of objects ≡ measures_of others → use_of objects ≡ use_of others
+unfolding use_of
+same_use objects others same =
+    use_measured (entries objects) ∙ ap (sum_by use_at) (sym (entries_map_values measure_of objects) ∙ ap entries same ∙ entries_map_values measure_of others) ∙ sym (use_measured (entries others))

@@ -1,4 +1,5 @@
 ghost use Rattle.std.specs.Prelude.{◌≡◌, ◌≢◌, true, List, ℕ, IsTrue, IfOk, IfErr};
+ghost use Rattle.std.specs.List.{Contains};
 ghost use Rattle.std.specs.BTreeSet.{contains};
 ghost use Rattle.std.specs.FinMap as map;
 ghost use Rattle.git_name.specs.Name.{name_cmp};
@@ -23,6 +24,7 @@ pub fn reach<S: Source>(
     ensures found { IsTrue (S.state source.old).honest → IfOk result (λ found. (name : List ℕ) → contains name_cmp found name ≡ is_reached (linked_names (S.state source.old).objects) (S.state source.old).objects roots.now name) }
     // Over any source.
     ensures there { IfOk result (λ found. (name : List ℕ) → contains name_cmp found name ≡ true → map.contains_key (S.state source.old).objects name ≡ true) }
+    ensures rooted { IfOk result (λ found. (name : List ℕ) → Contains roots.now name → map.contains_key (S.state source.old).objects name ≡ true → contains name_cmp found name ≡ true) }
     ensures asked { IsAsked (S.state source.old) (S.state source.new) (fault_in result) }
 {
     walk(alloc, source, Along::Links, roots)
@@ -38,6 +40,7 @@ pub fn ancestors<S: Source>(
     ensures found { IsTrue (S.state source.old).honest → IfOk result (λ found. (name : List ℕ) → contains name_cmp found name ≡ is_reached (parent_names (S.state source.old).objects) (S.state source.old).objects commits.now name) }
     // Over any source.
     ensures there { IfOk result (λ found. (name : List ℕ) → contains name_cmp found name ≡ true → map.contains_key (S.state source.old).objects name ≡ true) }
+    ensures rooted { IfOk result (λ found. (name : List ℕ) → Contains commits.now name → map.contains_key (S.state source.old).objects name ≡ true → contains name_cmp found name ≡ true) }
     ensures asked { IsAsked (S.state source.old) (S.state source.new) (fault_in result) }
 {
     walk(alloc, source, Along::Parents, commits)

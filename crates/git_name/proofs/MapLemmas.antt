@@ -1,23 +1,41 @@
 -- What a finite map with other values, or two maps as one, have at a key.
-use Rattle.std.proofs.Common.{Bool, true, false, ◌≡◌, ◌++◌, List, [], ◌∷◌, Option, Some, None, cond, refl, sym, ap, subst, ◌∙◌}
+use Rattle.std.proofs.Common.{◌&&◌, Bool, true, false, ◌≡◌, ◌++◌, List, [], ◌∷◌, Option, Some, None, cond, refl, sym, ap, subst, ◌∙◌}
 use Rattle.std.specs.declared.cmp.Ordering.{Ordering}
-use Rattle.std.specs.declared.cmp.Ordering.TheVariants.{Less, Equal, Greater}
-use Rattle.std.specs.Ordering.{is_eq}
+use Rattle.std.specs.Ordering.{eq_by_cmp, is_lt}
+use Rattle.std.specs.Prelude.{T}
 use Rattle.std.specs.Option.{option_map, option_or}
 use Rattle.std.specs.Cmp.{IsTotalOrder, eq_by_cmp_equiv}
 use Rattle.std.specs.BTreeMap.{is_at}
-use Rattle.std.specs.Map.{lookup, keys_of}
-use Rattle.std.specs.FinMap.{FinMap, IsAntisymmetric, empty, entries, from_entries, get, get-empty, get-entries, get-insert, get-remove, get-retain_keys, insert, remove, retain_keys, same_map}
+use Rattle.std.specs.Map.{lookup}
+use Rattle.std.specs.FinMap.{FinMap, IsAntisymmetric, empty, entries, entries_sorted, entries-from_sorted, find, from_entries, get, get-empty, get-entries, get-from_sorted, get-insert, insert, is_sorted, same_map}
+use Rattle.std.specs.FinMap.Entries.{below_all}
 use Rattle.git_name.specs.Maps.{joined, map_values, mapped}
 use Rattle.git_name.proofs.TreeMaps.{find_is_lookup, get_of_entries}
+
+-- other values stand in the same order
+mapped_below : {K X Y : Type 0} (R : K → K → Ordering) (f : X → Y) (k : K) (es : List (K × X)) → below_all R k (mapped f es) ≡ below_all R k es
+mapped_below R f k [] = refl
+mapped_below R f k (e ∷ es) = ap (λ b. is_lt (R k e.0) && b) (mapped_below R f k es)
+
+mapped_sorted : {K X Y : Type 0} (R : K → K → Ordering) (f : X → Y) (es : List (K × X)) → is_sorted R (mapped f es) ≡ is_sorted R es
+mapped_sorted R f [] = refl
+mapped_sorted R f (e ∷ es) = ap (λ b. b && is_sorted R (mapped f es)) (mapped_below R f e.0 es) ∙ ap (λ b. below_all R e.0 es && b) (mapped_sorted R f es)
+
+still_sorted : {K X Y : Type 0} {R : K → K → Ordering} (f : X → Y) (m : FinMap R X) → T (is_sorted R (mapped f (entries m)))
+still_sorted {R = R} f m = subst T (sym (mapped_sorted R f (entries m))) (entries_sorted m)
+
+-- the entries of a map with other values
+pub entries_map_values : {K X Y : Type 0} {R : K → K → Ordering} (f : X → Y) (m : FinMap R X) → entries (map_values f m) ≡ mapped f (entries m)
+unfolding map_values
+entries_map_values {R = R} f m = entries-from_sorted R (mapped f (entries m)) (still_sorted f m)
 
 mapped_head : {X Y : Type 0} (f : X → Y) (v : X) (o : Option X) (p : Option Y) (b : Bool) → p ≡ option_map f o → cond b (Some (f v)) p ≡ option_map f (cond b (Some v) o)
 mapped_head f v o p true rest = refl
 mapped_head f v o p false rest = rest
 
-pub lookup_mapped : {K X Y : Type 0} (R : K → K → Ordering) (f : X → Y) (es : List (K × X)) (q : K) → lookup (is_at (R q)) (mapped f es) ≡ option_map f (lookup (is_at (R q)) es)
-lookup_mapped R f [] q = refl
-lookup_mapped R f (e ∷ es) q = mapped_head f e.1 _ _ (is_at (R q) e.0) (lookup_mapped R f es q)
+find_mapped : {K X Y : Type 0} (R : K → K → Ordering) (f : X → Y) (es : List (K × X)) (q : K) → find R q (mapped f es) ≡ option_map f (find R q es)
+find_mapped R f [] q = refl
+find_mapped R f (e ∷ es) q = mapped_head f e.1 _ _ (eq_by_cmp R q e.0) (find_mapped R f es q)
 
 entries_at : {K X : Type 0} {R : K → K → Ordering} (m : FinMap R X) (q : K) → lookup (is_at (R q)) (entries m) ≡ get m q
 entries_at {R = R} m q = sym (get-entries m q ∙ find_is_lookup R (entries m) q)
@@ -25,7 +43,7 @@ entries_at {R = R} m q = sym (get-entries m q ∙ find_is_lookup R (entries m) q
 -- a map with other values, at a key
 pub get_map_values : {K X Y : Type 0} {R : K → K → Ordering} → IsTotalOrder R → (f : X → Y) (m : FinMap R X) (q : K) → get (map_values f m) q ≡ option_map f (get m q)
 unfolding map_values
-get_map_values {R = R} total f m q = get_of_entries total (mapped f (entries m)) q ∙ lookup_mapped R f (entries m) q ∙ ap (option_map f) (entries_at m q)
+get_map_values {R = R} total f m q = get-from_sorted R (mapped f (entries m)) q (still_sorted f m) ∙ find_mapped R f (entries m) q ∙ ap (option_map f) (sym (get-entries m q))
 
 or_cond : {X : Type 0} (b : Bool) (v : X) (o p : Option X) → cond b (Some v) (option_or o p) ≡ option_or (cond b (Some v) o) p
 or_cond true v o p = refl

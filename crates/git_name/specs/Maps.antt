@@ -1,7 +1,7 @@
 -- Finite maps with other values under the same keys, and two maps as one (own).
 use Rattle.std.specs.Prelude.{List, [], ◌∷◌, ◌++◌}
 use Rattle.std.specs.declared.cmp.Ordering.{Ordering}
-use Rattle.std.specs.FinMap.{FinMap, entries, from_entries}
+use Rattle.std.specs.FinMap.{FinMap, entries, from_entries, from_sorted}
 
 -- the same keys, each with a function of its value
 abbrev pub mapped : {K X Y : Type 0} → (X → Y) → List (K × X) → List (K × Y)
@@ -9,7 +9,7 @@ mapped f [] = []
 mapped f (e ∷ es) = (e.0, f e.1) ∷ mapped f es
 
 unfoldable pub map_values : {K X Y : Type 0} {R : K → K → Ordering} → (X → Y) → FinMap R X → FinMap R Y
-map_values f m = from_entries (mapped f (entries m))
+map_values f m = from_sorted (mapped f (entries m))
 
 -- the entries of both; where both have a key, that of the first
 unfoldable pub joined : {K X : Type 0} {R : K → K → Ordering} → FinMap R X → FinMap R X → FinMap R X

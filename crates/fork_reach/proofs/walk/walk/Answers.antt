@@ -4,6 +4,7 @@ use Rattle.git_name.specs.Name.{name_cmp}
 use Rattle.fork_reach.specs.Along.{names_along}
 use Rattle.fork_reach.specs.Seeing.{Sees}
 use Rattle.fork_reach.proofs.AskedLemmas.{asked_again, not_asked}
+use Rattle.fork_reach.proofs.MeasureLemmas.{measured_there}
 use Rattle.fork_reach.proofs.NameLemmas.{empty_holds_none}
 use Rattle.fork_reach.proofs.WalkLemmas.{walks_begin, none_waits, walks_end, walks_on, walks_there}
 use Rattle.fork_reach.proofs.walk.walk.Goals as goal
@@ -50,3 +51,7 @@ pub returns-clause-there : goal.returns-clause-there
 returns-clause-there g c =
     let old = g.S.Source.state c.args.source.now in
     walks_there (names_along c.args.along old.objects) old.objects c.args.roots.now old.honest (contains name_cmp c.waiting.seen) c.waiting.waiting.items c.waiting.invariant.walks
+
+pub returns-clause-rooted : goal.returns-clause-rooted
+returns-clause-rooted g c = λ name root there.
+    c.waiting.invariant.walks.begun name root (measured_there (g.S.Source.state c.args.source.now).objects name ∙ there)

@@ -1,5 +1,5 @@
 -- When a tenant is added.
-use Rattle.std.proofs.Common.{◌≡◌, ℕ, ◌+◌, ◌<◌, ◌≤◌, Bool, true, false, cond, List, Some, None, sym, ap, subst, ◌∙◌, arith, is_some, inl, inr}
+use Rattle.std.proofs.Common.{◌≡◌, ℕ, ◌+◌, ◌<◌, ◌≤◌, Bool, true, false, cond, List, Some, None, sym, ap, subst, ◌∙◌, arith, is_some, inl, inr, refl, ◌⊎◌}
 use Rattle.std.specs.Prelude.{nat_le, nat_lt}
 use Rattle.std.proofs.lemmas.Bool.Decides.{nat_tests}
 use Rattle.std.specs.Ordering.{eq_by_cmp}
@@ -10,12 +10,13 @@ use Rattle.git_name.specs.Name.{name_cmp}
 use Rattle.git_name.proofs.Names.{name_total}
 use Rattle.git_reftx.specs.Transaction.{References}
 use Rattle.fork_reach.specs.Objects.{IsNamed}
-use Rattle.fork_model.specs.Sound.{IsSound, IsSoundWorld}
+use Rattle.fork_request.specs.Names.{IsTenantName}
+use Rattle.fork_model.specs.Sound.{IsOrderly, IsOrderlyWorld, IsRight, IsRightWorld}
 use Rattle.fork_model.specs.View.{View}
 use Rattle.push_stream.specs.Upload.{UploadValue}
 use Rattle.fork_model.specs.World.{World}
 use Rattle.fork_model.proofs.Hosts.{get_is}
-use Rattle.fork_reach.proofs.KeptObjects.{at_key}
+use Rattle.fork_reach.proofs.KeptObjects.{at_key, tied_names}
 use Rattle.fork_reach.proofs.UseLemmas.{use_of-empty}
 use Rattle.fork_host.specs.Adding.{new_view, refusal_to_add}
 use Rattle.fork_host.specs.declared.add_error.AddError.TheVariants.{There, TooMany, Limit}
@@ -64,12 +65,9 @@ none_named = λ name object is. absurd (nothing_at name object is)
 no_upload : (upload : UploadValue) → None ≡ Some upload → ⊥
 no_upload upload is = cc
 
--- a new tenant's view is sound
-pub sound_new_view : (limit : ℕ) → limit ≤ 1099511627776 → IsSound (new_view limit)
-sound_new_view limit low = record {
-  named = none_named;
-  right = λ name object is. absurd (nothing_at name object is);
-  closed = λ name object is. absurd (nothing_at name object is);
+-- a new tenant's view is in order, and right
+pub orderly_new_view : (limit : ℕ) → limit ≤ 1099511627776 → IsOrderly (new_view limit)
+orderly_new_view limit low = record {
   upload = λ upload is. absurd (no_upload upload is);
   within_limit = (let none = use_of-empty in omega arith);
   limit = low;
@@ -78,19 +76,53 @@ sound_new_view limit low = record {
   references = λ name references is. absurd (nothing_at name references is);
 }
 
--- a world with one more tenant
-pub sound_more : (w : World) (t : List ℕ) (limit : ℕ) → contains_key w t ≡ false → len w < 64 → limit ≤ 1099511627776 → IsSoundWorld w → IsSoundWorld (insert w t (new_view limit))
-sound_more w t limit absent few low sound = record {
-  few = (let count = len-insert name_total w t (new_view limit) ∙ ap (λ b. cond b (len w) (len w + 1)) absent in omega arith);
-  views = λ q view is. elim (at_key (eq_by_cmp name_cmp q t) (new_view limit) view (get w q) (sym (get-insert name_total w t (new_view limit) q) ∙ is)) [
-    | inl set ↦ subst IsSound set.1 (sound_new_view limit low)
-    | inr stays ↦ sound.views q view stays
-  ];
+pub right_new_view : (limit : ℕ) → IsRight (new_view limit)
+right_new_view limit = record {
+  named = none_named;
+  right = λ name object is. absurd (nothing_at name object is);
+  closed = λ name object is. absurd (nothing_at name object is);
+  upload = λ upload is. absurd (no_upload upload is);
 }
 
+-- what holds of each view, in a world with one more tenant
+each_more : (P : View → Type 0) (w : World) (t : List ℕ) (view : View) → P view → ((q : List ℕ) (other : View) → get w q ≡ Some other → P other)
+    → (q : List ℕ) (other : View) → get (insert w t view) q ≡ Some other → P other
+each_more P w t view one all q other is = elim (at_key (eq_by_cmp name_cmp q t) view other (get w q) (sym (get-insert name_total w t view q) ∙ is)) [
+  | inl set ↦ subst P set.1 one
+  | inr stays ↦ all q other stays
+]
+
+known_more : (w : World) (t q : List ℕ) (view : View) → contains_key (insert w t view) q ≡ true → (q ≡ t) ⊎ (contains_key w q ≡ true)
+known_more w t q view is = by (eq_by_cmp name_cmp q t) refl (sym (ap is_some (get-insert name_total w t view q)) ∙ is)
+  where
+    by : (b : Bool) → eq_by_cmp name_cmp q t ≡ b → is_some (cond b (Some view) (get w q)) ≡ true → (q ≡ t) ⊎ (contains_key w q ≡ true)
+    by true same there = inl (tied_names q t same)
+    by false apart there = inr there
+
+-- a world with one more tenant
+pub orderly_more : (w : World) (t : List ℕ) (limit : ℕ) → IsTenantName t → contains_key w t ≡ false → len w < 64 → limit ≤ 1099511627776 → IsOrderlyWorld w → IsOrderlyWorld (insert w t (new_view limit))
+orderly_more w t limit of_tenant absent few low orderly = record {
+  few = (let count = len-insert name_total w t (new_view limit) ∙ ap (λ b. cond b (len w) (len w + 1)) absent in omega arith);
+  named = λ q is. elim (known_more w t q (new_view limit) is) [
+    | inl same ↦ subst IsTenantName (sym same) of_tenant
+    | inr before ↦ orderly.named q before
+  ];
+  views = each_more IsOrderly w t (new_view limit) (orderly_new_view limit low) orderly.views;
+}
+
+pub right_more : (w : World) (t : List ℕ) (limit : ℕ) → IsRightWorld w → IsRightWorld (insert w t (new_view limit))
+right_more w t limit right = each_more IsRight w t (new_view limit) (right_new_view limit) right
+
+none_known : (q : List ℕ) → contains_key (empty {X = View} {R = name_cmp}) q ≡ true → ⊥
+none_known q is = (let no : ⊥ = cc (sym (ap is_some (get-empty {X = View} name_cmp q)) ∙ is) in no)
+
 -- a world without tenants
-pub sound_none : IsSoundWorld empty
-sound_none = record {
+pub orderly_none : IsOrderlyWorld empty
+orderly_none = record {
   few = (let none = len-empty name_cmp View in omega arith);
+  named = λ q is. absurd (none_known q is);
   views = λ q view is. absurd (nothing_at q view is);
 }
+
+pub right_none : IsRightWorld empty
+right_none = λ q view is. absurd (nothing_at q view is)

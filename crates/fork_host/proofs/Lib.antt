@@ -1,5 +1,8 @@
 pub mod AddingLemmas
+pub mod FaultLemmas
+pub mod HandleLemmas
 pub mod OwnLemmas
+pub mod ReadLemmas
 pub mod RowLemmas
 pub mod ShapeLemmas
 pub mod TakingLemmas

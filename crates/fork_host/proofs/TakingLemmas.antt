@@ -11,7 +11,7 @@ use Rattle.fork_push.specs.declared.refusal.PushRefusal.{PushRefusal}
 use Rattle.fork_model.specs.Answer.{push_refusal, taken}
 use Rattle.fork_model.specs.View.{View, Repositories}
 use Rattle.fork_host.specs.Rows.{Gives, Given, Wanting, IsTaken, Took, Lacked}
-use Rattle.fork_host.specs.Staged.{view_of}
+use Rattle.fork_host.specs.Pushed.{view_of}
 
 same_view : (old new : Repositories) (seen objects : Objects) (upload : Option UploadValue) (limit : ℕ) → new ≡ old → objects ≡ seen → view_of new objects upload limit ≡ view_of old seen upload limit
 same_view old new seen objects upload limit repositories is = λ i. view_of (repositories i) (is i) upload limit

@@ -1,11 +1,11 @@
 -- States stay whole: where tenants come, and where one is answered.
-use Rattle.std.proofs.Common.{◌≡◌, ◌≢◌, ℕ, ◌<◌, ◌≤◌, Bool, true, false, cond, List, Option, None, Some, refl, sym, ap, subst, ◌∙◌, is_some}
+use Rattle.std.proofs.Common.{◌≡◌, ◌≢◌, IsTrue, inl, inr, ℕ, ◌<◌, ◌≤◌, Bool, true, false, cond, List, Option, None, Some, refl, sym, ap, subst, ◌∙◌, is_some}
 use Rattle.std.specs.Option.{option_map, unwrap_or}
 use Rattle.std.specs.Ordering.{eq_by_cmp}
 use Rattle.std.specs.FinMap.{contains_key, empty, get, get-empty, get-insert, insert, len, same_map}
 use Rattle.git_name.specs.Name.{name_cmp}
 use Rattle.git_name.proofs.Names.{name_total, name_exact}
-use Rattle.fork_reach.proofs.KeptObjects.{tied_names}
+use Rattle.fork_reach.proofs.KeptObjects.{at_key, tied_names}
 use Rattle.fork_request.specs.Asked.{Ask}
 use Rattle.fork_request.specs.Told.{is_host_fault}
 use Rattle.fork_request.specs.declared.refusal.Refusal.TheVariants.{UnknownTenant}
@@ -16,16 +16,17 @@ use Rattle.fork_ledger.specs.Tenants.{VaultState, private_of, with_tenant}
 use Rattle.fork_ledger.proofs.TenantLemmas.{private_new, private_none, there_new, there_others}
 use Rattle.fork_model.specs.Answer.{answer}
 use Rattle.fork_model.specs.Runs.{Asks, Unknown}
-use Rattle.fork_model.specs.Sound.{IsSoundWorld}
+use Rattle.fork_request.specs.Names.{IsTenantName}
+use Rattle.fork_model.specs.Sound.{IsOrderlyWorld, IsRightWorld}
 use Rattle.fork_model.specs.View.{View}
 use Rattle.fork_model.specs.World.{HostSays, Steps}
-use Rattle.fork_model.proofs.SoundWorlds.{sound_step}
+use Rattle.fork_model.proofs.SoundWorlds.{orderly_step, right_step}
 use Rattle.fork_model.proofs.Worlds.{answered}
 use Rattle.fork_host.specs.Adding.{new_account, new_view}
-use Rattle.fork_host.specs.Own.{IsOwn, IsReady, both_in, visible_in}
+use Rattle.fork_host.specs.Own.{IsOwn, IsReady, staged_in, visible_in}
 use Rattle.fork_host.specs.Rows.{Gives}
-use Rattle.fork_host.specs.Shown.{Account, Accounts, HostState, IsWhole, shown, state_of, world_of}
-use Rattle.fork_host.proofs.AddingLemmas.{sound_more, sound_none}
+use Rattle.fork_host.specs.Shown.{Account, Accounts, HostState, IsWhole, shown, state_of, uploaded, world_of}
+use Rattle.fork_host.proofs.AddingLemmas.{orderly_more, orderly_none, right_more, right_none}
 use Rattle.fork_host.proofs.RowLemmas.{answers_of}
 use Rattle.fork_host.proofs.WorldLemmas.{distinct, get_world, known_world, len_world, world_set}
 
@@ -35,11 +36,16 @@ world_none accounts vault none =
     same_map name_total name_exact _ _ (λ q. get_world (state_of accounts vault) q
     ∙ ap (option_map (λ account. shown account vault q)) (ap (λ m. get m q) none ∙ get-empty {X = Account} name_cmp q) ∙ sym (get-empty {X = View} name_cmp q))
 
-pub whole_none : (accounts : Accounts) (vault : VaultState) → accounts ≡ empty → vault.tenants ≡ empty → IsWhole (state_of accounts vault)
-whole_none accounts vault none empty_vault = record {
-  sound = subst IsSoundWorld (sym (world_none accounts vault none)) sound_none;
+no_account : (t : List ℕ) (account : Account) → get (empty {X = Account} {R = name_cmp}) t ≡ Some account → ⊥
+no_account t account is = (let differs : ⊥ = cc (sym (get-empty {X = Account} name_cmp t) ∙ is) in differs)
+
+pub whole_none : (accounts : Accounts) (vault : VaultState) → accounts ≡ empty → vault.tenants ≡ empty → IsTrue vault.honest → IsWhole (state_of accounts vault)
+whole_none accounts vault none empty_vault trusted = record {
+  trusted = trusted;
+  orderly = subst IsOrderlyWorld (sym (world_none accounts vault none)) orderly_none;
+  right = subst IsRightWorld (sym (world_none accounts vault none)) right_none;
   there = λ q. ap (λ m. contains_key m q) empty_vault ∙ ap is_some (get-empty {X = Private} name_cmp q ∙ none_twice) ∙ sym (ap (λ m. contains_key m q) none ∙ ap is_some (get-empty {X = Account} name_cmp q));
-  quiet = λ q. ap (λ m. (private_of m q).both) empty_vault ∙ ap (λ p. p.both) (private_none q) ∙ sym (ap (λ m. (private_of m q).visible) empty_vault ∙ ap (λ p. p.visible) (private_none q));
+  staged = λ q account is. absurd (no_account q account (sym (ap (λ m. get m q) none) ∙ is));
 }
   where
     none_twice : ◌≡◌ {A = Option Private} None None
@@ -60,16 +66,23 @@ world_more old new t limit whole absent added placed =
     world_set old new t (new_account limit) added (λ q differs. ap (λ m. private_of m q) placed ∙ private_new old.vault.tenants t q)
     ∙ ap (λ (p : Private). insert (world_of old) t (record { repositories = empty; objects = p.visible; upload = None; limit = limit })) own
 
-pub whole_more : (old new : HostState) (t : List ℕ) (limit : ℕ) → IsWhole old → contains_key old.accounts t ≡ false → len old.accounts < 64 → limit ≤ 1099511627776
-    → new.accounts ≡ insert old.accounts t (new_account limit) → new.vault.tenants ≡ with_tenant old.vault.tenants t → IsWhole new
-whole_more old new t limit whole absent few low added placed = record {
-  sound = subst IsSoundWorld (sym (world_more old new t limit whole absent added placed))
-      (sound_more (world_of old) t limit (known_world old t ∙ absent) (subst (λ n. n < 64) (sym (len_world old)) few) low whole.sound);
+pub whole_more : (old new : HostState) (t : List ℕ) (limit : ℕ) → IsTenantName t → IsWhole old → contains_key old.accounts t ≡ false → len old.accounts < 64 → limit ≤ 1099511627776
+    → new.accounts ≡ insert old.accounts t (new_account limit) → new.vault.tenants ≡ with_tenant old.vault.tenants t → new.vault.honest ≡ old.vault.honest → IsWhole new
+whole_more old new t limit of_tenant whole absent few low added placed honest = record {
+  trusted = honest ∙ whole.trusted;
+  orderly = subst IsOrderlyWorld (sym (world_more old new t limit whole absent added placed))
+      (orderly_more (world_of old) t limit of_tenant (known_world old t ∙ absent) (subst (λ n. n < 64) (sym (len_world old)) few) low whole.orderly);
+  right = subst IsRightWorld (sym (world_more old new t limit whole absent added placed)) (right_more (world_of old) t limit whole.right);
   there = λ q. at q (eq_by_cmp name_cmp q t) refl;
-  quiet = λ q. ap (λ m. (private_of m q).both) placed ∙ ap (λ p. p.both) (private_new old.vault.tenants t q) ∙ whole.quiet q
-      ∙ sym (ap (λ m. (private_of m q).visible) placed ∙ ap (λ p. p.visible) (private_new old.vault.tenants t q));
+  staged = λ q account is. stays q ∙ (elim (at_key (eq_by_cmp name_cmp q t) (new_account limit) account (get old.accounts q) (sym (get-insert name_total old.accounts t (new_account limit) q) ∙ sym (ap (λ m. get m q) added) ∙ is)) [
+    | inl set ↦ ap (λ k. staged_in old.vault k) (tied_names q t set.0) ∙ ap (λ p. p.staged) (absent_nothing old.vault t (whole.there t ∙ absent))
+    | inr before ↦ whole.staged q account before
+  ]);
 }
   where
+    stays : (q : List ℕ) → staged_in new.vault q ≡ staged_in old.vault q
+    stays q = ap (λ m. (private_of m q).staged) placed ∙ ap (λ p. p.staged) (private_new old.vault.tenants t q)
+
     differs : (q : List ℕ) → eq_by_cmp name_cmp q t ≡ false → q ≢ t
     differs q apart same = distinct t q same apart
 
@@ -83,11 +96,15 @@ whole_more old new t limit whole absent few low added placed = record {
 
 -- a tenant that is there is ready
 pub ready : (state : HostState) (t : List ℕ) (account : Account) → IsWhole state → get state.accounts t ≡ Some account → IsReady state.vault t account.limit
-ready state t account whole here = record {
-  there = whole.there t ∙ ap is_some here;
-  quiet = whole.quiet t;
-  within = (whole.sound.views t (shown account state.vault t) (get_world state t ∙ ap (option_map (λ a. shown a state.vault t)) here)).within_limit;
-}
+ready state t account whole here =
+    let view_is = get_world state t ∙ ap (option_map (λ a. shown a state.vault t)) here in
+    record {
+      trusted = whole.trusted;
+      there = whole.there t ∙ ap is_some here;
+      quiet = whole.staged t account here;
+      within = (whole.orderly.views t (shown account state.vault t) view_is).within_limit;
+      named = (whole.right t (shown account state.vault t) view_is).named;
+    }
 
 -- it is answered from its account and its own part of the vault, which alone change
 pub answered_step : (old new : HostState) (t : List ℕ) (ask : Ask) (account after : Account) (reply : Reply) → get old.accounts t ≡ Some account → new.accounts ≡ insert old.accounts t after
@@ -104,17 +121,17 @@ unknown_step state t ask none = Unknown (get_world state t ∙ ap (option_map (�
 pub whole_after : (old new : HostState) (t : List ℕ) (ask : Ask) (account after : Account) (reply : Reply) → IsWhole old → get old.accounts t ≡ Some account → new.accounts ≡ insert old.accounts t after
     → Steps (world_of old) (Asks t ask) reply (world_of new) → IsOwn t old.vault new.vault → IsWhole new
 whole_after old new t ask account after reply whole here set step own = record {
-  sound = sound_step (world_of old) (world_of new) (Asks t ask) reply whole.sound step;
+  trusted = own.leaves.honest ∙ whole.trusted;
+  orderly = orderly_step (world_of old) (world_of new) (Asks t ask) reply whole.orderly step;
+  right = right_step (world_of old) (world_of new) (Asks t ask) reply whole.right step;
   there = λ q. own.leaves.there q ∙ whole.there q ∙ sym (ap (λ m. contains_key m q) set ∙ ap is_some (get-insert name_total old.accounts t after q) ∙ at q (eq_by_cmp name_cmp q t) refl);
-  quiet = λ q. rests q (eq_by_cmp name_cmp q t) refl;
+  staged = λ q other is. rests q other (eq_by_cmp name_cmp q t) refl (sym (get-insert name_total old.accounts t after q) ∙ sym (ap (λ m. get m q) set) ∙ is);
 }
   where
     at : (q : List ℕ) (b : Bool) → eq_by_cmp name_cmp q t ≡ b → is_some (cond b (Some after) (get old.accounts q)) ≡ contains_key old.accounts q
     at q true same = sym (ap (contains_key old.accounts) (tied_names q t same) ∙ ap is_some here)
     at q false apart = refl
 
-    rests : (q : List ℕ) (b : Bool) → eq_by_cmp name_cmp q t ≡ b → both_in new.vault q ≡ visible_in new.vault q
-    rests q true same = ap (both_in new.vault) (tied_names q t same) ∙ own.quiet ∙ sym (ap (visible_in new.vault) (tied_names q t same))
-    rests q false apart =
-        let stays = own.leaves.others q (λ same. distinct t q same apart) in
-        ap (λ p. p.both) stays ∙ whole.quiet q ∙ sym (ap (λ p. p.visible) stays)
+    rests : (q : List ℕ) (other : Account) (b : Bool) → eq_by_cmp name_cmp q t ≡ b → cond b (Some after) (get old.accounts q) ≡ Some other → staged_in new.vault q ≡ uploaded other.upload
+    rests q other true same is = ap (staged_in new.vault) (tied_names q t same) ∙ own.quiet
+    rests q other false apart is = ap (λ p. p.staged) (own.leaves.others q (λ same. distinct t q same apart)) ∙ whole.staged q other is

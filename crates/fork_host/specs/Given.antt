@@ -1,5 +1,5 @@
 -- The steps that a host is given, as values.
-use Rattle.std.specs.Prelude.{List, map}
+use Rattle.std.specs.Prelude.{ℕ, List, Option, None, Some, map}
 use Rattle.fork_request.specs.Asked.{ask_of}
 use Rattle.fork_model.specs.Runs.{Asks, HostAsks}
 use Rattle.fork_model.specs.World.{Event}
@@ -13,3 +13,8 @@ event_of (Host request) = HostAsks request
 
 abbrev pub events_of : List HostStep → List Event
 events_of steps = map event_of steps
+
+-- the tenant that asks in a step, where it is a tenant's
+abbrev pub asker_of : Event → Option (List ℕ)
+asker_of (Asks tenant ask) = Some tenant
+asker_of (HostAsks ask) = None

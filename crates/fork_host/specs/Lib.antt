@@ -1,7 +1,9 @@
 pub mod Adding
+pub mod Faults
 pub mod Given
+pub mod Handle
 pub mod Own
+pub mod Pushed
 pub mod Rows
 pub mod Shape
 pub mod Shown
-pub mod Staged

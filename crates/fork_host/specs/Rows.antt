@@ -1,12 +1,12 @@
 -- What a row of the answer comes to: the row itself, or want of memory.
-use Rattle.std.specs.Prelude.{◌≡◌, ℕ, ◌+◌, true, false, nat_lt, List, [], length, ⊤}
+use Rattle.std.specs.Prelude.{◌≡◌, ℕ, ◌+◌, true, false, nat_lt, List, [], length, Option, Result, Ok, Err, ⊤}
+use Rattle.git_name.specs.Object.{Object}
 use Rattle.fork_request.specs.declared.host_fault.HostFault.{HostFault}
 use Rattle.fork_request.specs.declared.host_fault.HostFault.TheVariants.{Memory, Store, Damaged}
 use Rattle.fork_request.specs.declared.refusal.Refusal.TheVariants.{StagedTooLong}
 use Rattle.fork_request.specs.declared.reply.Reply.{Reply}
 use Rattle.fork_request.specs.declared.reply.Reply.TheVariants.{Done, Refused, Failed}
 use Rattle.push_stream.specs.Upload.{UploadValue, continued}
-use Rattle.fork_reach.specs.Source.{Objects}
 use Rattle.fork_reach.specs.declared.source.SourceFault.{SourceFault}
 use Rattle.fork_reach.specs.declared.source.SourceFault.TheVariants as source
 use Rattle.fork_ledger.specs.declared.fault.VaultFault.{VaultFault}
@@ -14,6 +14,7 @@ use Rattle.fork_ledger.specs.declared.fault.VaultFault.TheVariants as ledger
 use Rattle.fork_push.specs.declared.verdict.Verdict.{Verdict}
 use Rattle.fork_push.specs.declared.verdict.Verdict.TheVariants.{Accepted}
 use Rattle.fork_push.specs.declared.verdict.Verdict.TheVariants as push
+use Rattle.fork_reach.specs.Source.{Objects}
 use Rattle.fork_model.specs.View.{View, Repositories}
 
 pub data Gives (row : Reply × View) (old : View) (reply : Reply) (new : View) : Type 0 where
@@ -56,6 +57,10 @@ fault_read ledger.Store = source.Store
 fault_read ledger.Damaged = source.Damaged
 fault_read ledger.Memory = source.Memory
 fault_read ledger.Collision = source.Damaged
+
+abbrev pub read_told : Result (Option Object) VaultFault → Result (Option Object) SourceFault
+read_told (Ok found) = Ok found
+read_told (Err fault) = Err (fault_read fault)
 
 -- what a piece of an upload comes to
 pub data IsFed (old : UploadValue) (piece : List ℕ) (reply : Reply) (new : UploadValue) : Type 0 where

@@ -1,15 +1,15 @@
--- What a host shows: each tenant's account, and what the vault shows that tenant. Of a store nothing is known yet.
-use Rattle.std.specs.Prelude.{◌≡◌, ℕ, List, Option, map, refl, ⊤}
+-- What a host shows: each tenant's account, and what the vault shows that tenant.
+use Rattle.std.specs.Prelude.{◌≡◌, ℕ, IsTrue, List, Option, Some, map, refl}
 use Rattle.std.specs.Coded.{Coded, code_by, coded×, coded_ℕ, coded_list, coded_option}
-use Rattle.std.specs.FinMap.{FinMap, code, contains_key, entries, from_sorted}
+use Rattle.std.specs.FinMap.{FinMap, code, contains_key, empty, entries, from_sorted, get}
 use Rattle.git_name.specs.Name.{name_cmp}
 use Rattle.push_stream.specs.Upload.{UploadValue, upload_code}
 use Rattle.fork_reach.specs.Source.{Objects}
 use Rattle.fork_ledger.specs.Tenants.{VaultState, vault_code}
-use Rattle.fork_model.specs.Sound.{IsSoundWorld}
+use Rattle.fork_model.specs.Sound.{IsOrderlyWorld, IsRightWorld}
 use Rattle.fork_model.specs.View.{View, Repositories}
 use Rattle.fork_model.specs.World.{World}
-use Rattle.fork_host.specs.Own.{both_in, visible_in}
+use Rattle.fork_host.specs.Own.{staged_in, visible_in}
 
 -- what a host keeps of a tenant beside its objects
 pub record Account : Type 0 where
@@ -44,15 +44,22 @@ entry_shown vault entry = (entry.0, shown entry.1 vault entry.0)
 unfoldable pub world_of : HostState → World
 world_of state = from_sorted (map (entry_shown state.vault) (entries state.accounts))
 
--- the world is sound, the vault has the tenants of the accounts, and between requests nothing is staged
-pub record IsWhole (state : HostState) : Type 0 where
-  pub sound : IsSoundWorld (world_of state)
-  pub there : (tenant : List ℕ) → contains_key state.vault.tenants tenant ≡ contains_key state.accounts tenant
-  pub quiet : (tenant : List ℕ) → both_in state.vault tenant ≡ visible_in state.vault tenant
+-- what an open upload has staged: nothing, as it keeps its bytes itself
+abbrev pub uploaded : Option UploadValue → Objects
+uploaded upload = empty
 
 -- the store gives what it was given
 abbrev pub Trusted : HostState → Type 0
-Trusted state = ⊤
+Trusted state = IsTrue state.vault.honest
+
+-- the store is trusted, as there is none yet that could lie; the world is in order and right; the vault has the tenants of the
+-- accounts, each with what its open upload has staged
+pub record IsWhole (state : HostState) : Type 0 where
+  pub trusted : Trusted state
+  pub orderly : IsOrderlyWorld (world_of state)
+  pub right : IsRightWorld (world_of state)
+  pub there : (tenant : List ℕ) → contains_key state.vault.tenants tenant ≡ contains_key state.accounts tenant
+  pub staged : (tenant : List ℕ) (account : Account) → get state.accounts tenant ≡ Some account → staged_in state.vault tenant ≡ uploaded account.upload
 
 -- accounts and states have codes, so that they can be a model's value
 abbrev bytes_code : Coded (List ℕ)

@@ -6,9 +6,12 @@ ghost use Rattle.fork_request.specs.Asked.{ask_of};
 ghost use Rattle.fork_model.specs.Runs.{Asks};
 ghost use Rattle.fork_model.specs.World.{Steps};
 ghost use Rattle.fork_host.specs.Adding.{new_account};
-ghost use Rattle.fork_host.specs.Rows.{IsMemoryAtMost};
-ghost use Rattle.fork_host.specs.Shown.{IsWhole, state_of, world_of};
+ghost use Rattle.fork_model.specs.Answer.{answer};
+ghost use Rattle.fork_host.specs.Own.{IsOwn, IsReady};
+ghost use Rattle.fork_host.specs.Rows.{Gives, IsMemoryAtMost};
+ghost use Rattle.fork_host.specs.Shown.{IsWhole, shown, state_of, world_of};
 
+use crate::own::Own;
 use crate::tenant::Tenant;
 use fork_ledger::Vault;
 use fork_request::{Refusal, Reply, Request, TenantName};
@@ -94,8 +97,24 @@ impl Accounts {
         let Some(tenant) = self.tenants.get_mut(name) else {
             return Reply::Refused(Refusal::UnknownTenant);
         };
-        tenant.answer(alloc, vault, name, request)
+        answer_from(alloc, tenant, vault, name, request)
     }
+}
+
+// Answers a request from a tenant's account and its own part of the vault.
+fn answer_from(
+    alloc: Global,
+    tenant: &mut Tenant,
+    vault: &mut Vault,
+    name: &TenantName,
+    request: Request<'_>,
+) -> Reply
+    requires ready { IsReady vault.old name.now tenant.old.limit }
+    ensures row { Gives (answer (shown tenant.old vault.old name.now) (ask_of request.entry)) (shown tenant.old vault.old name.now) result (shown tenant.new vault.new name.now) }
+    ensures own { IsOwn name.now vault.old vault.new }
+{
+    let mut own = Own::new(vault, name);
+    tenant.answer(alloc, &mut own, request)
 }
 
 fn put(

@@ -1,4 +1,4 @@
-use crate::vault_fault::source_fault;
+use crate::vault_fault::told;
 use fork_ledger::Vault;
 use fork_push::Sides;
 use fork_reach::{Source, SourceFault};
@@ -10,40 +10,50 @@ use std::alloc::Global;
 #[derive(Drop)]
 pub(crate) struct Both<'a> {
     pub(crate) vault: &'a mut Vault,
-    pub(crate) own: &'a TenantName,
+    pub(crate) tenant: &'a TenantName,
 }
 
 impl Source for Both<'_> {
-    ghost use Rattle.std.specs.Prelude.{ℕ, true};
-    ghost use Rattle.fork_ledger.specs.Tenants.{Tenants, private_of};
+    ghost use Rattle.std.specs.Prelude.{ℕ, List};
+    ghost use Rattle.std.specs.Borrow.{Bor};
+    ghost use Rattle.std.specs.FinMap.{FinMap};
+    ghost use Rattle.git_name.specs.Name.{name_cmp};
+    ghost use Rattle.fork_reach.specs.Objects.{Measures};
+    ghost use Rattle.fork_ledger.specs.Private.{both_of};
+    ghost use Rattle.fork_ledger.specs.Tenants.{Tenants, private_of, shape_of};
 
-    ghost objects = { λ both. (private_of both.vault.now.tenants both.own.now).both };
+    ghost Base = { (ℕ × Bor (List ℕ)) × FinMap name_cmp (Measures × Measures) };
 
-    ghost honest = { λ _. true };
+    ghost Rest = { Tenants };
 
-    ghost failures = { λ _. 0 };
-
-    ghost Rest = { ℕ × Tenants };
-
-    ghost rest = { λ both. (both.vault.ghost_name, both.vault.now.tenants) };
+    ghost state = { λ both. record {
+        objects = both_of (private_of both.vault.now.tenants both.tenant.now);
+        honest = both.vault.now.honest;
+        failures = 0;
+        base = ((both.vault.ghost_name, both.tenant), shape_of both.vault.now.tenants);
+        rest = both.vault.now.tenants;
+    } };
 
     fn kind_of(&self, name: Name) -> Option<Kind> {
-        match self.vault.kind_of(self.own, name) {
+        match self.vault.kind_of(self.tenant, name) {
             Some(held) => Some(held.kind),
             None => None,
         }
     }
 
     fn read(&mut self, alloc: Global, name: Name) -> Result<Option<Sealed>, SourceFault> {
-        match self.vault.find(alloc, self.own, name) {
-            Ok(found) => Ok(found),
-            Err(fault) => Err(source_fault(fault)),
+        let Some(held) = self.vault.kind_of(self.tenant, name) else {
+            return Ok(None);
+        };
+        if held.visible {
+            return told(self.vault.get(alloc, self.tenant, name));
         }
+        told(self.vault.get_staged(alloc, self.tenant, name))
     }
 }
 
 impl Sides for Both<'_> {
     fn is_within(&self, limit: u64) -> bool {
-        self.vault.is_within(self.own, limit)
+        self.vault.is_within(self.tenant, limit)
     }
 }

@@ -3,12 +3,12 @@ ghost use Rattle.std.specs.FinMap as map;
 ghost use Rattle.fork_request.specs.Asked.{ask_of};
 ghost use Rattle.fork_request.specs.Told.{is_done};
 ghost use Rattle.fork_model.specs.Runs.{Asks, HostAsks};
-ghost use Rattle.fork_model.specs.Sound.{IsSoundWorld};
+ghost use Rattle.fork_model.specs.Sound.{IsOrderlyWorld, IsRightWorld};
 ghost use Rattle.fork_model.specs.View.{View};
 ghost use Rattle.fork_model.specs.World.{Steps, Explains, IsUnfaulted, alone, own, told};
 ghost use Rattle.fork_ledger.specs.Tenants.{with_tenant};
 ghost use Rattle.fork_host.specs.Adding.{new_account, new_view, refusal_to_add};
-ghost use Rattle.fork_host.specs.Rows.{IsMemoryAtMost};
+ghost use Rattle.fork_host.specs.Faults.{FaultsAlong, FaultsWithin};
 ghost use Rattle.fork_host.specs.Shape.{SameShape};
 ghost use Rattle.fork_host.specs.Shown.{Trusted, world_of};
 
@@ -61,10 +61,12 @@ impl Host {
         }
     }
 
-    /// How many tenants there are. What a host shows is sound.
+    /// How many tenants there are. What a host shows is in order over any store, and right over one that
+    /// is trusted.
     pub fn tenants(&self) -> usize
         ensures value { result ≡ map.len (world_of self.now) }
-        ensures sound { IsSoundWorld (world_of self.now) }
+        ensures orderly { IsOrderlyWorld (world_of self.now) }
+        ensures right { Trusted self.now → IsRightWorld (world_of self.now) }
     {
         self.accounts.len()
     }
@@ -83,6 +85,7 @@ impl Host {
         ensures err { OnErr result (self.new ≡ self.old) }
         ensures trusted { Trusted self.old → Trusted self.new }
     {
+        let _bytes = name.as_bytes();
         if self.accounts.contains(&name) {
             return Err(AddError::There);
         }
@@ -102,25 +105,27 @@ impl Host {
     pub fn answer(&mut self, alloc: Global, name: &TenantName, request: Request<'_>) -> Reply
         ensures explained { Trusted self.old → Steps (world_of self.old) (Asks name.now (ask_of request.entry)) result (world_of self.new) }
         ensures trusted { Trusted self.old → Trusted self.new }
-        ensures sound { IsSoundWorld (world_of self.new) }
+        ensures orderly { IsOrderlyWorld (world_of self.new) }
+        ensures right { Trusted self.old → IsRightWorld (world_of self.new) }
 
         // Over any store, what is refused or failed and what others see keep their shape.
         ensures kept { is_done result ≡ false → (tenant : List ℕ) → SameShape tenant (world_of self.old) (world_of self.new) }
         ensures others { (tenant : List ℕ) → tenant ≢ name.now → SameShape tenant (world_of self.old) (world_of self.new) }
 
-        // There is no store yet that could fail, lose an object or find two of one name.
-        ensures faults { IsMemoryAtMost result }
+        // Which host faults may come.
+        ensures faults { FaultsWithin self.old (Asks name.now (ask_of request.entry)) result self.new }
     {
         self.accounts.answer(alloc, &mut self.vault, name, request)
     }
 
     /// Answers a request of the host's own, which changes no view.
-    pub fn host_answer(&mut self, request: HostRequest) -> Reply
+    pub fn host_answer(&mut self, _alloc: Global, request: HostRequest) -> Reply
         ensures explained { Trusted self.old → Steps (world_of self.old) (HostAsks request) result (world_of self.new) }
         ensures trusted { Trusted self.old → Trusted self.new }
-        ensures sound { IsSoundWorld (world_of self.new) }
+        ensures orderly { IsOrderlyWorld (world_of self.new) }
+        ensures right { Trusted self.old → IsRightWorld (world_of self.new) }
         ensures kept { (tenant : List ℕ) → SameShape tenant (world_of self.old) (world_of self.new) }
-        ensures faults { IsMemoryAtMost result }
+        ensures faults { FaultsWithin self.old (HostAsks request) result self.new }
     {
         let _accounts = &self.accounts;
         match request {
@@ -128,18 +133,21 @@ impl Host {
         }
     }
 
-    ghost use Rattle.fork_host.specs.Given.{event_of, events_of};
+    ghost use Rattle.fork_host.specs.Given.{asker_of, event_of, events_of};
 
-    /// Answers one step.
+    /// Answers one step: a tenant's request or one of the host's own.
     pub fn step(&mut self, alloc: Global, step: HostStep<'_>) -> Reply
         ensures explained { Trusted self.old → Steps (world_of self.old) (event_of step.entry) result (world_of self.new) }
         ensures trusted { Trusted self.old → Trusted self.new }
-        ensures sound { IsSoundWorld (world_of self.new) }
-        ensures faults { IsMemoryAtMost result }
+        ensures orderly { IsOrderlyWorld (world_of self.new) }
+        ensures right { Trusted self.old → IsRightWorld (world_of self.new) }
+        ensures kept { is_done result ≡ false → (tenant : List ℕ) → SameShape tenant (world_of self.old) (world_of self.new) }
+        ensures others { (tenant : List ℕ) → asker_of (event_of step.entry) ≢ Some tenant → SameShape tenant (world_of self.old) (world_of self.new) }
+        ensures faults { FaultsWithin self.old (event_of step.entry) result self.new }
     {
         match step {
             HostStep::Tenant(name, request) => self.answer(alloc, name, request),
-            HostStep::Host(request) => self.host_answer(request),
+            HostStep::Host(request) => self.host_answer(alloc, request),
         }
     }
 
@@ -148,9 +156,10 @@ impl Host {
         ensures explained { Trusted self.old → IfOk result (λ replies.
             Explains (world_of self.old) (events_of steps.now) replies.items (world_of self.new)) }
         ensures trusted { Trusted self.old → Trusted self.new }
-        ensures sound { IsSoundWorld (world_of self.new) }
+        ensures orderly { IsOrderlyWorld (world_of self.new) }
+        ensures right { Trusted self.old → IsRightWorld (world_of self.new) }
         ensures err { OnErr result (self.new ≡ self.old) }
-        ensures faults { IfOk result (λ replies. All IsMemoryAtMost replies.items) }
+        ensures faults { IfOk result (λ replies. FaultsAlong self.old (events_of steps.now) replies.items self.new) }
 
         // To each tenant that no host fault answered, the replies are those of a private host.
         ensures private_replies { Trusted self.old → IfOk result (λ replies. (tenant : List ℕ) (view : View)
@@ -187,6 +196,7 @@ fn open_account(
     requires new { map.contains_key accounts.old name ≡ false }
     ensures ok { OnOk result (accounts.new ≡ map.insert accounts.old name (new_account limit)) }
     ensures vault { OnOk result (vault.new.tenants ≡ with_tenant vault.old.tenants name) }
+    ensures honest { vault.new.honest ≡ vault.old.honest }
     ensures err { OnErr result (accounts.new ≡ accounts.old) }
     ensures kept { OnErr result (vault.new.tenants ≡ vault.old.tenants) }
 {

@@ -8,6 +8,7 @@ mod accounts;
 mod add_error;
 mod both;
 mod host;
+mod own;
 mod pruning;
 mod replies;
 mod repositories;

@@ -1,30 +1,32 @@
-// What a push does to a tenant's private maps.
-ghost use Rattle.std.specs.Prelude.{◌≡◌, OnOk, OnErr, true};
+// What a push does to a tenant's own part of the vault.
+ghost use Rattle.std.specs.Prelude.{◌≡◌, IsTrue, OnOk, OnErr, true};
 ghost use Rattle.std.specs.FinMap as map;
-ghost use Rattle.fork_reach.specs.Objects.{with_object, with_objects};
+ghost use Rattle.fork_reach.specs.Objects.{IsNamed, with_objects};
 ghost use Rattle.fork_reach.specs.Source.{Objects};
 ghost use Rattle.fork_ledger.specs.Tenants.{VaultState};
-ghost use Rattle.fork_host.specs.Own.{Settles, Stages, both_in, visible_in};
+ghost use Rattle.fork_host.specs.Handle.{IsSame, both_by, visible_by};
+ghost use Rattle.fork_host.specs.Own.{Settles, Stages, visible_in};
 
-use fork_ledger::Vault;
-use fork_request::TenantName;
+use crate::own::Own;
 use git_name::Sealed;
 use std::alloc::{AllocError, Global};
 
 // Stages these objects in turn. Where it fails, nothing is staged.
 pub(crate) fn stage_all(
     alloc: Global,
-    vault: &mut Vault,
-    own: &TenantName,
+    own: &mut Own<'_>,
     sent: Vec<Sealed>,
 ) -> Result<(), AllocError>
-    requires there { map.contains_key vault.old.tenants own.now ≡ true }
-    ensures ok { OnOk result (Stages own.now (with_objects (both_in vault.old own.now) sent.items) vault.old vault.new) }
-    ensures err { OnErr result (Settles own.now (visible_in vault.old own.now) vault.old vault.new) }
+    requires trusted { IsTrue own.old.vault.now.honest }
+    requires there { map.contains_key own.old.vault.now.tenants own.old.tenant.now ≡ true }
+    requires named { IsNamed (visible_by own.old) }
+    ensures ok { OnOk result (Stages own.old.tenant.now (with_objects (both_by own.old) sent.items) own.old.vault.now own.new.vault.now) }
+    ensures err { OnErr result (Settles own.old.tenant.now (visible_by own.old) own.old.vault.now own.new.vault.now) }
+    ensures same { IsSame own.old own.new }
 {
     for sealed in sent {
-        let Ok(()) = vault.stage(alloc, own, sealed) else {
-            discard(vault, own);
+        let Ok(()) = own.stage(alloc, sealed) else {
+            discard(own);
             return Err(AllocError);
         };
     }
@@ -32,17 +34,19 @@ pub(crate) fn stage_all(
 }
 
 // What is staged goes.
-pub(crate) fn discard(vault: &mut Vault, own: &TenantName)
-    requires there { map.contains_key vault.old.tenants own.now ≡ true }
-    ensures { (before : VaultState) (both : Objects) → Stages own.now both before vault.old → Settles own.now (visible_in before own.now) before vault.new }
+pub(crate) fn discard(own: &mut Own<'_>)
+    requires there { map.contains_key own.old.vault.now.tenants own.old.tenant.now ≡ true }
+    ensures settles { (before : VaultState) (both : Objects) → Stages own.old.tenant.now both before own.old.vault.now → Settles own.old.tenant.now (visible_in before own.old.tenant.now) before own.new.vault.now }
+    ensures same { IsSame own.old own.new }
 {
-    vault.discard(own);
+    own.discard();
 }
 
 // What is staged is seen.
-pub(crate) fn publish(vault: &mut Vault, own: &TenantName)
-    requires there { map.contains_key vault.old.tenants own.now ≡ true }
-    ensures { (before : VaultState) (both : Objects) → Stages own.now both before vault.old → Settles own.now both before vault.new }
+pub(crate) fn publish(own: &mut Own<'_>)
+    requires there { map.contains_key own.old.vault.now.tenants own.old.tenant.now ≡ true }
+    ensures settles { (before : VaultState) (both : Objects) → Stages own.old.tenant.now both before own.old.vault.now → Settles own.old.tenant.now both before own.new.vault.now }
+    ensures same { IsSame own.old own.new }
 {
-    vault.publish(own);
+    own.publish();
 }

@@ -1,4 +1,4 @@
-ghost use Rattle.std.specs.Prelude.{◌≡◌, ◌≤◌, IfOk, OnOk, OnErr, IfErr, Ok, Option, Some, map as map_list, true};
+ghost use Rattle.std.specs.Prelude.{◌≡◌, ◌≤◌, IsTrue, IfOk, OnOk, OnErr, IfErr, Ok, Option, Some, map as map_list, true};
 ghost use Rattle.std.specs.FinMap as map;
 ghost use Rattle.git_name.specs.Object.{object_name};
 ghost use Rattle.git_reftx.specs.Transaction.{References};
@@ -9,18 +9,18 @@ ghost use Rattle.fork_ledger.specs.Tenants.{VaultState};
 ghost use Rattle.fork_push.specs.Push.{judged};
 ghost use Rattle.fork_push.specs.Verdict.{TellsJudged};
 ghost use Rattle.fork_model.specs.Answer.{pushed};
-ghost use Rattle.fork_host.specs.Own.{IsOwn, IsReady, Stages, both_in, visible_in};
+ghost use Rattle.fork_host.specs.Handle.{IsSame, Ready, Uses, both_by, visible_by};
+ghost use Rattle.fork_host.specs.Own.{IsOwn, Stages, visible_in};
 ghost use Rattle.fork_host.specs.Rows.{Gives, IsMemoryVerdict, IsTaken};
-ghost use Rattle.fork_host.specs.Staged.{view_of};
+ghost use Rattle.fork_host.specs.Pushed.{view_of};
 
-use crate::both::Both;
+use crate::own::Own;
 use crate::replies::{done, host_fault, push_refusal};
 use crate::repositories::Repositories;
 use crate::staging::{discard, publish, stage_all};
-use fork_ledger::Vault;
-use fork_push::{Verdict, judge};
+use fork_push::Verdict;
 use fork_reach::SourceFault;
-use fork_request::{HostFault, Reply, RepositoryName, TenantName};
+use fork_request::{HostFault, Reply, RepositoryName};
 use git_name::{Name, Sealed};
 use git_reftx::Refs;
 use push_stream::{Body, Brief, StreamFault};
@@ -31,17 +31,16 @@ use std::alloc::{AllocError, Global};
 pub(crate) fn take(
     alloc: Global,
     repositories: &mut Repositories,
-    vault: &mut Vault,
-    own: &TenantName,
+    own: &mut Own<'_>,
     limit: u64,
     name: RepositoryName,
     body: Body,
 ) -> Reply
-    requires ready { IsReady vault.old own.now limit }
+    requires ready { Ready own.old limit }
     ensures row { (upload : Option UploadValue) (references : References) → map.get repositories.old name ≡ Some references
-        → Gives (pushed (view_of repositories.old (visible_in vault.old own.now) upload limit) name references (Ok (body.commands.items, body.objects.items)))
-        (view_of repositories.old (visible_in vault.old own.now) upload limit) result (view_of repositories.new (visible_in vault.new own.now) upload limit) }
-    ensures own { IsOwn own.now vault.old vault.new }
+        → Gives (pushed (view_of repositories.old (visible_by own.old) upload limit) name references (Ok (body.commands.items, body.objects.items)))
+        (view_of repositories.old (visible_by own.old) upload limit) result (view_of repositories.new (visible_in own.new.vault.now own.old.tenant.now) upload limit) }
+    ensures own { Uses own.old own.new }
 {
     let Body {
         commands,
@@ -50,18 +49,18 @@ pub(crate) fn take(
     let Ok(names) = names_of(alloc, sent.as_slice()) else {
         return Reply::Failed(HostFault::Memory);
     };
-    let Ok(()) = stage_all(alloc, vault, own, sent) else {
+    let Ok(()) = stage_all(alloc, own, sent) else {
         return Reply::Failed(HostFault::Memory);
     };
     let finished = Ok(Brief { commands, names });
-    match verdict(alloc, repositories, vault, own, limit, &name, &finished) {
-        Verdict::Accepted(new) => accept(alloc, repositories, vault, own, name, new),
+    match verdict(alloc, repositories, own, limit, &name, &finished) {
+        Verdict::Accepted(new) => accept(alloc, repositories, own, name, new),
         Verdict::Refused(refusal) => {
-            discard(vault, own);
+            discard(own);
             Reply::Refused(push_refusal(refusal))
         }
         Verdict::Failed(fault) => {
-            discard(vault, own);
+            discard(own);
             Reply::Failed(host_fault(fault))
         }
     }
@@ -71,21 +70,21 @@ pub(crate) fn take(
 fn accept(
     alloc: Global,
     repositories: &mut Repositories,
-    vault: &mut Vault,
-    own: &TenantName,
+    own: &mut Own<'_>,
     name: RepositoryName,
     new: Refs,
 ) -> Reply
-    requires there { map.contains_key vault.old.tenants own.now ≡ true }
-    ensures taken { (before : VaultState) (both : Objects) → Stages own.now both before vault.old
-        → IsTaken repositories.old (map.insert repositories.old name new) (visible_in before own.now) both result repositories.new (visible_in vault.new own.now) }
-    ensures own { (before : VaultState) (both : Objects) → Stages own.now both before vault.old → IsOwn own.now before vault.new }
+    requires there { map.contains_key own.old.vault.now.tenants own.old.tenant.now ≡ true }
+    ensures taken { (before : VaultState) (both : Objects) → Stages own.old.tenant.now both before own.old.vault.now
+        → IsTaken repositories.old (map.insert repositories.old name new) (visible_in before own.old.tenant.now) both result repositories.new (visible_in own.new.vault.now own.old.tenant.now) }
+    ensures own { (before : VaultState) (both : Objects) → Stages own.old.tenant.now both before own.old.vault.now → IsOwn own.old.tenant.now before own.new.vault.now }
+    ensures same { IsSame own.old own.new }
 {
     let Ok(()) = repositories.insert(name, new) else {
-        discard(vault, own);
+        discard(own);
         return Reply::Failed(HostFault::Memory);
     };
-    publish(vault, own);
+    publish(own);
     done(alloc)
 }
 
@@ -104,20 +103,21 @@ fn names_of(alloc: Global, sent: &[Sealed]) -> Result<Vec<Name>, AllocError>
 fn verdict(
     alloc: Global,
     repositories: &Repositories,
-    vault: &mut Vault,
-    own: &TenantName,
+    own: &mut Own<'_>,
     limit: u64,
     name: &RepositoryName,
     finished: &Result<Brief, StreamFault>,
 ) -> Verdict
+    requires trusted { IsTrue own.old.vault.now.honest }
     ensures judged { (references : References) → map.get repositories.now name.now ≡ Some references
-        → TellsJudged (judged (both_in vault.old own.now) references limit (brief_shown finished.now)) result }
-    ensures kept { vault.new.tenants ≡ vault.old.tenants }
+        → TellsJudged (judged (both_by own.old) references limit (brief_shown finished.now)) result }
+    ensures kept { own.new.vault.now.tenants ≡ own.old.vault.now.tenants }
+    ensures honest { own.new.vault.now.honest ≡ own.old.vault.now.honest }
     ensures faults { IsMemoryVerdict result }
+    ensures same { IsSame own.old own.new }
 {
     let Some(references) = repositories.get(name) else {
         return Verdict::Failed(SourceFault::Memory);
     };
-    let mut both = Both { vault, own };
-    judge(alloc, &mut both, finished, references, limit)
+    own.judge(alloc, finished, references, limit)
 }

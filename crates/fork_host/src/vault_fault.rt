@@ -1,8 +1,9 @@
 ghost use Rattle.std.specs.Prelude.{◌≡◌};
-ghost use Rattle.fork_host.specs.Rows.{fault_read};
+ghost use Rattle.fork_host.specs.Rows.{fault_read, read_told};
 
 use fork_ledger::VaultFault;
 use fork_reach::SourceFault;
+use git_name::Sealed;
 
 // How a source tells a fault of the vault. Two objects of one name never meet in a read.
 pub(crate) fn source_fault(fault: VaultFault) -> SourceFault
@@ -12,5 +13,17 @@ pub(crate) fn source_fault(fault: VaultFault) -> SourceFault
         VaultFault::Store => SourceFault::Store,
         VaultFault::Memory => SourceFault::Memory,
         VaultFault::Damaged | VaultFault::Collision => SourceFault::Damaged,
+    }
+}
+
+// How a source tells what a read of the vault gave.
+pub(crate) fn told(
+    found: Result<Option<Sealed>, VaultFault>,
+) -> Result<Option<Sealed>, SourceFault>
+    ensures { result ≡ read_told found }
+{
+    match found {
+        Ok(found) => Ok(found),
+        Err(fault) => Err(source_fault(fault)),
     }
 }

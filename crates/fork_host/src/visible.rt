@@ -1,65 +1,47 @@
-use crate::vault_fault::source_fault;
-use fork_ledger::Vault;
+use crate::own::Own;
+use crate::vault_fault::told;
 use fork_reach::{Source, SourceFault};
-use fork_request::TenantName;
 use git_name::{Kind, Name, Sealed};
 use git_reftx::Known;
 use std::alloc::Global;
 
-// What a tenant sees.
-#[derive(Drop)]
-pub(crate) struct Visible<'a> {
-    pub(crate) vault: &'a mut Vault,
-    pub(crate) own: &'a TenantName,
-}
-
-impl Known for Visible<'_> {
+// A tenant's own part of the vault, as what the tenant sees.
+impl Known for Own<'_> {
     ghost use Rattle.fork_reach.specs.Source.{kind_in};
     ghost use Rattle.fork_ledger.specs.Tenants.{private_of};
 
-    ghost kinds = { λ visible. kind_in (private_of visible.vault.now.tenants visible.own.now).visible };
+    ghost kinds = { λ own. kind_in (private_of own.vault.now.tenants own.tenant.now).visible };
 
     fn kind_of(&self, name: Name) -> Option<Kind> {
-        kind_seen(self.vault, self.own, name)
+        self.kind_seen(name)
     }
 }
 
-impl Source for Visible<'_> {
-    ghost use Rattle.std.specs.Prelude.{ℕ, true};
-    ghost use Rattle.fork_ledger.specs.Tenants.{Tenants, private_of};
+impl Source for Own<'_> {
+    ghost use Rattle.std.specs.Prelude.{ℕ, List};
+    ghost use Rattle.std.specs.Borrow.{Bor};
+    ghost use Rattle.std.specs.FinMap.{FinMap};
+    ghost use Rattle.git_name.specs.Name.{name_cmp};
+    ghost use Rattle.fork_reach.specs.Objects.{Measures};
+    ghost use Rattle.fork_ledger.specs.Tenants.{Tenants, private_of, shape_of};
 
-    ghost objects = { λ visible. (private_of visible.vault.now.tenants visible.own.now).visible };
+    ghost Base = { (ℕ × Bor (List ℕ)) × FinMap name_cmp (Measures × Measures) };
 
-    ghost honest = { λ _. true };
+    ghost Rest = { Tenants };
 
-    ghost failures = { λ _. 0 };
-
-    ghost Rest = { ℕ × Tenants };
-
-    ghost rest = { λ visible. (visible.vault.ghost_name, visible.vault.now.tenants) };
+    ghost state = { λ own. record {
+        objects = (private_of own.vault.now.tenants own.tenant.now).visible;
+        honest = own.vault.now.honest;
+        failures = 0;
+        base = ((own.vault.ghost_name, own.tenant), shape_of own.vault.now.tenants);
+        rest = own.vault.now.tenants;
+    } };
 
     fn kind_of(&self, name: Name) -> Option<Kind> {
-        kind_seen(self.vault, self.own, name)
+        self.kind_seen(name)
     }
 
     fn read(&mut self, alloc: Global, name: Name) -> Result<Option<Sealed>, SourceFault> {
-        match self.vault.get(alloc, self.own, name) {
-            Ok(found) => Ok(found),
-            Err(fault) => Err(source_fault(fault)),
-        }
-    }
-}
-
-ghost use Rattle.std.specs.Prelude.{◌≡◌};
-ghost use Rattle.fork_reach.specs.Source.{kind_in};
-ghost use Rattle.fork_ledger.specs.Tenants.{private_of};
-
-// The kind of an object that the tenant sees.
-fn kind_seen(vault: &Vault, own: &TenantName, name: Name) -> Option<Kind>
-    ensures { result ≡ kind_in (private_of vault.now.tenants own.now).visible name }
-{
-    match vault.kind_of(own, name) {
-        Some(held) if held.visible => Some(held.kind),
-        _ => None,
+        told(self.get(alloc, name))
     }
 }

@@ -1,5 +1,7 @@
+pub mod BothLemmas
 pub mod CappedLemmas
 pub mod CountedLemmas
+pub mod HeldLemmas
 pub mod KeepingLemmas
 pub mod PrivateLemmas
 pub mod SeenLemmas

@@ -1,5 +1,5 @@
 use Rattle.fork_host.proofs.OwnLemmas.{discarded}
 use Rattle.fork_host.proofs.staging.discard.Goals as goal
 
-pub returns : goal.returns
-returns c before both stages = discarded before c.args.vault.now c.discard.new.self c.args.own.now both c.requires.there c.discard.ensures stages
+pub returns-clause-settles : goal.returns-clause-settles
+returns-clause-settles c before both stages = discarded before c.args.own.now.vault.now c.discard.new.self.vault.now c.args.own.now.tenant.now both c.requires.there c.discard.ensures.tenants c.discard.ensures.honest stages

@@ -18,27 +18,27 @@ returns-in_default-clause-explained c =
     subst (λ accounts. Steps (world_of (state_of c.args.self.now c.args.vault.now)) (Asks c.args.name.now (ask_of c.args.request)) _ (world_of (state_of accounts c.args.vault.now))) (sym stays)
     (unknown_step (state_of c.args.self.now c.args.vault.now) c.args.name.now (ask_of c.args.request) none)
 
-pub answer-requires : goal.answer-requires
-answer-requires c =
+pub answer_from-requires : goal.answer_from-requires
+answer_from-requires c =
     let here = found_in c.args.self.now c.self.inside.tenants.entries c.args.name.now (Some c.in-Some.tenant.now) c.self.view_is c.in-Some.ensures.value in
     record { ready = ready (state_of c.args.self.now c.args.vault.now) c.args.name.now c.in-Some.tenant.now c.requires.whole here }
 
 pub returns-clause-explained : goal.returns-clause-explained
 returns-clause-explained c =
-    let stays = (c.get_mut.follows.holds c.answer.new.self).3 (search rules) in
+    let stays = (c.get_mut.follows.holds c.answer_from.new.tenant).3 (search rules) in
     let entries = c.self.inside.tenants.entries in
     let here = found_in c.args.self.now entries c.args.name.now (Some c.in-Some.tenant.now) c.self.view_is c.in-Some.ensures.value in
-    let set = written_back c.args.self.now entries (c.get_mut.follows.lender c.answer.new.self).entries c.args.name.now c.answer.new.self c.self.view_is stays.0 in
-    answered_step (state_of c.args.self.now c.args.vault.now) (state_of _ c.answer.new.vault) c.args.name.now (ask_of c.args.request) c.in-Some.tenant.now c.answer.new.self c.answer.result here set c.answer.ensures.row c.answer.ensures.own
+    let set = written_back c.args.self.now entries (c.get_mut.follows.lender c.answer_from.new.tenant).entries c.args.name.now c.answer_from.new.tenant c.self.view_is stays.0 in
+    answered_step (state_of c.args.self.now c.args.vault.now) (state_of _ c.answer_from.new.vault) c.args.name.now (ask_of c.args.request) c.in-Some.tenant.now c.answer_from.new.tenant c.answer_from.result here set c.answer_from.ensures.row c.answer_from.ensures.own
 
 pub returns-clause-whole : goal.returns-clause-whole
 returns-clause-whole c =
-    let stays = (c.get_mut.follows.holds c.answer.new.self).3 (search rules) in
+    let stays = (c.get_mut.follows.holds c.answer_from.new.tenant).3 (search rules) in
     let entries = c.self.inside.tenants.entries in
     let here = found_in c.args.self.now entries c.args.name.now (Some c.in-Some.tenant.now) c.self.view_is c.in-Some.ensures.value in
-    let set = written_back c.args.self.now entries (c.get_mut.follows.lender c.answer.new.self).entries c.args.name.now c.answer.new.self c.self.view_is stays.0 in
-    whole_after (state_of c.args.self.now c.args.vault.now) (state_of _ c.answer.new.vault) c.args.name.now (ask_of c.args.request) c.in-Some.tenant.now c.answer.new.self c.answer.result
-    c.requires.whole here set (returns-clause-explained c) c.answer.ensures.own
+    let set = written_back c.args.self.now entries (c.get_mut.follows.lender c.answer_from.new.tenant).entries c.args.name.now c.answer_from.new.tenant c.self.view_is stays.0 in
+    whole_after (state_of c.args.self.now c.args.vault.now) (state_of _ c.answer_from.new.vault) c.args.name.now (ask_of c.args.request) c.in-Some.tenant.now c.answer_from.new.tenant c.answer_from.result
+    c.requires.whole here set (returns-clause-explained c) c.answer_from.ensures.own
 
 pub returns-clause-faults : goal.returns-clause-faults
-returns-clause-faults c = memory_of _ _ (ask_of c.args.request) c.answer.result c.answer.ensures.row
+returns-clause-faults c = memory_of _ _ (ask_of c.args.request) c.answer_from.result c.answer_from.ensures.row

@@ -42,4 +42,4 @@ invariant_of-self-2 c =
     let old = state_of c.self.inside.accounts c.self.inside.vault in
     let new = state_of c.open_account.new.accounts c.open_account.new.vault in
     let few : map.len c.self.inside.accounts < 64 = omega arith in
-    whole_more old new c.args.name c.args.limit c.self.invariant (sym c.contains.ensures ∙ c.if-contains.false) few c.if-limit-gt-MAX_LIMIT.false c.in-Ok.ensures.ok c.in-Ok.ensures.vault
+    whole_more old new c.args.name c.args.limit c.as_bytes-bytes.ensures.name c.self.invariant (sym c.contains.ensures ∙ c.if-contains.false) few c.if-limit-gt-MAX_LIMIT.false c.in-Ok.ensures.ok c.in-Ok.ensures.vault c.in-Ok.ensures.honest

@@ -1,4 +1,4 @@
-use Rattle.std.proofs.Common.{ap, subst}
+use Rattle.std.proofs.Common.{ap, subst, sym, ◌∙◌}
 use Rattle.std.specs.Option.{option_map}
 use Rattle.fork_request.specs.Asked.{ask_of}
 use Rattle.fork_model.specs.Runs.{Asks}
@@ -15,8 +15,10 @@ returns-clause-explained c _ =
 
 pub returns-clause-kept : goal.returns-clause-kept
 returns-clause-kept c not_done t =
-    same_shape _ _ (step_kept (world_of c.args.self.now) (world_of (state_of c.answer.new.self c.answer.new.vault)) c.args.name.now (ask_of c.args.request) c.answer.result (returns-clause-explained c tt) not_done t)
+    let trusted = ap (λ s. s.vault.honest) (sym c.self.view_is) ∙ c.self.invariant.trusted in
+    same_shape _ _ (step_kept (world_of c.args.self.now) (world_of (state_of c.answer.new.self c.answer.new.vault)) c.args.name.now (ask_of c.args.request) c.answer.result (returns-clause-explained c trusted) not_done t)
 
 pub returns-clause-others : goal.returns-clause-others
 returns-clause-others c t differ =
-    ap (option_map shape_of) (step_others (world_of c.args.self.now) (world_of (state_of c.answer.new.self c.answer.new.vault)) c.args.name.now t (ask_of c.args.request) c.answer.result (returns-clause-explained c tt) differ)
+    let trusted = ap (λ s. s.vault.honest) (sym c.self.view_is) ∙ c.self.invariant.trusted in
+    ap (option_map shape_of) (step_others (world_of c.args.self.now) (world_of (state_of c.answer.new.self c.answer.new.vault)) c.args.name.now t (ask_of c.args.request) c.answer.result (returns-clause-explained c trusted) differ)

@@ -1,0 +1,22 @@
+use Rattle.std.proofs.Common.{ap, ◌∙◌}
+use Rattle.fork_reach.specs.Objects.{measures_of}
+use Rattle.fork_ledger.specs.Tenants.{private_of}
+use Rattle.fork_ledger.proofs.BothLemmas.{same_measures}
+use Rattle.fork_host.proofs.ReadLemmas.{told_counts, told_undamaged}
+use Rattle.fork_host.proofs.visible.OwnSource.read.Goals as goal
+
+pub returns-clause-asked : goal.returns-clause-asked
+returns-clause-asked c =
+    let old = c.args.self.now in
+    let new = c.get.new.self in
+    let told = c.get.ensures in
+    record {
+      measures = ap (λ r. measures_of (private_of new.vault.now.tenants r.now).visible) told.same.tenant
+        ∙ ap (λ p. p.0) (same_measures old.vault.now.tenants new.vault.now.tenants old.tenant.now told.shape);
+      honest = told.honest;
+      base = λ i. ((told.same.vault i, told.same.tenant i), told.shape i);
+      counted = told_counts c.get.result c.told.result c.told.ensures told.faults;
+      objects = λ honest. ap (λ r. (private_of new.vault.now.tenants r.now).visible) told.same.tenant ∙ ap (λ m. (private_of m old.tenant.now).visible) (told.kept honest);
+      rest = told.kept;
+      undamaged = λ honest. told_undamaged c.get.result c.told.result c.told.ensures told.faults;
+    }

@@ -1,0 +1,21 @@
+-- Which host faults a step may be answered with.
+use Rattle.std.specs.Prelude.{◌≡◌, ℕ, false, List, [], ◌∷◌}
+use Rattle.fork_request.specs.Told.{is_host_fault}
+use Rattle.fork_request.specs.declared.reply.Reply.{Reply}
+use Rattle.fork_model.specs.Runs.{Asks, HostAsks}
+use Rattle.fork_model.specs.World.{Event}
+use Rattle.fork_host.specs.Rows.{IsMemoryAtMost}
+use Rattle.fork_host.specs.Shown.{HostState}
+
+-- a tenant's request is answered with no other host fault than want of memory: there is no store that could fail, lose an
+-- object or have two of one name. A bad request of the host's own is answered with none
+abbrev pub FaultsWithin : HostState → Event → Reply → HostState → Type 0
+FaultsWithin old (Asks tenant ask) reply new = IsMemoryAtMost reply
+FaultsWithin old (HostAsks ask) reply new = is_host_fault reply ≡ false
+
+-- the same of each step of a run, from state to state
+abbrev pub FaultsAlong : HostState → List Event → List Reply → HostState → Type 0
+FaultsAlong old [] [] new = new ≡ old
+FaultsAlong old (event ∷ events) (reply ∷ replies) new = (mid : HostState) × FaultsWithin old event reply mid × FaultsAlong mid events replies new
+FaultsAlong old [] (reply ∷ replies) new = ⊥
+FaultsAlong old (event ∷ events) [] new = ⊥

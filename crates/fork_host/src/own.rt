@@ -1,0 +1,165 @@
+ghost use Rattle.std.specs.Prelude.{◌≡◌, IsTrue, OnOk, OnErr, IfOk, IfErr, IfSome, is_some, nat_le};
+ghost use Rattle.std.specs.FinMap as map;
+ghost use Rattle.std.specs.BTreeSet.{contains};
+ghost use Rattle.git_name.specs.Name.{name_cmp};
+ghost use Rattle.git_name.specs.Object.{object_name};
+ghost use Rattle.git_reftx.specs.Transaction.{References};
+ghost use Rattle.push_stream.specs.Brief.{brief_shown};
+ghost use Rattle.fork_reach.specs.Objects.{use_of};
+ghost use Rattle.fork_reach.specs.Reach.{is_reached, linked_names};
+ghost use Rattle.fork_reach.specs.Source.{kind_in};
+ghost use Rattle.fork_ledger.specs.Private.{with_discarded, with_kept, with_published, with_staged};
+ghost use Rattle.fork_ledger.specs.Store.{AsksStore, LeavesStore, fault_in};
+ghost use Rattle.fork_ledger.specs.Tenants.{at_tenant, shape_of};
+ghost use Rattle.fork_ledger.specs.Used.{capped};
+ghost use Rattle.fork_push.specs.Push.{judged};
+ghost use Rattle.fork_push.specs.Verdict.{TellsJudged};
+ghost use Rattle.fork_host.specs.Rows.{IsMemoryVerdict};
+ghost use Rattle.std.specs.Prelude.{ℕ, List};
+
+use crate::both::Both;
+use fork_ledger::{Held, Vault, VaultFault};
+use fork_push::{Verdict, judge};
+use fork_reach::{SourceFault, reach};
+use fork_request::TenantName;
+use git_name::{Kind, Name, Sealed};
+use git_reftx::Refs;
+use push_stream::{Brief, StreamFault};
+use std::alloc::Global;
+use std::collections::BTreeSet;
+
+// One tenant's own part of the vault. It is made once for a request, from the vault and the tenant that
+// asks, and is all of the vault that a row of the answer is given.
+#[derive(Drop)]
+pub(crate) struct Own<'a> {
+    vault: &'a mut Vault,
+    tenant: &'a TenantName,
+}
+
+impl<'a> Own<'a> {
+    // The part of this tenant.
+    pub(crate) fn new(vault: &'a mut Vault, tenant: &'a TenantName) -> Own<'a>
+        ensures vault { result.vault ≡ vault.entry }
+        ensures tenant { result.tenant ≡ tenant.entry }
+    {
+        Own { vault, tenant }
+    }
+
+    ghost use Rattle.fork_host.specs.Handle.{IsSame, both_by, visible_by};
+
+    // The kind of an object that the tenant sees, without a read.
+    pub(crate) fn kind_seen(&self, name: Name) -> Option<Kind>
+        ensures { result ≡ kind_in (visible_by self.now) name }
+    {
+        seen_kind(self.vault.kind_of(self.tenant, name))
+    }
+
+    // The object that the tenant sees under this name.
+    pub(crate) fn get(&mut self, alloc: Global, name: Name) -> Result<Option<Sealed>, VaultFault>
+        ensures found { IsTrue self.old.vault.now.honest → IfOk result (λ found. found ≡ map.get (visible_by self.old) name) }
+        ensures kept { IsTrue self.old.vault.now.honest → self.new.vault.now.tenants ≡ self.old.vault.now.tenants }
+        ensures there { IfOk result (λ found. is_some found ≡ map.contains_key (visible_by self.old) name) }
+        ensures named { IfOk result (λ found. IfSome found (λ object. object_name object ≡ name)) }
+        ensures shape { shape_of self.new.vault.now.tenants ≡ shape_of self.old.vault.now.tenants }
+        ensures honest { self.new.vault.now.honest ≡ self.old.vault.now.honest }
+        ensures faults { IfErr result (λ fault. fault ≡ VaultFault.Memory) }
+        ensures same { IsSame self.old self.new }
+    {
+        self.vault.get(alloc, self.tenant, name)
+    }
+
+    // Stages an object.
+    pub(crate) fn stage(&mut self, alloc: Global, sealed: Sealed) -> Result<(), VaultFault>
+        ensures ok { IsTrue self.old.vault.now.honest → OnOk result (self.new.vault.now.tenants ≡ at_tenant self.old.vault.now.tenants self.old.tenant.now (with_staged sealed)) }
+        ensures err { IsTrue self.old.vault.now.honest → OnErr result (self.new.vault.now.tenants ≡ self.old.vault.now.tenants) }
+        ensures honest { self.new.vault.now.honest ≡ self.old.vault.now.honest }
+        ensures same { IsSame self.old self.new }
+    {
+        self.vault.stage(alloc, self.tenant, sealed)
+    }
+
+    // What is staged is seen.
+    pub(crate) fn publish(&mut self)
+        ensures tenants { self.new.vault.now.tenants ≡ at_tenant self.old.vault.now.tenants self.old.tenant.now with_published }
+        ensures honest { self.new.vault.now.honest ≡ self.old.vault.now.honest }
+        ensures same { IsSame self.old self.new }
+    {
+        self.vault.publish(self.tenant);
+    }
+
+    // What is staged goes.
+    pub(crate) fn discard(&mut self)
+        ensures tenants { self.new.vault.now.tenants ≡ at_tenant self.old.vault.now.tenants self.old.tenant.now with_discarded }
+        ensures honest { self.new.vault.now.honest ≡ self.old.vault.now.honest }
+        ensures same { IsSame self.old self.new }
+    {
+        self.vault.discard(self.tenant);
+    }
+
+    // Of what the tenant sees, the objects of these names stay.
+    pub(crate) fn keep_only(&mut self, names: &BTreeSet<Name>)
+        ensures tenants { self.new.vault.now.tenants ≡ at_tenant self.old.vault.now.tenants self.old.tenant.now (with_kept (λ name. contains name_cmp names.now name)) }
+        ensures honest { self.new.vault.now.honest ≡ self.old.vault.now.honest }
+        ensures same { IsSame self.old self.new }
+    {
+        self.vault.keep_only(self.tenant, names);
+    }
+
+    // What the visible objects use.
+    pub(crate) fn used(&self) -> u128
+        ensures { result ≡ capped (use_of (visible_by self.now)) }
+    {
+        self.vault.used(self.tenant)
+    }
+
+    // The names of what these names reach of what the tenant sees.
+    pub(crate) fn reached(
+        &mut self,
+        alloc: Global,
+        roots: &[Name],
+    ) -> Result<BTreeSet<Name>, SourceFault>
+        requires trusted { IsTrue self.old.vault.now.honest }
+        ensures found { IfOk result (λ found. (name : List ℕ) → contains name_cmp found name ≡ is_reached (linked_names (visible_by self.old)) (visible_by self.old) roots.now name) }
+        ensures kept { self.new.vault.now.tenants ≡ self.old.vault.now.tenants }
+        ensures honest { self.new.vault.now.honest ≡ self.old.vault.now.honest }
+        ensures faults { IfErr result (λ fault. fault ≡ SourceFault.Memory) }
+        ensures same { IsSame self.old self.new }
+    {
+        reach(alloc, self, roots)
+    }
+
+    // What a push into a repository of these references comes to, over what the tenant sees and has
+    // staged.
+    pub(crate) fn judge(
+        &mut self,
+        alloc: Global,
+        finished: &Result<Brief, StreamFault>,
+        references: &Refs,
+        limit: u64,
+    ) -> Verdict
+        requires trusted { IsTrue self.old.vault.now.honest }
+        ensures judged { TellsJudged (judged (both_by self.old) references.now limit (brief_shown finished.now)) result }
+        ensures kept { self.new.vault.now.tenants ≡ self.old.vault.now.tenants }
+        ensures honest { self.new.vault.now.honest ≡ self.old.vault.now.honest }
+        ensures faults { IsMemoryVerdict result }
+        ensures same { IsSame self.old self.new }
+    {
+        let mut both = Both {
+            vault: &mut *self.vault,
+            tenant: self.tenant,
+        };
+        judge(alloc, &mut both, finished, references, limit)
+    }
+}
+
+ghost use Rattle.fork_ledger.specs.Private.{kind_seen};
+
+// The kind of an object, where it is seen.
+fn seen_kind(held: Option<Held>) -> Option<Kind>
+    ensures { result ≡ kind_seen held }
+{
+    let Some(held) = held else {
+        return None;
+    };
+    if held.visible { Some(held.kind) } else { None }
+}

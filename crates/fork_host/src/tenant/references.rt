@@ -1,0 +1,84 @@
+// Rows about the references of a repository.
+ghost use Rattle.std.specs.Prelude.{◌≡◌, Some, option_map, true};
+ghost use Rattle.std.specs.FinMap as map;
+ghost use Rattle.git_reftx.specs.Transaction.{References, transacted};
+ghost use Rattle.fork_reach.specs.Source.{kind_in};
+ghost use Rattle.fork_model.specs.Answer.{references_answer, update_answer, with_references};
+ghost use Rattle.fork_host.specs.Handle.{shown_by, visible_by};
+ghost use Rattle.fork_host.specs.Rows.{Gives};
+
+use crate::own::Own;
+use crate::replies::{bad_name, command_refusal, done, transaction_refusal};
+use crate::tenant::Tenant;
+use fork_query::for_each_ref;
+use fork_request::{ByteString, HostFault, Refusal, Reply, RepositoryName};
+use git_reftx::{ApplyError, Command, ReadError, read_commands};
+use std::alloc::Global;
+
+impl Tenant {
+    #[tactic(auto, unfolding(fork_model::specs::Answer::update_answer))]
+    // A transaction of a repository's references.
+    pub(crate) fn update_refs(
+        &mut self,
+        alloc: Global,
+        own: &Own<'_>,
+        word: &[u8],
+        body: &[u8],
+    ) -> Reply
+        ensures { Gives (update_answer (shown_by self.old own.now) word.now body.now) (shown_by self.old own.now) result (shown_by self.new own.now) }
+    {
+        let Some(name) = RepositoryName::read(word) else {
+            return bad_name(alloc, word);
+        };
+        if !self.repositories.contains(&name) {
+            return Reply::Refused(Refusal::NoRepository(name));
+        }
+        match read_commands(alloc, body) {
+            Ok(commands) => self.carry_out(alloc, own, &name, commands.as_slice()),
+            Err(ReadError::Fault(fault)) => Reply::Refused(command_refusal(fault)),
+            Err(ReadError::Memory) => Reply::Failed(HostFault::Memory),
+        }
+    }
+
+    // The commands are carried out in a repository that is there, all or none.
+    fn carry_out(
+        &mut self,
+        alloc: Global,
+        own: &Own<'_>,
+        name: &RepositoryName,
+        commands: &[Command],
+    ) -> Reply
+        requires { map.contains_key self.old.repositories name.now ≡ true }
+        ensures { (old : References) → map.get self.old.repositories name.now ≡ Some old
+            → Gives (with_references (shown_by self.old own.now) name.now (transacted old commands.now (kind_in (visible_by own.now)))) (shown_by self.old own.now) result (shown_by self.new own.now) }
+    {
+        match self.repositories.apply(alloc, name, commands, own) {
+            Ok(()) => done(alloc),
+            Err(ApplyError::Refused(refusal)) => Reply::Refused(transaction_refusal(refusal)),
+            Err(ApplyError::Memory) => Reply::Failed(HostFault::Memory),
+        }
+    }
+
+    #[tactic(auto, unfolding(fork_model::specs::Answer::references_answer))]
+    // The references of a repository.
+    pub(crate) fn for_each_ref(
+        &self,
+        alloc: Global,
+        own: &Own<'_>,
+        word: &[u8],
+        prefix: Option<&[u8]>,
+    ) -> Reply
+        ensures { Gives (references_answer (shown_by self.now own.now) word.now (option_map (λ word. word.now) prefix.entry)) (shown_by self.now own.now) result (shown_by self.now own.now) }
+    {
+        let Some(name) = RepositoryName::read(word) else {
+            return bad_name(alloc, word);
+        };
+        let Some(references) = self.repositories.get(&name) else {
+            return Reply::Refused(Refusal::NoRepository(name));
+        };
+        match for_each_ref(alloc, own, references, prefix) {
+            Ok(text) => Reply::Done(ByteString::new(text)),
+            Err(_) => Reply::Failed(HostFault::Memory),
+        }
+    }
+}

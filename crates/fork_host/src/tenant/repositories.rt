@@ -1,0 +1,83 @@
+// Rows about a tenant's repositories.
+ghost use Rattle.std.specs.FinMap as map;
+ghost use Rattle.fork_reach.specs.Source.{Objects};
+ghost use Rattle.fork_model.specs.Answer.{copied, drop_answer, fork_answer, init_answer, new_repository};
+ghost use Rattle.fork_host.specs.Rows.{Gives};
+ghost use Rattle.fork_host.specs.Shown.{seen_by};
+
+use crate::replies::{bad_name, done};
+use crate::tenant::{MOST_REPOSITORIES, Tenant};
+use fork_request::{HostFault, Refusal, Reply, RepositoryName};
+use git_reftx::Refs;
+use std::alloc::Global;
+
+impl Tenant {
+    #[tactic(auto, unfolding(fork_model::specs::Answer::init_answer))]
+    // A new repository without references.
+    pub(crate) fn init(&mut self, alloc: Global, word: &[u8]) -> Reply
+        ensures { (objects : Objects) → Gives (init_answer (seen_by self.old objects) word.now) (seen_by self.old objects) result (seen_by self.new objects) }
+    {
+        match RepositoryName::read(word) {
+            Some(name) => self.add_repository(alloc, name, Refs::new(alloc)),
+            None => bad_name(alloc, word),
+        }
+    }
+
+    // A new repository with these references.
+    fn add_repository(&mut self, alloc: Global, name: RepositoryName, references: Refs) -> Reply
+        ensures { (objects : Objects) → Gives (new_repository (seen_by self.old objects) name references) (seen_by self.old objects) result (seen_by self.new objects) }
+    {
+        if self.repositories.contains(&name) {
+            return Reply::Refused(Refusal::RepositoryExists(name));
+        }
+        if self.repositories.len() >= MOST_REPOSITORIES {
+            return Reply::Refused(Refusal::TooMany);
+        }
+        if self.repositories.insert(name, references).is_err() {
+            return Reply::Failed(HostFault::Memory);
+        }
+        done(alloc)
+    }
+
+    #[tactic(auto, unfolding(fork_model::specs::Answer::drop_answer))]
+    // A repository goes, and its references with it.
+    pub(crate) fn drop_repository(&mut self, alloc: Global, word: &[u8]) -> Reply
+        ensures { (objects : Objects) → Gives (drop_answer (seen_by self.old objects) word.now) (seen_by self.old objects) result (seen_by self.new objects) }
+    {
+        let Some(name) = RepositoryName::read(word) else {
+            return bad_name(alloc, word);
+        };
+        if !self.repositories.contains(&name) {
+            return Reply::Refused(Refusal::NoRepository(name));
+        }
+        self.repositories.remove(&name);
+        done(alloc)
+    }
+
+    #[tactic(auto, unfolding(fork_model::specs::Answer::fork_answer))]
+    // A new repository with the references of another.
+    pub(crate) fn fork(&mut self, alloc: Global, source: &[u8], copy: &[u8]) -> Reply
+        ensures { (objects : Objects) → Gives (fork_answer (seen_by self.old objects) source.now copy.now) (seen_by self.old objects) result (seen_by self.new objects) }
+    {
+        let Some(from) = RepositoryName::read(source) else {
+            return bad_name(alloc, source);
+        };
+        let Some(to) = RepositoryName::read(copy) else {
+            return bad_name(alloc, copy);
+        };
+        self.copy_repository(alloc, from, to)
+    }
+
+    // The same, where both words are names.
+    fn copy_repository(&mut self, alloc: Global, from: RepositoryName, to: RepositoryName) -> Reply
+        ensures { (objects : Objects) → Gives (copied (seen_by self.old objects) from to (map.get self.old.repositories from)) (seen_by self.old objects) result (seen_by self.new objects) }
+    {
+        let Some(references) = self.repositories.get(&from) else {
+            return Reply::Refused(Refusal::NoRepository(from));
+        };
+        let Ok(same) = references.copy() else {
+            return Reply::Failed(HostFault::Memory);
+        };
+        self.add_repository(alloc, to, same)
+    }
+}

@@ -12,6 +12,7 @@ use Rattle.fork_request.specs.declared.refusal.Refusal.TheVariants.{UnknownTenan
 use Rattle.fork_request.specs.declared.reply.Reply.{Reply}
 use Rattle.fork_request.specs.declared.reply.Reply.TheVariants.{Refused}
 use Rattle.fork_ledger.specs.Private.{Private, nothing}
+use Rattle.fork_ledger.specs.Store.{LeavesStore}
 use Rattle.fork_ledger.specs.Tenants.{VaultState, private_of, with_tenant}
 use Rattle.fork_ledger.proofs.TenantLemmas.{private_new, private_none, there_new, there_others}
 use Rattle.fork_model.specs.Answer.{answer}
@@ -93,6 +94,10 @@ whole_more old new t limit of_tenant whole absent few low added placed honest = 
     at q false apart =
         ap (λ m. contains_key m q) placed ∙ there_others old.vault.tenants t q (differs q apart) ∙ whole.there q
         ∙ sym (ap (λ m. contains_key m q) added ∙ ap is_some (get-insert name_total old.accounts t (new_account limit) q) ∙ ap (λ b. is_some (cond b (Some (new_account limit)) (get old.accounts q))) apart)
+
+-- where neither the accounts nor the vault changes, the state is the same
+pub same_state : (accounts after : Accounts) (old new : VaultState) → after ≡ accounts → new.tenants ≡ old.tenants → LeavesStore old new → state_of after new ≡ state_of accounts old
+same_state accounts after old new same placed leaves = λ i. state_of (same i) (record { tenants = placed i; honest = leaves.honest i; failures = leaves.failures i })
 
 -- a tenant that is there is ready
 pub ready : (state : HostState) (t : List ℕ) (account : Account) → IsWhole state → get state.accounts t ≡ Some account → IsReady state.vault t account.limit

@@ -6,6 +6,7 @@ ghost use Rattle.fork_model.specs.Runs.{Asks, HostAsks};
 ghost use Rattle.fork_model.specs.Sound.{IsOrderlyWorld, IsRightWorld};
 ghost use Rattle.fork_model.specs.View.{View};
 ghost use Rattle.fork_model.specs.World.{Steps, Explains, IsUnfaulted, alone, own, told};
+ghost use Rattle.fork_ledger.specs.Store.{LeavesStore};
 ghost use Rattle.fork_ledger.specs.Tenants.{with_tenant};
 ghost use Rattle.fork_host.specs.Adding.{new_account, new_view, refusal_to_add};
 ghost use Rattle.fork_host.specs.Faults.{FaultsAlong, FaultsWithin};
@@ -196,7 +197,7 @@ fn open_account(
     requires new { map.contains_key accounts.old name ≡ false }
     ensures ok { OnOk result (accounts.new ≡ map.insert accounts.old name (new_account limit)) }
     ensures vault { OnOk result (vault.new.tenants ≡ with_tenant vault.old.tenants name) }
-    ensures honest { vault.new.honest ≡ vault.old.honest }
+    ensures store { LeavesStore vault.old vault.new }
     ensures err { OnErr result (accounts.new ≡ accounts.old) }
     ensures kept { OnErr result (vault.new.tenants ≡ vault.old.tenants) }
 {

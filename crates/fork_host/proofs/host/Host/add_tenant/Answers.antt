@@ -1,9 +1,9 @@
-use Rattle.std.proofs.Common.{◌<◌, ap, sym, ◌∙◌, arith}
+use Rattle.std.proofs.Common.{◌<◌, ap, sym, subst, ◌∙◌, arith}
 use Rattle.std.specs.FinMap as map
 use Rattle.fork_host.specs.Adding.{new_view}
-use Rattle.fork_host.specs.Shown.{state_of, world_of}
+use Rattle.fork_host.specs.Shown.{IsWhole, state_of, world_of}
 use Rattle.fork_host.proofs.AddingLemmas.{not_refused, refused_limit, refused_many, refused_there}
-use Rattle.fork_host.proofs.WholeLemmas.{whole_more, world_more}
+use Rattle.fork_host.proofs.WholeLemmas.{same_state, whole_more, world_more}
 use Rattle.fork_host.proofs.WorldLemmas.{known_world, len_world}
 use Rattle.fork_host.proofs.host.Host.add_tenant.Goals as goal
 
@@ -42,4 +42,12 @@ invariant_of-self-2 c =
     let old = state_of c.self.inside.accounts c.self.inside.vault in
     let new = state_of c.open_account.new.accounts c.open_account.new.vault in
     let few : map.len c.self.inside.accounts < 64 = omega arith in
-    whole_more old new c.args.name c.args.limit c.as_bytes-bytes.ensures.name c.self.invariant (sym c.contains.ensures ∙ c.if-contains.false) few c.if-limit-gt-MAX_LIMIT.false c.in-Ok.ensures.ok c.in-Ok.ensures.vault c.in-Ok.ensures.honest
+    whole_more old new c.args.name c.args.limit c.as_bytes-bytes.ensures.name c.self.invariant (sym c.contains.ensures ∙ c.if-contains.false) few c.if-limit-gt-MAX_LIMIT.false c.in-Ok.ensures.ok c.in-Ok.ensures.vault c.open_account.ensures.store.honest
+
+pub invariant_of-self : goal.invariant_of-self
+invariant_of-self c =
+    subst IsWhole (sym (same_state c.self.inside.accounts c.open_account.new.accounts c.self.inside.vault c.open_account.new.vault c.in_default.ensures.err c.in_default.ensures.kept c.open_account.ensures.store)) c.self.invariant
+
+pub returns-in_default-clause-err : goal.returns-in_default-clause-err
+returns-in_default-clause-err c =
+    same_state c.self.inside.accounts c.open_account.new.accounts c.self.inside.vault c.open_account.new.vault c.in_default.ensures.err c.in_default.ensures.kept c.open_account.ensures.store ∙ c.self.view_is

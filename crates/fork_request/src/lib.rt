@@ -22,7 +22,9 @@ pub use crate::host_fault::HostFault;
 pub use crate::host_request::HostRequest;
 pub use crate::laws::a_request_has_one_spelling;
 pub use crate::limit::MAX_LIMIT;
-pub use crate::name::{PlainName, RepositoryName, TenantName};
+pub use crate::name::{
+    MAX_REPOSITORY_NAME, MAX_TENANT_NAME, PlainName, RepositoryName, TenantName,
+};
 pub use crate::refusal::Refusal;
 pub use crate::reply::Reply;
 pub use crate::request::{MAX_PAYLOAD, Request};

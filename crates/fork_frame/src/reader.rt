@@ -1,6 +1,7 @@
 ghost use Rattle.std.specs.Prelude.{◌≡◌, ◌≤◌, ◌<◌, ◌∷◌, ◌++◌, [], ℕ, List, IfSome, IfNone, IfOk, IfErr, length};
 ghost use Rattle.std.specs.Io.KnownBytes.{Keeps, Consumes, IsAtEnd, ReadConsumes};
 ghost use Rattle.std.specs.Io.{ReadsAtMost};
+ghost use Rattle.fork_frame.specs.declared.reader.TheConstants.{CHUNK};
 ghost use Rattle.fork_frame.specs.Reading.{TakesLine};
 
 use crate::fault::FrameFault;
@@ -59,7 +60,7 @@ pub(crate) fn read_onto<R: Read>(
     most: usize,
     out: &mut Vec<u8>,
 ) -> Result<usize, FrameFault>
-    requires { (0 < most) × (most ≤ 4096) }
+    requires { (0 < most) × (most ≤ CHUNK) }
     ensures some { IfOk result (λ n. (more : List ℕ) × (length more ≡ n) × (n ≤ most)
         × Consumes (R.remaining reader.old) (R.remaining reader.new) more
         × (out.new.items ≡ out.old.items ++ more)) }

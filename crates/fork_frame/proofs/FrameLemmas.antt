@@ -9,6 +9,7 @@ use Rattle.fork_frame.specs.Frame.{IsFrame, IsBad, frame_bytes}
 use Rattle.fork_frame.specs.Next.{FindsNoFrame, OfLine, OfPayload}
 use Rattle.fork_frame.specs.Reading.{TakesNoLine}
 use Rattle.fork_frame.proofs.LineLemmas.{split_unique, split_none, split_later, line_plain, line_short, line_unique}
+use Rattle.fork_frame.specs.declared.text.TheConstants.{LONGEST}
 
 -- the line that begins a frame
 abbrev pub line_of : Frame → Line
@@ -31,8 +32,8 @@ longer input front rest some parts =
     let whole : length input ≡ length front + length rest = ap (λ (l : List ℕ). length l) parts ∙ length-append front rest in
     omega arith
 
--- bytes without LF, 41 or all that there were, begin no frame
-none_in_front : (input front new rest : List ℕ) (frame : Frame) → All (λ byte. byte ≢ 10) front → input ≡ front ++ new → (length front ≡ 41) ⊎ (new ≡ []) → IsFrame frame → input ≡ frame_bytes frame ++ rest → ⊥
+-- bytes without LF, as many as are looked at or all that there were, begin no frame
+none_in_front : (input front new rest : List ℕ) (frame : Frame) → All (λ byte. byte ≢ 10) front → input ≡ front ++ new → (length front ≡ LONGEST) ⊎ (new ≡ []) → IsFrame frame → input ≡ frame_bytes frame ++ rest → ⊥
 none_in_front input front new rest frame plain parts (inl long) right is =
     let later : length front ≤ length (line_text (line_of frame)) = split_later 10 (line_text (line_of frame)) (frame.payload ++ rest) front new plain (sym parts ∙ is ∙ line_first frame rest) in
     let short = line_short (line_of frame) _ (is_line_of frame right) in
@@ -40,7 +41,7 @@ none_in_front input front new rest frame plain parts (inl long) right is =
 none_in_front input front new rest frame plain parts (inr all) right is =
     split_none 10 (line_text (line_of frame)) (frame.payload ++ rest) front plain (sym (append-nil front) ∙ (ap (λ r. front ++ r) (sym all) ∙ (sym parts ∙ is ∙ line_first frame rest)))
 
-bad_front : (old new : Option (List ℕ)) (front : List ℕ) → 1 ≤ length front → All (λ byte. byte ≢ 10) front → Consumes old new front → (length front ≡ 41) ⊎ IsAtEnd new → IfSome old IsBad
+bad_front : (old new : Option (List ℕ)) (front : List ℕ) → 1 ≤ length front → All (λ byte. byte ≢ 10) front → Consumes old new front → (length front ≡ LONGEST) ⊎ IsAtEnd new → IfSome old IsBad
 bad_front None new front some plain taken cut = tt
 bad_front (Some input) None front some plain taken cut = absurd taken
 bad_front (Some input) (Some rest) front some plain taken cut = record {

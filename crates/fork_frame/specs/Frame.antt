@@ -5,6 +5,7 @@ use Rattle.fork_frame.specs.declared.ended.Ended.{Ended}
 use Rattle.fork_frame.specs.declared.ended.Ended.TheVariants.{Clean, BadFrame}
 use Rattle.fork_frame.specs.Asker.{IsAsker}
 use Rattle.fork_frame.specs.Line.{line_text}
+use Rattle.fork_request.specs.declared.request.TheConstants.{MAX_PAYLOAD}
 
 -- the line, LF, and the payload
 abbrev pub frame_bytes : Frame → List ℕ
@@ -13,7 +14,7 @@ frame_bytes frame = line_text (record { asker = frame.asker; len = length frame.
 -- who asks may ask, and the payload isn't too long
 pub record IsFrame (frame : Frame) : Type 0 where
   pub named : IsAsker frame.asker
-  pub fits : length frame.payload ≤ 1048576
+  pub fits : length frame.payload ≤ MAX_PAYLOAD
 
 -- there is more input, and it begins with no frame
 pub record IsBad (input : List ℕ) : Type 0 where

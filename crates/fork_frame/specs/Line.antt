@@ -2,6 +2,7 @@
 use Rattle.std.specs.Prelude.{◌≡◌, ℕ, ◌≤◌, List, ◌∷◌, ◌++◌, decimal}
 use Rattle.fork_frame.specs.declared.line.Line.{Line}
 use Rattle.fork_frame.specs.Asker.{IsAsker, asker_word}
+use Rattle.fork_request.specs.declared.request.TheConstants.{MAX_PAYLOAD}
 
 -- the line's text, without its LF
 abbrev pub line_text : Line → List ℕ
@@ -10,5 +11,5 @@ line_text line = asker_word line.asker ++ 32 ∷ decimal line.len
 -- the text is this line's: who asks may ask, and the length is allowed
 pub record IsLine (line : Line) (text : List ℕ) : Type 0 where
   pub named : IsAsker line.asker
-  pub fits : line.len ≤ 1048576
+  pub fits : line.len ≤ MAX_PAYLOAD
   pub spelled : text ≡ line_text line

@@ -6,10 +6,11 @@ use Rattle.fork_frame.specs.declared.frame.Next.{Next}
 use Rattle.fork_frame.specs.declared.frame.Next.TheVariants.{Frame, End, Bad}
 use Rattle.fork_frame.specs.Line.{IsLine}
 use Rattle.fork_frame.specs.Frame.{IsFrame, IsBad, frame_bytes}
+use Rattle.fork_frame.specs.declared.text.TheConstants.{LONGEST}
 
--- so much may be read before it is known that no frame comes: 41 bytes, or a right line, LF, and too short a payload
+-- so much may be read before it is known that no frame comes: as many bytes as are looked at for an LF, or a right line, LF, and too short a payload
 pub data IsEnough (front : List ℕ) : Type 0 where
-  OfLine : length front ≤ 41 → IsEnough front
+  OfLine : length front ≤ LONGEST → IsEnough front
   OfPayload : (line : Line) (text payload : List ℕ) → IsLine line text → length payload < line.len → front ≡ text ++ 10 ∷ payload → IsEnough front
 
 -- no frame comes, and no more was read than shows it

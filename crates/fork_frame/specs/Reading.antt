@@ -3,15 +3,16 @@ use Rattle.std.specs.Prelude.{◌≡◌, ◌≢◌, ℕ, ◌≤◌, ◌⊎◌, A
 use Rattle.std.specs.Io.KnownBytes.{Keeps, Consumes, IsAtEnd}
 use Rattle.fork_frame.specs.declared.reader.Taken.{Taken}
 use Rattle.fork_frame.specs.declared.reader.Taken.TheVariants.{Line, Nothing, NoLine}
+use Rattle.fork_frame.specs.declared.text.TheConstants.{LONGEST}
 
--- bytes without LF were taken: 41, or all that there were
+-- bytes without LF were taken: as many as are looked at, or all that there were
 pub record TakesNoLine (old new : Option (List ℕ)) : Type 0 where
   pub front : List ℕ
   pub some : 1 ≤ length front
-  pub few : length front ≤ 41
+  pub few : length front ≤ LONGEST
   pub plain : All (λ byte. byte ≢ 10) front
   pub taken : Consumes old new front
-  pub cut : (length front ≡ 41) ⊎ IsAtEnd new
+  pub cut : (length front ≡ LONGEST) ⊎ IsAtEnd new
 
 -- a line and its LF were taken; or there was nothing; or there is no line
 abbrev pub TakesLine : Option (List ℕ) → Option (List ℕ) → Taken → Type 0

@@ -19,6 +19,7 @@ pub use crate::fault::{FrameFault, ReplyFault};
 pub use crate::frame::{Frame, Next, next_frame};
 pub use crate::law::{same_bytes_are_same_replies, same_bytes_are_same_requests};
 pub use crate::line::Line;
+pub use crate::reader::read_some;
 pub use crate::reply::{send_bad_frame, send_bytes, send_reply};
 
 #[cfg(test)]

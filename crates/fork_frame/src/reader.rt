@@ -1,6 +1,7 @@
-ghost use Rattle.std.specs.Prelude.{◌≡◌, ◌≤◌, ◌<◌, ◌∷◌, ◌++◌, [], ℕ, List, IfSome, IfNone, IfOk, length};
+ghost use Rattle.std.specs.Prelude.{◌≡◌, ◌≤◌, ◌<◌, ◌∷◌, ◌++◌, [], ℕ, List, IfSome, IfNone, IfOk, IfErr, length};
 ghost use Rattle.std.specs.Io.KnownBytes.{Keeps, Consumes, IsAtEnd, ReadConsumes};
 ghost use Rattle.std.specs.Io.{ReadsAtMost};
+ghost use Rattle.fork_frame.specs.declared.reader.TheConstants.{CHUNK};
 ghost use Rattle.fork_frame.specs.Reading.{TakesLine};
 
 use crate::fault::FrameFault;
@@ -20,10 +21,11 @@ pub(crate) enum Taken {
 
 pub(crate) const CHUNK: usize = 4096;
 
-// One read, tried again where a signal interrupts it.
-fn read_some<R: Read>(reader: &mut R, buf: &mut [u8]) -> Result<usize, FrameFault>
+/// One read, tried again where a signal interrupts it.
+pub fn read_some<R: Read>(reader: &mut R, buf: &mut [u8]) -> Result<usize, FrameFault>
     ensures bound { ReadsAtMost result buf.new }
     ensures bytes { ReadConsumes (R.remaining reader.old) (R.remaining reader.new) result buf.new }
+    ensures cause { IfErr result (λ fault. fault ≡ FrameFault.Read) }
 {
     for _ in 0..u64::MAX {
         match reader.read(buf) {
@@ -58,7 +60,7 @@ pub(crate) fn read_onto<R: Read>(
     most: usize,
     out: &mut Vec<u8>,
 ) -> Result<usize, FrameFault>
-    requires { (0 < most) × (most ≤ 4096) }
+    requires { (0 < most) × (most ≤ CHUNK) }
     ensures some { IfOk result (λ n. (more : List ℕ) × (length more ≡ n) × (n ≤ most)
         × Consumes (R.remaining reader.old) (R.remaining reader.new) more
         × (out.new.items ≡ out.old.items ++ more)) }

@@ -1,4 +1,5 @@
 ghost use Rattle.std.specs.Prelude.{◌≡◌, ◌<◌, ◌∷◌, ◌++◌, [], length};
+ghost use Rattle.fork_frame.specs.declared.text.TheConstants.{LONGEST};
 
 use std::marker::Model;
 
@@ -15,6 +16,7 @@ pub(crate) struct Text {
 impl Model for Text {
     ghost use Rattle.std.specs.Prelude.{◌≤◌, List, ℕ, take};
     ghost use Rattle.std.specs.Coded.{coded_list, coded_ℕ};
+    ghost use Rattle.fork_frame.specs.declared.text.TheConstants.{LONGEST};
 
     ghost Value = { List ℕ };
 
@@ -22,7 +24,7 @@ impl Model for Text {
 
     ghost view = { λ a. take a.len a.bytes };
 
-    ghost invariant = { λ a. a.len ≤ 41 };
+    ghost invariant = { λ a. a.len ≤ LONGEST };
 }
 
 impl Text {
@@ -42,7 +44,7 @@ impl Text {
     }
 
     pub(crate) fn push(&mut self, byte: u8)
-        requires { length self.old < 41 }
+        requires { length self.old < LONGEST }
         ensures { self.new ≡ self.old ++ byte ∷ [] }
     {
         self.bytes[self.len] = byte;

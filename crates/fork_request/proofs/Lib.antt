@@ -1,2 +1,5 @@
+pub mod AskingLemmas
 pub mod NameLemmas
+pub mod PartLemmas
+pub mod SpellingLemmas
 pub mod WordLemmas

@@ -5,6 +5,7 @@ use Rattle.git_name.specs.Name.{name_in}
 use Rattle.git_name.specs.Text.{split_once, words_of}
 use Rattle.fork_request.specs.declared.request.Request.{Request}
 use Rattle.fork_request.specs.declared.request.Request.TheVariants.{Init, Drop, Fork, Push, Part, PartEnd, PartDrop, UpdateRefs, CatFile, ForEachRef, Quota, Prune, Bad}
+use Rattle.fork_request.specs.declared.request.TheConstants.{MAX_PAYLOAD}
 use Rattle.fork_request.specs.declared.host_request.HostRequest.{HostRequest}
 use Rattle.fork_request.specs.declared.host_request.HostRequest.TheVariants.{Bad as Bad_host}
 
@@ -162,7 +163,7 @@ asked_parts (Some (line, body)) = asked_words (words_of line) body
 
 -- what a payload asks
 unfoldable pub asked : List ℕ → Ask
-asked payload = if nat_le (length payload) 1048576 then asked_parts (split_once 10 payload) else NoRequest
+asked payload = if nat_le (length payload) MAX_PAYLOAD then asked_parts (split_once 10 payload) else NoRequest
 
 -- what a payload asks of the host itself: so far each is a bad request
 abbrev pub asked_host : List ℕ → HostRequest

@@ -1,6 +1,7 @@
 -- The names of tenants and of repositories (own): small letters, digits, `-` and `_`, beginning with a letter or digit.
 use Rattle.std.specs.Prelude.{◌≡◌, ℕ, ◌≤◌, Bool, true, ◌||◌, ◌&&◌, ◌==◌, nat_le, List, length, slice_index, All}
 use Rattle.std.specs.List.{list_all}
+use Rattle.fork_request.specs.declared.name.TheConstants.{MAX_REPOSITORY_NAME, MAX_TENANT_NAME}
 
 -- a small letter or a digit
 abbrev pub starts_a_name : ℕ → Bool
@@ -21,10 +22,10 @@ pub record IsPlainName (most : ℕ) (name : List ℕ) : Type 0 where
 unfoldable pub is_plain_name : ℕ → List ℕ → Bool
 is_plain_name most name = nat_le 1 (length name) && nat_le (length name) most && starts_a_name (slice_index name 0) && list_all stands_in_a_name name
 
--- a tenant's name has 1 to 32 bytes
+-- a tenant's name
 abbrev pub IsTenantName : List ℕ → Type 0
-IsTenantName = IsPlainName 32
+IsTenantName = IsPlainName MAX_TENANT_NAME
 
--- a repository's has 1 to 64
+-- a repository's name
 abbrev pub IsRepositoryName : List ℕ → Type 0
-IsRepositoryName = IsPlainName 64
+IsRepositoryName = IsPlainName MAX_REPOSITORY_NAME

@@ -6,6 +6,7 @@
 mod byte_string;
 mod host_fault;
 mod host_request;
+mod laws;
 mod limit;
 mod name;
 mod plain_word;
@@ -19,8 +20,11 @@ mod words;
 pub use crate::byte_string::ByteString;
 pub use crate::host_fault::HostFault;
 pub use crate::host_request::HostRequest;
+pub use crate::laws::a_request_has_one_spelling;
 pub use crate::limit::MAX_LIMIT;
-pub use crate::name::{PlainName, RepositoryName, TenantName};
+pub use crate::name::{
+    MAX_REPOSITORY_NAME, MAX_TENANT_NAME, PlainName, RepositoryName, TenantName,
+};
 pub use crate::refusal::Refusal;
 pub use crate::reply::Reply;
 pub use crate::request::{MAX_PAYLOAD, Request};

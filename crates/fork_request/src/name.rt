@@ -8,11 +8,17 @@ use crate::plain_word::is_plain_word;
 use std::cmp::Ordering;
 use std::marker::Model;
 
+/// The most bytes of a tenant's name (own).
+pub const MAX_TENANT_NAME: usize = 32;
+
+/// The most bytes of a repository's name (own).
+pub const MAX_REPOSITORY_NAME: usize = 64;
+
 /// A tenant's name, of 1 to 32 bytes.
-pub type TenantName = PlainName<32>;
+pub type TenantName = PlainName<MAX_TENANT_NAME>;
 
 /// A repository's name, of 1 to 64 bytes.
-pub type RepositoryName = PlainName<64>;
+pub type RepositoryName = PlainName<MAX_REPOSITORY_NAME>;
 
 /// A name of 1 to `MOST` bytes of `a` to `z`, digits, `-` and `_`, of which the first is a letter or
 /// a digit (own). Names are ordered bytewise.

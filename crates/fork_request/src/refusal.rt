@@ -61,7 +61,7 @@ impl Refusal {
     ghost use Rattle.fork_request.specs.Told.{refusal_text};
 
     /// Adds the refusal's word, and what it is about behind a space.
-    pub fn write(&self, text: &mut Vec<u8>) -> Result<(), AllocError>
+    pub(crate) fn write(&self, text: &mut Vec<u8>) -> Result<(), AllocError>
         ensures { OnOk result (text.new.items ≡ text.old.items ++ refusal_text self.now) }
     {
         match self {

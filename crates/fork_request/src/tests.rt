@@ -1,6 +1,6 @@
 use crate::{
     ByteString, HostFault, HostRequest, PlainName, Refusal, Reply, RepositoryName, Request,
-    TenantName,
+    TenantName, a_request_has_one_spelling,
 };
 use git_name::Name;
 use git_refname::RefName;
@@ -433,4 +433,9 @@ fn each_refusal_has_its_word_and_what_it_is_about(rt: HostRuntime) -> Result<(),
         assert!(rt; refuses(alloc, refusal, bytes)?);
     }
     Ok(())
+}
+
+#[test]
+fn the_law_does_nothing() {
+    a_request_has_one_spelling();
 }

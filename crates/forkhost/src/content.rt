@@ -1,33 +1,14 @@
 ghost use Rattle.std.specs.Prelude.{◌≡◌, ◌⊎◌, ◌++◌, List, ℕ, IfOk, IfErr, length};
-ghost use Rattle.std.specs.Io.{ReadsAtMost};
-ghost use Rattle.std.specs.Io.KnownBytes.{Consumes, IsAtEnd, ReadConsumes};
+ghost use Rattle.std.specs.Io.KnownBytes.{Consumes, IsAtEnd};
 ghost use Rattle.forkhost.specs.Hashing.{IsContent, IsUnread};
 
 use crate::fault::Fault;
+use fork_frame::read_some;
 use push_stream::MAX_CONTENT;
 use std::alloc::Global;
-use std::io::{ErrorKind, Read};
+use std::io::Read;
 
 const CHUNK: usize = 16384;
-
-// One read, tried again where a signal interrupts it.
-fn read_some<R: Read>(reader: &mut R, buf: &mut [u8]) -> Result<usize, Fault>
-    ensures bound { ReadsAtMost result buf.new }
-    ensures bytes { ReadConsumes (R.remaining reader.old) (R.remaining reader.new) result buf.new }
-    ensures cause { IfErr result (λ fault. fault ≡ Fault.Read) }
-{
-    for _ in 0..u64::MAX {
-        match reader.read(buf) {
-            Ok(n) => return Ok(n),
-            Err(error) => {
-                if error.kind() != ErrorKind::Interrupted {
-                    return Err(Fault::Read);
-                }
-            }
-        }
-    }
-    Err(Fault::Read)
-}
 
 // Adds what one read gives, and says how many bytes; none only at the end.
 fn read_onto<R: Read>(reader: &mut R, out: &mut Vec<u8>) -> Result<usize, Fault>
@@ -38,9 +19,8 @@ fn read_onto<R: Read>(reader: &mut R, out: &mut Vec<u8>) -> Result<usize, Fault>
     ensures cause { IfErr result (λ fault. (fault ≡ Fault.Read) ⊎ (fault ≡ Fault.Memory)) }
 {
     let mut chunk = [0u8; CHUNK];
-    let n = match read_some(reader, &mut chunk) {
-        Ok(n) => n,
-        Err(fault) => return Err(fault),
+    let Ok(n) = read_some(reader, &mut chunk) else {
+        return Err(Fault::Read);
     };
     let Ok(()) = out.extend_from_slice(&chunk[..n]) else {
         return Err(Fault::Memory);

@@ -7,6 +7,7 @@ use Rattle.std.proofs.lemmas.List.{drop_more, take_more}
 use Rattle.std.proofs.lemmas.List.Folds.{find-append}
 use Rattle.git_refname.specs.declared.rule.Rule.TheVariants.{Component, OneLevel, TwoDots, Unprintable, Pattern, Slashes, LastDot, AtBrace, LoneAt, Backslash, OutsideRefs, TooLong}
 use Rattle.git_refname.specs.Rule.{breaks, least_broken_rule}
+use Rattle.git_refname.specs.declared.name.TheConstants.{MAX_REF_NAME}
 
 -- no earlier element passes, and this one does
 pub found_at : {X : Type 0} (p : X → Bool) (xs : List X) (i : ℕ) (d : X) → i < length xs → find p (take i xs) ≡ None → p (get_or xs i d) ≡ true → find p xs ≡ Some (get_or xs i d)
@@ -29,8 +30,8 @@ pub fails_at : {X : Type 0} (p : X → Bool) (xs : List X) (x : X) (ys : List X)
 fails_at p [] x ys none = (not_found (p x) x (find p ys) none).0
 fails_at p (z ∷ xs) x ys none = fails_at p xs x ys (not_found (p z) z (find p (xs ++ x ∷ ys)) none).1
 
--- a name has at most 255 bytes
-pub name_short : (name : List ℕ) → least_broken_rule name ≡ None → length name ≤ 255
+-- a name is no longer than it may be
+pub name_short : (name : List ℕ) → least_broken_rule name ≡ None → length name ≤ MAX_REF_NAME
 unfolding least_broken_rule
 name_short name is =
-    ltb-false 255 (length name) (fails_at (breaks name) (Component ∷ OneLevel ∷ TwoDots ∷ Unprintable ∷ Pattern ∷ Slashes ∷ LastDot ∷ AtBrace ∷ LoneAt ∷ Backslash ∷ OutsideRefs ∷ []) TooLong [] is)
+    ltb-false MAX_REF_NAME (length name) (fails_at (breaks name) (Component ∷ OneLevel ∷ TwoDots ∷ Unprintable ∷ Pattern ∷ Slashes ∷ LastDot ∷ AtBrace ∷ LoneAt ∷ Backslash ∷ OutsideRefs ∷ []) TooLong [] is)

@@ -5,6 +5,7 @@ use Rattle.std.specs.Prelude.{nat_eq}
 use Rattle.std.specs.Str.{bytes_eq}
 use Rattle.git_refname.specs.declared.rule.Rule.{Rule}
 use Rattle.git_refname.specs.declared.rule.Rule.TheVariants.{Component, OneLevel, TwoDots, Unprintable, Pattern, Slashes, LastDot, AtBrace, LoneAt, Backslash, OutsideRefs, TooLong}
+use Rattle.git_refname.specs.declared.name.TheConstants.{MAX_REF_NAME}
 
 -- the text begins with these bytes
 abbrev pub begins : List ℕ → List ℕ → Bool
@@ -43,7 +44,7 @@ breaks name Backslash = holds (codes "\\") name
 -- own
 breaks name OutsideRefs = not (begins (codes "refs/") name)
 -- own
-breaks name TooLong = nat_lt 255 (length name)
+breaks name TooLong = nat_lt MAX_REF_NAME (length name)
 
 -- the rules in their order
 abbrev pub rules : List Rule

@@ -1,4 +1,5 @@
 ghost use Rattle.std.specs.Prelude.{◌≡◌, ◌≤◌, Some, OnOk, IfErr, length};
+ghost use Rattle.git_refname.specs.declared.name.TheConstants.{MAX_REF_NAME};
 ghost use Rattle.git_refname.specs.Marks.{marks_of};
 ghost use Rattle.git_refname.specs.Rule.{IsRefName, breaks, least_broken_rule};
 
@@ -26,7 +27,7 @@ const RULES: [Rule; 12] = [
 // The first rule that the name breaks. The name is read once.
 pub(crate) fn check(text: &[u8]) -> Result<(), Rule>
     ensures ok { OnOk result (IsRefName text.now) }
-    ensures short { OnOk result (length text.now ≤ 255) }
+    ensures short { OnOk result (length text.now ≤ MAX_REF_NAME) }
     ensures broken { IfErr result (λ rule. least_broken_rule text.now ≡ Some rule) }
 {
     let marks = marks_in(text);

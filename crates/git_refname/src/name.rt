@@ -2,6 +2,7 @@ ghost use Rattle.std.specs.Prelude.{◌≡◌, ◌≤◌, Some, OnOk, IfOk, IfEr
 ghost use Rattle.std.specs.Cmp.Lexicographic.{slice_cmp, pointwise, nat_list_cmp_total, nat_list_eq_equiv, texts_ties, texts_po};
 ghost use Rattle.std.specs.Cmp.{partial_equiv_from_equiv};
 ghost use Rattle.std.specs.Ordering.{nat_cmp};
+ghost use Rattle.git_refname.specs.declared.name.TheConstants.{MAX_REF_NAME};
 ghost use Rattle.git_refname.specs.Rule.{IsRefName, least_broken_rule};
 
 use crate::check::check;
@@ -24,6 +25,7 @@ pub struct RefName {
 impl Model for RefName {
     ghost use Rattle.std.specs.Prelude.{◌≤◌, List, ℕ, take};
     ghost use Rattle.std.specs.Coded.{coded_list, coded_ℕ};
+    ghost use Rattle.git_refname.specs.declared.name.TheConstants.{MAX_REF_NAME};
     ghost use Rattle.git_refname.specs.Rule.{IsRefName};
 
     ghost Value = { List ℕ };
@@ -32,7 +34,7 @@ impl Model for RefName {
 
     ghost view = { λ a. take a.len a.bytes };
 
-    ghost invariant = { λ a. (a.len ≤ 255) × IsRefName (take a.len a.bytes) };
+    ghost invariant = { λ a. (a.len ≤ MAX_REF_NAME) × IsRefName (take a.len a.bytes) };
 }
 
 impl RefName {
@@ -76,7 +78,7 @@ impl RefName {
     pub fn as_bytes(&self) -> &[u8]
         ensures bytes { result.now ≡ self.now }
         ensures name { IsRefName self.now }
-        ensures short { length self.now ≤ 255 }
+        ensures short { length self.now ≤ MAX_REF_NAME }
     {
         &self.bytes[..self.len]
     }

@@ -9,6 +9,8 @@ use Rattle.git_reftx.specs.declared.fault.CommandFault.TheVariants.{TooMany}
 use Rattle.git_reftx.specs.Command.{command_of}
 use Rattle.git_reftx.specs.Line.{LineAt, Whole, Unfinished, TooLong, line_at, line_of_parts}
 use Rattle.git_reftx.specs.Reading.{command_at, command_of_line, taken, with_command, and_others, commands_in, commands_of, past_most}
+use Rattle.git_reftx.specs.declared.line.TheConstants.{LONGEST}
+use Rattle.git_reftx.specs.declared.reading.TheConstants.{MAX_COMMANDS}
 
 either : {X : Type 0} (f : X → ℕ) (n : ℕ) (b : Bool) (x y : X) → f x ≤ n → f y ≤ n → f (cond b x y) ≤ n
 either f n true x y left right = left
@@ -30,8 +32,8 @@ behind_line text line behind is =
     omega arith
 
 in_line : (text : List ℕ) (o : Option (List ℕ × List ℕ)) → split_once 10 text ≡ o → from_line (line_of_parts text o) ≤ length text
-in_line text None is = either from_line (length text) (nat_le (length text) 512) Unfinished TooLong (omega arith) (omega arith)
-in_line text (Some (line, behind)) is = either from_line (length text) (nat_le (length line) 512) (Whole line behind) TooLong (behind_line text line behind (split_once-whole 10 text line behind is)) (omega arith)
+in_line text None is = either from_line (length text) (nat_le (length text) LONGEST) Unfinished TooLong (omega arith) (omega arith)
+in_line text (Some (line, behind)) is = either from_line (length text) (nat_le (length line) LONGEST) (Whole line behind) TooLong (behind_line text line behind (split_once-whole 10 text line behind is)) (omega arith)
 
 in_taken : (n : ℕ) (o : Option Command) (behind : List ℕ) → suc (length behind) ≤ n → from_command (taken o behind) ≤ n
 in_taken n (Some command) behind fits = fits
@@ -61,9 +63,9 @@ onto-nil : (found : Result (List Command) CommandFault) → onto [] found ≡ fo
 onto-nil (Ok others) = refl
 onto-nil (Err fault) = refl
 
-pub read_none : (body : List ℕ) → commands_of body ≡ onto [] (commands_in 256 body)
+pub read_none : (body : List ℕ) → commands_of body ≡ onto [] (commands_in MAX_COMMANDS body)
 unfolding commands_of
-read_none body = sym (onto-nil (commands_in 256 body))
+read_none body = sym (onto-nil (commands_in MAX_COMMANDS body))
 
 onto-with_command : (commands : List Command) (command : Command) (found : Result (List Command) CommandFault) → onto commands (with_command command found) ≡ onto (commands ++ command ∷ []) found
 onto-with_command commands command (Ok others) = ap (λ all. Ok all) (sym (append_assoc commands (command ∷ []) others))
@@ -80,9 +82,9 @@ commands_full [] some = absurd (omega arith)
 commands_full (b ∷ bs) some = refl
 
 -- a command more was read
-pub read_more : (whole : Result (List Command) CommandFault) (room : ℕ) (sent more : List Command) (rest behind : List ℕ) (command : Command) → 0 < length rest → length sent + room ≡ 256 → length sent < 256
+pub read_more : (whole : Result (List Command) CommandFault) (room : ℕ) (sent more : List Command) (rest behind : List ℕ) (command : Command) → 0 < length rest → length sent + room ≡ MAX_COMMANDS → length sent < MAX_COMMANDS
     → whole ≡ onto sent (commands_in room rest) → command_at rest ≡ Ok (command, behind) → more ≡ sent ++ command ∷ []
-    → (left : ℕ) × (length more + left ≡ 256) × (whole ≡ onto more (commands_in left behind))
+    → (left : ℕ) × (length more + left ≡ MAX_COMMANDS) × (whole ≡ onto more (commands_in left behind))
 read_more whole zero sent more rest behind command some all few so_far taken grown = absurd (omega arith)
 read_more whole (suc room) sent more rest behind command some all few so_far taken grown =
     let longer : length more ≡ length sent + 1 = ap (λ (l : List Command). length l) grown ∙ length-append sent (command ∷ []) in (
@@ -99,7 +101,7 @@ read_fault whole zero sent rest fault some so_far wrong = so_far ∙ ap (onto se
 read_fault whole (suc room) sent rest fault some so_far wrong = so_far ∙ ap (onto sent) (commands_step room rest some ∙ ap (and_others (commands_in room)) wrong)
 
 -- a command too many
-pub read_too_many : (whole : Result (List Command) CommandFault) (room : ℕ) (sent : List Command) (rest behind : List ℕ) (command : Command) → 0 < length rest → length sent + room ≡ 256 → length sent ≡ 256
+pub read_too_many : (whole : Result (List Command) CommandFault) (room : ℕ) (sent : List Command) (rest behind : List ℕ) (command : Command) → 0 < length rest → length sent + room ≡ MAX_COMMANDS → length sent ≡ MAX_COMMANDS
     → whole ≡ onto sent (commands_in room rest) → command_at rest ≡ Ok (command, behind) → whole ≡ Err TooMany
 read_too_many whole zero sent rest behind command some all full so_far taken = so_far ∙ ap (onto sent) (commands_full rest some ∙ ap (λ found. Err (past_most found)) taken)
 read_too_many whole (suc room) sent rest behind command some all full so_far taken = absurd (omega arith)

@@ -16,6 +16,7 @@ use Rattle.git_reftx.specs.Sound.{AreNamed, AreSound}
 use Rattle.git_reftx.specs.Transaction.{References, first_refusal, bad_ref, repeated_ref, missing_object, not_a_commit, is_branch, stale, changed, conflict, least_upper, refusal_of, unless_refused, transacted}
 use Rattle.git_reftx.proofs.MapLemmas.{named_empty}
 use Rattle.git_reftx.proofs.RefusalLemmas.{option_or_assoc}
+use Rattle.git_reftx.specs.declared.transact.TheConstants.{MAX_REFERENCES}
 
 parts : (old : References) (commands : List Command) (known : Kinds)
     → option_or (first_refusal bad_ref commands) (option_or (refused_before old commands known) (refused_after (changed commands old))) ≡ refusal_of old commands known
@@ -56,8 +57,8 @@ within false is = refl
 -- references that are not refused afterwards are sound
 pub sound_after : (new : References) → AreNamed new → refused_after new ≡ None → AreSound new
 sound_after new named is =
-    let judged = both_none (conflict (least_upper (map.keys new))) (cond (nat_lt 4096 (map.len new)) (Some TooMany) None) is in
-    record { named = named; free = free_of (least_upper (map.keys new)) judged.0; few = ltb-false 4096 (map.len new) (within (nat_lt 4096 (map.len new)) judged.1) }
+    let judged = both_none (conflict (least_upper (map.keys new))) (cond (nat_lt MAX_REFERENCES (map.len new)) (Some TooMany) None) is in
+    record { named = named; free = free_of (least_upper (map.keys new)) judged.0; few = ltb-false MAX_REFERENCES (map.len new) (within (nat_lt MAX_REFERENCES (map.len new)) judged.1) }
 
 none_left : {A : Type 0} (xs : List A) → length xs ≡ 0 → xs ≡ []
 none_left [] none = refl

@@ -1,6 +1,7 @@
 -- Lines of at most 512 bytes (own).
 use Rattle.std.specs.Prelude.{ℕ, List, Option, None, Some, length, nat_le, if◌then◌else◌}
 use Rattle.git_name.specs.Text.{split_once}
+use Rattle.git_reftx.specs.declared.line.TheConstants.{LONGEST}
 
 -- what stands at the front of a text
 pub data LineAt : Type 0 where
@@ -12,7 +13,7 @@ pub data LineAt : Type 0 where
   TooLong : LineAt
 
 abbrev pub within_512 : List ℕ → LineAt → LineAt
-within_512 line right = if nat_le (length line) 512 then right else TooLong
+within_512 line right = if nat_le (length line) LONGEST then right else TooLong
 
 abbrev pub line_of_parts : List ℕ → Option (List ℕ × List ℕ) → LineAt
 line_of_parts text None = within_512 text Unfinished

@@ -6,6 +6,7 @@ use Rattle.git_reftx.specs.declared.fault.CommandFault.{CommandFault}
 use Rattle.git_reftx.specs.declared.fault.CommandFault.TheVariants.{Syntax, TooMany, Truncated}
 use Rattle.git_reftx.specs.Command.{command_of}
 use Rattle.git_reftx.specs.Line.{LineAt, Whole, Unfinished, TooLong, line_at}
+use Rattle.git_reftx.specs.declared.reading.TheConstants.{MAX_COMMANDS}
 
 -- the command at the front of a text and what stands behind its line, or what is wrong with the line
 abbrev pub taken : Option Command → List ℕ → Result (Command × List ℕ) CommandFault
@@ -42,4 +43,4 @@ commands_in (suc room) (b ∷ bs) = and_others (commands_in room) (command_at (b
 
 -- the commands of a transaction's body, of which there are 256 at the most
 unfoldable pub commands_of : List ℕ → Result (List Command) CommandFault
-commands_of body = commands_in 256 body
+commands_of body = commands_in MAX_COMMANDS body

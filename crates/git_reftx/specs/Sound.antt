@@ -3,6 +3,7 @@ use Rattle.std.specs.Prelude.{◌≡◌, ◌≤◌, ℕ, List, None, true}
 use Rattle.std.specs.FinMap.{contains_key, keys, len}
 use Rattle.git_refname.specs.Rule.{IsRefName}
 use Rattle.git_reftx.specs.Transaction.{References, least_upper}
+use Rattle.git_reftx.specs.declared.transact.TheConstants.{MAX_REFERENCES}
 
 -- each has a right name
 abbrev pub AreNamed : References → Type 0
@@ -12,4 +13,4 @@ AreNamed references = (name : List ℕ) → contains_key references name ≡ tru
 pub record AreSound (references : References) : Type 0 where
   pub named : AreNamed references
   pub free : least_upper (keys references) ≡ None
-  pub few : len references ≤ 4096
+  pub few : len references ≤ MAX_REFERENCES

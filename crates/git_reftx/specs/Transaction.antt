@@ -16,6 +16,7 @@ use Rattle.git_reftx.specs.declared.command.Demand.TheVariants.{Any, Absent, Pre
 use Rattle.git_reftx.specs.declared.fault.TxRefusal.{TxRefusal}
 use Rattle.git_reftx.specs.declared.fault.TxRefusal.TheVariants.{BadRef, RepeatedRef, Missing, NotACommit, Stale, RefConflict, TooMany}
 use Rattle.git_reftx.specs.Known.{Kinds}
+use Rattle.git_reftx.specs.declared.transact.TheConstants.{MAX_REFERENCES}
 
 -- the name of the object at which each reference points
 abbrev pub References : Type 0
@@ -102,7 +103,7 @@ ref_conflict new = conflict (least_upper (keys new))
 
 -- too-many: there are more than 4,096 references afterwards
 abbrev pub too_many : References → Option TxRefusal
-too_many new = if nat_lt 4096 (len new) then Some TooMany else None
+too_many new = if nat_lt MAX_REFERENCES (len new) then Some TooMany else None
 
 -- what stands against the commands: each demand is judged on the references before, but for the last two
 abbrev pub refusal_of : References → List Command → Kinds → Option TxRefusal

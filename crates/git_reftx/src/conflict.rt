@@ -3,6 +3,7 @@ ghost use Rattle.std.specs.FinMap as map;
 ghost use Rattle.std.specs.Option.{option_copied};
 ghost use Rattle.git_reftx.specs.Fronts.{AreKept, IsCommon, IsFirst, IsLesser, IsSlash, LeastWith};
 ghost use Rattle.git_reftx.specs.Transaction.{least_upper};
+ghost use Rattle.git_refname.specs.declared.name.TheConstants.{MAX_REF_NAME};
 
 use crate::ref_map::RefMap;
 use git_refname::RefName;
@@ -70,7 +71,7 @@ fn forget_behind(fronts: &mut [bool; 256], common: usize)
 
 // The least name that stands above another, with those above the next name.
 fn least_with<'a>(fronts: &[bool; 256], name: &'a [u8], least: Option<&'a [u8]>) -> Option<&'a [u8]>
-    requires { length name.now ≤ 255 }
+    requires { length name.now ≤ MAX_REF_NAME }
     ensures { LeastWith fronts.now name.now (option_copied least.entry) (option_copied result) }
 {
     let Some(len) = first_front(fronts, name) else {
@@ -81,7 +82,7 @@ fn least_with<'a>(fronts: &[bool; 256], name: &'a [u8], least: Option<&'a [u8]>)
 
 // Where the first `/` of the name stands behind a marked front.
 fn first_front(fronts: &[bool; 256], name: &[u8]) -> Option<usize>
-    requires { length name.now ≤ 255 }
+    requires { length name.now ≤ MAX_REF_NAME }
     ensures found { IfSome result (IsFirst fronts.now name.now) }
     ensures none { IfNone result ((j : ℕ) → IsSlash fronts.now name.now j → ⊥) }
 {

@@ -39,6 +39,7 @@ impl RefWord {
     pub fn into_bytes(self) -> Vec<u8>
         ensures { result.items ≡ self }
     {
-        self.bytes
+        let RefWord { bytes } = self;
+        bytes
     }
 }

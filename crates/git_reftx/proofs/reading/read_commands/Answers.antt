@@ -4,12 +4,13 @@ use Rattle.git_reftx.specs.declared.command.Command.{Command}
 use Rattle.git_reftx.specs.Reading.{commands_in}
 use Rattle.git_reftx.proofs.ReadingLemmas.{onto, command_shorter, read_none, read_more}
 use Rattle.git_reftx.proofs.reading.read_commands.Goals as goal
+use Rattle.git_reftx.specs.declared.reading.TheConstants.{MAX_COMMANDS}
 
 pub loop-rest-init : goal.loop-rest-init
 loop-rest-init c =
     let none = c.new-commands.ensures.items in
     let empty : length c.new-commands.result.items ≡ 0 = ap (λ (l : List Command). length l) none in
-    (256, omega arith, read_none c.args.body.now ∙ ap (λ commands. onto commands (commands_in 256 c.args.body.now)) (sym none))
+    (MAX_COMMANDS, omega arith, read_none c.args.body.now ∙ ap (λ commands. onto commands (commands_in MAX_COMMANDS c.args.body.now)) (sym none))
 
 pub loop-rest-smaller : goal.loop-rest-smaller
 loop-rest-smaller c = command_shorter c.loop-rest.rest.now c.in-Ok.taken.0 c.in-Ok.taken.1.now c.in-Ok.ensures.taken

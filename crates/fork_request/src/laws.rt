@@ -1,0 +1,11 @@
+ghost use Rattle.std.specs.Prelude.{◌≡◌, ◌≢◌, ◌≤◌, List, ℕ, length};
+ghost use Rattle.fork_request.specs.Asked.{Ask, NoRequest, asked};
+ghost use Rattle.fork_request.specs.Spelling.{Spells};
+ghost use Rattle.fork_request.specs.declared.request.TheConstants.{MAX_PAYLOAD};
+
+/// A law, and no work: a payload asks for something where it is the one spelling of that, as `Spells`
+/// tells it for each request, and is no longer than a payload may be.
+pub fn a_request_has_one_spelling()
+    ensures found { (payload : List ℕ) (ask : Ask) → length payload ≤ MAX_PAYLOAD → Spells ask payload → asked payload ≡ ask }
+    ensures only { (payload : List ℕ) (ask : Ask) → asked payload ≡ ask → ask ≢ NoRequest → (length payload ≤ MAX_PAYLOAD) × Spells ask payload }
+{}

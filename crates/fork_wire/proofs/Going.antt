@@ -1,9 +1,8 @@
 -- A session goes on by one frame, and ends.
 use Rattle.std.specs.Prelude.{IfSome}
-use Rattle.std.proofs.Common.{◌≡◌, Option, Some, None, ℕ, All, List, [], ◌∷◌, ◌++◌, sym, ap, ◌∙◌, subst}
+use Rattle.std.proofs.Common.{◌≡◌, Option, Some, None, ℕ, List, [], ◌∷◌, ◌++◌, sym, ap, ◌∙◌, subst}
 use Rattle.std.proofs.lemmas.Grind.{flat_map-append}
 use Rattle.std.proofs.lemmas.List.{append-nil, map-append}
-use Rattle.std.proofs.lemmas.List.Elements.{All-push}
 use Rattle.std.proofs.KnownBytes.{Consumes-trans, Appends-trans}
 use Rattle.std.specs.Io.KnownBytes.{Appends, Consumes}
 use Rattle.git_name.specs.Name.{name_cmp}
@@ -16,24 +15,26 @@ use Rattle.fork_model.specs.Answer.{answer}
 use Rattle.fork_model.specs.World.{World, Event, Explains, HostSays, Steps}
 use Rattle.fork_model.proofs.Isolation.{run_alone}
 use Rattle.fork_model.proofs.Hosts.{run_more}
-use Rattle.fork_host.specs.Rows.{IsMemoryAtMost}
+use Rattle.fork_host.specs.Faults.{FaultsAlong, FaultsWithin}
+use Rattle.fork_host.specs.Shown.{HostState, Trusted, world_of}
+use Rattle.fork_host.proofs.FaultLemmas.{faults_more}
 use Rattle.fork_frame.specs.declared.frame.Frame.{Frame}
 use Rattle.fork_frame.specs.Frame.{AreFrames, IsFrame, frame_bytes}
 use Rattle.fork_frame.specs.Reply.{reply_frame}
 use Rattle.fork_frame.proofs.StreamLemmas.{frames_more}
 use Rattle.fork_wire.specs.declared.fault.SessionFault.{SessionFault}
 use Rattle.fork_wire.specs.declared.fault.SessionFault.TheVariants.{Read}
-use Rattle.fork_wire.specs.Sessions.{BeginsWith, IsPrivateRun, IsStopped, IsTelling, event_of, events_of, frames_of}
+use Rattle.fork_wire.specs.Sessions.{BeginsWith, IsAnswered, IsPrivateRun, IsStopped, IsTelling, event_of, events_of, frames_of}
 
 -- what came so far was answered by what went out so far
-pub record Going (old new : World) (input left before after : Option (List ℕ)) : Type 0 where
+pub record Going (old new : HostState) (input left before after : Option (List ℕ)) : Type 0 where
   pub frames : List Frame
   pub replies : List Reply
   pub came : List ℕ
   pub right : AreFrames frames came
   pub taken : Consumes input left came
-  pub explained : Explains old (events_of frames) replies new
-  pub faults : All IsMemoryAtMost replies
+  pub explained : Trusted old → Explains (world_of old) (events_of frames) replies (world_of new)
+  pub faults : FaultsAlong old (events_of frames) replies new
   pub written : Appends before after (frames_of replies)
 
 one_reply : (reply : Reply) → frames_of (reply ∷ []) ≡ reply_frame (bytes_of reply)
@@ -51,17 +52,29 @@ pub explained_more : (old mid new : World) (frames : List Frame) (replies : List
 explained_more old mid new frames replies frame reply so_far step =
     subst (λ events. Explains old events (replies ++ reply ∷ []) new) (sym (events_more frames frame)) (run_more old mid new (events_of frames) replies (event_of frame) reply so_far step)
 
+-- over a store that was trusted at first
+explained_on : (old mid new : HostState) (frames : List Frame) (replies : List Reply) (frame : Frame) (reply : Reply) → (Trusted old → Trusted mid)
+    → (Trusted old → Explains (world_of old) (events_of frames) replies (world_of mid)) → (Trusted mid → Steps (world_of mid) (event_of frame) reply (world_of new))
+    → Trusted old → Explains (world_of old) (events_of (frames ++ frame ∷ [])) (replies ++ reply ∷ []) (world_of new)
+explained_on old mid new frames replies frame reply still so_far step trusted =
+    explained_more (world_of old) (world_of mid) (world_of new) frames replies frame reply (so_far trusted) (step (still trusted))
+
+faults_on : (old mid new : HostState) (frames : List Frame) (replies : List Reply) (frame : Frame) (reply : Reply) → FaultsAlong old (events_of frames) replies mid → FaultsWithin mid (event_of frame) reply new
+    → FaultsAlong old (events_of (frames ++ frame ∷ [])) (replies ++ reply ∷ []) new
+faults_on old mid new frames replies frame reply so_far within =
+    subst (λ events. FaultsAlong old events (replies ++ reply ∷ []) new) (sym (events_more frames frame)) (faults_more old mid new (events_of frames) replies (event_of frame) reply so_far within)
+
 -- and its reply went out
-pub going_more : (old mid new : World) (input left now before during after : Option (List ℕ)) (frame : Frame) (reply : Reply) → Going old mid input left before during → IsFrame frame → Consumes left now (frame_bytes frame)
-    → Steps mid (event_of frame) reply new → IsMemoryAtMost reply → Appends during after (reply_frame (bytes_of reply)) → Going old new input now before after
-going_more old mid new input left now before during after frame reply so_far right taken step fault written = record {
+pub going_more : (old mid new : HostState) (input left now before during after : Option (List ℕ)) (frame : Frame) (reply : Reply) → Going old mid input left before during → IsFrame frame → Consumes left now (frame_bytes frame)
+    → (Trusted old → Trusted mid) → (Trusted mid → Steps (world_of mid) (event_of frame) reply (world_of new)) → FaultsWithin mid (event_of frame) reply new → Appends during after (reply_frame (bytes_of reply)) → Going old new input now before after
+going_more old mid new input left now before during after frame reply so_far right taken still step within written = record {
   frames = so_far.frames ++ frame ∷ [];
   replies = so_far.replies ++ reply ∷ [];
   came = so_far.came ++ frame_bytes frame;
   right = frames_more so_far.frames so_far.came frame so_far.right right;
   taken = Consumes-trans input left now so_far.came (frame_bytes frame) so_far.taken taken;
-  explained = explained_more old mid new so_far.frames so_far.replies frame reply so_far.explained step;
-  faults = All-push IsMemoryAtMost so_far.replies reply so_far.faults fault;
+  explained = explained_on old mid new so_far.frames so_far.replies frame reply still so_far.explained step;
+  faults = faults_on old mid new so_far.frames so_far.replies frame reply so_far.faults within;
   written = subst (Appends before after) (sym (replies_more so_far.replies reply)) (Appends-trans before during after (frames_of so_far.replies) (reply_frame (bytes_of reply)) so_far.written written);
 }
 
@@ -80,18 +93,26 @@ telling_more : (frames : List Frame) (frame : Frame) (input : Option (List ℕ))
 telling_more [] frame input = tt
 telling_more (first ∷ frames) frame input = tt
 
+-- what was answered so far
+pub answered_so_far : (old new : HostState) (frames : List Frame) (replies : List Reply) → (Trusted old → Explains (world_of old) (events_of frames) replies (world_of new)) → FaultsAlong old (events_of frames) replies new
+    → IsAnswered old new frames replies
+answered_so_far old new frames replies run faults = record {
+  explained = run;
+  private_run = λ trusted. private_of (world_of old) (world_of new) (events_of frames) replies (run trusted);
+  faults = faults;
+}
+
 -- a frame was answered, and its reply did not go out, or not wholly
-pub unsent : (old mid new : World) (input left now before during after : Option (List ℕ)) (frame : Frame) (reply : Reply) (fault : SessionFault) → Going old mid input left before during → IsFrame frame → Consumes left now (frame_bytes frame)
-    → Steps mid (event_of frame) reply new → IsMemoryAtMost reply → (fault ≡ Read → ⊥) → IsStopped old new input before after fault
-unsent old mid new input left now before during after frame reply fault so_far right taken step alone_fault other =
-    let run = explained_more old mid new so_far.frames so_far.replies frame reply so_far.explained step in
+pub unsent : (old mid new : HostState) (input left now before during after : Option (List ℕ)) (frame : Frame) (reply : Reply) (fault : SessionFault) → Going old mid input left before during → IsFrame frame → Consumes left now (frame_bytes frame)
+    → (Trusted old → Trusted mid) → (Trusted mid → Steps (world_of mid) (event_of frame) reply (world_of new)) → FaultsWithin mid (event_of frame) reply new → (fault ≡ Read → ⊥) → IsStopped old new input before after fault
+unsent old mid new input left now before during after frame reply fault so_far right taken still step within other =
     let frames = so_far.frames ++ frame ∷ [] in
     let replies = so_far.replies ++ reply ∷ [] in
     let came = so_far.came ++ frame_bytes frame in
     record {
       frames = frames;
       replies = replies;
-      answered = record { explained = run; private_run = private_of old new (events_of frames) replies run; faults = All-push IsMemoryAtMost so_far.replies reply so_far.faults alone_fault };
+      answered = answered_so_far old new frames replies (explained_on old mid new so_far.frames so_far.replies frame reply still so_far.explained step) (faults_on old mid new so_far.frames so_far.replies frame reply so_far.faults within);
       read = begins input now came frames (Consumes-trans input left now so_far.came (frame_bytes frame) so_far.taken taken) (frames_more so_far.frames so_far.came frame so_far.right right);
       written = λ is. absurd (other is);
       told = λ is. telling_more so_far.frames frame input;

@@ -1,5 +1,5 @@
 -- What a session does: the frames that came, the replies that go out, and the worlds that the host shows.
-use Rattle.std.specs.Prelude.{◌≡◌, ℕ, All, IfSome, List, [], ◌∷◌, ◌++◌, Option, Some, flat_map, map, ⊤}
+use Rattle.std.specs.Prelude.{◌≡◌, ℕ, IfSome, List, [], ◌∷◌, ◌++◌, Option, Some, flat_map, map, ⊤}
 use Rattle.std.specs.FinMap.{get}
 use Rattle.std.specs.Io.KnownBytes.{Appends}
 use Rattle.fork_request.specs.Asked.{asked, asked_host}
@@ -8,7 +8,8 @@ use Rattle.fork_request.specs.declared.reply.Reply.{Reply}
 use Rattle.fork_model.specs.Runs.{Asks, HostAsks}
 use Rattle.fork_model.specs.View.{View}
 use Rattle.fork_model.specs.World.{World, Event, Explains, IsUnfaulted, alone, own, told}
-use Rattle.fork_host.specs.Rows.{IsMemoryAtMost}
+use Rattle.fork_host.specs.Faults.{FaultsAlong}
+use Rattle.fork_host.specs.Shown.{HostState, Trusted, world_of}
 use Rattle.fork_frame.specs.Frame.{AreFrames, IsBad, IsRequestStream}
 use Rattle.fork_frame.specs.Reply.{last_line, reply_frame}
 use Rattle.fork_frame.specs.declared.asker.Asker.{Asker}
@@ -38,14 +39,15 @@ abbrev pub IsPrivateRun : World → List Event → List Reply → World → Type
 IsPrivateRun old events replies new = (tenant : List ℕ) (view : View) → get old tenant ≡ Some view → IsUnfaulted tenant events replies
     → (told tenant events replies ≡ (alone view (own tenant events)).0) × (get new tenant ≡ Some (alone view (own tenant events)).1)
 
--- the replies, one to each frame, lead from the old world to the new one, and no host fault but want of memory is among them
-pub record IsAnswered (old new : World) (frames : List Frame) (replies : List Reply) : Type 0 where
-  pub explained : Explains old (events_of frames) replies new
-  pub private_run : IsPrivateRun old (events_of frames) replies new
-  pub faults : All IsMemoryAtMost replies
+-- the replies are one to each frame. Over a store that is trusted they lead from the world that the host showed to the one
+-- that it shows, and each tenant's are those of a private host. Of host faults only those that may come are among them
+pub record IsAnswered (old new : HostState) (frames : List Frame) (replies : List Reply) : Type 0 where
+  pub explained : Trusted old → Explains (world_of old) (events_of frames) replies (world_of new)
+  pub private_run : Trusted old → IsPrivateRun (world_of old) (events_of frames) replies (world_of new)
+  pub faults : FaultsAlong old (events_of frames) replies new
 
 -- a session that reached its end: all frames of the input were answered, and their replies went out, then the last line
-pub record IsServed (old new : World) (input before after : Option (List ℕ)) (ended : Ended) : Type 0 where
+pub record IsServed (old new : HostState) (input before after : Option (List ℕ)) (ended : Ended) : Type 0 where
   pub frames : List Frame
   pub replies : List Reply
   pub answered : IsAnswered old new frames replies
@@ -63,7 +65,7 @@ IsTelling (frame ∷ frames) input = ⊤
 
 -- a session that a fault stopped: the first frames of the input were answered; where reading failed all their replies went out,
 -- and writing fails only where something is to be told
-pub record IsStopped (old new : World) (input before after : Option (List ℕ)) (fault : SessionFault) : Type 0 where
+pub record IsStopped (old new : HostState) (input before after : Option (List ℕ)) (fault : SessionFault) : Type 0 where
   pub frames : List Frame
   pub replies : List Reply
   pub answered : IsAnswered old new frames replies

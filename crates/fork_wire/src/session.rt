@@ -1,9 +1,9 @@
 ghost use Rattle.std.specs.Prelude.{◌≡◌, ◌≢◌, IfOk, IfErr, OnOk};
 ghost use Rattle.std.specs.Io.KnownBytes.{Appends};
 ghost use Rattle.fork_request.specs.Told.{bytes_of};
-ghost use Rattle.fork_model.specs.Sound.{IsSoundWorld};
+ghost use Rattle.fork_model.specs.Sound.{IsOrderlyWorld, IsRightWorld};
 ghost use Rattle.fork_model.specs.World.{Steps};
-ghost use Rattle.fork_host.specs.Rows.{IsMemoryAtMost};
+ghost use Rattle.fork_host.specs.Faults.{FaultsWithin};
 ghost use Rattle.fork_host.specs.Shown.{Trusted, world_of};
 ghost use Rattle.fork_frame.specs.Reply.{last_line, reply_frame};
 ghost use Rattle.fork_wire.specs.Sessions.{IsServed, IsStopped, event_of};
@@ -25,12 +25,13 @@ pub fn serve<R: Read, W: Write>(
     reader: &mut R,
     writer: &mut W,
 ) -> Result<Ended, SessionFault>
-    ensures served { Trusted host.old → IfOk result (IsServed (world_of host.old) (world_of host.new)
+    ensures served { IfOk result (IsServed host.old host.new
         (R.remaining reader.old) (W.contents writer.old) (W.contents writer.new)) }
-    ensures stopped { Trusted host.old → IfErr result (IsStopped (world_of host.old) (world_of host.new)
+    ensures stopped { IfErr result (IsStopped host.old host.new
         (R.remaining reader.old) (W.contents writer.old) (W.contents writer.new)) }
     ensures trusted { Trusted host.old → Trusted host.new }
-    ensures sound { IsSoundWorld (world_of host.new) }
+    ensures orderly { IsOrderlyWorld (world_of host.new) }
+    ensures right { Trusted host.old → IsRightWorld (world_of host.new) }
 {
     a_run_is_private();
     let _tenants = host.tenants();
@@ -54,13 +55,14 @@ pub fn serve<R: Read, W: Write>(
 fn answer(host: &mut Host, alloc: Global, frame: Frame) -> Reply
     ensures explained { Trusted host.old → Steps (world_of host.old) (event_of frame) result (world_of host.new) }
     ensures trusted { Trusted host.old → Trusted host.new }
-    ensures sound { IsSoundWorld (world_of host.new) }
-    ensures faults { IsMemoryAtMost result }
+    ensures orderly { IsOrderlyWorld (world_of host.new) }
+    ensures right { Trusted host.old → IsRightWorld (world_of host.new) }
+    ensures faults { FaultsWithin host.old (event_of frame) result host.new }
 {
     let payload = frame.payload.as_bytes();
     match &frame.asker {
         Asker::Tenant(name) => host.answer(alloc, name, Request::read(payload)),
-        Asker::Host => host.host_answer(HostRequest::read(payload)),
+        Asker::Host => host.host_answer(alloc, HostRequest::read(payload)),
     }
 }
 

@@ -1,4 +1,4 @@
-use Rattle.fork_model.specs.Sound.{IsSoundWorld}
+use Rattle.fork_model.specs.Sound.{IsOrderlyWorld, IsRightWorld}
 use Rattle.fork_host.specs.Shown.{Trusted, world_of}
 use Rattle.fork_wire.proofs.Going.{Going}
 use Rattle.fork_wire.proofs.session.serve.Given as goal
@@ -7,6 +7,7 @@ use Rattle.fork_wire.proofs.session.serve.Given as goal
 abbrev pub invariant-loop : goal.invariant-loop
 invariant-loop g l = record {
   trusted : Trusted l.fn.host → Trusted l.host;
-  sound : IsSoundWorld (world_of l.host);
-  going : Trusted l.fn.host → Going (world_of l.fn.host) (world_of l.host) (g.R.Read.remaining l.fn.reader) (g.R.Read.remaining l.reader) (g.W.Write.contents l.fn.writer) (g.W.Write.contents l.writer);
+  orderly : IsOrderlyWorld (world_of l.host);
+  right : Trusted l.fn.host → IsRightWorld (world_of l.host);
+  going : Going l.fn.host l.host (g.R.Read.remaining l.fn.reader) (g.R.Read.remaining l.reader) (g.W.Write.contents l.fn.writer) (g.W.Write.contents l.writer);
 }

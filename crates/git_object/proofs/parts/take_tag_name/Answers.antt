@@ -1,12 +1,12 @@
 use Rattle.std.proofs.Common.{◌≡◌, ◌≢◌, [], length, arith, ap, sym, subst}
 use Rattle.std.proofs.lemmas.Grind.{common_steps}
-use Rattle.git_commit.specs.Judging.{IsFirstFault}
+use Rattle.git_header.specs.Judging.{IsFirstFault}
 use Rattle.git_object.specs.Fault.{AtName, tag_grammar}
 use Rattle.git_object.proofs.TagLemmas.{name_fault, name_wrong, name_right}
 use Rattle.git_object.proofs.parts.take_tag_name.Goals as goal
 
 pub returns-in-Err-clause-exact : goal.returns-in-Err-clause-exact
-returns-in-Err-clause-exact c = subst (λ w. IsFirstFault tag_grammar AtName w c.args.text.now) (sym c.of_line.ensures) (name_fault c.in-Err.fault c.args.text.now c.in-Err.ensures.exact)
+returns-in-Err-clause-exact c = subst (λ w. IsFirstFault tag_grammar AtName w c.args.text.now) (sym c.from.ensures) (name_fault c.in-Err.fault c.args.text.now c.in-Err.ensures.exact)
 
 pub returns-then-is_empty-clause-exact : goal.returns-then-is_empty-clause-exact
 returns-then-is_empty-clause-exact c =

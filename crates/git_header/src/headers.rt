@@ -1,0 +1,61 @@
+ghost use Rattle.std.proofs.Props.{props};
+ghost use Rattle.git_header.specs.Row.{AreHeaders};
+ghost use Rattle.std.specs.Prelude.{◌≡◌, ◌++◌, IfOk, IfErr};
+ghost use Rattle.std.specs.List.{flat_map, AllByRecursion};
+ghost use Rattle.git_header.specs.Header.{IsHeader, NoHeader, header_grammar, header_lines, kind_at};
+ghost use Rattle.git_header.specs.Judging.{IsFirstFault};
+ghost use Rattle.git_header.specs.Line.{ended, ending};
+
+use crate::fault::HeaderFault;
+use crate::field::{take_field, take_fields};
+use crate::header::Header;
+use crate::line::message_in;
+
+/// The further headers of a commit or a tag, in order, lent from its bytes.
+#[derive(Clone, Copy, Debug)]
+pub struct Headers<'a, const KIND: u8> {
+    rest: &'a [u8],
+    pub ghost row: { AreHeaders (kind_at KIND) rest.now } by { Prim.hlevel props },
+}
+
+impl<'a, const KIND: u8> Iterator for Headers<'a, KIND> {
+    ghost use Rattle.std.specs.Iterator.{YieldsFirstBy, item_count};
+    ghost use Rattle.git_header.specs.Left.{header_of, headers_left};
+    ghost use Rattle.git_header.specs.Row.{headers_in};
+
+    type Item = Header<'a, KIND>;
+
+    ghost next_gives = { YieldsFirstBy header_of (λ s. headers_in s.rest.now) };
+
+    ghost remaining = { item_count (λ s. headers_in s.rest.now) };
+
+    fn next(&mut self) -> Option<Header<'a, KIND>> {
+        if self.rest.is_empty() {
+            return None;
+        }
+        let Ok(taken) = take_field::<KIND>(self.rest) else {
+            unreachable!();
+        };
+        self.rest = taken.1;
+        Some(Header::read(taken.0))
+    }
+}
+
+impl<'a, const KIND: u8> Headers<'a, KIND> {
+    ghost use Rattle.git_header.specs.Left.{headers_left};
+    ghost use Rattle.git_header.specs.Lent.{message_of};
+
+    /// The further headers in the text, and the message behind them, where there is one. No message
+    /// and an empty one are two values.
+    pub fn take(text: &'a [u8]) -> Result<(Headers<'a, KIND>, Option<&'a [u8]>), HeaderFault>
+        ensures right { IfOk result (λ p. AllByRecursion (IsHeader (kind_at KIND)) (headers_left p.0)) }
+        ensures found { IfOk result (λ p. text.now ≡ flat_map ended (flat_map header_lines (headers_left p.0)) ++ ending (message_of p.1)) }
+        ensures exact { IfErr result (λ why. IsFirstFault (header_grammar (kind_at KIND)) NoHeader why text.now) }
+    {
+        let (fields, rest) = match take_fields::<KIND>(text) {
+            Ok(taken) => taken,
+            Err(fault) => return Err(fault),
+        };
+        Ok((Headers { rest: fields }, message_in(rest)))
+    }
+}

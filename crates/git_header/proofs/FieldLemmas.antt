@@ -10,6 +10,7 @@ use Rattle.git_header.specs.declared.fault.HeaderFault.{HeaderFault}
 use Rattle.git_header.specs.declared.fault.HeaderFault.TheVariants as fault
 use Rattle.git_header.specs.Line.{Lacks, IsEnding, IsLine, IsNoLine, ended}
 use Rattle.git_header.specs.Header.{HeaderValue, IsPlain, IsKey, IsOwnWord, HasOwnWord, IsHeader, IsHeaderLine, IsContinuation, HeaderPlace, NoHeader, SomeHeader, header_grammar, header_lines, continued}
+use Rattle.git_header.specs.Row.{IsMore, more_in}
 use Rattle.git_header.specs.Judging.{AreRight, HoldsZero, Misplaced, Malformed, IsBroken, Early, Unended, Bad, IsFirstFault}
 use Rattle.git_header.proofs.Splits.{split_unique, split_none, heads}
 use Rattle.git_header.proofs.JudgingLemmas.{itself, IsUsual, lines_then, no_line_broken, fault_here, fault_behind, right_lines}
@@ -121,6 +122,10 @@ no_key_fault kind text line after key value is plain parts lacks other none =
 pub own_fault : (kind : Kind) (text line after key value : List ℕ) → IsLine line after text → Lacks 0 line → line ≡ key ++ 32 ∷ value → IsOwnWord kind key → IsFirstFault (header_grammar kind) NoHeader fault.HeaderOrder text
 own_fault kind text line after key value is plain parts own =
     fault_here (header_grammar kind) NoHeader fault.HeaderOrder text (Bad line after is (Misplaced plain (λ stands. stands (record { word = key; rest = value; own = own; begins = parts })) refl))
+
+-- a key, a value and the continuation lines behind them are a further header
+pub header_of_lines : (kind : Kind) (key value lines : List ℕ) (more : List (List ℕ)) → IsKey kind key → IsPlain value → IsMore lines → more ≡ more_in lines → IsHeader kind (record { key = key; value = value; more = more })
+header_of_lines kind key value lines more key_is value_is lines_are same = record { key = key_is; value = value_is; more = subst (AllByRecursion IsPlain) (sym same) lines_are.each }
 
 pub key_right : (kind : Kind) (line after text key value : List ℕ) → IsLine line after text → Lacks 0 line → line ≡ key ++ 32 ∷ value → Lacks 32 key → (IsOwnWord kind key → ⊥) → key ≢ [] → IsKey kind key × IsPlain value
 key_right kind line after text key value is plain parts lacks other some =

@@ -46,7 +46,7 @@ sign_byte Minus = 45
 abbrev pub spelled_time : ℕ → Sign → List ℕ → List ℕ
 spelled_time seconds sign zone = 32 ∷ (decimal seconds ++ 32 ∷ sign_byte sign ∷ zone)
 
--- the one spelling: BEFORE<BETWEEN> and the time
+-- the one spelling: NAME<EMAIL> and the time
 abbrev pub spelled_ident : IdentValue → List ℕ
 spelled_ident ident = ident.name ++ 60 ∷ (ident.email ++ 62 ∷ spelled_time ident.seconds ident.sign ident.zone)
 

@@ -1,6 +1,6 @@
 -- What a further header stands for, and what the iterators have left.
 use Rattle.std.specs.Prelude.{ℕ, List}
-use Rattle.git_header.specs.declared.header.Continuation.{Continuation}
+use Rattle.git_header.specs.declared.continuation.Continuation.{Continuation}
 use Rattle.git_header.specs.declared.header.Header.{Header}
 use Rattle.git_header.specs.declared.headers.Headers.{Headers}
 use Rattle.git_header.specs.Header.{HeaderValue}

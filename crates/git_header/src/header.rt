@@ -1,89 +1,17 @@
-ghost use Rattle.std.specs.Prelude.{◌≡◌, ◌∷◌, [], ◌↔◌, IsTrue, All, IfOk, IfErr, IfSome, IfNone, List, ℕ, map};
-ghost use Rattle.std.specs.List.{AllByRecursion};
+ghost use Rattle.std.specs.Prelude.{◌≡◌, ◌≢◌, ◌∷◌, ◌++◌, ◌↔◌, IsTrue, All, IfOk, IfErr, List, ℕ, map};
+ghost use Rattle.std.specs.List.{AllByRecursion, flat_map};
 ghost use Rattle.std.proofs.Props.{props};
-ghost use Rattle.git_header.specs.Header.{IsPlain, IsKey, IsHeader, kind_at};
-ghost use Rattle.git_header.specs.Row.{IsMore, more_in};
-ghost use Rattle.git_header.specs.More.{IsMoreOf, more_of};
+ghost use Rattle.git_header.specs.Header.{IsPlain, IsKey, IsHeader, NoHeader, header_grammar, header_lines, kind_at};
+ghost use Rattle.git_header.specs.Judging.{IsFirstFault};
+ghost use Rattle.git_header.specs.Line.{IsEnding, ended};
+ghost use Rattle.git_header.specs.More.{more_of};
 ghost use Rattle.git_header.specs.declared.fault.HeaderFault.TheVariants as fault;
 
+use crate::continuation::{Continuation, take_more};
 use crate::fault::HeaderFault;
-use crate::field::{Field, is_own_word};
-use crate::line::take_line;
-use crate::more::More;
+use crate::kind::is_own_word;
+use crate::line::{cut, take_line};
 use memchr::{memchr, memchr2};
-
-// The value of the first continuation line, and what stands behind the line.
-fn first_value(text: &[u8]) -> Option<(&[u8], &[u8])>
-    requires { IsMore text.now }
-    ensures some { IfSome result (λ p. more_in text.now ≡ p.0.now ∷ more_in p.1.now) }
-    ensures rest { IfSome result (λ p. IsMore p.1.now) }
-    ensures none { IfNone result (more_in text.now ≡ []) }
-{
-    if text.is_empty() {
-        return None;
-    }
-    let Ok(taken) = take_line(text) else {
-        unreachable!();
-    };
-    Some((&taken.0[1..], taken.1))
-}
-
-/// The values of the continuation lines of a further header, in order.
-#[derive(Clone, Copy, Debug)]
-pub struct Continuation<'a> {
-    rest: More<'a>,
-    pub ghost right: { IsMoreOf rest } by { Prim.hlevel props },
-}
-
-impl<'a> Continuation<'a> {
-    ghost use Rattle.git_header.specs.Left.{more_left};
-
-    // The values of the continuation lines that the bytes are.
-    pub(crate) fn read(text: &'a [u8]) -> Continuation<'a>
-        requires { IsMore text.now }
-        ensures { more_left result ≡ more_in text.now }
-    {
-        Continuation {
-            rest: More::Text(text),
-        }
-    }
-}
-
-impl<'a> Iterator for Continuation<'a> {
-    ghost use Rattle.std.specs.Iterator.{YieldsFirstBy, item_count};
-    ghost use Rattle.git_header.specs.More.{more_of};
-
-    type Item = &'a [u8];
-
-    ghost next_gives = { YieldsFirstBy (λ value. value.now) (λ s. more_of s.rest) };
-
-    ghost remaining = { item_count (λ s. more_of s.rest) };
-
-    fn next(&mut self) -> Option<&'a [u8]> {
-        match self.rest {
-            More::Text(text) => {
-                let Some(taken) = first_value(text) else {
-                    return None;
-                };
-                self.rest = More::Text(taken.1);
-                Some(taken.0)
-            }
-            More::Values(values) => {
-                let [first, rest @ ..] = values else {
-                    return None;
-                };
-                self.rest = More::Values(rest);
-                Some(*first)
-            }
-        }
-    }
-}
-
-/// The parameter of a commit's further headers.
-pub const COMMIT: u8 = 0;
-
-/// The parameter of a tag's further headers.
-pub const TAG: u8 = 1;
 
 /// A further header of a commit or a tag, as the parameter says: its key, its value and the values
 /// of its continuation lines. No value of this type has another form.
@@ -133,7 +61,6 @@ fn is_key<const KIND: u8>(key: &[u8]) -> bool
 
 impl<'a, const KIND: u8> Header<'a, KIND> {
     ghost use Rattle.git_header.specs.Left.{header_of, more_left};
-    ghost use Rattle.git_header.specs.View.{field_of};
 
     /// The further header of these parts. Each of `more` becomes a continuation line.
     pub fn new(
@@ -147,28 +74,37 @@ impl<'a, const KIND: u8> Header<'a, KIND> {
         if !is_key::<KIND>(key) || !is_plain(value) || !are_plain(more) {
             return Err(HeaderFault::HeaderLine);
         }
-        Ok(Header {
-            key,
-            value,
-            more: Continuation {
-                rest: More::Values(more),
-            },
-        })
+        let more = Continuation::of_values(more);
+        Ok(Header { key, value, more })
     }
 
-    // The further header that was read.
-    pub(crate) fn read(field: Field<'a>) -> Header<'a, KIND>
-        requires header { IsHeader (kind_at KIND) (field_of field) }
-        requires more { IsMore field.more.now }
-        ensures { header_of result ≡ field_of field.entry }
+    // The further header at the front, with its continuation lines, and what stands behind it.
+    pub(crate) fn take(text: &'a [u8]) -> Result<(Header<'a, KIND>, &'a [u8]), HeaderFault>
+        requires { IsEnding text.now → ⊥ }
+        ensures header { IfOk result (λ p. IsHeader (kind_at KIND) (header_of p.0)) }
+        ensures parts { IfOk result (λ p. text.now ≡ flat_map ended (header_lines (header_of p.0)) ++ p.1.now) }
+        ensures last { IfOk result (λ p. (line : List ℕ) → p.1.now ≢ 32 ∷ line) }
+        ensures exact { IfErr result (λ why. IsFirstFault (header_grammar (kind_at KIND)) NoHeader why text.now) }
     {
-        Header {
-            key: field.key,
-            value: field.value,
-            more: Continuation {
-                rest: More::Text(field.more),
-            },
+        let (line, rest) = match take_line(text) {
+            Ok(taken) => taken,
+            Err(fault) => return Err(fault),
+        };
+        let Some((key, value)) = cut(b' ', line) else {
+            return Err(HeaderFault::HeaderLine);
+        };
+        if is_own_word::<KIND>(key) {
+            return Err(HeaderFault::HeaderOrder);
         }
+        if key.is_empty() {
+            return Err(HeaderFault::HeaderLine);
+        }
+        let (lines, rest) = match take_more(rest) {
+            Ok(taken) => taken,
+            Err(fault) => return Err(fault),
+        };
+        let more = Continuation::of_lines(lines);
+        Ok((Header { key, value, more }, rest))
     }
 
     /// The word that begins the header.

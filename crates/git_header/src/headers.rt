@@ -4,12 +4,29 @@ ghost use Rattle.std.specs.Prelude.{◌≡◌, ◌++◌, IfOk, IfErr};
 ghost use Rattle.std.specs.List.{flat_map, AllByRecursion};
 ghost use Rattle.git_header.specs.Header.{IsHeader, NoHeader, header_grammar, header_lines, kind_at};
 ghost use Rattle.git_header.specs.Judging.{IsFirstFault};
-ghost use Rattle.git_header.specs.Line.{ended, ending};
+ghost use Rattle.git_header.specs.Line.{IsEnding, ended, ending};
 
 use crate::fault::HeaderFault;
-use crate::field::{take_field, take_fields};
 use crate::header::Header;
-use crate::line::message_in;
+use crate::line::{is_ending, message_in};
+
+// The lines of further headers at the front, up to the header's end, and what stands behind them.
+fn take_lines<const KIND: u8>(text: &[u8]) -> Result<(&[u8], &[u8]), HeaderFault>
+    ensures found { IfOk result (λ p. AreHeaders (kind_at KIND) p.0.now) }
+    ensures parts { IfOk result (λ p. text.now ≡ p.0.now ++ p.1.now) }
+    ensures last { IfOk result (λ p. IsEnding p.1.now) }
+    ensures exact { IfErr result (λ why. IsFirstFault (header_grammar (kind_at KIND)) NoHeader why text.now) }
+{
+    let mut rest = text;
+    'headers: while !is_ending(rest) {
+        let (_, after) = match Header::<KIND>::take(rest) {
+            Ok(taken) => taken,
+            Err(fault) => return Err(fault),
+        };
+        rest = after;
+    }
+    Ok((&text[..text.len() - rest.len()], rest))
+}
 
 /// The further headers of a commit or a tag, in order, lent from its bytes.
 #[derive(Clone, Copy, Debug)]
@@ -33,11 +50,11 @@ impl<'a, const KIND: u8> Iterator for Headers<'a, KIND> {
         if self.rest.is_empty() {
             return None;
         }
-        let Ok(taken) = take_field::<KIND>(self.rest) else {
+        let Ok(taken) = Header::take(self.rest) else {
             unreachable!();
         };
         self.rest = taken.1;
-        Some(Header::read(taken.0))
+        Some(taken.0)
     }
 }
 
@@ -52,10 +69,10 @@ impl<'a, const KIND: u8> Headers<'a, KIND> {
         ensures found { IfOk result (λ p. text.now ≡ flat_map ended (flat_map header_lines (headers_left p.0)) ++ ending (message_of p.1)) }
         ensures exact { IfErr result (λ why. IsFirstFault (header_grammar (kind_at KIND)) NoHeader why text.now) }
     {
-        let (fields, rest) = match take_fields::<KIND>(text) {
+        let (lines, rest) = match take_lines::<KIND>(text) {
             Ok(taken) => taken,
             Err(fault) => return Err(fault),
         };
-        Ok((Headers { rest: fields }, message_in(rest)))
+        Ok((Headers { rest: lines }, message_in(rest)))
     }
 }

@@ -2,7 +2,7 @@ use Rattle.std.proofs.Common.{◌≡◌, length, arith}
 use Rattle.std.proofs.lemmas.Grind.{common_steps}
 use Rattle.std.proofs.lemmas.List.{take_rest}
 use Rattle.git_header.proofs.HeadersLemmas.{first_more, more_no_fault, no_more}
-use Rattle.git_header.proofs.header.first_value.Goals as goal
+use Rattle.git_header.proofs.continuation.first_value.Goals as goal
 
 pub returns-then-is_empty-clause-none : goal.returns-then-is_empty-clause-none
 returns-then-is_empty-clause-none c =

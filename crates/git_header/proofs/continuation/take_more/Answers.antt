@@ -1,6 +1,6 @@
 use Rattle.git_header.proofs.RowLemmas.{front_of, more_of_values}
 use Rattle.git_header.proofs.FieldLemmas.{more_fault, more_step}
-use Rattle.git_header.proofs.field.take_more.Goals as goal
+use Rattle.git_header.proofs.continuation.take_more.Goals as goal
 
 pub returns-in-Err-clause-exact : goal.returns-in-Err-clause-exact
 returns-in-Err-clause-exact c kind =

@@ -2,8 +2,8 @@ use Rattle.std.proofs.Common.{◌≡◌, ◌≢◌, [], length, arith, ap}
 use Rattle.std.proofs.lemmas.Grind.{common_steps}
 use Rattle.git_header.specs.Header.{kind_at, NoHeader, header_grammar, IsOwnWord}
 use Rattle.git_header.proofs.JudgingLemmas.{itself, fault_here, no_line_broken}
-use Rattle.git_header.proofs.FieldLemmas.{usual, no_space_fault, no_key_fault, own_fault, key_right, behind_key_fault}
-use Rattle.git_header.proofs.field.take_field.Goals as goal
+use Rattle.git_header.proofs.FieldLemmas.{usual, no_space_fault, no_key_fault, own_fault, key_right, behind_key_fault, header_of_lines}
+use Rattle.git_header.proofs.header.Header.take.Goals as goal
 
 pub returns-in-Err-clause-exact : goal.returns-in-Err-clause-exact
 returns-in-Err-clause-exact g c =
@@ -31,9 +31,16 @@ returns-in-Err-take_more-clause-exact g c =
     (key_right (kind_at g.row.KIND) c.in-Ok.taken.0.now c.in-Ok.taken.1.now c.args.text.now c.in-Some.key.now c.in-Some.value.now c.in-Ok.ensures.found c.in-Ok.ensures.plain c.in-Some.ensures.whole c.in-Some.ensures.first other some)
     (c.in-Err-take_more.ensures.exact (kind_at g.row.KIND))
 
+pub invariant_of-result : goal.invariant_of-result
+invariant_of-result g c =
+    let other : IsOwnWord (kind_at g.row.KIND) c.in-Some.key.now → ⊥ = λ own. let is = c.is_own_word.ensures.1 own in let no_such : ⊥ = cc (is, c.if-is_own_word.false) in no_such in
+    let some : c.in-Some.key.now ≢ [] = λ none. let len : length c.in-Some.key.now ≡ 0 = ap length none in let no_such : ⊥ = grind (arith, common_steps) in no_such in
+    let right = key_right (kind_at g.row.KIND) c.in-Ok.taken.0.now c.in-Ok.taken.1.now c.args.text.now c.in-Some.key.now c.in-Some.value.now c.in-Ok.ensures.found c.in-Ok.ensures.plain c.in-Some.ensures.whole c.in-Some.ensures.first other some in
+    record { right = header_of_lines (kind_at g.row.KIND) c.in-Some.key.now c.in-Some.value.now c.in-Ok-take_more.taken.0.now _ right.0 right.1 c.in-Ok-take_more.ensures.found c.of_lines-more.ensures }
+
 pub returns-clause-header : goal.returns-clause-header
 returns-clause-header g c =
     let other : IsOwnWord (kind_at g.row.KIND) c.in-Some.key.now → ⊥ = λ own. let is = c.is_own_word.ensures.1 own in let no_such : ⊥ = cc (is, c.if-is_own_word.false) in no_such in
     let some : c.in-Some.key.now ≢ [] = λ none. let len : length c.in-Some.key.now ≡ 0 = ap length none in let no_such : ⊥ = grind (arith, common_steps) in no_such in
     let right = key_right (kind_at g.row.KIND) c.in-Ok.taken.0.now c.in-Ok.taken.1.now c.args.text.now c.in-Some.key.now c.in-Some.value.now c.in-Ok.ensures.found c.in-Ok.ensures.plain c.in-Some.ensures.whole c.in-Some.ensures.first other some in
-    record { key = right.0; value = right.1; more = c.in-Ok-take_more.ensures.found.each }
+    header_of_lines (kind_at g.row.KIND) c.in-Some.key.now c.in-Some.value.now c.in-Ok-take_more.taken.0.now _ right.0 right.1 c.in-Ok-take_more.ensures.found c.of_lines-more.ensures

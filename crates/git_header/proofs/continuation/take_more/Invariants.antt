@@ -2,7 +2,7 @@ use Rattle.std.proofs.Common.{◌≡◌, ◌++◌, List, ℕ, map, length}
 use Rattle.std.specs.List.{flat_map, AllByRecursion}
 use Rattle.git_header.specs.Line.{ended}
 use Rattle.git_header.specs.Header.{IsPlain, continued}
-use Rattle.git_header.proofs.field.take_more.Given as goal
+use Rattle.git_header.proofs.continuation.take_more.Given as goal
 
 -- what was read are right continuation lines
 abbrev pub invariant-lines : goal.invariant-lines

@@ -1,9 +1,9 @@
 -- The tests find the commit that bytes are, and nothing else.
-use Rattle.std.proofs.Common.{true, false, Bool, cond, ◌&&◌, ◌≡◌, ℕ, ◌<◌, ◌^◌, List, [], ◌∷◌, ◌++◌, map, length, get_or, drop, codes, slice_index, refl, sym, ap, subst, ◌∙◌, arith, Option, Some, None, Result, Ok, Err, decimal}
+use Rattle.std.proofs.Common.{true, ◌&&◌, ◌≡◌, ℕ, List, [], ◌∷◌, ◌++◌, map, length, get_or, drop, codes, refl, sym, ap, subst, ◌∙◌, Option, Some, None, Result, Ok, Err}
 use Rattle.std.specs.Prelude.{IfOk, IfErr}
 use Rattle.std.specs.Bool.{Decides}
 use Rattle.std.specs.List.{AllByRecursion, flat_map}
-use Rattle.std.specs.Option.{option_map, unwrap_or}
+use Rattle.std.specs.Option.{option_map}
 use Rattle.std.specs.Result.{result_ok}
 use Rattle.std.specs.Str.{bytes_eq}
 use Rattle.std.proofs.Math.Seq.{drop-append_seam}
@@ -11,25 +11,18 @@ use Rattle.std.proofs.lemmas.Bool.Decides.{Decides-and}
 use Rattle.std.proofs.lemmas.Slice.Eq.{bytes_eq-Decides}
 use Rattle.hex.specs.Hex.{encode_lower}
 use Rattle.git_name.specs.Name.{IsName, name_in}
-use Rattle.git_name.specs.Number.{number_in}
 use Rattle.git_name.specs.declared.kind.Kind.TheVariants.{Commit}
-use Rattle.git_name.proofs.ReadingLemmas.{name_in-encode_lower, number_in-decimal}
-use Rattle.git_name.proofs.TextLemmas.{split_once-append}
 use Rattle.git_header.specs.declared.fault.HeaderFault.{HeaderFault}
-use Rattle.git_header.specs.declared.ident.Sign.{Sign}
-use Rattle.git_header.specs.declared.ident.Sign.TheVariants.{Plus, Minus}
-use Rattle.git_header.specs.Line.{Lacks}
-use Rattle.git_header.specs.Ident.{IdentValue, IsIdentValue, sign_byte, spelled_ident, spelled_time}
+use Rattle.git_header.specs.Ident.{IdentValue, spelled_ident}
 use Rattle.git_header.specs.Header.{HeaderValue, IsHeader, header_lines}
 use Rattle.git_commit.specs.Commit.{CommitValue, IsCommitValue, IsCommit, parent_line, commit_lines, spelled_commit}
 use Rattle.git_header.specs.Value.{ident_line}
 use Rattle.git_commit.specs.Fault.{First, commit_grammar, is_parent, IsCommitFault}
-use Rattle.git_header.specs.IdentIn.{sides, sign_of, ident_in}
+use Rattle.git_header.specs.IdentIn.{ident_in}
 use Rattle.git_header.specs.Parting.{header_part, message_part, name_behind}
 use Rattle.git_header.specs.Row.{name_or_none, Gathered, gather}
 use Rattle.git_header.specs.Tests.{is_name, is_header}
 use Rattle.git_commit.specs.CommitIn.{is_commit, commit_from, commit_in}
-use Rattle.git_header.proofs.Splits.{decimal_without}
 use Rattle.git_commit.proofs.ParentLemmas.{names_are}
 use Rattle.git_header.proofs.RowLemmas.{gather_headers}
 use Rattle.git_commit.proofs.CommitLemmas.{sound_commit, commit_right, last_place, no_commit}

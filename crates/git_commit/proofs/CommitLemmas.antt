@@ -1,33 +1,26 @@
 -- The lines of a commit are right lines, in one way.
-use Rattle.std.proofs.Common.{◌≡◌, ◌≢◌, inl, inr, ℕ, ◌<◌, ◌≤◌, ◌^◌, All, List, [], ◌∷◌, ◌++◌, map, length, refl, sym, ap, subst, ◌∙◌, arith, rules, codes, append_assoc}
+use Rattle.std.proofs.Common.{◌≡◌, ◌≢◌, inl, inr, ℕ, ◌<◌, List, [], ◌∷◌, ◌++◌, map, length, refl, sym, ap, ◌∙◌, arith, rules, codes, append_assoc}
 use Rattle.std.specs.List.{AllByRecursion, flat_map}
-use Rattle.std.specs.Fmt.{decimal}
-use Rattle.std.proofs.lemmas.List.Elements.{All-from_recursion, All-cons, All-append, All-same, All-weaker, All-head, All-tail}
+use Rattle.std.proofs.lemmas.List.Elements.{All-from_recursion, All-append, All-same}
 use Rattle.hex.specs.Hex.{encode_lower}
-use Rattle.git_name.specs.Name.{IsName, name_in}
-use Rattle.git_name.proofs.ReadingLemmas.{name_in-encode_lower}
-use Rattle.git_name.specs.declared.kind.Kind.{Kind}
-use Rattle.git_name.specs.declared.kind.Kind.TheVariants.{Blob, Tree, Commit, Tag}
+use Rattle.git_name.specs.Name.{IsName}
+use Rattle.git_name.specs.declared.kind.Kind.TheVariants.{Commit}
 use Rattle.git_header.specs.declared.fault.HeaderFault.{HeaderFault}
 use Rattle.git_header.specs.declared.fault.HeaderFault.TheVariants as fault
-use Rattle.git_header.specs.declared.ident.Sign.{Sign}
-use Rattle.git_header.specs.declared.ident.Sign.TheVariants.{Plus, Minus}
-use Rattle.git_header.specs.Line.{Lacks, IsEnding, IsLine, IsNoWord, IsOther, Begins, ended, ending}
-use Rattle.git_header.specs.Ident.{IdentValue, IsIdentValue, spelled_ident, spelled_time, sign_byte}
-use Rattle.git_header.specs.Header.{IsHeaderLine, IsOwnWord, HasOwnWord, HeaderPlace, NoHeader, SomeHeader, IsFurther, header_grammar, header_lines}
+use Rattle.git_header.specs.Line.{Lacks, IsLine, IsOther, Begins, ended, ending}
+use Rattle.git_header.specs.Ident.{spelled_ident}
+use Rattle.git_header.specs.Header.{NoHeader, header_grammar, header_lines}
 use Rattle.git_commit.specs.Commit.{CommitValue, IsCommitValue, IsCommit, parent_line, commit_lines}
-use Rattle.git_header.specs.Judging.{Grammar, AreRight, Misplaced, Malformed, IsBroken, Bad, IsFirstFault}
+use Rattle.git_header.specs.Judging.{AreRight, Misplaced, IsBroken, Bad, IsFirstFault}
 use Rattle.git_header.specs.Value.{IsNameText, IsIdentLine, Holds, IsNoValue}
 use Rattle.git_commit.specs.Fault.{Place, First, AfterTree, AfterAuthor, Further, commit_grammar, IsCommitFault}
-use Rattle.git_header.specs.Row.{name_or_none}
 use Rattle.git_commit.specs.Parents.{parents_in, AreParents}
-use Rattle.git_header.proofs.Splits.{split_unique, same_rest, heads, tails, decimal_without}
-use Rattle.git_header.proofs.RowLemmas.{hex_lacks}
+use Rattle.git_header.proofs.Splits.{split_unique, same_rest, heads}
 use Rattle.git_commit.proofs.ParentLemmas.{parents_of}
-use Rattle.git_header.proofs.JudgingLemmas.{itself, IsUsual, IsSound, IsWithin, right_within, fault_within, no_line_broken, fault_here, fault_behind, right_lines, right_not_broken, one_fault, no_fault}
+use Rattle.git_header.proofs.JudgingLemmas.{itself, IsUsual, IsSound, IsWithin, right_within, fault_within, fault_here, fault_behind, right_lines, right_not_broken, one_fault, no_fault}
 use Rattle.git_header.proofs.ValueLemmas.{ident_value_no_end, ident_value_no_zero, name_same, drop_front, value_broken, held_value, name_value_lacks}
 use Rattle.git_header.proofs.FurtherLemmas.{further_no_end, further_no_zero, further_stands, further_some}
-use Rattle.git_header.proofs.FieldLemmas.{differ, own_is_key, headers_right, place_behind, one_line, lines_push}
+use Rattle.git_header.proofs.FieldLemmas.{differ, headers_right, place_behind, one_line, lines_push}
 
 pub usual_commit : IsUsual itself commit_grammar
 usual_commit = record { order = refl; unended = refl; zero_byte = refl }

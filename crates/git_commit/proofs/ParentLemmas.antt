@@ -1,20 +1,15 @@
 -- Lines that were spelled are read back from their bytes.
-use Rattle.std.proofs.Common.{suc, codes, ◌-◌, take, ◌≡◌, ◌≢◌, ℕ, ◌<◌, ◌≤◌, ◌/◌, ◌%◌, cond, eqb, All, List, [], ◌∷◌, ◌++◌, map, drop, length, get_or, refl, sym, ap, subst, ◌∙◌, arith, rules, length-append}
+use Rattle.std.proofs.Common.{codes, ◌≡◌, ◌≢◌, ℕ, ◌<◌, List, [], ◌∷◌, map, drop, refl, sym, ap, subst, ◌∙◌, arith, rules}
 use Rattle.std.specs.List.{AllByRecursion, flat_map}
-use Rattle.std.proofs.lemmas.Bool.Decides.{nat_tests}
-use Rattle.std.proofs.lemmas.List.{append-nil, take_at}
-use Rattle.std.proofs.lemmas.List.Elements.{All-from_recursion, recursion_from_All, All-cons, All-append}
-use Rattle.hex.specs.Hex.{encode_lower, encode_with, lower_digits, IsBytes}
-use Rattle.git_name.specs.declared.kind.Kind.{Kind}
+use Rattle.std.proofs.lemmas.List.Elements.{All-from_recursion, All-append}
+use Rattle.hex.specs.Hex.{encode_lower}
 use Rattle.git_name.specs.Name.{IsName, name_in}
 use Rattle.git_name.proofs.ReadingLemmas.{name_in-encode_lower}
 use Rattle.git_header.specs.Line.{Lacks, ended}
-use Rattle.git_header.specs.Header.{HeaderValue, IsPlain, IsHeader, continued, header_lines}
 use Rattle.git_commit.specs.Commit.{parent_line}
-use Rattle.git_header.specs.Row.{before_first, lines_in, more_in, IsMore, name_or_none, before_space, behind_space, Gathered, one_more, gather, headers_in, AreHeaders}
+use Rattle.git_header.specs.Row.{name_or_none}
 use Rattle.git_commit.specs.Parents.{parents_in, AreParents}
 use Rattle.git_header.proofs.RowLemmas.{lines_of, hex_lacks}
-use Rattle.git_header.proofs.JudgingLemmas.{lines_then}
 
 -- ---- continuation lines
 

@@ -1,5 +1,5 @@
 -- A commit is read in one way.
-use Rattle.std.proofs.Common.{◌≡◌, inr, ℕ, List, [], ◌∷◌, ◌++◌, map, refl, sym, ap, subst, ◌∙◌, arith, codes, append_assoc, Option, Some, None}
+use Rattle.std.proofs.Common.{◌≡◌, inr, ℕ, List, [], ◌∷◌, ◌++◌, map, refl, sym, ap, ◌∙◌, arith, codes, append_assoc, Option}
 use Rattle.std.specs.List.{AllByRecursion, flat_map}
 use Rattle.hex.specs.Hex.{encode_lower}
 use Rattle.git_name.specs.Name.{IsName}
@@ -10,14 +10,11 @@ use Rattle.git_header.specs.Ident.{IdentValue, IsIdentValue, spelled_ident}
 use Rattle.git_header.specs.Header.{HeaderValue, NoHeader, IsHeader, header_lines}
 use Rattle.git_commit.specs.Commit.{CommitValue, IsCommit, parent_line, commit_lines}
 use Rattle.git_header.specs.Value.{name_line, ident_line}
-use Rattle.git_header.specs.Judging.{Grammar, AreRight, IsFirstFault}
+use Rattle.git_header.specs.Judging.{AreRight, IsFirstFault}
 use Rattle.git_commit.specs.Fault.{Place, First, AfterTree, AfterAuthor, Further, commit_grammar, IsCommitFault}
-use Rattle.git_commit.specs.Parents.{parents_in, AreParents}
-use Rattle.git_header.specs.Row.{headers_in, AreHeaders}
 use Rattle.git_header.proofs.Splits.{same_rest, heads}
-use Rattle.git_header.proofs.IdentLemmas.{ident_unique}
 use Rattle.git_header.proofs.RowLemmas.{headers_unique}
-use Rattle.git_header.proofs.JudgingLemmas.{right_lines, fault_behind, same_lines}
+use Rattle.git_header.proofs.JudgingLemmas.{same_lines}
 use Rattle.git_header.proofs.FieldLemmas.{differ, one_line, lines_push}
 use Rattle.git_commit.proofs.CommitLemmas.{sound_commit, commit_right, last_place, parents_right}
 use Rattle.git_header.proofs.ReadLemmas.{same_ending, same_ident, fault_later, go_on, IsRead}

@@ -1,10 +1,9 @@
 -- Which bytes are which commit (git-cat-file(1), git-commit-tree(1); the exact form is own).
 use Rattle.std.specs.Prelude.{◌≡◌, ℕ, List, ◌∷◌, ◌++◌, map, codes, Option}
 use Rattle.std.specs.List.{flat_map, AllByRecursion}
-use Rattle.hex.specs.Hex.{encode_lower}
 use Rattle.git_name.specs.Name.{IsName}
 use Rattle.git_name.specs.declared.kind.Kind.TheVariants.{Commit}
-use Rattle.git_header.specs.Ident.{IdentValue, IsIdentValue, spelled_ident}
+use Rattle.git_header.specs.Ident.{IdentValue, IsIdentValue}
 use Rattle.git_header.specs.Header.{HeaderValue, IsHeader, header_lines}
 use Rattle.git_header.specs.Value.{ident_line, name_line}
 use Rattle.git_header.specs.Line.{ended, ending}

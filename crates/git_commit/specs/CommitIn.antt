@@ -1,15 +1,14 @@
 -- The commit that bytes are, found by tests, for models that compute (own). It says what `IsCommit`
 -- says, as the law `tests_find_the_commit` states.
-use Rattle.std.specs.Prelude.{ℕ, ◌&&◌, Bool, List, [], map, drop, length, get_or, Option, None, Some, if◌then◌else◌}
+use Rattle.std.specs.Prelude.{ℕ, ◌&&◌, Bool, List, map, drop, length, Option, None, Some, if◌then◌else◌}
 use Rattle.std.specs.List.{list_all, take_while}
 use Rattle.std.specs.Str.{bytes_eq}
-use Rattle.git_name.specs.Name.{name_in}
 use Rattle.git_name.specs.declared.kind.Kind.TheVariants.{Commit}
 use Rattle.git_commit.specs.Commit.{CommitValue, spelled_commit}
 use Rattle.git_commit.specs.Fault.{is_parent}
 use Rattle.git_header.specs.IdentIn.{ident_in}
 use Rattle.git_header.specs.Parting.{line_at, name_behind, header_part, message_part}
-use Rattle.git_header.specs.Row.{name_or_none, gather}
+use Rattle.git_header.specs.Row.{gather}
 use Rattle.git_header.specs.Tests.{is_name, is_ident, is_header}
 
 -- the test of a commit's parts

@@ -1,12 +1,9 @@
 -- Which fault bytes have that are no commit (own): that of the first faulty line.
-use Rattle.std.specs.Prelude.{◌≡◌, ◌⊎◌, ℕ, List, ◌++◌, codes, ◌==◌, slice_index, if◌then◌else◌, Bool}
-use Rattle.hex.specs.Hex.{encode_lower}
-use Rattle.git_name.specs.Name.{IsName}
+use Rattle.std.specs.Prelude.{◌⊎◌, ℕ, List, codes, ◌==◌, slice_index, if◌then◌else◌, Bool}
 use Rattle.git_name.specs.declared.kind.Kind.TheVariants.{Commit}
 use Rattle.git_header.specs.declared.fault.HeaderFault.{HeaderFault}
 use Rattle.git_header.specs.declared.fault.HeaderFault.TheVariants as fault
-use Rattle.git_header.specs.Line.{Lacks, IsLine, IsNoWord, Begins}
-use Rattle.git_header.specs.Ident.{IdentValue, IsIdent}
+use Rattle.git_header.specs.Line.{Begins}
 use Rattle.git_header.specs.Header.{HeaderPlace, NoHeader, SomeHeader, header_grammar}
 use Rattle.git_header.specs.Value.{IsIdentLine, IsNameText, Holds}
 use Rattle.git_header.specs.Judging.{Grammar, IsFirstFault}

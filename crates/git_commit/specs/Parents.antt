@@ -1,9 +1,7 @@
 -- Lines that stand one after another in bytes, and the parents and further headers that they are.
-use Rattle.std.specs.Prelude.{◌≡◌, ℕ, List, [], ◌∷◌, map, drop, Option, Some, None, ◌==◌, if◌then◌else◌}
+use Rattle.std.specs.Prelude.{◌≡◌, ℕ, List, map, drop}
 use Rattle.std.specs.List.{flat_map, AllByRecursion}
-use Rattle.git_name.specs.declared.kind.Kind.{Kind}
 use Rattle.git_name.specs.Name.{IsName, name_in}
-use Rattle.git_header.specs.Header.{HeaderValue, IsHeader, IsPlain, continued, header_lines}
 use Rattle.git_header.specs.Line.{ended}
 use Rattle.git_header.specs.Row.{lines_in, name_or_none}
 use Rattle.git_commit.specs.Commit.{parent_line}

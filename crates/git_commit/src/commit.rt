@@ -38,22 +38,10 @@ impl<'a> Commit<'a> {
             Ok(taken) => taken,
             Err(fault) => return Err(fault),
         };
-        let (parents, rest) = match Parents::take(rest) {
-            Ok(taken) => taken,
-            Err(fault) => return Err(fault),
-        };
-        let (author, rest) = match take_ident(b"author ", rest) {
-            Ok(taken) => taken,
-            Err(fault) => return Err(fault),
-        };
-        let (committer, rest) = match take_ident(b"committer ", rest) {
-            Ok(taken) => taken,
-            Err(fault) => return Err(fault),
-        };
-        let (headers, message) = match Headers::take(rest) {
-            Ok(taken) => taken,
-            Err(fault) => return Err(fault),
-        };
+        let (parents, rest) = Parents::take(rest)?;
+        let (author, rest) = take_ident(b"author ", rest)?;
+        let (committer, rest) = take_ident(b"committer ", rest)?;
+        let (headers, message) = Headers::take(rest)?;
         Ok(Commit {
             tree,
             parents,

@@ -69,10 +69,7 @@ impl<'a> Parents<'a> {
         ensures last { IfOk result (λ p. (line : List ℕ) → p.1.now ≢ codes "parent " ++ line) }
         ensures exact { IfErr result (λ why. IsFirstFault commit_grammar AfterTree why text.now) }
     {
-        let (lines, rest) = match take_parents(text) {
-            Ok(taken) => taken,
-            Err(fault) => return Err(fault),
-        };
+        let (lines, rest) = take_parents(text)?;
         Ok((Parents { rest: lines }, rest))
     }
 }

@@ -19,10 +19,7 @@ pub(crate) fn take_more(text: &[u8]) -> Result<(&[u8], &[u8]), HeaderFault>
 {
     let mut rest = text;
     'lines: while let Some(_) = after_word(b" ", rest) {
-        let (_, after) = match take_line(rest) {
-            Ok(taken) => taken,
-            Err(fault) => return Err(fault),
-        };
+        let (_, after) = take_line(rest)?;
         rest = after;
     }
     Ok((&text[..text.len() - rest.len()], rest))

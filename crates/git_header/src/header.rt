@@ -86,10 +86,7 @@ impl<'a, const KIND: u8> Header<'a, KIND> {
         ensures last { IfOk result (λ p. (line : List ℕ) → p.1.now ≢ 32 ∷ line) }
         ensures exact { IfErr result (λ why. IsFirstFault (header_grammar (kind_at KIND)) NoHeader why text.now) }
     {
-        let (line, rest) = match take_line(text) {
-            Ok(taken) => taken,
-            Err(fault) => return Err(fault),
-        };
+        let (line, rest) = take_line(text)?;
         let Some((key, value)) = cut(b' ', line) else {
             return Err(HeaderFault::HeaderLine);
         };
@@ -99,10 +96,7 @@ impl<'a, const KIND: u8> Header<'a, KIND> {
         if key.is_empty() {
             return Err(HeaderFault::HeaderLine);
         }
-        let (lines, rest) = match take_more(rest) {
-            Ok(taken) => taken,
-            Err(fault) => return Err(fault),
-        };
+        let (lines, rest) = take_more(rest)?;
         let more = Continuation::of_lines(lines);
         Ok((Header { key, value, more }, rest))
     }

@@ -19,10 +19,7 @@ fn take_lines<const KIND: u8>(text: &[u8]) -> Result<(&[u8], &[u8]), HeaderFault
 {
     let mut rest = text;
     'headers: while !is_ending(rest) {
-        let (_, after) = match Header::<KIND>::take(rest) {
-            Ok(taken) => taken,
-            Err(fault) => return Err(fault),
-        };
+        let (_, after) = Header::<KIND>::take(rest)?;
         rest = after;
     }
     Ok((&text[..text.len() - rest.len()], rest))
@@ -69,10 +66,7 @@ impl<'a, const KIND: u8> Headers<'a, KIND> {
         ensures found { IfOk result (λ p. text.now ≡ flat_map ended (flat_map header_lines (headers_left p.0)) ++ ending (message_of p.1)) }
         ensures exact { IfErr result (λ why. IsFirstFault (header_grammar (kind_at KIND)) NoHeader why text.now) }
     {
-        let (lines, rest) = match take_lines::<KIND>(text) {
-            Ok(taken) => taken,
-            Err(fault) => return Err(fault),
-        };
+        let (lines, rest) = take_lines::<KIND>(text)?;
         Ok((Headers { rest: lines }, message_in(rest)))
     }
 }

@@ -29,10 +29,7 @@ pub(crate) fn take_type(text: &[u8]) -> Result<(Kind, &[u8]), TagFault>
     ensures found { IfOk result (λ p. IsLine (type_line p.0) p.1.now text.now) }
     ensures exact { IfErr result (λ why. IsFirstFault tag_grammar AtType why text.now) }
 {
-    let (word, rest) = match take_value(b"type ", text) {
-        Ok(taken) => taken,
-        Err(fault) => return Err(TagFault::from(fault)),
-    };
+    let (word, rest) = take_value(b"type ", text)?;
     let Some(kind) = Kind::from_word(word) else {
         return Err(TagFault::TypeWord);
     };
@@ -45,10 +42,7 @@ pub(crate) fn take_tag_name(text: &[u8]) -> Result<(&[u8], &[u8]), TagFault>
     ensures found { IfOk result (λ p. IsLine (tag_line p.0.now) p.1.now text.now) }
     ensures exact { IfErr result (λ why. IsFirstFault tag_grammar AtName why text.now) }
 {
-    let (name, rest) = match take_value(b"tag ", text) {
-        Ok(taken) => taken,
-        Err(fault) => return Err(TagFault::from(fault)),
-    };
+    let (name, rest) = take_value(b"tag ", text)?;
     if name.is_empty() {
         return Err(TagFault::HeaderLine);
     }
@@ -65,8 +59,6 @@ pub(crate) fn take_tagger(text: &[u8]) -> Result<(Option<Ident<'_>>, &[u8]), Tag
     let Some(_) = after_word(b"tagger ", text) else {
         return Ok((None, text));
     };
-    match take_ident(b"tagger ", text) {
-        Ok(taken) => Ok((Some(taken.0), taken.1)),
-        Err(fault) => Err(TagFault::from(fault)),
-    }
+    let (tagger, rest) = take_ident(b"tagger ", text)?;
+    Ok((Some(tagger), rest))
 }

@@ -37,22 +37,10 @@ impl<'a> Tag<'a> {
             Ok(taken) => taken,
             Err(fault) => return Err(fault),
         };
-        let (kind, rest) = match take_type(rest) {
-            Ok(taken) => taken,
-            Err(fault) => return Err(fault),
-        };
-        let (name, rest) = match take_tag_name(rest) {
-            Ok(taken) => taken,
-            Err(fault) => return Err(fault),
-        };
-        let (tagger, rest) = match take_tagger(rest) {
-            Ok(taken) => taken,
-            Err(fault) => return Err(fault),
-        };
-        let (headers, message) = match TagHeaders::take(rest) {
-            Ok(taken) => taken,
-            Err(fault) => return Err(TagFault::from(fault)),
-        };
+        let (kind, rest) = take_type(rest)?;
+        let (name, rest) = take_tag_name(rest)?;
+        let (tagger, rest) = take_tagger(rest)?;
+        let (headers, message) = TagHeaders::take(rest)?;
         Ok(Tag {
             object,
             kind,

@@ -138,7 +138,7 @@ right_lines g p q r ls ms one two = right_append g p q r ls ms one two
 pub fault_here : {P F : Type 0} (g : Grammar P F) (p : P) (f : F) (text : List ℕ) → IsBroken g f p text → IsFirstFault g p f text
 fault_here g p f text broken = record { lines = []; place = p; rest = text; right = refl; parts = refl; broken = broken }
 
--- a fault of a commit, as it is
+-- a fault of a header line, as it is
 abbrev pub itself : HeaderFault → HeaderFault
 itself why = why
 

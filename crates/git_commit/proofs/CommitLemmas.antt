@@ -1,52 +1,31 @@
 -- The lines of a commit are right lines, in one way.
-use Rattle.std.proofs.Common.{◌≡◌, ◌≢◌, inl, inr, ℕ, ◌<◌, ◌≤◌, ◌^◌, All, List, [], ◌∷◌, ◌++◌, map, length, refl, sym, ap, subst, ◌∙◌, arith, rules, codes, append_assoc}
+use Rattle.std.proofs.Common.{◌≡◌, ◌≢◌, inl, inr, ℕ, ◌<◌, List, [], ◌∷◌, ◌++◌, map, length, refl, sym, ap, ◌∙◌, arith, rules, codes, append_assoc}
 use Rattle.std.specs.List.{AllByRecursion, flat_map}
-use Rattle.std.specs.Fmt.{decimal}
-use Rattle.std.proofs.lemmas.List.Elements.{All-from_recursion, All-cons, All-append, All-same, All-weaker, All-head, All-tail}
+use Rattle.std.proofs.lemmas.List.Elements.{All-from_recursion, All-append, All-same}
 use Rattle.hex.specs.Hex.{encode_lower}
-use Rattle.git_name.specs.Name.{IsName, name_in}
-use Rattle.git_name.proofs.ReadingLemmas.{name_in-encode_lower}
-use Rattle.git_name.specs.declared.kind.Kind.{Kind}
-use Rattle.git_name.specs.declared.kind.Kind.TheVariants.{Blob, Tree, Commit, Tag}
-use Rattle.git_commit.specs.declared.fault.CommitFault.{CommitFault}
-use Rattle.git_commit.specs.declared.fault.CommitFault.TheVariants as fault
-use Rattle.git_commit.specs.declared.ident.Sign.{Sign}
-use Rattle.git_commit.specs.declared.ident.Sign.TheVariants.{Plus, Minus}
-use Rattle.git_commit.specs.Line.{Lacks, IsEnding, IsLine, IsNoWord, IsOther, Begins, ended, ending}
-use Rattle.git_commit.specs.Ident.{IdentValue, IsIdentValue, spelled_ident, spelled_time, sign_byte}
-use Rattle.git_commit.specs.Header.{IsHeaderLine, IsOwnWord, HasOwnWord, HeaderPlace, NoHeader, SomeHeader, IsFurther, header_grammar, header_lines}
+use Rattle.git_name.specs.Name.{IsName}
+use Rattle.git_name.specs.declared.kind.Kind.TheVariants.{Commit}
+use Rattle.git_header.specs.declared.fault.HeaderFault.{HeaderFault}
+use Rattle.git_header.specs.declared.fault.HeaderFault.TheVariants as fault
+use Rattle.git_header.specs.Line.{Lacks, IsLine, IsOther, Begins, ended, ending}
+use Rattle.git_header.specs.Ident.{spelled_ident}
+use Rattle.git_header.specs.Header.{NoHeader, header_grammar, header_lines}
 use Rattle.git_commit.specs.Commit.{CommitValue, IsCommitValue, IsCommit, parent_line, commit_lines}
-use Rattle.git_commit.specs.Judging.{Grammar, AreRight, Misplaced, Malformed, IsBroken, Bad, IsFirstFault}
-use Rattle.git_commit.specs.Fault.{IsNameText, IsIdentLine, Holds, IsNoValue, Place, First, AfterTree, AfterAuthor, Further, commit_grammar, IsCommitFault}
-use Rattle.git_commit.specs.Row.{name_or_none, parents_in, AreParents}
-use Rattle.git_commit.proofs.Splits.{split_unique, same_rest, heads, tails, decimal_without}
-use Rattle.git_commit.proofs.RowLemmas.{hex_lacks, parents_of}
-use Rattle.git_commit.proofs.JudgingLemmas.{itself, IsUsual, IsSound, IsWithin, right_within, fault_within, no_line_broken, fault_here, fault_behind, right_lines, right_not_broken, one_fault, no_fault}
-use Rattle.git_commit.proofs.FieldLemmas.{differ, own_is_key, headers_right, place_behind, one_line, lines_push}
+use Rattle.git_header.specs.Judging.{AreRight, Misplaced, IsBroken, Bad, IsFirstFault}
+use Rattle.git_header.specs.Value.{IsNameText, IsIdentLine, Holds, IsNoValue}
+use Rattle.git_commit.specs.Fault.{Place, First, AfterTree, AfterAuthor, Further, commit_grammar, IsCommitFault}
+use Rattle.git_commit.specs.Parents.{parents_in, AreParents}
+use Rattle.git_header.proofs.Splits.{split_unique, same_rest, heads}
+use Rattle.git_commit.proofs.ParentLemmas.{parents_of}
+use Rattle.git_header.proofs.JudgingLemmas.{itself, IsUsual, IsSound, IsWithin, right_within, fault_within, fault_here, fault_behind, right_lines, right_not_broken, one_fault, no_fault}
+use Rattle.git_header.proofs.ValueLemmas.{ident_value_no_end, ident_value_no_zero, name_same, drop_front, value_broken, held_value, name_value_lacks}
+use Rattle.git_header.proofs.FurtherLemmas.{further_no_end, further_no_zero, further_stands, further_some}
+use Rattle.git_header.proofs.FieldLemmas.{differ, headers_right, place_behind, one_line, lines_push}
 
 pub usual_commit : IsUsual itself commit_grammar
 usual_commit = record { order = refl; unended = refl; zero_byte = refl }
 
 -- ---- the lines are lines
-
-pub digits_lack : (byte : ℕ) → byte < 48 → (zone : List ℕ) → All (λ b. 48 ≤ b) zone → Lacks byte zone
-digits_lack byte low zone high = All-weaker (λ b. 48 ≤ b) (λ b. b ≢ byte) (λ b h e. absurd (omega arith)) zone high
-
-sign_lacks : (byte : ℕ) → byte < 32 → (s : Sign) → sign_byte s ≢ byte
-sign_lacks byte low Plus e = absurd (omega arith)
-sign_lacks byte low Minus e = absurd (omega arith)
-
-time_lacks : (byte : ℕ) → byte < 32 → (n : ℕ) (s : Sign) (zone : List ℕ) → n < 2 ^ 63 → All (λ b. 48 ≤ b) zone → Lacks byte (spelled_time n s zone)
-time_lacks byte low n s zone small high =
-    let not_space : 32 ≢ byte = λ e. absurd (omega arith) in
-    let wide : n < 2 ^ 64 = omega arith in
-    All-cons (λ b. b ≢ byte) 32 (decimal n ++ 32 ∷ sign_byte s ∷ zone) not_space (All-append (λ b. b ≢ byte) (decimal n) (32 ∷ sign_byte s ∷ zone) (decimal_without byte (omega arith) n wide)
-    (All-cons (λ b. b ≢ byte) 32 (sign_byte s ∷ zone) not_space (All-cons (λ b. b ≢ byte) (sign_byte s) zone (sign_lacks byte low s) (digits_lack byte (omega arith) zone high))))
-
-pub ident_lacks : (byte : ℕ) → byte < 32 → (v : IdentValue) → IsIdentValue v → Lacks byte v.before → Lacks byte v.between → Lacks byte (spelled_ident v)
-ident_lacks byte low v is before between =
-    All-append (λ b. b ≢ byte) v.before (60 ∷ (v.between ++ 62 ∷ spelled_time v.seconds v.sign v.zone)) before (All-cons (λ b. b ≢ byte) 60 (v.between ++ 62 ∷ spelled_time v.seconds v.sign v.zone) (λ (e : 60 ≡ byte). absurd (omega arith))
-    (All-append (λ b. b ≢ byte) v.between (62 ∷ spelled_time v.seconds v.sign v.zone) between (All-cons (λ b. b ≢ byte) 62 (spelled_time v.seconds v.sign v.zone) (λ (e : 62 ≡ byte). absurd (omega arith)) (time_lacks byte low v.seconds v.sign v.zone is.seconds is.zone.low))))
 
 -- the demanded words
 pub data IsWord (word : List ℕ) : Type 0 where
@@ -61,59 +40,8 @@ word_lacks byte low word (ParentWord is) = All-same (λ b. b ≢ byte) _ _ is (A
 word_lacks byte low word (AuthorWord is) = All-same (λ b. b ≢ byte) _ _ is (All-from_recursion (λ b. b ≢ byte) (codes "author ") (search (rules, arith)))
 word_lacks byte low word (CommitterWord is) = All-same (λ b. b ≢ byte) _ _ is (All-from_recursion (λ b. b ≢ byte) (codes "committer ") (search (rules, arith)))
 
-pub name_value_lacks : (byte : ℕ) → byte < 48 → (value : List ℕ) → IsNameText value → Lacks byte value
-name_value_lacks byte low value (name, is, spelled) = All-same (λ b. b ≢ byte) _ _ spelled (hex_lacks byte low name is)
-
-pub ident_value_no_zero : (value : List ℕ) → IsIdentLine value → Lacks 0 value
-ident_value_no_zero value (v, is) = All-same (λ b. b ≢ 0) _ _ is.spelling (ident_lacks 0 (omega arith) v is.right is.right.before.no_zero is.right.between.no_zero)
-
-pub ident_value_no_end : (value : List ℕ) → IsIdentLine value → Lacks 10 value
-ident_value_no_end value (v, is) = All-same (λ b. b ≢ 10) _ _ is.spelling (ident_lacks 10 (omega arith) v is.right is.right.before.no_end is.right.between.no_end)
-
 held : (byte : ℕ) → byte < 32 → (word : List ℕ) → IsWord word → (IsValue : List ℕ → Type 0) (line : List ℕ) → ((value : List ℕ) → IsValue value → Lacks byte value) → Holds word IsValue line → Lacks byte line
 held byte low word is IsValue line lack h = All-same (λ b. b ≢ byte) _ _ h.spelling (All-append (λ b. b ≢ byte) word h.value (word_lacks byte low word is) (lack h.value h.is))
-
-line_no_zero : (kind : Kind) (line : List ℕ) → IsHeaderLine kind line → Lacks 0 line
-line_no_zero kind line h = All-same (λ b. b ≢ 0) _ _ h.spelling (All-append (λ b. b ≢ 0) h.key (32 ∷ h.value) h.key_is.plain.no_zero (All-cons (λ b. b ≢ 0) 32 h.value (λ (e : 32 ≡ 0). absurd (omega arith)) h.value_is.no_zero))
-
-pub further_no_zero : (kind : Kind) (p : HeaderPlace) (line : List ℕ) → IsFurther kind p line → Lacks 0 line
-further_no_zero kind NoHeader line h = line_no_zero kind line h
-further_no_zero kind SomeHeader line (inl h) = line_no_zero kind line h
-further_no_zero kind SomeHeader line (inr h) = All-same (λ b. b ≢ 0) _ _ h.spelling (All-cons (λ b. b ≢ 0) 32 h.value (λ (e : 32 ≡ 0). absurd (omega arith)) h.value_is.no_zero)
-
-pub line_no_end : (kind : Kind) (line : List ℕ) → IsHeaderLine kind line → Lacks 10 line
-line_no_end kind line h = All-same (λ b. b ≢ 10) _ _ h.spelling (All-append (λ b. b ≢ 10) h.key (32 ∷ h.value) h.key_is.plain.no_end (All-cons (λ b. b ≢ 10) 32 h.value (λ (e : 32 ≡ 10). absurd (omega arith)) h.value_is.no_end))
-
-pub further_no_end : (kind : Kind) (p : HeaderPlace) (line : List ℕ) → IsFurther kind p line → Lacks 10 line
-further_no_end kind NoHeader line h = line_no_end kind line h
-further_no_end kind SomeHeader line (inl h) = line_no_end kind line h
-further_no_end kind SomeHeader line (inr h) = All-same (λ b. b ≢ 10) _ _ h.spelling (All-cons (λ b. b ≢ 10) 32 h.value (λ (e : 32 ≡ 10). absurd (omega arith)) h.value_is.no_end)
-
-key_some : (key value : List ℕ) → key ++ 32 ∷ value ≢ []
-key_some [] value e = let no_such : ⊥ = cc in no_such
-key_some (b ∷ key) value e = let no_such : ⊥ = cc in no_such
-
-pub further_some : (kind : Kind) (p : HeaderPlace) (line : List ℕ) → IsFurther kind p line → line ≢ []
-further_some kind NoHeader line h e = key_some h.key h.value (sym h.spelling ∙ e)
-further_some kind SomeHeader line (inl h) e = key_some h.key h.value (sym h.spelling ∙ e)
-further_some kind SomeHeader line (inr h) e = key_some [] h.value (sym h.spelling ∙ e)
-
-own_some : (kind : Kind) (word : List ℕ) → IsOwnWord kind word → word ≢ []
-own_some Blob word own e = own
-own_some Tree word own e = own
-own_some Commit word (inl is) e = let same = sym is ∙ e in let no_such : ⊥ = cc same in no_such
-own_some Commit word (inr (inl is)) e = let same = sym is ∙ e in let no_such : ⊥ = cc same in no_such
-own_some Commit word (inr (inr (inl is))) e = let same = sym is ∙ e in let no_such : ⊥ = cc same in no_such
-own_some Commit word (inr (inr (inr is))) e = let same = sym is ∙ e in let no_such : ⊥ = cc same in no_such
-own_some Tag word (inl is) e = let same = sym is ∙ e in let no_such : ⊥ = cc same in no_such
-own_some Tag word (inr (inl is)) e = let same = sym is ∙ e in let no_such : ⊥ = cc same in no_such
-own_some Tag word (inr (inr (inl is))) e = let same = sym is ∙ e in let no_such : ⊥ = cc same in no_such
-own_some Tag word (inr (inr (inr is))) e = let same = sym is ∙ e in let no_such : ⊥ = cc same in no_such
-
-pub further_stands : (kind : Kind) (p : HeaderPlace) (line : List ℕ) → IsFurther kind p line → HasOwnWord kind line → ⊥
-further_stands kind NoHeader line h has = h.key_is.other (own_is_key kind line h.key h.value h.spelling h.key_is.no_space has)
-further_stands kind SomeHeader line (inl h) has = h.key_is.other (own_is_key kind line h.key h.value h.spelling h.key_is.no_space has)
-further_stands kind SomeHeader line (inr h) has = own_some kind [] (own_is_key kind line [] h.value h.spelling (All-from_recursion (λ b. b ≢ 32) [] tt) has) refl
 
 no_zero_at : (p : Place) (line : List ℕ) → commit_grammar.Right p line → Lacks 0 line
 no_zero_at First line h = held 0 (omega arith) (codes "tree ") (TreeWord refl) IsNameText line (name_value_lacks 0 (omega arith)) h
@@ -146,25 +74,7 @@ stands_at (Further p) line h = further_stands Commit p line h
 pub sound_commit : IsSound commit_grammar
 sound_commit = record { no_zero = no_zero_at; no_end = no_end_at; some = some_at; stands = stands_at }
 
--- digits write one name
-pub name_same : (a b : List ℕ) → IsName a → IsName b → encode_lower a ≡ encode_lower b → a ≡ b
-name_same a b is_a is_b same = ap name_or_none (sym (name_in-encode_lower a is_a) ∙ ap name_in same ∙ name_in-encode_lower b is_b)
-
 -- ---- where a demanded value is lacking
-
-pub word_broken : {P F : Type 0} (named : CommitFault → F) (g : Grammar P F) → IsUsual named g → (why : CommitFault) (p : P) (word text : List ℕ) → IsNoWord word why text
-    → (IsEnding text → g.MayEnd p → ⊥) → (IsOther word text → IsBroken g (named fault.HeaderOrder) p text) → IsBroken g (named why) p text
-word_broken named g usual why p word text (inl none) never other = no_line_broken named g usual why p text none never
-word_broken named g usual why p word text (inr (is, another)) never other = subst (λ f. IsBroken g (named f) p text) (sym is) (other another)
-
-pub value_broken : {P F : Type 0} (named : CommitFault → F) (g : Grammar P F) → IsUsual named g → (why form : CommitFault) (p : P) (word text : List ℕ) (IsValue : List ℕ → Type 0) → IsNoValue word IsValue form why text
-    → (IsEnding text → g.MayEnd p → ⊥) → (IsOther word text → IsBroken g (named fault.HeaderOrder) p text) → ((value : List ℕ) → g.Stands p (word ++ value)) → ((value : List ℕ) → g.Right p (word ++ value) → IsValue value) → ((value : List ℕ) → named form ≡ g.form p (word ++ value)) → IsBroken g (named why) p text
-value_broken named g usual why form p word text IsValue (inl none) never other stands right form_is = word_broken named g usual why p word text none never other
-value_broken named g usual why form p word text IsValue (inr (is, wrong)) never other stands right form_is =
-    Bad (word ++ wrong.value) wrong.after wrong.is (Malformed wrong.plain (stands wrong.value) (λ r. wrong.wrong (right wrong.value r)) (ap named is ∙ form_is wrong.value))
-
-pub held_value : (word value : List ℕ) (IsValue : List ℕ → Type 0) → Holds word IsValue (word ++ value) → IsValue value
-held_value word value IsValue h = subst IsValue (sym (same_rest word value h.value h.spelling)) h.is
 
 parent_value : (value : List ℕ) → commit_grammar.Right AfterTree (codes "parent " ++ value) → IsNameText value
 parent_value value (inl h) = held_value (codes "parent ") value IsNameText h
@@ -174,26 +84,18 @@ author_value : (value : List ℕ) → commit_grammar.Right AfterTree (codes "aut
 author_value value (inl h) = absurd (differ 112 97 (sym (heads 97 112 _ _ h.spelling)) (omega arith))
 author_value value (inr h) = held_value (codes "author ") value IsIdentLine h
 
-pub tree_fault : (why : CommitFault) (text : List ℕ) → IsNoValue (codes "tree ") IsNameText fault.Name why text → IsCommitFault why text
+pub tree_fault : (why : HeaderFault) (text : List ℕ) → IsNoValue (codes "tree ") IsNameText fault.Name why text → IsCommitFault why text
 tree_fault why text wrong = fault_here commit_grammar First why text (value_broken itself commit_grammar usual_commit why fault.Name First (codes "tree ") text IsNameText wrong
     (λ _ may. may) (λ o. Bad o.line o.after o.is (Misplaced o.plain o.other refl)) (λ value. (value, refl)) (λ value h. held_value (codes "tree ") value IsNameText h) (λ value. refl))
 
--- the first line of a text begins with the word that the text begins with
-pub drop_front : (word line after x : List ℕ) → Lacks 10 word → line ++ 10 ∷ after ≡ word ++ x → Begins word line
-drop_front [] line after x lacks e = (line, refl)
-drop_front (w ∷ word) [] after x lacks e = absurd (All-head (λ b. b ≢ 10) w word lacks (sym (heads 10 w after (word ++ x) e)))
-drop_front (w ∷ word) (b ∷ line) after x lacks e =
-    let more = drop_front word line after x (All-tail (λ b. b ≢ 10) w word lacks) (tails b w _ _ e) in
-    (more.0, ap (λ h. h ∷ line) (heads b w _ _ e) ∙ ap (λ (t : List ℕ). w ∷ t) more.1)
-
-pub parent_broken : (why : CommitFault) (text x : List ℕ) → text ≡ codes "parent " ++ x → IsNoValue (codes "parent ") IsNameText fault.Name why text → IsBroken commit_grammar why AfterTree text
+pub parent_broken : (why : HeaderFault) (text x : List ℕ) → text ≡ codes "parent " ++ x → IsNoValue (codes "parent ") IsNameText fault.Name why text → IsBroken commit_grammar why AfterTree text
 parent_broken why text x begins wrong = value_broken itself commit_grammar usual_commit why fault.Name AfterTree (codes "parent ") text IsNameText wrong
     (λ _ may. may) (λ o. absurd (o.other (from o.line o.after o.is))) (λ value. inl (value, refl)) parent_value (λ value. refl)
   where
     from : (line after : List ℕ) → IsLine line after text → Begins (codes "parent ") line
     from line after is = drop_front (codes "parent ") line after x (word_lacks 10 (omega arith) (codes "parent ") (ParentWord refl)) (sym is.parts ∙ begins)
 
-pub author_fault : (why : CommitFault) (text : List ℕ) → ((line : List ℕ) → text ≢ codes "parent " ++ line) → IsNoValue (codes "author ") IsIdentLine fault.Ident why text → IsFirstFault commit_grammar AfterTree why text
+pub author_fault : (why : HeaderFault) (text : List ℕ) → ((line : List ℕ) → text ≢ codes "parent " ++ line) → IsNoValue (codes "author ") IsIdentLine fault.Ident why text → IsFirstFault commit_grammar AfterTree why text
 author_fault why text no_parent wrong = fault_here commit_grammar AfterTree why text (value_broken itself commit_grammar usual_commit why fault.Ident AfterTree (codes "author ") text IsIdentLine wrong
     (λ _ may. may) (λ o. Bad o.line o.after o.is (Misplaced o.plain (stands o) refl)) (λ value. inr (value, refl)) author_value (λ value. refl))
   where
@@ -201,7 +103,7 @@ author_fault why text no_parent wrong = fault_here commit_grammar AfterTree why 
     stands o (inl parent) = no_parent (parent.0 ++ 10 ∷ o.after) (o.is.parts ∙ ap (λ (l : List ℕ). l ++ 10 ∷ o.after) parent.1)
     stands o (inr author) = o.other author
 
-pub committer_fault : (why : CommitFault) (text : List ℕ) → IsNoValue (codes "committer ") IsIdentLine fault.Ident why text → IsFirstFault commit_grammar AfterAuthor why text
+pub committer_fault : (why : HeaderFault) (text : List ℕ) → IsNoValue (codes "committer ") IsIdentLine fault.Ident why text → IsFirstFault commit_grammar AfterAuthor why text
 committer_fault why text wrong = fault_here commit_grammar AfterAuthor why text (value_broken itself commit_grammar usual_commit why fault.Ident AfterAuthor (codes "committer ") text IsIdentLine wrong
     (λ _ may. may) (λ o. Bad o.line o.after o.is (Misplaced o.plain o.other refl)) (λ value. (value, refl)) (λ value h. held_value (codes "committer ") value IsIdentLine h) (λ value. refl))
 
@@ -221,7 +123,7 @@ further_within = record {
   form = λ p line. refl;
 }
 
-pub headers_fault : (why : CommitFault) (text : List ℕ) → IsFirstFault (header_grammar Commit) NoHeader why text → IsFirstFault commit_grammar (Further NoHeader) why text
+pub headers_fault : (why : HeaderFault) (text : List ℕ) → IsFirstFault (header_grammar Commit) NoHeader why text → IsFirstFault commit_grammar (Further NoHeader) why text
 headers_fault why text wrong = fault_within itself Further (header_grammar Commit) commit_grammar further_within NoHeader why text wrong
 
 -- ---- a whole commit
@@ -246,10 +148,10 @@ commit_right v is = (
 )
 
 -- bytes with a fault are no commit
-pub no_commit : (why : CommitFault) (bytes : List ℕ) (v : CommitValue) → IsCommit v bytes → IsCommitFault why bytes → ⊥
+pub no_commit : (why : HeaderFault) (bytes : List ℕ) (v : CommitValue) → IsCommit v bytes → IsCommitFault why bytes → ⊥
 no_commit why bytes v is wrong = no_fault commit_grammar sound_commit First (last_place v) why (commit_lines v) (ending v.message) bytes (commit_right v is.right) tt (v.message, refl) is.spelling wrong
 
-pub one_commit_fault : (bytes : List ℕ) (f h : CommitFault) → IsCommitFault f bytes → IsCommitFault h bytes → f ≡ h
+pub one_commit_fault : (bytes : List ℕ) (f h : HeaderFault) → IsCommitFault f bytes → IsCommitFault h bytes → f ≡ h
 one_commit_fault bytes f h one two = one_fault commit_grammar sound_commit First f h bytes one two
 
 -- ---- lines of parents
@@ -272,7 +174,7 @@ parents_step name bytes after row is line =
     let rest = parents_of cut.0 after cut.3 cut.2 in
     (cut.1 ∙ ap (λ (t : List (List ℕ)). name ∷ t) (sym rest.0), rest.1)
 
-parents_no_fault : (names : List (List ℕ)) (why : CommitFault) (bytes : List ℕ) → AllByRecursion IsName names → bytes ≡ flat_map ended (map parent_line names) → 0 < length bytes → IsNoValue (codes "parent ") IsNameText fault.Name why bytes → ⊥
+parents_no_fault : (names : List (List ℕ)) (why : HeaderFault) (bytes : List ℕ) → AllByRecursion IsName names → bytes ≡ flat_map ended (map parent_line names) → 0 < length bytes → IsNoValue (codes "parent ") IsNameText fault.Name why bytes → ⊥
 parents_no_fault [] why bytes are spelled some wrong = let len : length bytes ≡ 0 = ap length spelled in absurd (omega arith)
 parents_no_fault (n ∷ names) why bytes are spelled some wrong =
     let rest = flat_map ended (map parent_line names) in
@@ -281,7 +183,7 @@ parents_no_fault (n ∷ names) why bytes are spelled some wrong =
     (parent_broken why bytes (encode_lower n ++ 10 ∷ rest) whole wrong)
 
 -- bytes of lines of parents begin with one
-pub row_no_fault : (why : CommitFault) (bytes : List ℕ) → AreParents bytes → 0 < length bytes → IsNoValue (codes "parent ") IsNameText fault.Name why bytes → ⊥
+pub row_no_fault : (why : HeaderFault) (bytes : List ℕ) → AreParents bytes → 0 < length bytes → IsNoValue (codes "parent ") IsNameText fault.Name why bytes → ⊥
 row_no_fault why bytes row some wrong = parents_no_fault (parents_in bytes) why bytes row.each row.spelling some wrong
 
 pub row_none : (bytes : List ℕ) → length bytes ≡ 0 → parents_in bytes ≡ []
@@ -306,7 +208,7 @@ parents_more names name text rest after are parts is line = (
   lines_push (map parent_line names) (parent_line name ∷ []) text rest after parts (one_line (parent_line name) after rest line.parts) ∙ ap (λ (ls : List (List ℕ)). flat_map ended ls ++ after) (sym (names_push names name)),
 )
 
-pub parents_fault : (names : List (List ℕ)) (why : CommitFault) (text rest x : List ℕ) → AllByRecursion IsName names → text ≡ flat_map ended (map parent_line names) ++ rest → rest ≡ codes "parent " ++ x → IsNoValue (codes "parent ") IsNameText fault.Name why rest
+pub parents_fault : (names : List (List ℕ)) (why : HeaderFault) (text rest x : List ℕ) → AllByRecursion IsName names → text ≡ flat_map ended (map parent_line names) ++ rest → rest ≡ codes "parent " ++ x → IsNoValue (codes "parent ") IsNameText fault.Name why rest
     → IsFirstFault commit_grammar AfterTree why text
 parents_fault names why text rest x are parts begins wrong =
     fault_behind commit_grammar AfterTree AfterTree why (map parent_line names) rest text (parents_right names are) parts (fault_here commit_grammar AfterTree why rest (parent_broken why rest x begins wrong))

@@ -4,11 +4,11 @@ use Rattle.std.specs.Fmt.{digits}
 use Rattle.hex.specs.Hex.{encode_with, decode_pairs}
 use Rattle.git_name.specs.Name.{name_in}
 use Rattle.git_name.specs.Number.{number_in}
-use Rattle.git_commit.specs.declared.ident.Sign.TheVariants.{Plus, Minus}
-use Rattle.git_commit.specs.Ident.{IdentValue}
+use Rattle.git_header.specs.declared.ident.Sign.TheVariants.{Plus, Minus}
+use Rattle.git_header.specs.Ident.{IdentValue}
 use Rattle.git_commit.specs.Commit.{IsCommit}
-use Rattle.git_commit.specs.Parting.{header_part, message_part}
-use Rattle.git_commit.specs.Row.{lines_in, gather}
+use Rattle.git_header.specs.Parting.{header_part, message_part}
+use Rattle.git_header.specs.Row.{lines_in, gather}
 use Rattle.git_commit.specs.CommitIn.{commit_in}
 use Rattle.git_commit.proofs.CommitInLemmas.{is_commit_in}
 
@@ -23,7 +23,7 @@ abbrev parent_line : List ℕ
 parent_line = codes "parent 6ef19b41225c5369f1c104d45d8d85efa9b057b53b14b4b9b939dd74decc5321\n"
 
 abbrev nobody : IdentValue
-nobody = record { before = []; between = []; seconds = 0; sign = Plus; zone = codes "0000" }
+nobody = record { name = []; email = []; seconds = 0; sign = Plus; zone = codes "0000" }
 
 -- nobody's commit of the empty tree: no parent, no further header and no message
 pub smallest_commit : commit_in (tree_line ++ codes "author <> 0 +0000\ncommitter <> 0 +0000\n") ≡ Some (record { tree = empty; parents = []; author = nobody; committer = nobody; headers = []; message = None })
@@ -38,7 +38,7 @@ smallest_is = is_commit_in _ _ smallest_commit
 pub whole_commit : commit_in (tree_line ++ (parent_line ++ (parent_line ++ codes "author A <a@x> 100 -0130\ncommitter <> 0 +0000\nsig a b\n c\n\nhi"))) ≡ Some (record {
   tree = empty;
   parents = empty ∷ empty ∷ [];
-  author = record { before = codes "A "; between = codes "a@x"; seconds = 100; sign = Minus; zone = codes "0130" };
+  author = record { name = codes "A "; email = codes "a@x"; seconds = 100; sign = Minus; zone = codes "0130" };
   committer = nobody;
   headers = record { key = codes "sig"; value = codes "a b"; more = codes "c" ∷ [] } ∷ [];
   message = Some (codes "hi");

@@ -1,15 +1,7 @@
-pub mod Splits
-pub mod LineLemmas
-pub mod IdentLemmas
-pub mod JudgingLemmas
-pub mod RowLemmas
-pub mod FieldLemmas
+pub mod ParentLemmas
 pub mod CommitLemmas
-pub mod HeadersLemmas
 pub mod WholeLemmas
 pub mod ReadLemmas
 pub mod WritingLemmas
-pub mod PartingLemmas
-pub mod TestLemmas
 pub mod CommitInLemmas
 pub mod Examples

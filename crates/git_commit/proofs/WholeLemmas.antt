@@ -1,39 +1,26 @@
 -- A commit is read in one way.
-use Rattle.std.proofs.Common.{◌≡◌, inr, ℕ, List, [], ◌∷◌, ◌++◌, map, refl, sym, ap, subst, ◌∙◌, arith, codes, append_assoc, Option, Some, None}
+use Rattle.std.proofs.Common.{◌≡◌, inr, ℕ, List, [], ◌∷◌, ◌++◌, map, refl, sym, ap, ◌∙◌, arith, codes, append_assoc, Option}
 use Rattle.std.specs.List.{AllByRecursion, flat_map}
 use Rattle.hex.specs.Hex.{encode_lower}
 use Rattle.git_name.specs.Name.{IsName}
 use Rattle.git_name.specs.declared.kind.Kind.TheVariants.{Commit}
-use Rattle.git_commit.specs.declared.fault.CommitFault.{CommitFault}
-use Rattle.git_commit.specs.Line.{IsLine, ended, ending}
-use Rattle.git_commit.specs.Ident.{IdentValue, IsIdentValue, spelled_ident}
-use Rattle.git_commit.specs.Header.{HeaderValue, NoHeader, IsHeader, header_lines}
-use Rattle.git_commit.specs.Commit.{CommitValue, IsCommit, name_line, parent_line, ident_line, commit_lines}
-use Rattle.git_commit.specs.Judging.{Grammar, AreRight, IsFirstFault}
+use Rattle.git_header.specs.declared.fault.HeaderFault.{HeaderFault}
+use Rattle.git_header.specs.Line.{IsLine, ended, ending}
+use Rattle.git_header.specs.Ident.{IdentValue, IsIdentValue, spelled_ident}
+use Rattle.git_header.specs.Header.{HeaderValue, NoHeader, IsHeader, header_lines}
+use Rattle.git_commit.specs.Commit.{CommitValue, IsCommit, parent_line, commit_lines}
+use Rattle.git_header.specs.Value.{name_line, ident_line}
+use Rattle.git_header.specs.Judging.{AreRight, IsFirstFault}
 use Rattle.git_commit.specs.Fault.{Place, First, AfterTree, AfterAuthor, Further, commit_grammar, IsCommitFault}
-use Rattle.git_commit.specs.Row.{parents_in, AreParents, headers_in, AreHeaders}
-use Rattle.git_commit.proofs.Splits.{same_rest, heads}
-use Rattle.git_commit.proofs.IdentLemmas.{ident_unique}
-use Rattle.git_commit.proofs.RowLemmas.{headers_unique}
-use Rattle.git_commit.proofs.JudgingLemmas.{right_lines, fault_behind, same_lines}
-use Rattle.git_commit.proofs.FieldLemmas.{differ, one_line, lines_push}
-use Rattle.git_commit.proofs.CommitLemmas.{sound_commit, commit_right, last_place, name_same, parents_right}
+use Rattle.git_header.proofs.Splits.{same_rest, heads}
+use Rattle.git_header.proofs.RowLemmas.{headers_unique}
+use Rattle.git_header.proofs.JudgingLemmas.{same_lines}
+use Rattle.git_header.proofs.FieldLemmas.{differ, one_line, lines_push}
+use Rattle.git_commit.proofs.CommitLemmas.{sound_commit, commit_right, last_place, parents_right}
+use Rattle.git_header.proofs.ReadLemmas.{same_ending, same_ident, fault_later, go_on, IsRead}
+use Rattle.git_header.proofs.ValueLemmas.{name_same}
 
 -- ---- read line by line
-
--- what was read are right lines, which lead to a place
-pub record IsRead {P F : Type 0} (g : Grammar P F) (start : P) (bytes : List ℕ) (lines : List (List ℕ)) (place : P) (rest : List ℕ) : Type 0 where
-  pub right : AreRight g start lines place
-  pub parts : bytes ≡ flat_map ended lines ++ rest
-
-pub go_on : {P F : Type 0} (g : Grammar P F) (start : P) (bytes : List ℕ) (lines more : List (List ℕ)) (p q : P) (rest after : List ℕ) → IsRead g start bytes lines p rest → AreRight g p more q → rest ≡ flat_map ended more ++ after → IsRead g start bytes (lines ++ more) q after
-go_on g start bytes lines more p q rest after read right parts = record {
-  right = right_lines g start p q lines more read.right right;
-  parts = lines_push lines more bytes rest after read.parts parts;
-}
-
-pub fault_later : {P F : Type 0} (g : Grammar P F) (start : P) (why : F) (bytes : List ℕ) (lines : List (List ℕ)) (p : P) (rest : List ℕ) → IsRead g start bytes lines p rest → IsFirstFault g p why rest → IsFirstFault g start why bytes
-fault_later g start why bytes lines p rest read wrong = fault_behind g start p why lines rest bytes read.right read.parts wrong
 
 abbrev pub Read : List ℕ → List (List ℕ) → Place → List ℕ → Type 0
 Read bytes lines place rest = IsRead commit_grammar First bytes lines place rest
@@ -41,7 +28,7 @@ Read bytes lines place rest = IsRead commit_grammar First bytes lines place rest
 pub read_on : (bytes : List ℕ) (lines more : List (List ℕ)) (p q : Place) (rest after : List ℕ) → Read bytes lines p rest → AreRight commit_grammar p more q → rest ≡ flat_map ended more ++ after → Read bytes (lines ++ more) q after
 read_on bytes lines more p q rest after read right parts = go_on commit_grammar First bytes lines more p q rest after read right parts
 
-pub read_fault : (why : CommitFault) (bytes : List ℕ) (lines : List (List ℕ)) (p : Place) (rest : List ℕ) → Read bytes lines p rest → IsFirstFault commit_grammar p why rest → IsCommitFault why bytes
+pub read_fault : (why : HeaderFault) (bytes : List ℕ) (lines : List (List ℕ)) (p : Place) (rest : List ℕ) → Read bytes lines p rest → IsFirstFault commit_grammar p why rest → IsCommitFault why bytes
 read_fault why bytes lines p rest read wrong = fault_later commit_grammar First why bytes lines p rest read wrong
 
 abbrev tree_line : List ℕ → List ℕ
@@ -59,9 +46,8 @@ read_tree bytes tree rest is line = record {
   parts = one_line (tree_line tree) rest bytes line.parts;
 }
 
-pub read_parents : (bytes part rest after : List ℕ) (lines : List (List ℕ)) → Read bytes lines AfterTree rest → AreParents part → rest ≡ part ++ after → Read bytes (lines ++ map parent_line (parents_in part)) AfterTree after
-read_parents bytes part rest after lines read row parts =
-    read_on bytes lines (map parent_line (parents_in part)) AfterTree AfterTree rest after read (parents_right (parents_in part) row.each) (parts ∙ ap (λ (t : List ℕ). t ++ after) row.spelling)
+pub read_parents : (bytes rest after : List ℕ) (names lines : List (List ℕ)) → Read bytes lines AfterTree rest → AllByRecursion IsName names → rest ≡ flat_map ended (map parent_line names) ++ after → Read bytes (lines ++ map parent_line names) AfterTree after
+read_parents bytes rest after names lines read are parts = read_on bytes lines (map parent_line names) AfterTree AfterTree rest after read (parents_right names are) parts
 
 pub read_author : (bytes rest after : List ℕ) (ident : IdentValue) (lines : List (List ℕ)) → Read bytes lines AfterTree rest → IsIdentValue ident → IsLine (author_line ident) after rest → Read bytes (lines ++ author_line ident ∷ []) AfterAuthor after
 read_author bytes rest after ident lines read is line =
@@ -74,25 +60,17 @@ read_committer bytes rest after ident lines read is line =
 regrouped : (t a c : List ℕ) (ps hs : List (List ℕ)) → (((t ∷ []) ++ ps) ++ a ∷ []) ++ c ∷ [] ++ hs ≡ t ∷ (ps ++ a ∷ c ∷ hs)
 regrouped t a c ps hs = simp append_assoc
 
-pub read_whole : (bytes part rest after : List ℕ) (v : CommitValue) → IsName v.tree → AllByRecursion IsName v.parents → IsIdentValue v.author → IsIdentValue v.committer
+pub read_whole : (bytes rest : List ℕ) (v : CommitValue) → IsName v.tree → AllByRecursion IsName v.parents → IsIdentValue v.author → IsIdentValue v.committer
     → Read bytes ((((tree_line v.tree ∷ []) ++ map parent_line v.parents) ++ author_line v.author ∷ []) ++ committer_line v.committer ∷ []) (Further NoHeader) rest
-    → AreHeaders Commit part → v.headers ≡ headers_in part → rest ≡ part ++ after → after ≡ ending v.message → IsCommit v bytes
-read_whole bytes part rest after v tree parents author committer read row headers parts ends = record {
-  right = record { tree = tree; parents = parents; author = author; committer = committer; headers = subst (AllByRecursion (IsHeader Commit)) (sym headers) row.each };
+    → AllByRecursion (IsHeader Commit) v.headers → rest ≡ flat_map ended (flat_map header_lines v.headers) ++ ending v.message → IsCommit v bytes
+read_whole bytes rest v tree parents author committer read headers parts = record {
+  right = record { tree = tree; parents = parents; author = author; committer = committer; headers = headers };
   spelling =
-      lines_push ((((tree_line v.tree ∷ []) ++ map parent_line v.parents) ++ author_line v.author ∷ []) ++ committer_line v.committer ∷ []) (flat_map header_lines v.headers) bytes rest after read.parts
-      (parts ∙ ap (λ (t : List ℕ). t ++ after) (row.spelling ∙ ap (λ (h : List HeaderValue). flat_map ended (flat_map header_lines h)) (sym headers)))
-      ∙ ap (λ (ls : List (List ℕ)). flat_map ended ls ++ after) (regrouped (tree_line v.tree) (author_line v.author) (committer_line v.committer) (map parent_line v.parents) (flat_map header_lines v.headers))
-      ∙ ap (λ (t : List ℕ). flat_map ended (commit_lines v) ++ t) ends;
+      lines_push ((((tree_line v.tree ∷ []) ++ map parent_line v.parents) ++ author_line v.author ∷ []) ++ committer_line v.committer ∷ []) (flat_map header_lines v.headers) bytes rest (ending v.message) read.parts parts
+      ∙ ap (λ (ls : List (List ℕ)). flat_map ended ls ++ ending v.message) (regrouped (tree_line v.tree) (author_line v.author) (committer_line v.committer) (map parent_line v.parents) (flat_map header_lines v.headers));
 }
 
 -- ---- one value
-
-pub same_ending : (m n : Option (List ℕ)) → ending m ≡ ending n → m ≡ n
-same_ending None None e = refl
-same_ending None (Some n) e = let no_such : ⊥ = cc in absurd no_such
-same_ending (Some m) None e = let no_such : ⊥ = cc in absurd no_such
-same_ending (Some m) (Some n) e = let same : m ≡ n = cc in ap (λ (t : List ℕ). Some t) same
 
 same_parents : (ps qs : List (List ℕ)) (a b : IdentValue) (x y : List (List ℕ)) → AllByRecursion IsName ps → AllByRecursion IsName qs → map parent_line ps ++ author_line a ∷ x ≡ map parent_line qs ++ author_line b ∷ y
     → (ps ≡ qs) × (author_line a ≡ author_line b) × (x ≡ y)
@@ -111,10 +89,6 @@ same_parents (n ∷ ps) (m ∷ qs) a b x y p q e =
 
 abbrev made : List ℕ → List (List ℕ) → IdentValue → IdentValue → List HeaderValue → Option (List ℕ) → CommitValue
 made tree parents author committer headers message = record { tree = tree; parents = parents; author = author; committer = committer; headers = headers; message = message }
-
-pub same_ident : (word : List ℕ) (a b : IdentValue) → IsIdentValue a → IsIdentValue b → ident_line word a ≡ ident_line word b → a ≡ b
-same_ident word a b is_a is_b same =
-    sym (ident_unique (spelled_ident a) a b (record { right = is_a; spelling = refl }) (record { right = is_b; spelling = same_rest word (spelled_ident a) (spelled_ident b) same }))
 
 -- bytes are one commit at the most
 pub one_commit : (bytes : List ℕ) (v w : CommitValue) → IsCommit v bytes → IsCommit w bytes → v ≡ w

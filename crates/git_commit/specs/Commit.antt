@@ -1,12 +1,12 @@
 -- Which bytes are which commit (git-cat-file(1), git-commit-tree(1); the exact form is own).
 use Rattle.std.specs.Prelude.{◌≡◌, ℕ, List, ◌∷◌, ◌++◌, map, codes, Option}
 use Rattle.std.specs.List.{flat_map, AllByRecursion}
-use Rattle.hex.specs.Hex.{encode_lower}
 use Rattle.git_name.specs.Name.{IsName}
 use Rattle.git_name.specs.declared.kind.Kind.TheVariants.{Commit}
-use Rattle.git_commit.specs.Ident.{IdentValue, IsIdentValue, spelled_ident}
-use Rattle.git_commit.specs.Header.{HeaderValue, IsHeader, header_lines}
-use Rattle.git_commit.specs.Line.{ended, ending}
+use Rattle.git_header.specs.Ident.{IdentValue, IsIdentValue}
+use Rattle.git_header.specs.Header.{HeaderValue, IsHeader, header_lines}
+use Rattle.git_header.specs.Value.{ident_line, name_line}
+use Rattle.git_header.specs.Line.{ended, ending}
 
 -- a commit, without where it lies in memory; no message and an empty one are two values
 pub record CommitValue : Type 0 where
@@ -25,16 +25,8 @@ pub record IsCommitValue (commit : CommitValue) : Type 0 where
   pub committer : IsIdentValue commit.committer
   pub headers : AllByRecursion (IsHeader Commit) commit.headers
 
--- a word and a name
-abbrev pub name_line : List ℕ → List ℕ → List ℕ
-name_line word name = word ++ encode_lower name
-
 abbrev pub parent_line : List ℕ → List ℕ
 parent_line name = name_line (codes "parent ") name
-
--- a word and an ident
-abbrev pub ident_line : List ℕ → IdentValue → List ℕ
-ident_line word ident = word ++ spelled_ident ident
 
 -- the lines of the header, in order
 abbrev pub commit_lines : CommitValue → List (List ℕ)

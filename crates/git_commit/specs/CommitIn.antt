@@ -1,28 +1,19 @@
 -- The commit that bytes are, found by tests, for models that compute (own). It says what `IsCommit`
 -- says, as the law `tests_find_the_commit` states.
-use Rattle.std.specs.Prelude.{ℕ, ◌&&◌, Bool, List, [], map, drop, length, get_or, Option, None, Some, if◌then◌else◌}
+use Rattle.std.specs.Prelude.{ℕ, ◌&&◌, Bool, List, map, drop, length, Option, None, Some, if◌then◌else◌}
 use Rattle.std.specs.List.{list_all, take_while}
 use Rattle.std.specs.Str.{bytes_eq}
-use Rattle.git_name.specs.Name.{name_in}
 use Rattle.git_name.specs.declared.kind.Kind.TheVariants.{Commit}
 use Rattle.git_commit.specs.Commit.{CommitValue, spelled_commit}
 use Rattle.git_commit.specs.Fault.{is_parent}
-use Rattle.git_commit.specs.IdentIn.{ident_in}
-use Rattle.git_commit.specs.Parting.{header_part, message_part}
-use Rattle.git_commit.specs.Row.{name_or_none, gather}
-use Rattle.git_commit.specs.Tests.{is_name, is_ident, is_header}
+use Rattle.git_header.specs.IdentIn.{ident_in}
+use Rattle.git_header.specs.Parting.{line_at, name_behind, header_part, message_part}
+use Rattle.git_header.specs.Row.{gather}
+use Rattle.git_header.specs.Tests.{is_name, is_ident, is_header}
 
 -- the test of a commit's parts
 abbrev pub is_commit : CommitValue → Bool
 is_commit commit = is_name commit.tree && list_all is_name commit.parents && is_ident commit.author && is_ident commit.committer && list_all (is_header Commit) commit.headers
-
--- the line at a place, or an empty one
-abbrev pub line_at : ℕ → List (List ℕ) → List ℕ
-line_at place lines = get_or lines place []
-
--- the name behind a word of so many bytes
-abbrev pub name_behind : ℕ → List ℕ → List ℕ
-name_behind len line = name_or_none (name_in (drop len line))
 
 -- the parts that lines and a message are, if they are those of a commit at all
 abbrev pub commit_from : List (List ℕ) → Option (List ℕ) → CommitValue

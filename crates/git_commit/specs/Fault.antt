@@ -1,40 +1,12 @@
 -- Which fault bytes have that are no commit (own): that of the first faulty line.
-use Rattle.std.specs.Prelude.{◌≡◌, ◌⊎◌, ℕ, List, ◌++◌, codes, ◌==◌, slice_index, if◌then◌else◌, Bool}
-use Rattle.hex.specs.Hex.{encode_lower}
-use Rattle.git_name.specs.Name.{IsName}
+use Rattle.std.specs.Prelude.{◌⊎◌, ℕ, List, codes, ◌==◌, slice_index, if◌then◌else◌, Bool}
 use Rattle.git_name.specs.declared.kind.Kind.TheVariants.{Commit}
-use Rattle.git_commit.specs.declared.fault.CommitFault.{CommitFault}
-use Rattle.git_commit.specs.declared.fault.CommitFault.TheVariants as fault
-use Rattle.git_commit.specs.Line.{Lacks, IsLine, IsNoWord, Begins}
-use Rattle.git_commit.specs.Ident.{IdentValue, IsIdent}
-use Rattle.git_commit.specs.Header.{HeaderPlace, NoHeader, SomeHeader, header_grammar}
-use Rattle.git_commit.specs.Judging.{Grammar, IsFirstFault}
-
--- the text is the digits of a name
-abbrev pub IsNameText : List ℕ → Type 0
-IsNameText text = (name : List ℕ) × IsName name × (text ≡ encode_lower name)
-
--- the text is an ident
-abbrev pub IsIdentLine : List ℕ → Type 0
-IsIdentLine text = (ident : IdentValue) × IsIdent ident text
-
--- the line is the word and a right value behind it
-pub record Holds (word : List ℕ) (IsValue : List ℕ → Type 0) (line : List ℕ) : Type 0 where
-  pub value : List ℕ
-  pub spelling : line ≡ word ++ value
-  pub is : IsValue value
-
--- a line with no zero byte that begins with the word, and the value behind it is wrong
-pub record IsWrong (word : List ℕ) (IsValue : List ℕ → Type 0) (text : List ℕ) : Type 0 where
-  pub value : List ℕ
-  pub after : List ℕ
-  pub is : IsLine (word ++ value) after text
-  pub plain : Lacks 0 (word ++ value)
-  pub wrong : IsValue value → ⊥
-
--- why the text begins with no line of the word and a right value
-abbrev pub IsNoValue : List ℕ → (List ℕ → Type 0) → CommitFault → CommitFault → List ℕ → Type 0
-IsNoValue word IsValue form why text = IsNoWord word why text ⊎ ((why ≡ form) × IsWrong word IsValue text)
+use Rattle.git_header.specs.declared.fault.HeaderFault.{HeaderFault}
+use Rattle.git_header.specs.declared.fault.HeaderFault.TheVariants as fault
+use Rattle.git_header.specs.Line.{Begins}
+use Rattle.git_header.specs.Header.{HeaderPlace, NoHeader, SomeHeader, header_grammar}
+use Rattle.git_header.specs.Value.{IsIdentLine, IsNameText, Holds}
+use Rattle.git_header.specs.Judging.{Grammar, IsFirstFault}
 
 -- the places of a commit's header
 pub data Place : Type 0 where
@@ -76,14 +48,14 @@ place_after AfterAuthor line = Further NoHeader
 place_after (Further place) line = Further SomeHeader
 
 -- the fault of a line of a wrong form
-abbrev pub form_fault : Place → List ℕ → CommitFault
+abbrev pub form_fault : Place → List ℕ → HeaderFault
 form_fault First line = fault.Name
 form_fault AfterTree line = if is_parent line then fault.Name else fault.Ident
 form_fault AfterAuthor line = fault.Ident
 form_fault (Further place) line = fault.HeaderLine
 
 -- what may stand in a commit's header
-abbrev pub commit_grammar : Grammar Place CommitFault
+abbrev pub commit_grammar : Grammar Place HeaderFault
 commit_grammar = record {
   Stands = MayStand;
   Right = IsRight;
@@ -96,5 +68,5 @@ commit_grammar = record {
 }
 
 -- the fault of bytes that are no commit
-abbrev pub IsCommitFault : CommitFault → List ℕ → Type 0
+abbrev pub IsCommitFault : HeaderFault → List ℕ → Type 0
 IsCommitFault why bytes = IsFirstFault commit_grammar First why bytes

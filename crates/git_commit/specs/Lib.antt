@@ -1,16 +1,6 @@
 pub mod Commit
 pub mod Fault
-pub mod Header
-pub mod Ident
-pub mod Judging
-pub mod Line
-pub mod Row
-pub mod View
-pub mod Lent
+pub mod Parents
 pub mod Left
-pub mod More
 pub mod Whole
-pub mod Parting
-pub mod IdentIn
-pub mod Tests
 pub mod CommitIn

@@ -1,16 +1,17 @@
 -- What a commit that is lent from its bytes stands for.
+use Rattle.git_header.specs.Left.{headers_left}
+use Rattle.git_header.specs.Lent.{message_of}
+use Rattle.git_header.specs.View.{ident_of}
 use Rattle.git_commit.specs.declared.commit.Commit.{Commit}
 use Rattle.git_commit.specs.Commit.{CommitValue}
-use Rattle.git_commit.specs.Lent.{message_of}
-use Rattle.git_commit.specs.Row.{parents_in, headers_in}
-use Rattle.git_commit.specs.View.{ident_of}
+use Rattle.git_commit.specs.Left.{parents_left}
 
 abbrev pub commit_of : Commit → CommitValue
 commit_of commit = record {
   tree = commit.tree;
-  parents = parents_in commit.parents.now;
+  parents = parents_left commit.parents;
   author = ident_of commit.author;
   committer = ident_of commit.committer;
-  headers = headers_in commit.headers.now;
+  headers = headers_left commit.headers;
   message = message_of commit.message;
 }

@@ -1,28 +1,20 @@
 ghost use Rattle.std.specs.Prelude.{◌≡◌, IfOk, IfErr, IsOkAnd};
-ghost use Rattle.std.proofs.Props.{props};
-ghost use Rattle.git_name.specs.declared.kind.Kind.TheVariants.{Commit as OfCommit};
-ghost use Rattle.git_commit.specs.Row.{AreParents, AreHeaders};
 
 use crate::fault::CommitFault;
-use crate::field::take_fields;
-use crate::headers::Headers;
-use crate::ident::Ident;
-use crate::line::message_in;
-use crate::parents::{Parents, take_parents};
-use crate::value::{take_ident, take_name};
-use git_name::{Kind, Name};
+use crate::header::Headers;
+use crate::parents::Parents;
+use git_header::{Ident, take_ident, take_name};
+use git_name::Name;
 
 /// A commit, lent from its bytes.
 #[derive(Clone, Copy, Debug)]
 pub struct Commit<'a> {
     tree: Name,
-    parents: &'a [u8],
+    parents: Parents<'a>,
     author: Ident<'a>,
     committer: Ident<'a>,
-    headers: &'a [u8],
+    headers: Headers<'a>,
     message: Option<&'a [u8]>,
-    pub ghost parents_are: { AreParents parents.now } by { Prim.hlevel props },
-    pub ghost headers_are: { AreHeaders OfCommit headers.now } by { Prim.hlevel props },
 }
 
 impl<'a> Commit<'a> {
@@ -32,9 +24,10 @@ impl<'a> Commit<'a> {
     ghost use Rattle.git_commit.specs.CommitIn.{commit_in};
     ghost use Rattle.git_commit.specs.Commit.{CommitValue, IsCommit};
     ghost use Rattle.git_commit.specs.Fault.{IsCommitFault};
-    ghost use Rattle.git_commit.specs.View.{ident_of};
-    ghost use Rattle.git_commit.specs.Left.{parents_left, headers_left};
-    ghost use Rattle.git_commit.specs.Lent.{message_of};
+    ghost use Rattle.git_header.specs.View.{ident_of};
+    ghost use Rattle.git_commit.specs.Left.{parents_left};
+    ghost use Rattle.git_header.specs.Left.{headers_left};
+    ghost use Rattle.git_header.specs.Lent.{message_of};
 
     // The parts of a commit, each read in turn.
     fn parts_of(bytes: &'a [u8]) -> Result<Commit<'a>, CommitFault>
@@ -45,23 +38,10 @@ impl<'a> Commit<'a> {
             Ok(taken) => taken,
             Err(fault) => return Err(fault),
         };
-        let (parents, rest) = match take_parents(rest) {
-            Ok(taken) => taken,
-            Err(fault) => return Err(fault),
-        };
-        let (author, rest) = match take_ident(b"author ", rest) {
-            Ok(taken) => taken,
-            Err(fault) => return Err(fault),
-        };
-        let (committer, rest) = match take_ident(b"committer ", rest) {
-            Ok(taken) => taken,
-            Err(fault) => return Err(fault),
-        };
-        let (headers, rest) = match take_fields(Kind::Commit, rest) {
-            Ok(taken) => taken,
-            Err(fault) => return Err(fault),
-        };
-        let message = message_in(rest);
+        let (parents, rest) = Parents::take(rest)?;
+        let (author, rest) = take_ident(b"author ", rest)?;
+        let (committer, rest) = take_ident(b"committer ", rest)?;
+        let (headers, message) = Headers::take(rest)?;
         Ok(Commit {
             tree,
             parents,
@@ -97,7 +77,7 @@ impl<'a> Commit<'a> {
     pub fn parents(&self) -> Parents<'a>
         ensures { parents_left result ≡ (commit_of self.now).parents }
     {
-        Parents::new(self.parents)
+        self.parents
     }
 
     /// Who wrote it, and when.
@@ -118,7 +98,7 @@ impl<'a> Commit<'a> {
     pub fn headers(&self) -> Headers<'a>
         ensures { headers_left result ≡ (commit_of self.now).headers }
     {
-        Headers::new(self.headers)
+        self.headers
     }
 
     /// The message. None and an empty one are two commits.

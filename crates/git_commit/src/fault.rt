@@ -1,21 +1,4 @@
-use thiserror::Error;
+use git_header::HeaderFault;
 
 /// Why bytes are no commit: the fault of the first faulty line.
-#[derive(Clone, Copy, Debug, PartialEq, Eq, Error)]
-pub enum CommitFault {
-    /// A line that may not stand there, or headers that end too early.
-    #[error("a header line stands out of order, or is missing")]
-    HeaderOrder,
-    /// No name of an object stands where one is demanded.
-    #[error("a header line holds no object name")]
-    Name,
-    /// No ident stands where one is demanded.
-    #[error("a header line holds no ident")]
-    Ident,
-    /// A line with no line feed behind it, or a further header of a wrong form.
-    #[error("a header line has a wrong form")]
-    HeaderLine,
-    /// A zero byte in a header line.
-    #[error("a header line holds a zero byte")]
-    ZeroByte,
-}
+pub type CommitFault = HeaderFault;

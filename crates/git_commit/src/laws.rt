@@ -1,9 +1,9 @@
 ghost use Rattle.std.specs.Prelude.{◌≡◌, List, ℕ, Some};
-ghost use Rattle.git_commit.specs.declared.fault.CommitFault.{CommitFault};
+ghost use Rattle.git_header.specs.declared.fault.HeaderFault.{HeaderFault};
 ghost use Rattle.git_commit.specs.Commit.{CommitValue, IsCommit};
 ghost use Rattle.git_commit.specs.CommitIn.{commit_in};
 ghost use Rattle.git_commit.specs.Fault.{IsCommitFault};
-ghost use Rattle.git_commit.specs.Ident.{IdentValue, IsIdent};
+ghost use Rattle.git_header.specs.Ident.{IdentValue, IsIdent};
 
 /// A law, and no work: bytes are one commit at the most, and a text is one ident at the most.
 pub fn one_value()
@@ -13,8 +13,8 @@ pub fn one_value()
 
 /// A law, and no work: bytes have one fault at the most, and a commit has none.
 pub fn one_fault()
-    ensures one { (bytes : List ℕ) (f g : CommitFault) → IsCommitFault f bytes → IsCommitFault g bytes → f ≡ g }
-    ensures none { (bytes : List ℕ) (v : CommitValue) (f : CommitFault) → IsCommit v bytes → IsCommitFault f bytes → ⊥ }
+    ensures one { (bytes : List ℕ) (f g : HeaderFault) → IsCommitFault f bytes → IsCommitFault g bytes → f ≡ g }
+    ensures none { (bytes : List ℕ) (v : CommitValue) (f : HeaderFault) → IsCommit v bytes → IsCommitFault f bytes → ⊥ }
 {}
 
 /// A law, and no work: the tests that models compute by find exactly the commit that bytes are.

@@ -4,26 +4,19 @@
 #![tactic(auto)]
 
 mod commit;
-pub mod fault;
-pub mod field;
+mod fault;
 mod header;
-mod headers;
-pub mod ident;
 mod laws;
-pub mod line;
-mod more;
 mod parents;
-pub mod value;
 mod writing;
 
 pub use crate::commit::Commit;
 pub use crate::fault::CommitFault;
-pub use crate::header::{Continuation, Header};
-pub use crate::headers::Headers;
-pub use crate::ident::{Ident, Sign};
+pub use crate::header::{Header, Headers};
 pub use crate::laws::{one_fault, one_value, tests_find_the_commit};
 pub use crate::parents::Parents;
 pub use crate::writing::write;
+pub use git_header::{Continuation, Ident, Sign};
 
 #[cfg(test)]
 mod tests;

@@ -1,12 +1,15 @@
-ghost use Rattle.std.specs.Prelude.{◌≡◌, ◌≢◌, ◌++◌, List, ℕ, IfOk, IfErr, codes};
+ghost use Rattle.std.specs.Prelude.{◌≡◌, ◌≢◌, ◌++◌, List, ℕ, IfOk, IfErr, codes, map};
+ghost use Rattle.std.specs.List.{flat_map, AllByRecursion};
+ghost use Rattle.git_name.specs.Name.{IsName};
+ghost use Rattle.git_header.specs.Line.{ended};
+ghost use Rattle.git_commit.specs.Commit.{parent_line};
 ghost use Rattle.std.proofs.Props.{props};
-ghost use Rattle.git_commit.specs.Row.{AreParents};
-ghost use Rattle.git_commit.specs.Judging.{IsFirstFault};
+ghost use Rattle.git_commit.specs.Parents.{AreParents};
+ghost use Rattle.git_header.specs.Judging.{IsFirstFault};
 ghost use Rattle.git_commit.specs.Fault.{AfterTree, commit_grammar};
 
 use crate::fault::CommitFault;
-use crate::line::after_word;
-use crate::value::take_name;
+use git_header::{after_word, take_name};
 use git_name::Name;
 
 /// The names of a commit's parents, in order, lent from its bytes.
@@ -18,7 +21,7 @@ pub struct Parents<'a> {
 
 impl<'a> Iterator for Parents<'a> {
     ghost use Rattle.std.specs.Iterator.{YieldsFirst, item_count};
-    ghost use Rattle.git_commit.specs.Row.{parents_in};
+    ghost use Rattle.git_commit.specs.Parents.{parents_in};
 
     type Item = Name;
 
@@ -38,21 +41,8 @@ impl<'a> Iterator for Parents<'a> {
     }
 }
 
-impl<'a> Parents<'a> {
-    ghost use Rattle.git_commit.specs.Left.{parents_left};
-    ghost use Rattle.git_commit.specs.Row.{parents_in};
-
-    // The parents that the bytes are.
-    pub(crate) fn new(bytes: &'a [u8]) -> Parents<'a>
-        requires { AreParents bytes.now }
-        ensures { parents_left result ≡ parents_in bytes.now }
-    {
-        Parents { rest: bytes }
-    }
-}
-
 // The lines of parents at the front, and what stands behind them.
-pub(crate) fn take_parents(text: &[u8]) -> Result<(&[u8], &[u8]), CommitFault>
+fn take_parents(text: &[u8]) -> Result<(&[u8], &[u8]), CommitFault>
     ensures found { IfOk result (λ p. AreParents p.0.now) }
     ensures parts { IfOk result (λ p. text.now ≡ p.0.now ++ p.1.now) }
     ensures last { IfOk result (λ p. (line : List ℕ) → p.1.now ≢ codes "parent " ++ line) }
@@ -67,4 +57,19 @@ pub(crate) fn take_parents(text: &[u8]) -> Result<(&[u8], &[u8]), CommitFault>
         rest = after;
     }
     Ok((&text[..text.len() - rest.len()], rest))
+}
+
+impl<'a> Parents<'a> {
+    ghost use Rattle.git_commit.specs.Left.{parents_left};
+
+    // The parents at the front, and what stands behind them.
+    pub(crate) fn take(text: &'a [u8]) -> Result<(Parents<'a>, &'a [u8]), CommitFault>
+        ensures names { IfOk result (λ p. AllByRecursion IsName (parents_left p.0)) }
+        ensures found { IfOk result (λ p. text.now ≡ flat_map ended (map parent_line (parents_left p.0)) ++ p.1.now) }
+        ensures last { IfOk result (λ p. (line : List ℕ) → p.1.now ≢ codes "parent " ++ line) }
+        ensures exact { IfErr result (λ why. IsFirstFault commit_grammar AfterTree why text.now) }
+    {
+        let (lines, rest) = take_parents(text)?;
+        Ok((Parents { rest: lines }, rest))
+    }
 }

@@ -1,15 +1,16 @@
 ghost use Rattle.std.specs.Prelude.{◌≡◌, ◌++◌, List, ℕ, map, codes, OnOk, IfOk};
 ghost use Rattle.std.specs.List.{flat_map};
-ghost use Rattle.git_commit.specs.Line.{ended, ending};
-ghost use Rattle.git_commit.specs.Header.{continued, header_lines};
-ghost use Rattle.git_commit.specs.Commit.{name_line, parent_line, ident_line, spelled_commit};
-ghost use Rattle.git_commit.specs.View.{ident_of};
-ghost use Rattle.git_commit.specs.Ident.{spelled_time, spelled_ident};
-ghost use Rattle.git_commit.specs.Left.{header_of, more_left};
-ghost use Rattle.git_commit.specs.Lent.{message_of};
+ghost use Rattle.git_header.specs.Line.{ended, ending};
+ghost use Rattle.git_header.specs.Header.{continued, header_lines};
+ghost use Rattle.git_header.specs.Value.{name_line, ident_line};
+ghost use Rattle.git_commit.specs.Commit.{parent_line, spelled_commit};
+ghost use Rattle.git_header.specs.View.{ident_of};
+ghost use Rattle.git_header.specs.Ident.{spelled_time, spelled_ident};
+ghost use Rattle.git_header.specs.Left.{header_of, more_left};
+ghost use Rattle.git_header.specs.Lent.{message_of};
 
-use crate::header::{Continuation, Header};
-use crate::ident::{Ident, Sign};
+use crate::header::Header;
+use git_header::{Continuation, Ident, Sign};
 use git_name::Name;
 use itoa::Buffer;
 use std::alloc::{AllocError, Global};
@@ -53,9 +54,9 @@ fn put_time(out: &mut Vec<u8>, seconds: u64, sign: Sign, zone: &[u8]) -> Result<
 fn put_ident(out: &mut Vec<u8>, ident: Ident<'_>) -> Result<(), AllocError>
     ensures { OnOk result (out.new.items ≡ out.old.items ++ spelled_ident (ident_of ident.entry)) }
 {
-    out.extend_from_slice(ident.before())?;
+    out.extend_from_slice(ident.name())?;
     out.push(b'<')?;
-    out.extend_from_slice(ident.between())?;
+    out.extend_from_slice(ident.email())?;
     out.push(b'>')?;
     put_time(out, ident.seconds(), ident.sign(), ident.zone())
 }

@@ -7,10 +7,10 @@ use Rattle.git_name.specs.Number.{number_in}
 use Rattle.git_name.specs.declared.kind.Kind.TheVariants as kind
 use Rattle.git_tree.specs.Row.{entries_in, first_entries}
 use Rattle.git_tree.specs.TreeIn.{tree_in}
-use Rattle.git_commit.specs.declared.ident.Sign.TheVariants.{Plus}
+use Rattle.git_header.specs.declared.ident.Sign.TheVariants.{Plus}
 use Rattle.git_commit.specs.CommitIn.{commit_in}
-use Rattle.git_commit.specs.Parting.{header_part, message_part}
-use Rattle.git_commit.specs.Row.{lines_in, gather}
+use Rattle.git_header.specs.Parting.{header_part, message_part}
+use Rattle.git_header.specs.Row.{lines_in, gather}
 use Rattle.git_object.specs.Links.{link_to}
 use Rattle.git_object.specs.Object.{BlobValue, TreeOf}
 use Rattle.git_object.specs.ObjectIn.{object_in, links_in}
@@ -46,7 +46,7 @@ pub whole_tag : tag_in (object_line ++ codes "type tag\ntag v\ntagger A <a@x> 10
   object = blob;
   kind = kind.Tag;
   name = codes "v";
-  tagger = Some (record { before = codes "A "; between = codes "a@x"; seconds = 100; sign = Plus; zone = codes "0000" });
+  tagger = Some (record { name = codes "A "; email = codes "a@x"; seconds = 100; sign = Plus; zone = codes "0000" });
   headers = record { key = codes "sig"; value = codes "a b"; more = codes "c" ∷ [] } ∷ [];
   message = Some (codes "hi\n");
 })

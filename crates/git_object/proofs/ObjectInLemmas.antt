@@ -6,7 +6,8 @@ use Rattle.std.specs.Result.{result_ok}
 use Rattle.git_name.specs.declared.kind.Kind.{Kind}
 use Rattle.git_name.specs.declared.kind.Kind.TheVariants as kind
 use Rattle.git_tree.proofs.TestLemmas.{tree_in_is, is_tree_in}
-use Rattle.git_commit.proofs.CommitInLemmas.{commit_in_is, is_commit_in, none_of}
+use Rattle.git_commit.proofs.CommitInLemmas.{commit_in_is, is_commit_in}
+use Rattle.git_header.proofs.FoundLemmas.{none_of}
 use Rattle.git_object.specs.declared.object.ObjectFault.{ObjectFault}
 use Rattle.git_object.specs.Object.{ObjectValue, BlobValue, TreeOf, CommitOf, TagOf, IsObject, IsObjectFault}
 use Rattle.git_object.specs.ObjectIn.{object_in, links_or_none, links_in}

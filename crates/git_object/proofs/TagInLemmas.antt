@@ -13,16 +13,16 @@ use Rattle.git_name.specs.Kind.{type_word}
 use Rattle.git_name.specs.Name.{name_in}
 use Rattle.git_name.specs.declared.kind.Kind.{Kind}
 use Rattle.git_name.specs.declared.kind.Kind.TheVariants as kind
-use Rattle.git_commit.specs.Header.{HeaderValue, IsHeader, header_lines}
-use Rattle.git_commit.specs.Ident.{IdentValue}
-use Rattle.git_commit.specs.IdentIn.{ident_in}
-use Rattle.git_commit.specs.Parting.{header_part, message_part}
-use Rattle.git_commit.specs.Row.{name_or_none, Gathered, gather}
-use Rattle.git_commit.specs.Tests.{is_header}
-use Rattle.git_commit.proofs.CommitInLemmas.{name_again, ident_again, chosen, chosen_is, none_of}
-use Rattle.git_commit.proofs.PartingLemmas.{header_found, message_found}
-use Rattle.git_commit.proofs.RowLemmas.{gather_headers}
-use Rattle.git_commit.proofs.TestLemmas.{all_decides, name_decides, plain_decides, ident_decides, header_decides}
+use Rattle.git_header.specs.Header.{HeaderValue, IsHeader, header_lines}
+use Rattle.git_header.specs.Ident.{IdentValue}
+use Rattle.git_header.specs.IdentIn.{ident_in}
+use Rattle.git_header.specs.Parting.{header_part, message_part}
+use Rattle.git_header.specs.Row.{name_or_none, Gathered, gather}
+use Rattle.git_header.specs.Tests.{is_header}
+use Rattle.git_header.proofs.FoundLemmas.{name_again, ident_again, chosen, chosen_is, none_of}
+use Rattle.git_header.proofs.PartingLemmas.{header_found, message_found}
+use Rattle.git_header.proofs.RowLemmas.{gather_headers}
+use Rattle.git_header.proofs.TestLemmas.{all_decides, name_decides, plain_decides, ident_decides, header_decides}
 use Rattle.git_object.specs.declared.fault.TagFault.{TagFault}
 use Rattle.git_object.specs.Fault.{AtObject, tag_grammar, IsTagFault}
 use Rattle.git_object.specs.Tag.{TagValue, IsTagName, IsTagger, IsTagValue, IsTag, tagger_lines, tag_lines, spelled_tag}

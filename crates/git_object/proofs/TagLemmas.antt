@@ -8,18 +8,18 @@ use Rattle.hex.specs.Hex.{encode_lower}
 use Rattle.git_name.specs.Kind.{type_word}
 use Rattle.git_name.specs.declared.kind.Kind.{Kind}
 use Rattle.git_name.specs.declared.kind.Kind.TheVariants as kind
-use Rattle.git_commit.specs.declared.fault.CommitFault.{CommitFault}
-use Rattle.git_commit.specs.declared.fault.CommitFault.TheVariants as line
-use Rattle.git_commit.specs.Line.{Lacks, IsEnding, IsLine, IsNoWord, Begins, ended}
-use Rattle.git_commit.specs.Ident.{IdentValue, IsIdentValue, spelled_ident}
-use Rattle.git_commit.specs.Header.{HeaderValue, IsHeader, IsHeaderLine, HasOwnWord, HeaderPlace, NoHeader, SomeHeader, header_grammar, header_lines}
-use Rattle.git_commit.specs.Commit.{ident_line}
-use Rattle.git_commit.specs.Judging.{AreRight, HoldsZero, Misplaced, Malformed, IsBroken, Early, Unended, Bad, IsFirstFault}
-use Rattle.git_commit.specs.Fault.{IsNameText, IsIdentLine, Holds, IsNoValue}
-use Rattle.git_commit.proofs.Splits.{heads}
-use Rattle.git_commit.proofs.JudgingLemmas.{IsUsual, IsSound, IsWithin, right_within, broken_within, fault_here}
-use Rattle.git_commit.proofs.FieldLemmas.{all_right, differ, headers_right, place_behind}
-use Rattle.git_commit.proofs.CommitLemmas.{name_value_lacks, ident_value_no_zero, ident_value_no_end, further_no_zero, further_no_end, further_some, further_stands, word_broken, value_broken, held_value, drop_front}
+use Rattle.git_header.specs.declared.fault.HeaderFault.{HeaderFault}
+use Rattle.git_header.specs.declared.fault.HeaderFault.TheVariants as line
+use Rattle.git_header.specs.Line.{Lacks, IsEnding, IsLine, IsNoWord, Begins, ended}
+use Rattle.git_header.specs.Ident.{IdentValue, IsIdentValue, spelled_ident}
+use Rattle.git_header.specs.Header.{HeaderValue, IsHeader, IsHeaderLine, HasOwnWord, HeaderPlace, NoHeader, SomeHeader, header_grammar, header_lines}
+use Rattle.git_header.specs.Value.{ident_line, IsNameText, IsIdentLine, Holds, IsNoValue}
+use Rattle.git_header.specs.Judging.{AreRight, HoldsZero, Misplaced, Malformed, IsBroken, Early, Unended, Bad, IsFirstFault}
+use Rattle.git_header.proofs.Splits.{heads}
+use Rattle.git_header.proofs.JudgingLemmas.{IsUsual, IsSound, IsWithin, right_within, broken_within, fault_here}
+use Rattle.git_header.proofs.FieldLemmas.{all_right, differ, headers_right, place_behind}
+use Rattle.git_header.proofs.ValueLemmas.{name_value_lacks, ident_value_no_zero, ident_value_no_end, word_broken, value_broken, held_value, drop_front}
+use Rattle.git_header.proofs.FurtherLemmas.{further_no_zero, further_no_end, further_some, further_stands}
 use Rattle.git_object.specs.declared.fault.TagFault.TheVariants as fault
 use Rattle.git_object.specs.Tag.{TagValue, IsTagName, IsTagger, IsTagValue, tagger_lines, tag_lines}
 use Rattle.git_object.specs.Fault.{tag_fault, IsTypeWord, TagPlace, AtObject, AtType, AtName, AtTagger, Further, tag_grammar, is_tagger, place_after, form_fault}
@@ -103,11 +103,11 @@ header_no_tagger text h (rest, is) = further_stands kind.Tag NoHeader text h (re
 
 -- ---- where a demanded line is lacking
 
-pub object_fault : (why : CommitFault) (text : List ℕ) → IsNoValue (codes "object ") IsNameText line.Name why text → IsFirstFault tag_grammar AtObject (tag_fault why) text
+pub object_fault : (why : HeaderFault) (text : List ℕ) → IsNoValue (codes "object ") IsNameText line.Name why text → IsFirstFault tag_grammar AtObject (tag_fault why) text
 object_fault why text wrong = fault_here tag_grammar AtObject (tag_fault why) text (value_broken tag_fault tag_grammar usual_tag why line.Name AtObject (codes "object ") text IsNameText wrong
     (λ _ may. may) (λ o. Bad o.line o.after o.is (Misplaced o.plain o.other refl)) (λ value. (value, refl)) (λ value h. held_value (codes "object ") value IsNameText h) (λ value. refl))
 
-pub type_fault : (why : CommitFault) (text : List ℕ) → IsNoWord (codes "type ") why text → IsFirstFault tag_grammar AtType (tag_fault why) text
+pub type_fault : (why : HeaderFault) (text : List ℕ) → IsNoWord (codes "type ") why text → IsFirstFault tag_grammar AtType (tag_fault why) text
 type_fault why text wrong = fault_here tag_grammar AtType (tag_fault why) text (word_broken tag_fault tag_grammar usual_tag why AtType (codes "type ") text wrong
     (λ _ may. may) (λ o. Bad o.line o.after o.is (Misplaced o.plain o.other refl)))
 
@@ -115,7 +115,7 @@ pub type_wrong : (text word rest : List ℕ) → IsLine (codes "type " ++ word) 
 type_wrong text word rest is plain none = fault_here tag_grammar AtType fault.TypeWord text
     (Bad (codes "type " ++ word) rest is (Malformed plain (word, refl) (λ h. let held = held_value (codes "type ") word IsTypeWord h in none held.0 held.1) refl))
 
-pub name_fault : (why : CommitFault) (text : List ℕ) → IsNoWord (codes "tag ") why text → IsFirstFault tag_grammar AtName (tag_fault why) text
+pub name_fault : (why : HeaderFault) (text : List ℕ) → IsNoWord (codes "tag ") why text → IsFirstFault tag_grammar AtName (tag_fault why) text
 name_fault why text wrong = fault_here tag_grammar AtName (tag_fault why) text (word_broken tag_fault tag_grammar usual_tag why AtName (codes "tag ") text wrong
     (λ _ may. may) (λ o. Bad o.line o.after o.is (Misplaced o.plain o.other refl)))
 
@@ -138,7 +138,7 @@ tagger_value : (value : List ℕ) → tag_grammar.Right AtTagger (codes "tagger 
 tagger_value value (inl h) = held_value (codes "tagger ") value IsIdentLine h
 tagger_value value (inr h) = absurd (header_no_tagger (codes "tagger " ++ value) h (value, refl))
 
-pub tagger_fault : (why : CommitFault) (text x : List ℕ) → text ≡ codes "tagger " ++ x → IsNoValue (codes "tagger ") IsIdentLine line.Ident why text → IsFirstFault tag_grammar AtTagger (tag_fault why) text
+pub tagger_fault : (why : HeaderFault) (text x : List ℕ) → text ≡ codes "tagger " ++ x → IsNoValue (codes "tagger ") IsIdentLine line.Ident why text → IsFirstFault tag_grammar AtTagger (tag_fault why) text
 tagger_fault why text x begins wrong = fault_here tag_grammar AtTagger (tag_fault why) text (value_broken tag_fault tag_grammar usual_tag why line.Ident AtTagger (codes "tagger ") text IsIdentLine wrong
     (λ ends _. tagger_goes_on text x begins ends) (λ o. absurd (o.other (drop_front (codes "tagger ") o.line o.after x (tagger_lacks 10 (omega arith)) (sym o.is.parts ∙ begins)))) (λ value. inl (value, refl)) tagger_value (λ value. refl))
 
@@ -165,7 +165,7 @@ right_at_tagger l lines q right =
     (inr right.0, subst (λ t. AreRight tag_grammar t lines (Further q)) (sym next) (right_within tag_fault Further (header_grammar kind.Tag) tag_grammar further_within SomeHeader q lines right.1))
 
 -- a fault of further headers, where no tagger stands
-pub fault_at_tagger : (why : CommitFault) (text : List ℕ) → ((x : List ℕ) → text ≢ codes "tagger " ++ x) → IsFirstFault (header_grammar kind.Tag) NoHeader why text → IsFirstFault tag_grammar AtTagger (tag_fault why) text
+pub fault_at_tagger : (why : HeaderFault) (text : List ℕ) → ((x : List ℕ) → text ≢ codes "tagger " ++ x) → IsFirstFault (header_grammar kind.Tag) NoHeader why text → IsFirstFault tag_grammar AtTagger (tag_fault why) text
 fault_at_tagger why text fresh wrong = from wrong.lines wrong.place wrong.rest wrong.right wrong.parts wrong.broken
   where
     other : (l a : List ℕ) → IsLine l a text → Begins (codes "tagger ") l → ⊥
@@ -182,7 +182,7 @@ fault_at_tagger why text fresh wrong = from wrong.lines wrong.place wrong.rest w
     not_right l a is r (inl h) = other l a is (h.value, h.spelling)
     not_right l a is r (inr right) = r right
 
-    here : (f : CommitFault) → IsBroken (header_grammar kind.Tag) f NoHeader text → IsBroken tag_grammar (tag_fault f) AtTagger text
+    here : (f : HeaderFault) → IsBroken (header_grammar kind.Tag) f NoHeader text → IsBroken tag_grammar (tag_fault f) AtTagger text
     here f (Early ends n e) = Early ends n (ap tag_fault e)
     here f (Unended some lacks e) = Unended some lacks (ap tag_fault e)
     here f (Bad l a is (HoldsZero z e)) = Bad l a is (HoldsZero z (ap tag_fault e))

@@ -1,5 +1,5 @@
 -- A tag is read in one way.
-use Rattle.std.proofs.Common.{◌≡◌, ◌≢◌, ℕ, List, [], ◌∷◌, ◌++◌, refl, sym, ap, subst, ◌∙◌, codes, Option, Some, None, Result, Ok, Err}
+use Rattle.std.proofs.Common.{◌≡◌, ◌≢◌, ℕ, List, [], ◌∷◌, ◌++◌, refl, sym, ap, ◌∙◌, codes, Option, Some, None, Result, Ok, Err}
 use Rattle.std.specs.Prelude.{IfOk, IfErr, IsOkAnd}
 use Rattle.std.specs.List.{AllByRecursion, flat_map}
 use Rattle.hex.specs.Hex.{encode_lower}
@@ -7,19 +7,18 @@ use Rattle.git_name.specs.Kind.{type_word}
 use Rattle.git_name.specs.Name.{IsName}
 use Rattle.git_name.specs.declared.kind.Kind.{Kind}
 use Rattle.git_name.specs.declared.kind.Kind.TheVariants as kind
-use Rattle.git_commit.specs.declared.fault.CommitFault.{CommitFault}
-use Rattle.git_commit.specs.Line.{IsLine, ended, ending}
-use Rattle.git_commit.specs.Ident.{IdentValue, spelled_ident}
-use Rattle.git_commit.specs.Header.{HeaderValue, NoHeader, IsHeader, header_grammar, header_lines}
-use Rattle.git_commit.specs.Commit.{name_line, ident_line}
-use Rattle.git_commit.specs.Judging.{IsFirstFault}
-use Rattle.git_commit.specs.Row.{headers_in, AreHeaders}
-use Rattle.git_commit.proofs.Splits.{same_rest}
-use Rattle.git_commit.proofs.RowLemmas.{headers_unique}
-use Rattle.git_commit.proofs.JudgingLemmas.{fault_within, same_lines, no_fault, one_fault}
-use Rattle.git_commit.proofs.FieldLemmas.{one_line, lines_push}
-use Rattle.git_commit.proofs.CommitLemmas.{name_same}
-use Rattle.git_commit.proofs.WholeLemmas.{IsRead, go_on, same_ending, same_ident}
+use Rattle.git_header.specs.declared.fault.HeaderFault.{HeaderFault}
+use Rattle.git_header.specs.Line.{IsLine, ended, ending}
+use Rattle.git_header.specs.Ident.{IdentValue, spelled_ident}
+use Rattle.git_header.specs.Header.{HeaderValue, NoHeader, IsHeader, header_grammar, header_lines}
+use Rattle.git_header.specs.Value.{name_line, ident_line}
+use Rattle.git_header.specs.Judging.{IsFirstFault}
+use Rattle.git_header.proofs.Splits.{same_rest}
+use Rattle.git_header.proofs.RowLemmas.{headers_unique}
+use Rattle.git_header.proofs.JudgingLemmas.{fault_within, same_lines, no_fault, one_fault}
+use Rattle.git_header.proofs.FieldLemmas.{one_line, lines_push}
+use Rattle.git_header.proofs.ValueLemmas.{name_same}
+use Rattle.git_header.proofs.ReadLemmas.{IsRead, go_on, same_ending, same_ident}
 use Rattle.git_object.specs.declared.fault.TagFault.{TagFault}
 use Rattle.git_object.specs.Tag.{TagValue, IsTagName, IsTagger, IsTag, type_line, tag_line, tagger_lines, tag_lines}
 use Rattle.git_object.specs.TagIn.{kind_in}
@@ -62,19 +61,17 @@ read_tagger bytes rest after (Some ident) lines read is parts =
     go_on tag_grammar AtObject bytes lines (tagger_line ident ∷ []) AtTagger (Further NoHeader) rest after read (tagger_right ident [] (Further NoHeader) is refl) parts
 
 -- a fault of further headers, behind a tagger or where it is missing
-pub headers_fault : (why : CommitFault) (text : List ℕ) (t : Option IdentValue) → (t ≡ None → (x : List ℕ) → text ≢ codes "tagger " ++ x) → IsFirstFault (header_grammar kind.Tag) NoHeader why text → IsFirstFault tag_grammar (behind t) (tag_fault why) text
+pub headers_fault : (why : HeaderFault) (text : List ℕ) (t : Option IdentValue) → (t ≡ None → (x : List ℕ) → text ≢ codes "tagger " ++ x) → IsFirstFault (header_grammar kind.Tag) NoHeader why text → IsFirstFault tag_grammar (behind t) (tag_fault why) text
 headers_fault why text None fresh wrong = fault_at_tagger why text (fresh refl) wrong
 headers_fault why text (Some ident) fresh wrong = fault_within tag_fault Further (header_grammar kind.Tag) tag_grammar further_within NoHeader why text wrong
 
-pub read_whole : (bytes part rest after : List ℕ) (v : TagValue) → IsName v.object → IsTagName v.name → IsTagger v.tagger
+pub read_whole : (bytes rest : List ℕ) (v : TagValue) → IsName v.object → IsTagName v.name → IsTagger v.tagger
     → Read bytes (((object_line v.object ∷ [] ++ type_line v.kind ∷ []) ++ tag_line v.name ∷ []) ++ tagger_lines v.tagger) (behind v.tagger) rest
-    → AreHeaders kind.Tag part → v.headers ≡ headers_in part → rest ≡ part ++ after → after ≡ ending v.message → IsTag v bytes
-read_whole bytes part rest after v object name tagger read row headers parts ends = record {
-  right = record { object = object; name = name; tagger = tagger; headers = subst (AllByRecursion (IsHeader kind.Tag)) (sym headers) row.each };
+    → AllByRecursion (IsHeader kind.Tag) v.headers → rest ≡ flat_map ended (flat_map header_lines v.headers) ++ ending v.message → IsTag v bytes
+read_whole bytes rest v object name tagger read headers parts = record {
+  right = record { object = object; name = name; tagger = tagger; headers = headers };
   spelling =
-      lines_push (((object_line v.object ∷ [] ++ type_line v.kind ∷ []) ++ tag_line v.name ∷ []) ++ tagger_lines v.tagger) (flat_map header_lines v.headers) bytes rest after read.parts
-      (parts ∙ ap (λ (t : List ℕ). t ++ after) (row.spelling ∙ ap (λ (h : List HeaderValue). flat_map ended (flat_map header_lines h)) (sym headers)))
-      ∙ ap (λ (t : List ℕ). flat_map ended (tag_lines v) ++ t) ends;
+      lines_push (((object_line v.object ∷ [] ++ type_line v.kind ∷ []) ++ tag_line v.name ∷ []) ++ tagger_lines v.tagger) (flat_map header_lines v.headers) bytes rest (ending v.message) read.parts parts;
 }
 
 -- ---- one value

@@ -4,18 +4,18 @@ use Rattle.std.specs.Str.{bytes_eq}
 use Rattle.git_name.specs.Kind.{type_word}
 use Rattle.git_name.specs.declared.kind.Kind.{Kind}
 use Rattle.git_name.specs.declared.kind.Kind.TheVariants.{Tag}
-use Rattle.git_commit.specs.declared.fault.CommitFault.{CommitFault}
-use Rattle.git_commit.specs.declared.fault.CommitFault.TheVariants as line
-use Rattle.git_commit.specs.Line.{Begins}
-use Rattle.git_commit.specs.Fault.{IsNameText, IsIdentLine, Holds}
-use Rattle.git_commit.specs.Header.{HeaderPlace, NoHeader, SomeHeader, header_grammar}
-use Rattle.git_commit.specs.Judging.{Grammar, IsFirstFault}
+use Rattle.git_header.specs.declared.fault.HeaderFault.{HeaderFault}
+use Rattle.git_header.specs.declared.fault.HeaderFault.TheVariants as line
+use Rattle.git_header.specs.Line.{Begins}
+use Rattle.git_header.specs.Value.{IsNameText, IsIdentLine, Holds}
+use Rattle.git_header.specs.Header.{HeaderPlace, NoHeader, SomeHeader, header_grammar}
+use Rattle.git_header.specs.Judging.{Grammar, IsFirstFault}
 use Rattle.git_object.specs.declared.fault.TagFault.{TagFault}
 use Rattle.git_object.specs.declared.fault.TagFault.TheVariants as fault
 use Rattle.git_object.specs.Tag.{IsTagName}
 
 -- the faults that a tag's lines have as a commit's
-abbrev pub tag_fault : CommitFault → TagFault
+abbrev pub tag_fault : HeaderFault → TagFault
 tag_fault line.HeaderOrder = fault.HeaderOrder
 tag_fault line.Name = fault.Name
 tag_fault line.Ident = fault.Ident

@@ -10,4 +10,3 @@ pub mod Left
 pub mod Rest
 pub mod TagIn
 pub mod ObjectIn
-pub mod TagHeader

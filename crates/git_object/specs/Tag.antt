@@ -5,10 +5,10 @@ use Rattle.git_name.specs.Kind.{type_word}
 use Rattle.git_name.specs.Name.{IsName}
 use Rattle.git_name.specs.declared.kind.Kind.{Kind}
 use Rattle.git_name.specs.declared.kind.Kind.TheVariants.{Tag}
-use Rattle.git_commit.specs.Commit.{name_line, ident_line}
-use Rattle.git_commit.specs.Header.{HeaderValue, IsHeader, IsPlain, header_lines}
-use Rattle.git_commit.specs.Ident.{IdentValue, IsIdentValue}
-use Rattle.git_commit.specs.Line.{ended, ending}
+use Rattle.git_header.specs.Value.{name_line, ident_line}
+use Rattle.git_header.specs.Header.{HeaderValue, IsHeader, IsPlain, header_lines}
+use Rattle.git_header.specs.Ident.{IdentValue, IsIdentValue}
+use Rattle.git_header.specs.Line.{ended, ending}
 
 -- a tag, without where it lies in memory; no message and an empty one are two values
 pub record TagValue : Type 0 where

@@ -5,12 +5,11 @@ use Rattle.std.specs.List.{list_all}
 use Rattle.std.specs.Str.{bytes_eq}
 use Rattle.git_name.specs.declared.kind.Kind.{Kind}
 use Rattle.git_name.specs.declared.kind.Kind.TheVariants.{Blob, Tree, Commit, Tag}
-use Rattle.git_commit.specs.CommitIn.{line_at, name_behind}
-use Rattle.git_commit.specs.Ident.{IdentValue}
-use Rattle.git_commit.specs.IdentIn.{ident_in}
-use Rattle.git_commit.specs.Parting.{header_part, message_part}
-use Rattle.git_commit.specs.Row.{gather}
-use Rattle.git_commit.specs.Tests.{is_name, is_plain, is_ident, is_header}
+use Rattle.git_header.specs.Parting.{line_at, name_behind, header_part, message_part}
+use Rattle.git_header.specs.Ident.{IdentValue}
+use Rattle.git_header.specs.IdentIn.{ident_in}
+use Rattle.git_header.specs.Row.{gather}
+use Rattle.git_header.specs.Tests.{is_name, is_plain, is_ident, is_header}
 use Rattle.git_object.specs.Fault.{is_tagger}
 use Rattle.git_object.specs.Tag.{TagValue, spelled_tag}
 

@@ -1,8 +1,8 @@
 -- The value that a lent tagger stands for, without where it lies in memory.
 use Rattle.std.specs.Prelude.{Option, None, Some}
-use Rattle.git_commit.specs.declared.ident.Ident.{Ident}
-use Rattle.git_commit.specs.Ident.{IdentValue}
-use Rattle.git_commit.specs.View.{ident_of}
+use Rattle.git_header.specs.declared.ident.Ident.{Ident}
+use Rattle.git_header.specs.Ident.{IdentValue}
+use Rattle.git_header.specs.View.{ident_of}
 
 abbrev pub tagger_of : Option Ident → Option IdentValue
 tagger_of None = None

@@ -1,6 +1,6 @@
 -- What a tag that is lent from its bytes stands for.
-use Rattle.git_commit.specs.Lent.{message_of}
-use Rattle.git_commit.specs.Row.{headers_in}
+use Rattle.git_header.specs.Lent.{message_of}
+use Rattle.git_header.specs.Left.{headers_left}
 use Rattle.git_object.specs.declared.tag.Tag.{Tag}
 use Rattle.git_object.specs.Tag.{TagValue}
 use Rattle.git_object.specs.View.{tagger_of}
@@ -11,6 +11,6 @@ tag_of tag = record {
   kind = tag.kind;
   name = tag.name.now;
   tagger = tagger_of tag.tagger;
-  headers = headers_in tag.headers.now;
+  headers = headers_left tag.headers;
   message = message_of tag.message;
 }

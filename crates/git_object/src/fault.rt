@@ -1,6 +1,6 @@
 ghost use Rattle.std.specs.Prelude.{◌≡◌};
 
-use git_commit::CommitFault;
+use git_header::HeaderFault;
 use thiserror::Error;
 
 /// Why bytes are no tag: the fault of the first faulty line.
@@ -26,19 +26,19 @@ pub enum TagFault {
     TypeWord,
 }
 
-impl TagFault {
+// The fault of a line that a tag has as a commit does.
+impl From<HeaderFault> for TagFault {
     ghost use Rattle.git_object.specs.Fault.{tag_fault};
 
-    // The fault of a line that a tag has as a commit does.
-    pub(crate) fn of_line(fault: CommitFault) -> TagFault
-        ensures { result ≡ tag_fault fault }
-    {
+    ghost from_gives = { λ line fault. fault ≡ tag_fault line };
+
+    fn from(fault: HeaderFault) -> TagFault {
         match fault {
-            CommitFault::HeaderOrder => TagFault::HeaderOrder,
-            CommitFault::Name => TagFault::Name,
-            CommitFault::Ident => TagFault::Ident,
-            CommitFault::HeaderLine => TagFault::HeaderLine,
-            CommitFault::ZeroByte => TagFault::ZeroByte,
+            HeaderFault::HeaderOrder => TagFault::HeaderOrder,
+            HeaderFault::Name => TagFault::Name,
+            HeaderFault::Ident => TagFault::Ident,
+            HeaderFault::HeaderLine => TagFault::HeaderLine,
+            HeaderFault::ZeroByte => TagFault::ZeroByte,
         }
     }
 }

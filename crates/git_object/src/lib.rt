@@ -4,17 +4,17 @@
 #![tactic(auto)]
 
 mod fault;
+mod header;
 mod laws;
 mod link;
 mod linking;
 mod object;
 mod parts;
 mod tag;
-mod tag_header;
-mod tag_headers;
 mod walk;
 
 pub use crate::fault::TagFault;
+pub use crate::header::{TagHeader, TagHeaders};
 pub use crate::laws::{
     one_object, one_tag, one_tag_fault, tests_find_the_object, tests_find_the_tag,
 };
@@ -22,8 +22,6 @@ pub use crate::link::Link;
 pub use crate::linking::links;
 pub use crate::object::{Object, ObjectFault};
 pub use crate::tag::Tag;
-pub use crate::tag_header::TagHeader;
-pub use crate::tag_headers::TagHeaders;
 pub use crate::walk::Links;
 
 #[cfg(test)]

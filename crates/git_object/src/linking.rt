@@ -1,8 +1,6 @@
-ghost use Rattle.std.specs.Prelude.{◌≡◌, ◌≢◌, ◌∷◌, [], map, None};
+ghost use Rattle.std.specs.Prelude.{◌≡◌, ◌∷◌, [], map};
 ghost use Rattle.std.specs.List.{flat_map};
 ghost use Rattle.git_name.specs.declared.kind.Kind.TheVariants as kind;
-ghost use Rattle.git_tree.specs.Row.{entries_in};
-ghost use Rattle.git_tree.specs.TreeIn.{tree_in};
 ghost use Rattle.git_commit.specs.Whole.{commit_of};
 ghost use Rattle.git_object.specs.Whole.{tag_of};
 ghost use Rattle.git_object.specs.Held.{object_of};
@@ -15,7 +13,7 @@ use crate::tag::Tag;
 use crate::walk::Links;
 use git_commit::Commit;
 use git_name::Kind;
-use git_tree::entries;
+use git_tree::Entries;
 
 // The links of a blob.
 fn no_links<'a>() -> Links<'a>
@@ -28,14 +26,10 @@ fn no_links<'a>() -> Links<'a>
     }
 }
 
-// The links of the tree that the bytes are.
-fn links_of_tree(bytes: &[u8]) -> Links<'_>
-    requires { tree_in bytes.now ≢ None }
-    ensures { links_left result ≡ flat_map entry_links (entries_in bytes.now) }
+// The links of the tree of these entries.
+fn links_of_tree<'a>(entries: Entries<'a>) -> Links<'a>
+    ensures { links_left result ≡ flat_map entry_links entries.entry }
 {
-    let Ok(entries) = entries(bytes) else {
-        unreachable!();
-    };
     Links {
         first: None,
         parents: None,
@@ -78,7 +72,7 @@ pub fn links<'a>(object: &Object<'a>) -> Links<'a>
 {
     match &object.form {
         Form::Blob(_) => no_links(),
-        Form::Tree(bytes) => links_of_tree(bytes),
+        Form::Tree(entries) => links_of_tree(entries.copy()),
         Form::Commit(commit) => links_of_commit(commit),
         Form::Tag(tag) => links_of_tag(tag),
     }

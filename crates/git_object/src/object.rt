@@ -1,12 +1,10 @@
 ghost use Rattle.std.specs.Prelude.{◌≡◌, IfOk, IfErr, IsOkAnd};
-ghost use Rattle.std.proofs.Props.{props};
-ghost use Rattle.git_object.specs.Form.{IsRightForm};
 
 use crate::fault::TagFault;
 use crate::tag::Tag;
 use git_commit::{Commit, CommitFault};
 use git_name::Kind;
-use git_tree::{TreeFault, entries};
+use git_tree::{Entries, TreeFault, entries};
 use thiserror::Error;
 
 /// Why bytes are no object of a kind. Any bytes are a blob.
@@ -24,19 +22,18 @@ pub enum ObjectFault {
 }
 
 /// What the bytes of an object are, by its kind.
-#[derive(Clone, Copy, Debug)]
+#[derive(Debug, Drop)]
 pub(crate) enum Form<'a> {
     Blob(&'a [u8]),
-    Tree(&'a [u8]),
+    Tree(Entries<'a>),
     Commit(Commit<'a>),
     Tag(Tag<'a>),
 }
 
 /// An object, lent from its bytes. No value of this type has bytes that its kind refuses.
-#[derive(Clone, Copy, Debug)]
+#[derive(Debug, Drop)]
 pub struct Object<'a> {
     pub(crate) form: Form<'a>,
-    pub ghost right: { IsRightForm form } by { Prim.hlevel props },
 }
 
 impl<'a> Object<'a> {
@@ -56,8 +53,8 @@ impl<'a> Object<'a> {
                 form: Form::Blob(bytes),
             }),
             Kind::Tree => match entries(bytes) {
-                Ok(_) => Ok(Object {
-                    form: Form::Tree(bytes),
+                Ok(entries) => Ok(Object {
+                    form: Form::Tree(entries),
                 }),
                 Err(fault) => Err(ObjectFault::Tree(fault)),
             },

@@ -1,17 +1,15 @@
 ghost use Rattle.std.specs.Prelude.{◌≡◌, ◌≢◌, ◌++◌, List, ℕ, IfOk, IfErr, codes, None};
 ghost use Rattle.std.specs.List.{flat_map};
 ghost use Rattle.git_name.specs.Name.{IsName};
-ghost use Rattle.git_commit.specs.Commit.{name_line};
-ghost use Rattle.git_commit.specs.Line.{IsLine, ended};
-ghost use Rattle.git_commit.specs.Judging.{IsFirstFault};
+ghost use Rattle.git_header.specs.Value.{name_line};
+ghost use Rattle.git_header.specs.Line.{IsLine, ended};
+ghost use Rattle.git_header.specs.Judging.{IsFirstFault};
 ghost use Rattle.git_object.specs.Tag.{IsTagName, IsTagger, type_line, tag_line, tagger_lines};
 ghost use Rattle.git_object.specs.Fault.{AtObject, AtType, AtName, AtTagger, tag_grammar};
 ghost use Rattle.git_object.specs.View.{tagger_of};
 
 use crate::fault::TagFault;
-use git_commit::Ident;
-use git_commit::line::{after_word, take_value};
-use git_commit::value::{take_ident, take_name};
+use git_header::{Ident, after_word, take_ident, take_name, take_value};
 use git_name::{Kind, Name};
 
 // The name of the object in the first line, and what stands behind the line.
@@ -22,7 +20,7 @@ pub(crate) fn take_object(text: &[u8]) -> Result<(Name, &[u8]), TagFault>
 {
     match take_name(b"object ", text) {
         Ok(taken) => Ok(taken),
-        Err(fault) => Err(TagFault::of_line(fault)),
+        Err(fault) => Err(TagFault::from(fault)),
     }
 }
 
@@ -31,10 +29,7 @@ pub(crate) fn take_type(text: &[u8]) -> Result<(Kind, &[u8]), TagFault>
     ensures found { IfOk result (λ p. IsLine (type_line p.0) p.1.now text.now) }
     ensures exact { IfErr result (λ why. IsFirstFault tag_grammar AtType why text.now) }
 {
-    let (word, rest) = match take_value(b"type ", text) {
-        Ok(taken) => taken,
-        Err(fault) => return Err(TagFault::of_line(fault)),
-    };
+    let (word, rest) = take_value(b"type ", text)?;
     let Some(kind) = Kind::from_word(word) else {
         return Err(TagFault::TypeWord);
     };
@@ -47,10 +42,7 @@ pub(crate) fn take_tag_name(text: &[u8]) -> Result<(&[u8], &[u8]), TagFault>
     ensures found { IfOk result (λ p. IsLine (tag_line p.0.now) p.1.now text.now) }
     ensures exact { IfErr result (λ why. IsFirstFault tag_grammar AtName why text.now) }
 {
-    let (name, rest) = match take_value(b"tag ", text) {
-        Ok(taken) => taken,
-        Err(fault) => return Err(TagFault::of_line(fault)),
-    };
+    let (name, rest) = take_value(b"tag ", text)?;
     if name.is_empty() {
         return Err(TagFault::HeaderLine);
     }
@@ -67,8 +59,6 @@ pub(crate) fn take_tagger(text: &[u8]) -> Result<(Option<Ident<'_>>, &[u8]), Tag
     let Some(_) = after_word(b"tagger ", text) else {
         return Ok((None, text));
     };
-    match take_ident(b"tagger ", text) {
-        Ok(taken) => Ok((Some(taken.0), taken.1)),
-        Err(fault) => Err(TagFault::of_line(fault)),
-    }
+    let (tagger, rest) = take_ident(b"tagger ", text)?;
+    Ok((Some(tagger), rest))
 }

@@ -1,14 +1,9 @@
 ghost use Rattle.std.specs.Prelude.{◌≡◌, IfOk, IfErr, IsOkAnd};
-ghost use Rattle.std.proofs.Props.{props};
-ghost use Rattle.git_name.specs.declared.kind.Kind.TheVariants.{Tag as OfTag};
-ghost use Rattle.git_commit.specs.Row.{AreHeaders};
 
 use crate::fault::TagFault;
+use crate::header::TagHeaders;
 use crate::parts::{take_object, take_tag_name, take_tagger, take_type};
-use crate::tag_headers::TagHeaders;
-use git_commit::Ident;
-use git_commit::field::take_fields;
-use git_commit::line::message_in;
+use git_header::Ident;
 use git_name::{Kind, Name};
 
 /// A tag, lent from its bytes.
@@ -18,20 +13,19 @@ pub struct Tag<'a> {
     kind: Kind,
     name: &'a [u8],
     tagger: Option<Ident<'a>>,
-    headers: &'a [u8],
+    headers: TagHeaders<'a>,
     message: Option<&'a [u8]>,
-    pub ghost headers_are: { AreHeaders OfTag headers.now } by { Prim.hlevel props },
 }
 
 impl<'a> Tag<'a> {
     ghost use Rattle.std.specs.Option.{option_map};
     ghost use Rattle.std.specs.Result.{result_ok};
-    ghost use Rattle.git_commit.specs.Lent.{message_of};
+    ghost use Rattle.git_header.specs.Lent.{message_of};
     ghost use Rattle.git_object.specs.Whole.{tag_of};
     ghost use Rattle.git_object.specs.Tag.{TagValue, IsTag};
     ghost use Rattle.git_object.specs.TagIn.{tag_in};
     ghost use Rattle.git_object.specs.Fault.{IsTagFault};
-    ghost use Rattle.git_object.specs.TagHeader.{tag_headers_left};
+    ghost use Rattle.git_header.specs.Left.{headers_left};
     ghost use Rattle.git_object.specs.View.{tagger_of};
 
     // The parts of a tag, each read in turn.
@@ -43,23 +37,10 @@ impl<'a> Tag<'a> {
             Ok(taken) => taken,
             Err(fault) => return Err(fault),
         };
-        let (kind, rest) = match take_type(rest) {
-            Ok(taken) => taken,
-            Err(fault) => return Err(fault),
-        };
-        let (name, rest) = match take_tag_name(rest) {
-            Ok(taken) => taken,
-            Err(fault) => return Err(fault),
-        };
-        let (tagger, rest) = match take_tagger(rest) {
-            Ok(taken) => taken,
-            Err(fault) => return Err(fault),
-        };
-        let (headers, rest) = match take_fields(Kind::Tag, rest) {
-            Ok(taken) => taken,
-            Err(fault) => return Err(TagFault::of_line(fault)),
-        };
-        let message = message_in(rest);
+        let (kind, rest) = take_type(rest)?;
+        let (name, rest) = take_tag_name(rest)?;
+        let (tagger, rest) = take_tagger(rest)?;
+        let (headers, message) = TagHeaders::take(rest)?;
         Ok(Tag {
             object,
             kind,
@@ -114,9 +95,9 @@ impl<'a> Tag<'a> {
 
     /// The further headers, in order.
     pub fn headers(&self) -> TagHeaders<'a>
-        ensures { tag_headers_left result ≡ (tag_of self.now).headers }
+        ensures { headers_left result ≡ (tag_of self.now).headers }
     {
-        TagHeaders::new(self.headers)
+        self.headers
     }
 
     /// The message. None and an empty one are two tags.

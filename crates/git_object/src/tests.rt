@@ -131,19 +131,7 @@ fn a_tag_gives_its_parts(rt: HostRuntime) -> Result<(), Fail> {
     assert!(rt; tag.name() == b"v1".as_slice());
     assert!(rt; tag.message() == Some(b"first tag\n".as_slice()));
     let tagger = tag.tagger().ok_or("no tagger")?;
-    assert!(rt; tagger.before() == b"Ada L ".as_slice());
-    Ok(())
-}
-
-#[test]
-fn an_old_tag_has_no_tagger_and_may_have_no_message(rt: HostRuntime) -> Result<(), Fail> {
-    let bytes = joined(rt.alloc(), &[OBJECT, TYPE, NAME])?;
-    let Ok(tag) = Tag::read(bytes.as_slice()) else {
-        assert!(rt; false, "no tag");
-        return Ok(());
-    };
-    assert!(rt; tag.tagger().is_none());
-    assert!(rt; tag.message().is_none());
+    assert!(rt; tagger.name() == b"Ada L ".as_slice());
     Ok(())
 }
 
@@ -181,7 +169,7 @@ fn a_tag_gives_its_further_headers(rt: HostRuntime) -> Result<(), Fail> {
 
 #[test]
 fn the_first_faulty_line_of_a_tag_decides(rt: HostRuntime) -> Result<(), Fail> {
-    let rows = [
+    const TURNS: &[([&str; 5], Option<TagFault>)] = &[
         ([OBJECT, TYPE, NAME, TAGGER, "\none\n"], None),
         ([OBJECT, TYPE, NAME, "", "\n\0"], None),
         ([OBJECT, TYPE, NAME, "x y\n", " more\n"], None),
@@ -242,9 +230,9 @@ fn the_first_faulty_line_of_a_tag_decides(rt: HostRuntime) -> Result<(), Fail> {
         ),
         ([OBJECT, "type \n", NAME, "", ""], Some(TagFault::TypeWord)),
     ];
-    for (parts, fault) in rows {
+    for (parts, fault) in TURNS {
         let bytes = joined(rt.alloc(), parts.as_slice())?;
-        assert!(rt; fault_of(bytes.as_slice()) == fault, "{parts:?}");
+        assert!(rt; fault_of(bytes.as_slice()) == *fault, "{parts:?}");
     }
     Ok(())
 }

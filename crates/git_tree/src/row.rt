@@ -33,6 +33,13 @@ impl<'a> Entries<'a> {
     {
         Entries { rest: bytes }
     }
+
+    /// The same entries, to be walked apart from these. It takes no memory.
+    pub fn copy(&self) -> Entries<'a>
+        ensures { result ≡ self.now }
+    {
+        Entries { rest: self.rest }
+    }
 }
 
 impl<'a> Iterator for Entries<'a> {

@@ -1,5 +1,5 @@
 use Rattle.std.proofs.Common.{sym}
-use Rattle.git_commit.proofs.IdentLemmas.{ident_unique}
+use Rattle.git_header.proofs.IdentLemmas.{ident_unique}
 use Rattle.git_commit.proofs.WholeLemmas.{one_commit}
 use Rattle.git_commit.proofs.laws.one_value.Goals as goal
 

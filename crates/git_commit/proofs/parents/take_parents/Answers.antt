@@ -1,4 +1,5 @@
-use Rattle.git_commit.proofs.RowLemmas.{front_of, parents_of}
+use Rattle.git_header.proofs.RowLemmas.{front_of}
+use Rattle.git_commit.proofs.ParentLemmas.{parents_of}
 use Rattle.git_commit.proofs.CommitLemmas.{parents_more, parents_fault}
 use Rattle.git_commit.proofs.parents.take_parents.Goals as goal
 

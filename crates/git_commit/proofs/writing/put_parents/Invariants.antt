@@ -1,6 +1,6 @@
 use Rattle.std.proofs.Common.{◌≡◌, ◌++◌, map, take}
 use Rattle.std.specs.List.{flat_map}
-use Rattle.git_commit.specs.Line.{ended}
+use Rattle.git_header.specs.Line.{ended}
 use Rattle.git_commit.specs.Commit.{parent_line}
 use Rattle.git_commit.proofs.writing.put_parents.Given as goal
 

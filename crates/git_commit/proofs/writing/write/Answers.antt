@@ -1,6 +1,6 @@
 use Rattle.std.proofs.Common.{codes}
-use Rattle.git_commit.specs.Commit.{name_line, ident_line}
-use Rattle.git_commit.specs.View.{ident_of}
+use Rattle.git_header.specs.Value.{name_line, ident_line}
+use Rattle.git_header.specs.View.{ident_of}
 use Rattle.git_commit.proofs.WritingLemmas.{written_whole}
 use Rattle.git_commit.proofs.writing.write.Goals as goal
 

@@ -1,8 +1,9 @@
-use Rattle.std.proofs.Common.{sym, subst}
-use Rattle.git_commit.specs.Judging.{IsFirstFault}
-use Rattle.git_object.specs.Fault.{AtTagger, tag_grammar}
+use Rattle.std.proofs.lemmas.Result.{err_from_is_err_and}
 use Rattle.git_object.proofs.TagLemmas.{tagger_fault}
 use Rattle.git_object.proofs.parts.take_tagger.Goals as goal
 
-pub returns-in-Err-clause-exact : goal.returns-in-Err-clause-exact
-returns-in-Err-clause-exact c = subst (λ w. IsFirstFault tag_grammar AtTagger w c.args.text.now) (sym c.of_line.ensures) (tagger_fault c.in-Err.fault c.args.text.now c.in-Some.field-0.now c.in-Some.ensures.found c.in-Err.ensures.exact)
+pub returns-in_err-tagger-clause-exact : goal.returns-in_err-tagger-clause-exact
+returns-in_err-tagger-clause-exact c =
+    let told = err_from_is_err_and c.from_residual.result c.from_residual.ensures.1 in
+    rw (told.1, told.2) (tagger_fault c.in_err-tagger.field-0.0 c.args.text.now c.in-Some.field-0.now c.in-Some.ensures.found c.in_err-tagger.ensures.exact
+    )

@@ -1,11 +1,11 @@
-use Rattle.std.proofs.Common.{sym, subst}
-use Rattle.git_commit.specs.Judging.{IsFirstFault}
-use Rattle.git_object.specs.Fault.{AtType, tag_grammar}
+use Rattle.std.proofs.lemmas.Result.{err_from_is_err_and}
 use Rattle.git_object.proofs.TagLemmas.{type_fault, type_wrong}
 use Rattle.git_object.proofs.parts.take_type.Goals as goal
 
-pub returns-in-Err-clause-exact : goal.returns-in-Err-clause-exact
-returns-in-Err-clause-exact c = subst (λ w. IsFirstFault tag_grammar AtType w c.args.text.now) (sym c.of_line.ensures) (type_fault c.in-Err.fault c.args.text.now c.in-Err.ensures.exact)
+pub returns-in_err-word-clause-exact : goal.returns-in_err-word-clause-exact
+returns-in_err-word-clause-exact c =
+    let told = err_from_is_err_and c.from_residual.result c.from_residual.ensures.1 in
+    rw (told.1, told.2) (type_fault c.in_err-word.field-0.0 c.args.text.now c.in_err-word.ensures.exact)
 
 pub returns-in_default-clause-exact : goal.returns-in_default-clause-exact
-returns-in_default-clause-exact c = type_wrong c.args.text.now c.in-Ok.taken.0.now c.in-Ok.taken.1.now c.in-Ok.ensures.found c.in-Ok.ensures.plain c.in_default.ensures.none
+returns-in_default-clause-exact c = type_wrong c.args.text.now c.in_ok-word.word.now c.in_ok-word.rest.now c.in_ok-word.ensures.found c.in_ok-word.ensures.plain c.in_default.ensures.none

@@ -1,6 +1,6 @@
 use Rattle.std.proofs.Common.{◌≡◌, length, ap, arith, suc, rules}
 use Rattle.std.proofs.lemmas.Grind.{common_steps}
-use Rattle.git_commit.specs.Row.{parents_in}
+use Rattle.git_commit.specs.Parents.{parents_in}
 use Rattle.git_commit.proofs.CommitLemmas.{parents_step, row_no_fault, row_none}
 use Rattle.git_commit.proofs.parents.ParentsIterator.next.Goals as goal
 

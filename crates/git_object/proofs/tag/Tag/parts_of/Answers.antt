@@ -1,42 +1,44 @@
-use Rattle.std.proofs.Common.{refl, sym, subst}
-use Rattle.git_commit.proofs.WholeLemmas.{fault_later}
-use Rattle.git_object.specs.Fault.{AtObject, AtType, AtName, AtTagger, tag_grammar, tag_fault, IsTagFault}
+use Rattle.std.proofs.lemmas.Result.{err_from_is_err_and}
+use Rattle.git_header.proofs.ReadLemmas.{fault_later}
+use Rattle.git_object.specs.Fault.{AtObject, AtType, AtName, AtTagger, tag_grammar, tag_fault}
 use Rattle.git_object.specs.View.{tagger_of}
 use Rattle.git_object.proofs.WholeLemmas.{read_object, read_type, read_name, read_tagger, read_whole, behind, headers_fault}
 use Rattle.git_object.proofs.tag.Tag.parts_of.Goals as goal
 
-pub returns-in-Err-take_type-clause-exact : goal.returns-in-Err-take_type-clause-exact
-returns-in-Err-take_type-clause-exact c =
+pub returns-in_err-kind-clause-exact : goal.returns-in_err-kind-clause-exact
+returns-in_err-kind-clause-exact c =
     let object = read_object c.args.bytes.now c.in-Ok.taken.0 c.in-Ok.taken.1.now c.in-Ok.ensures.name c.in-Ok.ensures.found in
-    fault_later tag_grammar AtObject c.in-Err-take_type.fault c.args.bytes.now _ AtType c.in-Ok.taken.1.now object c.in-Err-take_type.ensures.exact
+    let told = err_from_is_err_and c.from_residual.result c.from_residual.ensures.1 in
+    rw (told.1, told.2) (fault_later tag_grammar AtObject c.in_err-kind.field-0.0 c.args.bytes.now _ AtType c.in-Ok.taken.1.now object c.in_err-kind.ensures.exact)
 
-pub returns-in-Err-take_tag_name-clause-exact : goal.returns-in-Err-take_tag_name-clause-exact
-returns-in-Err-take_tag_name-clause-exact c =
+pub returns-in_err-name-clause-exact : goal.returns-in_err-name-clause-exact
+returns-in_err-name-clause-exact c =
     let object = read_object c.args.bytes.now c.in-Ok.taken.0 c.in-Ok.taken.1.now c.in-Ok.ensures.name c.in-Ok.ensures.found in
-    let typed = read_type c.args.bytes.now c.in-Ok.taken.1.now c.in-Ok-take_type.taken.1.now c.in-Ok-take_type.taken.0 _ object c.in-Ok-take_type.ensures.found in
-    fault_later tag_grammar AtObject c.in-Err-take_tag_name.fault c.args.bytes.now _ AtName c.in-Ok-take_type.taken.1.now typed c.in-Err-take_tag_name.ensures.exact
+    let typed = read_type c.args.bytes.now c.in-Ok.taken.1.now c.in_ok-kind.rest.now c.in_ok-kind.kind _ object c.in_ok-kind.ensures.found in
+    let told = err_from_is_err_and c.from_residual-in_err-name.result c.from_residual-in_err-name.ensures.1 in
+    rw (told.1, told.2) (fault_later tag_grammar AtObject c.in_err-name.field-0.0 c.args.bytes.now _ AtName c.in_ok-kind.rest.now typed c.in_err-name.ensures.exact)
 
-pub returns-in-Err-take_tagger-clause-exact : goal.returns-in-Err-take_tagger-clause-exact
-returns-in-Err-take_tagger-clause-exact c =
+pub returns-in_err-tagger-clause-exact : goal.returns-in_err-tagger-clause-exact
+returns-in_err-tagger-clause-exact c =
     let object = read_object c.args.bytes.now c.in-Ok.taken.0 c.in-Ok.taken.1.now c.in-Ok.ensures.name c.in-Ok.ensures.found in
-    let typed = read_type c.args.bytes.now c.in-Ok.taken.1.now c.in-Ok-take_type.taken.1.now c.in-Ok-take_type.taken.0 _ object c.in-Ok-take_type.ensures.found in
-    let named = read_name c.args.bytes.now c.in-Ok-take_type.taken.1.now c.in-Ok-take_tag_name.taken.1.now c.in-Ok-take_tag_name.taken.0.now _ typed c.in-Ok-take_tag_name.ensures.name c.in-Ok-take_tag_name.ensures.found in
-    fault_later tag_grammar AtObject c.in-Err-take_tagger.fault c.args.bytes.now _ AtTagger c.in-Ok-take_tag_name.taken.1.now named c.in-Err-take_tagger.ensures.exact
+    let typed = read_type c.args.bytes.now c.in-Ok.taken.1.now c.in_ok-kind.rest.now c.in_ok-kind.kind _ object c.in_ok-kind.ensures.found in
+    let named = read_name c.args.bytes.now c.in_ok-kind.rest.now c.in_ok-name.rest.now c.in_ok-name.name.now _ typed c.in_ok-name.ensures.name c.in_ok-name.ensures.found in
+    let told = err_from_is_err_and c.from_residual-in_err-tagger.result c.from_residual-in_err-tagger.ensures.1 in
+    rw (told.1, told.2) (fault_later tag_grammar AtObject c.in_err-tagger.field-0.0 c.args.bytes.now _ AtTagger c.in_ok-name.rest.now named c.in_err-tagger.ensures.exact)
 
-pub returns-in-Err-take_fields-clause-exact : goal.returns-in-Err-take_fields-clause-exact
-returns-in-Err-take_fields-clause-exact c =
+pub returns-in_err-headers-clause-exact : goal.returns-in_err-headers-clause-exact
+returns-in_err-headers-clause-exact c =
     let object = read_object c.args.bytes.now c.in-Ok.taken.0 c.in-Ok.taken.1.now c.in-Ok.ensures.name c.in-Ok.ensures.found in
-    let typed = read_type c.args.bytes.now c.in-Ok.taken.1.now c.in-Ok-take_type.taken.1.now c.in-Ok-take_type.taken.0 _ object c.in-Ok-take_type.ensures.found in
-    let named = read_name c.args.bytes.now c.in-Ok-take_type.taken.1.now c.in-Ok-take_tag_name.taken.1.now c.in-Ok-take_tag_name.taken.0.now _ typed c.in-Ok-take_tag_name.ensures.name c.in-Ok-take_tag_name.ensures.found in
-    let tagged = read_tagger c.args.bytes.now c.in-Ok-take_tag_name.taken.1.now c.in-Ok-take_tagger.taken.1.now (tagger_of c.in-Ok-take_tagger.taken.0) _ named c.in-Ok-take_tagger.ensures.ident c.in-Ok-take_tagger.ensures.parts in
-    subst (λ w. IsTagFault w c.args.bytes.now) (sym c.of_line.ensures)
-    (fault_later tag_grammar AtObject (tag_fault c.in-Err-take_fields.fault) c.args.bytes.now _ (behind (tagger_of c.in-Ok-take_tagger.taken.0)) c.in-Ok-take_tagger.taken.1.now tagged (headers_fault c.in-Err-take_fields.fault c.in-Ok-take_tagger.taken.1.now (tagger_of c.in-Ok-take_tagger.taken.0) c.in-Ok-take_tagger.ensures.none c.in-Err-take_fields.ensures.exact))
+    let typed = read_type c.args.bytes.now c.in-Ok.taken.1.now c.in_ok-kind.rest.now c.in_ok-kind.kind _ object c.in_ok-kind.ensures.found in
+    let named = read_name c.args.bytes.now c.in_ok-kind.rest.now c.in_ok-name.rest.now c.in_ok-name.name.now _ typed c.in_ok-name.ensures.name c.in_ok-name.ensures.found in
+    let tagged = read_tagger c.args.bytes.now c.in_ok-name.rest.now c.in_ok-tagger.rest.now (tagger_of c.in_ok-tagger.tagger) _ named c.in_ok-tagger.ensures.ident c.in_ok-tagger.ensures.parts in
+    let told = err_from_is_err_and c.from_residual-in_err-headers.result c.from_residual-in_err-headers.ensures.1 in
+    rw (told.1, told.2) (fault_later tag_grammar AtObject (tag_fault c.in_err-headers.field-0.0) c.args.bytes.now _ (behind (tagger_of c.in_ok-tagger.tagger)) c.in_ok-tagger.rest.now tagged (headers_fault c.in_err-headers.field-0.0 c.in_ok-tagger.rest.now (tagger_of c.in_ok-tagger.tagger) c.in_ok-tagger.ensures.none c.in_err-headers.ensures.exact))
 
 pub returns-clause-found : goal.returns-clause-found
 returns-clause-found c =
     let object = read_object c.args.bytes.now c.in-Ok.taken.0 c.in-Ok.taken.1.now c.in-Ok.ensures.name c.in-Ok.ensures.found in
-    let typed = read_type c.args.bytes.now c.in-Ok.taken.1.now c.in-Ok-take_type.taken.1.now c.in-Ok-take_type.taken.0 _ object c.in-Ok-take_type.ensures.found in
-    let named = read_name c.args.bytes.now c.in-Ok-take_type.taken.1.now c.in-Ok-take_tag_name.taken.1.now c.in-Ok-take_tag_name.taken.0.now _ typed c.in-Ok-take_tag_name.ensures.name c.in-Ok-take_tag_name.ensures.found in
-    let tagged = read_tagger c.args.bytes.now c.in-Ok-take_tag_name.taken.1.now c.in-Ok-take_tagger.taken.1.now (tagger_of c.in-Ok-take_tagger.taken.0) _ named c.in-Ok-take_tagger.ensures.ident c.in-Ok-take_tagger.ensures.parts in
-    read_whole c.args.bytes.now c.in-Ok-take_fields.taken.0.now c.in-Ok-take_tagger.taken.1.now c.in-Ok-take_fields.taken.1.now _ c.in-Ok.ensures.name c.in-Ok-take_tag_name.ensures.name c.in-Ok-take_tagger.ensures.ident
-    tagged c.in-Ok-take_fields.ensures.found refl c.in-Ok-take_fields.ensures.parts c.message_in-message.ensures
+    let typed = read_type c.args.bytes.now c.in-Ok.taken.1.now c.in_ok-kind.rest.now c.in_ok-kind.kind _ object c.in_ok-kind.ensures.found in
+    let named = read_name c.args.bytes.now c.in_ok-kind.rest.now c.in_ok-name.rest.now c.in_ok-name.name.now _ typed c.in_ok-name.ensures.name c.in_ok-name.ensures.found in
+    let tagged = read_tagger c.args.bytes.now c.in_ok-name.rest.now c.in_ok-tagger.rest.now (tagger_of c.in_ok-tagger.tagger) _ named c.in_ok-tagger.ensures.ident c.in_ok-tagger.ensures.parts in
+    read_whole c.args.bytes.now c.in_ok-tagger.rest.now _ c.in-Ok.ensures.name c.in_ok-name.ensures.name c.in_ok-tagger.ensures.ident tagged c.in_ok-headers.ensures.right c.in_ok-headers.ensures.found

@@ -1,0 +1,13 @@
+pub mod Splits
+pub mod LineLemmas
+pub mod JudgingLemmas
+pub mod IdentLemmas
+pub mod FieldLemmas
+pub mod FurtherLemmas
+pub mod RowLemmas
+pub mod HeadersLemmas
+pub mod ValueLemmas
+pub mod ReadLemmas
+pub mod PartingLemmas
+pub mod TestLemmas
+pub mod FoundLemmas

@@ -1,0 +1,13 @@
+pub mod Line
+pub mod Judging
+pub mod Header
+pub mod Ident
+pub mod Value
+pub mod Row
+pub mod More
+pub mod Left
+pub mod View
+pub mod Lent
+pub mod Parting
+pub mod IdentIn
+pub mod Tests

@@ -1,0 +1,51 @@
+-- Lines of a header: bytes without a line feed, and one behind them (own: no zero byte in them).
+use Rattle.std.specs.Prelude.{◌≡◌, ◌≢◌, ◌⊎◌, ℕ, List, [], ◌∷◌, ◌++◌, All, Option, None, Some}
+use Rattle.git_header.specs.declared.fault.HeaderFault.{HeaderFault}
+use Rattle.git_header.specs.declared.fault.HeaderFault.TheVariants as fault
+
+-- no byte is this one
+abbrev pub Lacks : ℕ → List ℕ → Type 0
+Lacks byte bytes = All (λ b. b ≢ byte) bytes
+
+-- a line and its line feed
+abbrev pub ended : List ℕ → List ℕ
+ended line = line ++ 10 ∷ []
+
+-- what may stand behind the lines of a header: nothing, or an empty line and a message
+abbrev pub ending : Option (List ℕ) → List ℕ
+ending None = []
+ending (Some message) = 10 ∷ message
+
+-- the header ends here
+abbrev pub IsEnding : List ℕ → Type 0
+IsEnding text = (message : Option (List ℕ)) × (text ≡ ending message)
+
+-- the text begins with the line, which isn't empty, and goes on after its line feed
+pub record IsLine (line after text : List ℕ) : Type 0 where
+  pub parts : text ≡ line ++ 10 ∷ after
+  pub no_end : Lacks 10 line
+  pub some : line ≢ []
+
+-- why the text begins with no right line, whichever may stand there
+abbrev pub IsNoLine : HeaderFault → List ℕ → Type 0
+IsNoLine fault.HeaderOrder text = IsEnding text
+IsNoLine fault.HeaderLine text = (text ≢ []) × Lacks 10 text
+IsNoLine fault.ZeroByte text = (line : List ℕ) × (after : List ℕ) × IsLine line after text × (Lacks 0 line → ⊥)
+IsNoLine fault.Name text = ⊥
+IsNoLine fault.Ident text = ⊥
+
+-- the line begins with the word
+abbrev pub Begins : List ℕ → List ℕ → Type 0
+Begins word line = (rest : List ℕ) × (line ≡ word ++ rest)
+
+-- a line with no zero byte that doesn't begin with the word
+pub record IsOther (word text : List ℕ) : Type 0 where
+  pub line : List ℕ
+  pub after : List ℕ
+  pub is : IsLine line after text
+  pub plain : Lacks 0 line
+  pub other : Begins word line → ⊥
+
+-- why the text begins with no line that begins with the word
+abbrev pub IsNoWord : List ℕ → HeaderFault → List ℕ → Type 0
+IsNoWord word why text = IsNoLine why text ⊎ ((why ≡ fault.HeaderOrder) × IsOther word text)

@@ -1,13 +1,11 @@
 -- What a finite map with other values, or two maps as one, have at a key.
-use Rattle.std.proofs.Common.{Bool, true, false, ◌≡◌, ◌++◌, List, [], ◌∷◌, Option, Some, None, cond, refl, sym, ap, subst, ◌∙◌}
+use Rattle.std.proofs.Common.{Bool, true, false, ◌≡◌, ◌++◌, List, [], ◌∷◌, Option, Some, None, cond, refl, sym, ap, ◌∙◌}
 use Rattle.std.specs.declared.cmp.Ordering.{Ordering}
-use Rattle.std.specs.declared.cmp.Ordering.TheVariants.{Less, Equal, Greater}
-use Rattle.std.specs.Ordering.{is_eq}
 use Rattle.std.specs.Option.{option_map, option_or}
-use Rattle.std.specs.Cmp.{IsTotalOrder, eq_by_cmp_equiv}
+use Rattle.std.specs.Cmp.{IsTotalOrder}
 use Rattle.std.specs.BTreeMap.{is_at}
-use Rattle.std.specs.Map.{lookup, keys_of}
-use Rattle.std.specs.FinMap.{FinMap, IsAntisymmetric, empty, entries, from_entries, get, get-empty, get-entries, get-insert, get-remove, get-retain_keys, insert, remove, retain_keys, same_map}
+use Rattle.std.specs.Map.{lookup}
+use Rattle.std.specs.FinMap.{FinMap, IsAntisymmetric, empty, entries, get, get-empty, get-entries, get-insert, insert, same_map}
 use Rattle.git_name.specs.Maps.{joined, map_values, mapped}
 use Rattle.git_name.proofs.TreeMaps.{find_is_lookup, get_of_entries}
 

@@ -12,6 +12,7 @@ use Rattle.git_object.specs.ObjectIn.{object_in}
 use Rattle.git_reftx.specs.Line.{LineAt, Whole, Unfinished, TooLong, line_at}
 use Rattle.push_stream.specs.declared.fault.StreamFault.{StreamFault}
 use Rattle.push_stream.specs.declared.record.Head.{Head}
+use Rattle.push_stream.specs.declared.record.TheConstants.{MAX_CONTENT}
 use Rattle.push_stream.specs.declared.fault.StreamFault.TheVariants.{Syntax, TooLarge, WrongName, BadObject}
 
 -- the record's line, without its LF
@@ -49,7 +50,7 @@ ended head content (b ∷ behind) = if b == 10 then Parts head content behind el
 
 abbrev pub content_at : Head → List ℕ → PartsAt
 content_at head text =
-    if nat_lt 8388608 head.size then Faulty (TooLarge head.name)
+    if nat_lt MAX_CONTENT head.size then Faulty (TooLarge head.name)
     else ended head (take head.size text) (drop head.size text)
 
 abbrev pub parts_of_head : Option Head → List ℕ → PartsAt

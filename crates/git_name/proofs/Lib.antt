@@ -2,6 +2,7 @@ pub mod DecimalLemmas
 pub mod DigestLemmas
 pub mod MapLemmas
 pub mod Names
+pub mod OrderLemmas
 pub mod PlainLemmas
 pub mod ReadingLemmas
 pub mod TextLemmas

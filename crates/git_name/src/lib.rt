@@ -6,6 +6,7 @@
 mod kind;
 mod name;
 mod number;
+mod order;
 mod sealed;
 #[cfg(test)]
 mod tests;

@@ -1,17 +1,21 @@
-ghost use Rattle.std.specs.Prelude.{◌≡◌, ◌≢◌, IfSome, IfNone, List, ℕ};
+ghost use Rattle.std.specs.Prelude.{◌≡◌, ◌≢◌, IfSome, IfNone, List, Some, refl, ℕ};
+ghost use Rattle.std.specs.Cmp.Lexicographic.{nat_list_cmp_total, slice_cmp, texts_po, texts_ties};
+ghost use Rattle.std.specs.Ordering.{nat_cmp};
 ghost use Rattle.hex.specs.Hex.{encode_lower};
 ghost use Rattle.git_name.specs.Name.{IsName, name_in};
 ghost use Rattle.git_name.specs.Object.{object_name};
 
 use crate::kind::Kind;
+use crate::order::order;
 use hex::FromHex;
 use itoa::Buffer;
 use sha2::{Digest, Sha256};
+use std::cmp::Ordering;
 use std::marker::Model;
 
 /// The name of an object: the 32 bytes of a SHA-256. Names are ordered bytewise, which is the
 /// order of their digits.
-#[derive(Clone, Copy, Debug, PartialEq, Eq, PartialOrd, Ord, Hash)]
+#[derive(Clone, Copy, Debug, PartialEq, Eq, Hash)]
 pub struct Name {
     bytes: [u8; 32],
 }
@@ -70,6 +74,32 @@ impl Name {
     {
         let written = hex::encode_to_slice(self.bytes, out.as_mut_slice());
         prove!(written.is_ok());
+    }
+}
+
+impl PartialOrd for Name {
+    ghost partial_cmp = { λ a b. Some (slice_cmp nat_cmp a b) };
+
+    ghost laws = { texts_po };
+
+    #[inline]
+    fn partial_cmp(&self, other: &Name) -> Option<Ordering> {
+        Some(self.cmp(other))
+    }
+}
+
+impl Ord for Name {
+    ghost cmp = { slice_cmp nat_cmp };
+
+    ghost total = { nat_list_cmp_total };
+
+    ghost matches_partial_cmp = { λ a b. refl };
+
+    ghost matches_eq = { texts_ties };
+
+    #[inline]
+    fn cmp(&self, other: &Name) -> Ordering {
+        order(&self.bytes, &other.bytes)
     }
 }
 

@@ -1,4 +1,4 @@
-use Rattle.std.proofs.Common.{◌≡◌, ◌∙◌, sym, ap, ap₂, refl}
+use Rattle.std.proofs.Common.{◌∙◌, sym}
 use Rattle.git_name.proofs.OrderLemmas.{behind_first}
 use Rattle.git_name.proofs.order.order_behind.Goals as goal
 

@@ -1,5 +1,6 @@
 pub mod DecimalLemmas
 pub mod DigestLemmas
+pub mod DigitLemmas
 pub mod MapLemmas
 pub mod Names
 pub mod OrderLemmas

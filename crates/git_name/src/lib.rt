@@ -3,6 +3,7 @@
 //! where it is the one spelling of its value.
 #![tactic(auto)]
 
+mod digits;
 mod kind;
 mod name;
 mod number;

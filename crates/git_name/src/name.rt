@@ -5,9 +5,9 @@ ghost use Rattle.hex.specs.Hex.{encode_lower};
 ghost use Rattle.git_name.specs.Name.{IsName, name_in};
 ghost use Rattle.git_name.specs.Object.{object_name};
 
+use crate::digits::read_digits;
 use crate::kind::Kind;
 use crate::order::order;
-use hex::FromHex;
 use itoa::Buffer;
 use sha2::{Digest, Sha256};
 use std::cmp::Ordering;
@@ -55,17 +55,10 @@ impl Name {
         ensures found { IfSome result (λ name. text.now ≡ encode_lower name) }
         ensures none { IfNone result ((name : List ℕ) → IsName name → text.now ≢ encode_lower name) }
     {
-        let Ok(bytes) = <[u8; 32] as FromHex>::from_hex(text) else {
+        let Some(bytes) = read_digits(text) else {
             return None;
         };
-        let name = Name { bytes };
-        let mut again = [0; 64];
-        name.write_hex(&mut again);
-        if again.as_slice() == text {
-            Some(name)
-        } else {
-            None
-        }
+        Some(Name { bytes })
     }
 
     /// Writes the name as 64 lower case digits.

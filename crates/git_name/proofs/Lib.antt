@@ -1,6 +1,10 @@
 pub mod DecimalLemmas
+pub mod DigestLemmas
+pub mod DigitLemmas
 pub mod MapLemmas
 pub mod Names
+pub mod OrderLemmas
+pub mod PlainLemmas
 pub mod ReadingLemmas
 pub mod TextLemmas
 pub mod TreeMaps

@@ -1,5 +1,5 @@
 -- What is read of a text is what was written, and nothing else is read.
-use Rattle.std.proofs.Common.{◌≡◌, ◌≢◌, ℕ, ◌<◌, ◌^◌, ◌*◌, ◌/◌, ◌%◌, length, eqb, Bool, true, false, cond, List, Option, Some, None, Result, Ok, Err, refl, sym, ap, subst, ◌∙◌, arith, nat_lt, ◌&&◌, decimal}
+use Rattle.std.proofs.Common.{◌≡◌, ◌≢◌, ℕ, ◌<◌, ◌^◌, ◌*◌, ◌/◌, ◌%◌, length, eqb, Bool, true, false, cond, List, Option, Some, None, Result, Ok, Err, refl, sym, ap, subst, ◌∙◌, arith, nat_lt, ◌&&◌, decimal, unwrap_or}
 use Rattle.std.specs.Str.{bytes_eq}
 use Rattle.std.specs.Str.Parse.{digits_value}
 use Rattle.std.proofs.lemmas.Bool.Decides.{nat_tests}
@@ -9,6 +9,9 @@ use Rattle.hex.specs.Hex.{encode_lower, decode_of, decode_pairs, decode_sized}
 use Rattle.hex.specs.declared.error.FromHexError.{FromHexError}
 use Rattle.hex.specs.declared.error.FromHexError.TheVariants.{OddLength, InvalidStringLength}
 use Rattle.hex.proofs.HexLemmas.{decode_sized-encode_lower, decode_of-ok}
+use Rattle.git_name.specs.declared.kind.Kind.{Kind}
+use Rattle.git_name.specs.declared.kind.Kind.TheVariants.{Blob, Tree, Commit, Tag}
+use Rattle.git_name.specs.Kind.{kind_of_word, type_word}
 use Rattle.git_name.specs.Name.{IsName, name_in, same_again}
 use Rattle.git_name.specs.Number.{number_in}
 
@@ -105,3 +108,26 @@ number_in-decimal n small =
 -- so a text that writes no number has none
 pub no_number : (text : List ℕ) → ((n : ℕ) → n < 2 ^ 64 → text ≢ decimal n) → number_in text ≡ None
 no_number text never = none_of (number_in text) (λ n is. never n (written_number text n is).1 (written_number text n is).0)
+
+-- what is written of a kind is read
+pub kind_of_word-type_word : (kind : Kind) → kind_of_word (type_word kind) ≡ Some kind
+kind_of_word-type_word Blob = refl
+kind_of_word-type_word Tree = refl
+kind_of_word-type_word Commit = refl
+kind_of_word-type_word Tag = refl
+
+-- a word that passes a test
+the_word : (word kind_word : List ℕ) (one kind : Kind) (t : Bool) (others : Option Kind) → bytes_eq word kind_word ≡ t → kind_word ≡ type_word one → (others ≡ Some kind → word ≡ type_word kind)
+    → cond t (Some one) others ≡ Some kind → word ≡ type_word kind
+the_word word kind_word one kind true others same spelled rest is =
+    let found : one ≡ kind = ap (λ (o : Option Kind). unwrap_or o one) is in
+    (bytes_eq-Decides word kind_word).0 same ∙ spelled ∙ ap type_word found
+the_word word kind_word one kind false others same spelled rest is = rest is
+
+-- and what is read is written so
+pub written_kind : (word : List ℕ) (kind : Kind) → kind_of_word word ≡ Some kind → word ≡ type_word kind
+written_kind word kind =
+    the_word word (type_word Blob) Blob kind (bytes_eq word (type_word Blob)) _ refl refl
+    (the_word word (type_word Tree) Tree kind (bytes_eq word (type_word Tree)) _ refl refl
+    (the_word word (type_word Commit) Commit kind (bytes_eq word (type_word Commit)) _ refl refl
+    (the_word word (type_word Tag) Tag kind (bytes_eq word (type_word Tag)) None refl refl (λ none. absurd (cc)))))

@@ -2,7 +2,7 @@
 use Rattle.std.proofs.Common.{◌≡◌, ◌≢◌, ℕ, ◌<◌, ◌≤◌, length, take, get_or, length-take, Bool, true, false, cond, eqb, All, List, [], ◌∷◌, ◌++◌, Option, Some, None, refl, sym, ap, arith, ◌∙◌, option_map, unwrap_or}
 use Rattle.std.proofs.lemmas.Bool.Decides.{nat_tests}
 use Rattle.std.proofs.lemmas.List.{get_or-take}
-use Rattle.std.proofs.lemmas.List.Elements.{All-from_get_or, All-head, All-tail}
+use Rattle.std.proofs.lemmas.List.Elements.{All-cons, All-from_get_or, All-head, All-nil, All-same, All-tail}
 use Rattle.memchr.specs.Find.{Nowhere, Passes, is_byte}
 use Rattle.git_name.specs.Text.{split_once, onto_first, words_of}
 
@@ -84,3 +84,41 @@ pub split_once-whole : (byte : ℕ) (text a c : List ℕ) → split_once byte te
 split_once-whole byte [] a c is = absurd (cc)
 split_once-whole byte (b ∷ xs) a c is =
     behind_first byte b xs a c (eqb b byte) (split_once byte xs) (λ t. grind (arith, nat_tests)) (λ d e. split_once-whole byte xs d e) is
+
+plain_first : (byte b : ℕ) (xs a c : List ℕ) (t : Bool) (o : Option (List ℕ × List ℕ)) → (t ≡ false → b ≢ byte) → ((d e : List ℕ) → o ≡ Some (d, e) → All (λ x. x ≢ byte) d)
+    → cond {A = Option (List ℕ × List ℕ)} t (Some ([], xs)) (option_map (λ p. (b ∷ p.0, p.1)) o) ≡ Some (a, c) → All (λ x. x ≢ byte) a
+plain_first byte b xs a c true o apart rest is =
+    let first : [] ≡ a = ap (λ (r : Option (List ℕ × List ℕ)). unwrap_or (option_map (λ p. p.0) r) []) is in
+    All-same (λ x. x ≢ byte) _ _ (sym first) (All-nil (λ x. x ≢ byte))
+plain_first byte b xs a c false None apart rest is = absurd (cc)
+plain_first byte b xs a c false (Some p) apart rest is =
+    let first : b ∷ p.0 ≡ a = ap (λ (r : Option (List ℕ × List ℕ)). unwrap_or (option_map (λ q. q.0) r) []) is in
+    All-same (λ x. x ≢ byte) _ _ (sym first) (All-cons (λ x. x ≢ byte) b p.0 (apart refl) (rest p.0 p.1 refl))
+
+-- no such byte stands in the first part
+pub split_once-plain : (byte : ℕ) (text a c : List ℕ) → split_once byte text ≡ Some (a, c) → All (λ x. x ≢ byte) a
+split_once-plain byte [] a c is = absurd (cc)
+split_once-plain byte (b ∷ xs) a c is =
+    plain_first byte b xs a c (eqb b byte) (split_once byte xs) (λ t. grind (arith, nat_tests)) (λ d e. split_once-plain byte xs d e) is
+
+-- words with one SP between each two
+abbrev pub spaced : List (List ℕ) → List ℕ
+spaced [] = []
+spaced (word ∷ []) = word
+spaced (word ∷ other ∷ words) = word ++ 32 ∷ spaced (other ∷ words)
+
+spaced-onto : (b : ℕ) (word : List ℕ) (words : List (List ℕ)) → spaced ((b ∷ word) ∷ words) ≡ b ∷ spaced (word ∷ words)
+spaced-onto b word [] = refl
+spaced-onto b word (other ∷ words) = refl
+
+-- the words of a line make the line
+pub spaced-words_of : (line : List ℕ) → spaced (words_of line) ≡ line
+spaced-words_of [] = refl
+spaced-words_of (b ∷ line) = by_byte (eqb b 32) refl (first_of_words line) (spaced-words_of line)
+  where
+    by_byte : (t : Bool) → eqb b 32 ≡ t → (word : List ℕ) × (others : List (List ℕ)) × (words_of line ≡ word ∷ others) → spaced (words_of line) ≡ line → spaced (cond t ([] ∷ words_of line) (onto_first b (words_of line))) ≡ b ∷ line
+    by_byte true is words whole =
+        let space : b ≡ 32 = grind (arith, nat_tests) in
+        ap (λ ws. spaced ([] ∷ ws)) words.2 ∙ ap (λ (text : List ℕ). 32 ∷ text) (ap spaced (sym words.2) ∙ whole) ∙ ap (λ x. x ∷ line) (sym space)
+    by_byte false is words whole =
+        ap (λ ws. spaced (onto_first b ws)) words.2 ∙ spaced-onto b words.0 words.1 ∙ ap (λ (text : List ℕ). b ∷ text) (ap spaced (sym words.2) ∙ whole)

@@ -1,6 +1,6 @@
 ghost use Rattle.std.specs.Prelude.{◌≡◌, ◌≢◌, IfSome, IfNone};
 ghost use Rattle.git_name.specs.declared.kind.Kind.{Kind};
-ghost use Rattle.git_name.specs.Kind.{type_word};
+ghost use Rattle.git_name.specs.Kind.{kind_of_word, type_word};
 
 /// What an object is (git-cat-file(1)).
 #[derive(Clone, Copy, Debug, PartialEq, Eq, PartialOrd, Ord, Hash)]
@@ -26,15 +26,20 @@ impl Kind {
 
     /// The kind that a word stands for.
     pub fn from_word(word: &[u8]) -> Option<Kind>
+        ensures value { result ≡ kind_of_word word.now }
         ensures found { IfSome result (λ kind. word.now ≡ type_word kind) }
         ensures none { IfNone result ((kind : Kind) → word.now ≢ type_word kind) }
     {
-        match word {
-            b"blob" => Some(Kind::Blob),
-            b"tree" => Some(Kind::Tree),
-            b"commit" => Some(Kind::Commit),
-            b"tag" => Some(Kind::Tag),
-            _ => None,
+        if word == b"blob".as_slice() {
+            Some(Kind::Blob)
+        } else if word == b"tree".as_slice() {
+            Some(Kind::Tree)
+        } else if word == b"commit".as_slice() {
+            Some(Kind::Commit)
+        } else if word == b"tag".as_slice() {
+            Some(Kind::Tag)
+        } else {
+            None
         }
     }
 }

@@ -3,9 +3,11 @@
 //! where it is the one spelling of its value.
 #![tactic(auto)]
 
+mod digits;
 mod kind;
 mod name;
 mod number;
+mod order;
 mod sealed;
 #[cfg(test)]
 mod tests;

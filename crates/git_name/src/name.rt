@@ -1,17 +1,21 @@
-ghost use Rattle.std.specs.Prelude.{◌≡◌, ◌≢◌, IfSome, IfNone, List, ℕ};
+ghost use Rattle.std.specs.Prelude.{◌≡◌, ◌≢◌, IfSome, IfNone, List, Some, refl, ℕ};
+ghost use Rattle.std.specs.Cmp.Lexicographic.{nat_list_cmp_total, slice_cmp, texts_po, texts_ties};
+ghost use Rattle.std.specs.Ordering.{nat_cmp};
 ghost use Rattle.hex.specs.Hex.{encode_lower};
 ghost use Rattle.git_name.specs.Name.{IsName, name_in};
 ghost use Rattle.git_name.specs.Object.{object_name};
 
+use crate::digits::read_digits;
 use crate::kind::Kind;
-use hex::FromHex;
+use crate::order::order;
 use itoa::Buffer;
 use sha2::{Digest, Sha256};
+use std::cmp::Ordering;
 use std::marker::Model;
 
 /// The name of an object: the 32 bytes of a SHA-256. Names are ordered bytewise, which is the
 /// order of their digits.
-#[derive(Clone, Copy, Debug, PartialEq, Eq, PartialOrd, Ord, Hash)]
+#[derive(Clone, Copy, Debug, PartialEq, Eq, Hash)]
 pub struct Name {
     bytes: [u8; 32],
 }
@@ -51,17 +55,10 @@ impl Name {
         ensures found { IfSome result (λ name. text.now ≡ encode_lower name) }
         ensures none { IfNone result ((name : List ℕ) → IsName name → text.now ≢ encode_lower name) }
     {
-        let Ok(bytes) = <[u8; 32] as FromHex>::from_hex(text) else {
+        let Some(bytes) = read_digits(text) else {
             return None;
         };
-        let name = Name { bytes };
-        let mut again = [0; 64];
-        name.write_hex(&mut again);
-        if again.as_slice() == text {
-            Some(name)
-        } else {
-            None
-        }
+        Some(Name { bytes })
     }
 
     /// Writes the name as 64 lower case digits.
@@ -70,6 +67,32 @@ impl Name {
     {
         let written = hex::encode_to_slice(self.bytes, out.as_mut_slice());
         prove!(written.is_ok());
+    }
+}
+
+impl PartialOrd for Name {
+    ghost partial_cmp = { λ a b. Some (slice_cmp nat_cmp a b) };
+
+    ghost laws = { texts_po };
+
+    #[inline]
+    fn partial_cmp(&self, other: &Name) -> Option<Ordering> {
+        Some(self.cmp(other))
+    }
+}
+
+impl Ord for Name {
+    ghost cmp = { slice_cmp nat_cmp };
+
+    ghost total = { nat_list_cmp_total };
+
+    ghost matches_partial_cmp = { λ a b. refl };
+
+    ghost matches_eq = { texts_ties };
+
+    #[inline]
+    fn cmp(&self, other: &Name) -> Ordering {
+        order(&self.bytes, &other.bytes)
     }
 }
 

@@ -1,5 +1,5 @@
 -- What some streams hold, as the definitions compute it.
-use Rattle.std.proofs.Common.{◌≡◌, List, [], ◌∷◌, false, Ok, Err, codes, refl}
+use Rattle.std.proofs.Common.{◌≡◌, [], ◌∷◌, false, Ok, Err, codes, refl}
 use Rattle.git_reftx.specs.Command.{command}
 use Rattle.git_reftx.specs.Line.{line_at}
 use Rattle.git_reftx.specs.Reading.{command_at}

@@ -1,6 +1,7 @@
 -- The commands of a stream, one by one, to the empty line.
 use Rattle.std.proofs.Common.{◌≡◌, ◌≢◌, ℕ, Bool, true, false, cond, eqb, zero, suc, ◌+◌, ◌<◌, List, [], ◌∷◌, ◌++◌, Ok, sym, ap, ◌∙◌, length, length-append, arith}
 use Rattle.std.proofs.lemmas.Bool.Decides.{nat_tests}
+use Rattle.git_reftx.specs.declared.reading.TheConstants.{MAX_COMMANDS}
 use Rattle.git_reftx.specs.Reading.{command_at}
 use Rattle.git_reftx.specs.declared.command.Command.{Command}
 use Rattle.push_stream.specs.Shown.{TellsFault}
@@ -10,9 +11,9 @@ use Rattle.push_stream.specs.declared.fault.StreamFault.TheVariants.{TooMany}
 use Rattle.push_stream.proofs.StreamLemmas.{behind-nil, behind-behind, tells_behind}
 
 -- what the commands of a stream begin with
-pub header_none : (text : List ℕ) (none : List Command) → none ≡ [] → stream_of text ≡ behind none [] (header_in 256 text)
+pub header_none : (text : List ℕ) (none : List Command) → none ≡ [] → stream_of text ≡ behind none [] (header_in MAX_COMMANDS text)
 unfolding stream_of
-header_none text none is = sym (behind-nil (header_in 256 text)) ∙ ap (λ commands. behind commands [] (header_in 256 text)) (sym is)
+header_none text none is = sym (behind-nil (header_in MAX_COMMANDS text)) ∙ ap (λ commands. behind commands [] (header_in MAX_COMMANDS text)) (sym is)
 
 -- what comes behind a command, where so many have room
 abbrev pub others_in : ℕ → List ℕ → Stream
@@ -39,9 +40,9 @@ header_step room [] some line = absurd (omega arith)
 header_step room (b ∷ bs) some line = step_line room b bs (not_ten b (λ is. line bs (ap (λ x. x ∷ bs) is)))
 
 -- a command more was read
-pub header_more : (whole : Stream) (room : ℕ) (sent more : List Command) (rest others : List ℕ) (command : Command) → 0 < length rest → ((records : List ℕ) → rest ≢ 10 ∷ records) → length sent + room ≡ 256 → length sent < 256
+pub header_more : (whole : Stream) (room : ℕ) (sent more : List Command) (rest others : List ℕ) (command : Command) → 0 < length rest → ((records : List ℕ) → rest ≢ 10 ∷ records) → length sent + room ≡ MAX_COMMANDS → length sent < MAX_COMMANDS
     → whole ≡ behind sent [] (header_in room rest) → command_at rest ≡ Ok (command, others) → more ≡ sent ++ command ∷ []
-    → (left : ℕ) × (length more + left ≡ 256) × (whole ≡ behind more [] (header_in left others))
+    → (left : ℕ) × (length more + left ≡ MAX_COMMANDS) × (whole ≡ behind more [] (header_in left others))
 header_more whole zero sent more rest others command some line all few so_far taken grown = absurd (omega arith)
 header_more whole (suc room) sent more rest others command some line all few so_far taken grown =
     let longer : length more ≡ length sent + 1 = ap (λ (l : List Command). length l) grown ∙ length-append sent (command ∷ []) in (

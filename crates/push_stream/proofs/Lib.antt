@@ -1,7 +1,10 @@
 pub mod Examples
 pub mod HeaderLemmas
+pub mod LineLemmas
 pub mod LongerLemmas
 pub mod ObjectLemmas
 pub mod PieceLemmas
 pub mod RecordLemmas
+pub mod SpellingLemmas
 pub mod StreamLemmas
+pub mod WrittenLemmas

@@ -9,6 +9,7 @@ use Rattle.git_object.specs.ObjectIn.{object_in}
 use Rattle.git_reftx.specs.Line.{LineAt, Whole, Unfinished, TooLong, line_at, line_of_parts, within_512}
 use Rattle.push_stream.specs.declared.fault.StreamFault.TheVariants.{Syntax, TooLarge, WrongName, BadObject}
 use Rattle.push_stream.specs.declared.record.Head.{Head}
+use Rattle.push_stream.specs.declared.record.TheConstants.{MAX_CONTENT}
 use Rattle.push_stream.specs.Record.{PartsAt, Parts, Short, Faulty, RecordAt, Taken, Open, Wrong, parts_at, parts_of_line, parts_of_head, content_at, ended, head_of_words, record_at, record_of_parts}
 
 -- a longer text is parted where its front is, or else behind it
@@ -119,7 +120,7 @@ sized_by ys false wrong cut whole first second = second
 -- the content in the longer text
 content_grows : (head : Head) (t ys : List ℕ) → content_at head (t ++ ys) ≡ parts_longer ys (content_at head t) (content_at head (t ++ ys))
 content_grows head t ys =
-    sized_by ys (nat_lt 8388608 head.size) (Faulty (TooLarge head.name)) (ended head (take head.size t) (drop head.size t)) (ended head (take head.size (t ++ ys)) (drop head.size (t ++ ys))) refl (ended_grows head head.size t ys (drop head.size t) refl)
+    sized_by ys (nat_lt MAX_CONTENT head.size) (Faulty (TooLarge head.name)) (ended head (take head.size t) (drop head.size t)) (ended head (take head.size (t ++ ys)) (drop head.size (t ++ ys))) refl (ended_grows head head.size t ys (drop head.size t) refl)
 
 -- the same, by what the line says
 head_grows : (o : Option Head) (t ys : List ℕ) → parts_of_head o (t ++ ys) ≡ parts_longer ys (parts_of_head o t) (parts_of_head o (t ++ ys))

@@ -5,6 +5,7 @@ use Rattle.std.specs.Str.{bytes_eq}
 use Rattle.git_name.specs.Object.{Object, object_name}
 use Rattle.git_object.specs.Object.{ObjectValue}
 use Rattle.git_object.specs.ObjectIn.{object_in}
+use Rattle.git_reftx.specs.declared.reading.TheConstants.{MAX_COMMANDS}
 use Rattle.git_reftx.specs.declared.command.Command.{Command}
 use Rattle.git_reftx.specs.declared.fault.CommandFault.{CommandFault}
 use Rattle.git_reftx.specs.declared.fault.CommandFault.TheVariants as command
@@ -80,12 +81,12 @@ header_right (suc room) (b ∷ bs) = either (λ s. AreObjects (sent_in s)) (eqb 
 -- what a stream holds are objects
 pub stream_right : (bytes : List ℕ) → AreObjects (sent_in (stream_of bytes))
 unfolding stream_of
-stream_right bytes = header_right 256 bytes
+stream_right bytes = header_right MAX_COMMANDS bytes
 
 -- a piece adds objects alone
 with_right : (s : Stream) (piece : List ℕ) → AreObjects (sent_in s) → AreObjects (sent_in (stream_with s piece))
 with_right (Flows commands objects true rest) piece are = behind_right commands objects (records_in (length (rest ++ piece)) (rest ++ piece)) are (records_right (length (rest ++ piece)) (rest ++ piece))
-with_right (Flows commands objects false rest) piece are = behind_right commands objects (header_in (256 - length commands) (rest ++ piece)) are (header_right (256 - length commands) (rest ++ piece))
+with_right (Flows commands objects false rest) piece are = behind_right commands objects (header_in (MAX_COMMANDS - length commands) (rest ++ piece)) are (header_right (MAX_COMMANDS - length commands) (rest ++ piece))
 with_right (Breaks fault) piece are = tt
 
 -- and so it does to an upload

@@ -3,6 +3,7 @@ use Rattle.std.proofs.Common.{◌≡◌, ℕ, zero, suc, ◌-◌, ◌<◌, ◌�
 use Rattle.std.specs.List.{concat}
 use Rattle.git_name.specs.Object.{Object}
 use Rattle.git_name.specs.Text.{words_of}
+use Rattle.git_reftx.specs.declared.reading.TheConstants.{MAX_COMMANDS}
 use Rattle.git_reftx.specs.Command.{command_of}
 use Rattle.git_reftx.specs.Line.{LineAt, Whole, Unfinished, TooLong, line_at}
 use Rattle.git_reftx.specs.Reading.{command_at, command_of_line, taken}
@@ -121,7 +122,7 @@ header_grows zero (b ∷ bs) piece = header_by zero b bs piece (eqb b 10) refl (
 header_grows (suc room) (b ∷ bs) piece = header_by (suc room) b bs piece (eqb b 10) refl (λ command rest. command_before room command (header_in room rest) piece ∙ ap (behind (command ∷ []) []) (header_grows room rest piece))
 
 -- a piece where 256 commands had room
-with_is : (s : Stream) (piece : List ℕ) → stream_with s piece ≡ continued_in 256 s piece
+with_is : (s : Stream) (piece : List ℕ) → stream_with s piece ≡ continued_in MAX_COMMANDS s piece
 with_is (Flows commands objects true rest) piece = refl
 with_is (Flows commands objects false rest) piece = refl
 with_is (Breaks fault) piece = refl
@@ -129,7 +130,7 @@ with_is (Breaks fault) piece = refl
 -- a whole stream, and a piece behind it
 stream_grows : (bytes piece : List ℕ) → stream_with (stream_of bytes) piece ≡ stream_of (bytes ++ piece)
 unfolding stream_of
-stream_grows bytes piece = with_is (header_in 256 bytes) piece ∙ header_grows 256 bytes piece
+stream_grows bytes piece = with_is (header_in MAX_COMMANDS bytes) piece ∙ header_grows MAX_COMMANDS bytes piece
 
 -- one more piece
 pub piece_joins : (bytes piece : List ℕ) → continued (upload_of bytes) piece ≡ upload_of (bytes ++ piece)

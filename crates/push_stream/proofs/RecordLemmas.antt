@@ -9,6 +9,7 @@ use Rattle.git_object.specs.ObjectIn.{object_in}
 use Rattle.git_reftx.specs.Line.{LineAt, Whole, Unfinished, TooLong, line_at, line_of_parts}
 use Rattle.push_stream.specs.declared.fault.StreamFault.TheVariants.{BadObject}
 use Rattle.push_stream.specs.declared.record.Head.{Head}
+use Rattle.push_stream.specs.declared.record.TheConstants.{MAX_CONTENT}
 use Rattle.push_stream.specs.Record.{PartsAt, Parts, Short, Faulty, RecordAt, Taken, Open, Wrong, parts_at, parts_of_line, parts_of_head, content_at, ended, head_of_words, record_at, record_of_parts}
 
 -- what holds of both branches holds of the test
@@ -55,7 +56,7 @@ in_content : (head : Head) (text : List ℕ) → from_parts (content_at head tex
 in_content head text =
     let shorter : length (drop head.size text) ≤ length text = (let is = length-drop head.size text in omega arith) in
     let inside = in_ended head (take head.size text) (drop head.size text) in
-    either from_parts (length text) (nat_lt 8388608 head.size) _ _ (omega arith) (omega arith)
+    either from_parts (length text) (nat_lt MAX_CONTENT head.size) _ _ (omega arith) (omega arith)
 
 -- the same, by what the line says
 in_head : (o : Option Head) (text : List ℕ) → from_parts (parts_of_head o text) ≤ length text

@@ -52,12 +52,12 @@ pub taken_all : (whole : Stream) (most : ℕ) (sent : List Object) (rest : List 
 taken_all whole most sent rest so_far none = nothing_left whole most sent rest so_far (no_bytes rest none)
 
 -- a whole stream behind commands and objects
-abbrev and_more : List Command → List Object → Result (List Command × List Object) StreamFault → Result (List Command × List Object) StreamFault
+abbrev pub and_more : List Command → List Object → Result (List Command × List Object) StreamFault → Result (List Command × List Object) StreamFault
 and_more commands objects (Ok held) = Ok (commands ++ held.0, objects ++ held.1)
 and_more commands objects (Err fault) = Err fault
 
 -- and so where it ends
-finished-behind : (commands : List Command) (objects : List Object) (s : Stream) → finished (behind commands objects s) ≡ and_more commands objects (finished s)
+pub finished-behind : (commands : List Command) (objects : List Object) (s : Stream) → finished (behind commands objects s) ≡ and_more commands objects (finished s)
 finished-behind commands objects (Flows others more true []) = refl
 finished-behind commands objects (Flows others more true (b ∷ rest)) = refl
 finished-behind commands objects (Flows others more false rest) = refl

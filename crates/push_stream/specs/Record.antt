@@ -1,10 +1,9 @@
 -- Records of objects, as `git cat-file --batch` prints them (git-cat-file(1)): NAME SP TYPE SP SIZE LF, the content, LF.
-use Rattle.std.specs.Prelude.{ℕ, ◌==◌, nat_lt, List, [], ◌∷◌, ◌++◌, Option, None, Some, is_some, length, take, drop, decimal, codes, if◌then◌else◌}
+use Rattle.std.specs.Prelude.{ℕ, ◌==◌, nat_lt, List, [], ◌∷◌, ◌++◌, Option, None, Some, is_some, length, take, drop, decimal, if◌then◌else◌}
 use Rattle.std.specs.Str.{bytes_eq}
 use Rattle.hex.specs.Hex.{encode_lower}
 use Rattle.git_name.specs.declared.kind.Kind.{Kind}
-use Rattle.git_name.specs.declared.kind.Kind.TheVariants.{Blob, Tree, Commit, Tag}
-use Rattle.git_name.specs.Kind.{type_word}
+use Rattle.git_name.specs.Kind.{kind_of_word, type_word}
 use Rattle.git_name.specs.Name.{name_in}
 use Rattle.git_name.specs.Number.{number_in}
 use Rattle.git_name.specs.Object.{Object, object_name}
@@ -13,6 +12,7 @@ use Rattle.git_object.specs.ObjectIn.{object_in}
 use Rattle.git_reftx.specs.Line.{LineAt, Whole, Unfinished, TooLong, line_at}
 use Rattle.push_stream.specs.declared.fault.StreamFault.{StreamFault}
 use Rattle.push_stream.specs.declared.record.Head.{Head}
+use Rattle.push_stream.specs.declared.record.TheConstants.{MAX_CONTENT}
 use Rattle.push_stream.specs.declared.fault.StreamFault.TheVariants.{Syntax, TooLarge, WrongName, BadObject}
 
 -- the record's line, without its LF
@@ -23,15 +23,6 @@ record_line object = encode_lower (object_name object) ++ 32 ∷ type_word objec
 unfoldable pub record_of : Object → List ℕ
 record_of object = record_line object ++ 10 ∷ object.bytes ++ 10 ∷ []
 
--- the kind that a word stands for
-abbrev pub kind_in : List ℕ → Option Kind
-kind_in word =
-    if bytes_eq word (codes "blob") then Some Blob
-    else if bytes_eq word (codes "tree") then Some Tree
-    else if bytes_eq word (codes "commit") then Some Commit
-    else if bytes_eq word (codes "tag") then Some Tag
-    else None
-
 abbrev pub head_of_parts : Option (List ℕ) → Option Kind → Option ℕ → Option Head
 head_of_parts (Some name) (Some kind) (Some size) = Some (record { name = name; kind = kind; size = size })
 head_of_parts (Some name) (Some kind) None = None
@@ -40,7 +31,7 @@ head_of_parts None kind size = None
 
 -- what a record's line says: NAME, TYPE and SIZE
 abbrev pub head_of_words : List (List ℕ) → Option Head
-head_of_words (digits ∷ word ∷ number ∷ []) = head_of_parts (name_in digits) (kind_in word) (number_in number)
+head_of_words (digits ∷ word ∷ number ∷ []) = head_of_parts (name_in digits) (kind_of_word word) (number_in number)
 head_of_words words = None
 
 -- the parts of the record at the front of a text
@@ -59,7 +50,7 @@ ended head content (b ∷ behind) = if b == 10 then Parts head content behind el
 
 abbrev pub content_at : Head → List ℕ → PartsAt
 content_at head text =
-    if nat_lt 8388608 head.size then Faulty (TooLarge head.name)
+    if nat_lt MAX_CONTENT head.size then Faulty (TooLarge head.name)
     else ended head (take head.size text) (drop head.size text)
 
 abbrev pub parts_of_head : Option Head → List ℕ → PartsAt

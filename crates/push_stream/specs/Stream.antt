@@ -6,6 +6,7 @@ use Rattle.git_object.specs.ObjectIn.{object_in}
 use Rattle.git_reftx.specs.declared.command.Command.{Command}
 use Rattle.git_reftx.specs.declared.fault.CommandFault.{CommandFault}
 use Rattle.git_reftx.specs.declared.fault.CommandFault.TheVariants as command
+use Rattle.git_reftx.specs.declared.reading.TheConstants.{MAX_COMMANDS}
 use Rattle.git_reftx.specs.Reading.{command_at}
 use Rattle.push_stream.specs.declared.fault.StreamFault.{StreamFault}
 use Rattle.push_stream.specs.declared.fault.StreamFault.TheVariants.{Syntax, TooMany, Truncated}
@@ -51,9 +52,9 @@ header_in room [] = Flows [] [] false []
 header_in zero (b ∷ bs) = if b == 10 then records_in (length bs) bs else after_command (b ∷ bs) (λ rest. Breaks TooMany) (command_at (b ∷ bs))
 header_in (suc room) (b ∷ bs) = if b == 10 then records_in (length bs) bs else after_command (b ∷ bs) (header_in room) (command_at (b ∷ bs))
 
--- what a list of bytes stands for: a stream has 256 commands at the most
+-- what a list of bytes stands for: a stream has MAX_COMMANDS commands at the most
 unfoldable pub stream_of : List ℕ → Stream
-stream_of bytes = header_in 256 bytes
+stream_of bytes = header_in MAX_COMMANDS bytes
 
 -- a stream that ends here: its commands and objects, where the empty line was met and nothing is left unfinished
 abbrev pub finished : Stream → Result (List Command × List Object) StreamFault

@@ -5,6 +5,7 @@ use Rattle.std.specs.Coded.{Coded, code_by, coded×, coded⊎, coded_ℕ, coded_
 use Rattle.git_name.specs.Object.{Object}
 use Rattle.git_name.specs.contracts.sealed.Sealed as sealed
 use Rattle.git_reftx.specs.declared.command.Command.{Command}
+use Rattle.git_reftx.specs.declared.reading.TheConstants.{MAX_COMMANDS}
 use Rattle.git_reftx.specs.contracts.command.Command as command
 use Rattle.push_stream.specs.declared.fault.StreamFault.{StreamFault}
 use Rattle.push_stream.specs.contracts.fault.StreamFault as fault
@@ -22,7 +23,7 @@ upload_of bytes = record { count = length bytes; stream = stream_of bytes }
 -- what a stream stands for after one more piece; a fault is kept
 abbrev pub stream_with : Stream → List ℕ → Stream
 stream_with (Flows commands objects true rest) piece = behind commands objects (records_in (length (rest ++ piece)) (rest ++ piece))
-stream_with (Flows commands objects false rest) piece = behind commands objects (header_in (256 - length commands) (rest ++ piece))
+stream_with (Flows commands objects false rest) piece = behind commands objects (header_in (MAX_COMMANDS - length commands) (rest ++ piece))
 stream_with (Breaks fault) piece = Breaks fault
 
 -- an upload after one more piece

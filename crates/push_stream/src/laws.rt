@@ -1,6 +1,9 @@
-ghost use Rattle.std.specs.Prelude.{◌≡◌, ◌++◌, ℕ, List};
+ghost use Rattle.std.specs.Prelude.{◌≡◌, ◌++◌, ◌∷◌, [], ℕ, List, Ok, true};
 ghost use Rattle.std.specs.List.{concat};
-ghost use Rattle.push_stream.specs.Stream.{AreObjects, sent_in, stream_of};
+ghost use Rattle.git_name.specs.Object.{Object};
+ghost use Rattle.git_reftx.specs.declared.command.Command.{Command};
+ghost use Rattle.push_stream.specs.Spelling.{AreWithin, IsStream, records_of};
+ghost use Rattle.push_stream.specs.Stream.{AreObjects, Flows, finished, sent_in, stream_of};
 ghost use Rattle.push_stream.specs.Upload.{UploadValue, continued, fed, upload_of};
 
 /// A law, and no work: what an upload stands for after one more piece is what all its bytes stand
@@ -15,4 +18,23 @@ pub fn pieces_join()
 pub fn streams_hold_objects()
     ensures whole { (bytes : List ℕ) → AreObjects (sent_in (stream_of bytes)) }
     ensures pieces { (upload : UploadValue) (piece : List ℕ) → AreObjects (sent_in upload.stream) → AreObjects (sent_in (continued upload piece).stream) }
+{}
+
+/// A law, and no work: behind an empty line, the records of objects that are in their grammars, and no
+/// longer than a host takes, are these objects, whole.
+pub fn records_are_read()
+    ensures stream { (objects : List Object) → AreObjects objects → AreWithin objects → stream_of (10 ∷ records_of objects) ≡ Flows [] objects true [] }
+    ensures whole { (objects : List Object) → AreObjects objects → AreWithin objects → finished (stream_of (10 ∷ records_of objects)) ≡ Ok ([], objects) }
+{}
+
+/// A law, and no work: a stream that is spelled as command lines and records holds these commands and
+/// objects, whole.
+pub fn spelled_streams_are_whole()
+    ensures stream { (bytes : List ℕ) (commands : List Command) (objects : List Object) → IsStream bytes commands objects → stream_of bytes ≡ Flows commands objects true [] }
+    ensures whole { (bytes : List ℕ) (commands : List Command) (objects : List Object) → IsStream bytes commands objects → finished (stream_of bytes) ≡ Ok (commands, objects) }
+{}
+
+/// A law, and no work: no other streams are whole.
+pub fn whole_streams_are_spelled()
+    ensures { (bytes : List ℕ) (commands : List Command) (objects : List Object) → finished (stream_of bytes) ≡ Ok (commands, objects) → IsStream bytes commands objects }
 {}

@@ -17,7 +17,10 @@ mod write;
 pub use crate::body::{Body, read_body};
 pub use crate::brief::Brief;
 pub use crate::fault::{BodyError, StreamFault};
-pub use crate::laws::{pieces_join, streams_hold_objects};
+pub use crate::laws::{
+    pieces_join, records_are_read, spelled_streams_are_whole, streams_hold_objects,
+    whole_streams_are_spelled,
+};
 pub use crate::record::MAX_CONTENT;
 pub use crate::upload::{MAX_UPLOAD, Upload};
 pub use crate::write::write_record;

@@ -1,8 +1,9 @@
 ghost use Rattle.std.specs.Prelude.{◌≡◌, IfOk, IfErr, IfSome};
+ghost use Rattle.git_name.specs.Kind.{kind_of_word};
 ghost use Rattle.git_name.specs.Name.{name_in};
 ghost use Rattle.git_name.specs.Number.{number_in};
 ghost use Rattle.git_name.specs.Text.{words_of};
-ghost use Rattle.push_stream.specs.Record.{Taken, kind_in, head_of_parts, head_of_words, content_at, parts_at, record_at};
+ghost use Rattle.push_stream.specs.Record.{Taken, head_of_parts, head_of_words, content_at, parts_at, record_at};
 ghost use Rattle.push_stream.specs.Shown.{parts_shown, TellsRecord};
 
 use crate::fault::{BodyError, StreamFault};
@@ -86,29 +87,12 @@ fn read_head(line: &[u8]) -> Option<Head>
 }
 
 fn head_of(digits: &[u8], word: &[u8], number: &[u8]) -> Option<Head>
-    ensures { result ≡ head_of_parts (name_in digits.now) (kind_in word.now) (number_in number.now) }
+    ensures { result ≡ head_of_parts (name_in digits.now) (kind_of_word word.now) (number_in number.now) }
 {
     let name = Name::parse_hex(digits)?;
-    let kind = kind_of_word(word)?;
+    let kind = Kind::from_word(word)?;
     let size = decimal(number)?;
     Some(Head { name, kind, size })
-}
-
-// The kind that a word stands for.
-fn kind_of_word(word: &[u8]) -> Option<Kind>
-    ensures { result ≡ kind_in word.now }
-{
-    if word == b"blob".as_slice() {
-        Some(Kind::Blob)
-    } else if word == b"tree".as_slice() {
-        Some(Kind::Tree)
-    } else if word == b"commit".as_slice() {
-        Some(Kind::Commit)
-    } else if word == b"tag".as_slice() {
-        Some(Kind::Tag)
-    } else {
-        None
-    }
 }
 
 // The content behind a record's line, which ends in LF.

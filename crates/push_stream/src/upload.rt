@@ -20,6 +20,7 @@ pub struct Upload {
 
 impl Model for Upload {
     ghost use Rattle.std.specs.Prelude.{◌≤◌, length};
+    ghost use Rattle.push_stream.specs.declared.upload.TheConstants.{MAX_UPLOAD};
     ghost use Rattle.push_stream.specs.Upload.{UploadValue, upload_code, upload_of};
 
     ghost Value = { UploadValue };
@@ -28,7 +29,7 @@ impl Model for Upload {
 
     ghost view = { λ a. upload_of a.bytes.items };
 
-    ghost invariant = { λ a. length a.bytes.items ≤ 33554432 };
+    ghost invariant = { λ a. length a.bytes.items ≤ MAX_UPLOAD };
 }
 
 impl Upload {
@@ -44,7 +45,7 @@ impl Upload {
     /// How many bytes came.
     pub fn count(&self) -> u64
         ensures value { result ≡ self.now.count }
-        ensures within { result ≤ 33554432 }
+        ensures within { result ≤ MAX_UPLOAD }
     {
         self.bytes.len() as u64
     }
@@ -52,7 +53,7 @@ impl Upload {
     /// One more piece came. A fault is told by `finish`, not here; an `Err`, which tells want of
     /// memory, leaves the upload as it was.
     pub fn feed(&mut self, piece: &[u8]) -> Result<(), AllocError>
-        requires { self.old.count + length piece.now ≤ 33554432 }
+        requires { self.old.count + length piece.now ≤ MAX_UPLOAD }
         ensures ok { OnOk result (self.new ≡ continued self.old piece.now) }
         ensures err { OnErr result (self.new ≡ self.old) }
     {

@@ -60,23 +60,36 @@ fn commands_may_stand_alone(rt: HostRuntime) -> Result<(), Fail> {
 }
 
 #[test]
-fn a_wrong_line_before_the_empty_line_is_told(rt: HostRuntime) -> Result<(), Fail> {
-    let rows: [(&[u8], StreamFault); 12] = [
-        (b"", StreamFault::Truncated),
-        (b"x", StreamFault::Truncated),
-        (b"delete refs/a", StreamFault::Truncated),
-        (b"delete refs/a\n", StreamFault::Truncated),
-        (b"delete refs/a\nx", StreamFault::Truncated),
-        (b"x\n", StreamFault::Syntax),
-        (b"x\n\n", StreamFault::Syntax),
-        (b" \n", StreamFault::Syntax),
-        (b"\r\n", StreamFault::Syntax),
-        (b"delete refs/a\nverify\n\n", StreamFault::Syntax),
-        (b"start\ndelete refs/a\n\n", StreamFault::Syntax),
-        (b"delete refs/a\n\n\n", StreamFault::Syntax),
+fn a_line_that_is_no_command_is_a_syntax_fault(rt: HostRuntime) -> Result<(), Fail> {
+    const TEXTS: &[&[u8]] = &[
+        b"x\n",
+        b"x\n\n",
+        b" \n",
+        b"\r\n",
+        b"delete refs/a\nverify\n\n",
+        b"start\ndelete refs/a\n\n",
+        b"delete refs/a\n\n\n",
     ];
-    for (bytes, fault) in rows {
-        assert!(rt; breaks(rt.alloc(), bytes, fault), "{bytes:?}");
+    for &bytes in TEXTS {
+        assert!(rt; breaks(rt.alloc(), bytes, StreamFault::Syntax), "{bytes:?}");
+    }
+    Ok(())
+}
+
+#[test]
+fn an_end_before_the_empty_line_is_truncated(rt: HostRuntime) -> Result<(), Fail> {
+    const TEXTS: &[&[u8]] = &[
+        b"",
+        b"x",
+        b"delete refs/a",
+        b"delete refs/a\n",
+        b"delete refs/a\nx",
+    ];
+    for &bytes in TEXTS {
+        assert!(rt;
+            breaks(rt.alloc(), bytes, StreamFault::Truncated),
+            "{bytes:?}"
+        );
     }
     Ok(())
 }

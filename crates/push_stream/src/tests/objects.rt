@@ -70,7 +70,7 @@ fn objects_of_each_kind_are_taken(rt: HostRuntime) -> Result<(), Fail> {
 
 #[test]
 fn a_content_that_is_no_object_of_its_kind_is_told(rt: HostRuntime) -> Result<(), Fail> {
-    let rows: [(Kind, &[u8]); 6] = [
+    const ROWS: &[(Kind, &[u8])] = &[
         (Kind::Tree, CUT_TREE),
         (Kind::Tree, b"x"),
         (Kind::Commit, b""),
@@ -78,7 +78,7 @@ fn a_content_that_is_no_object_of_its_kind_is_told(rt: HostRuntime) -> Result<()
         (Kind::Tag, b""),
         (Kind::Tag, COMMIT),
     ];
-    for (kind, content) in rows {
+    for &(kind, content) in ROWS {
         assert!(rt; is_bad(rt.alloc(), kind, content)?, "{content:?}");
     }
     Ok(())

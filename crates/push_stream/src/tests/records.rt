@@ -82,79 +82,85 @@ fn a_cut_body_is_truncated_but_between_records(rt: HostRuntime) -> Result<(), Fa
 
 #[test]
 fn the_first_wrong_record_decides(rt: HostRuntime) -> Result<(), Fail> {
-    let alloc = rt.alloc();
-    let name = named(EMPTY)?;
-    let rows: [(&[&[u8]], StreamFault); 22] = [
-        (&[b"\n\n"], StreamFault::Syntax),
-        (&[b"\n", EMPTY, b" blob 0\n"], StreamFault::Truncated),
-        (&[b"\n", EMPTY, b" blob 0"], StreamFault::Truncated),
-        (&[b"\n", EMPTY, b" blob 0\n\n\n"], StreamFault::Syntax),
-        (&[b"\n", X, b" blob 1\nx"], StreamFault::Truncated),
-        (&[b"\n", X, b" blob 1\nxy"], StreamFault::Syntax),
-        (
-            &[b"\n", X, b" tree 1\nx\n"],
-            StreamFault::WrongName(named(X)?),
-        ),
-        (
-            &[b"\n", EMPTY, b" blob 1\nx\n"],
-            StreamFault::WrongName(name),
-        ),
-        (&[b"\n", EMPTY, b" blob 1\nx"], StreamFault::Truncated),
-        (&[b"\n", EMPTY, b" blob 1\nxy"], StreamFault::Syntax),
+    const ROWS: &[&[&[u8]]] = &[
+        &[b"\n\n"],
+        &[b"\n", EMPTY, b" blob 0\n\n\n"],
+        &[b"\n", X, b" blob 1\nxy"],
+        &[b"\n", EMPTY, b" blob 1\nxy"],
+        &[
+            b"\n",
+            X,
+            b" blob 1\nx\n",
+            EMPTY,
+            b" blob 00\n",
+            EMPTY,
+            b" blob 1\nx\n",
+        ],
+        &[b"\n", EMPTY, b" blob 18446744073709551616\n"],
+        &[b"\n", TREE, b" tree 0\nx"],
+    ];
+    for &parts in ROWS {
+        let bytes = joined(rt.alloc(), parts)?;
+        assert!(rt;
+            breaks(rt.alloc(), bytes.as_slice(), StreamFault::Syntax),
+            "{parts:?}"
+        );
+    }
+    Ok(())
+}
+
+#[test]
+fn a_record_that_may_still_be_right_is_truncated(rt: HostRuntime) -> Result<(), Fail> {
+    const ROWS: &[&[&[u8]]] = &[
+        &[b"\n", EMPTY, b" blob 0\n"],
+        &[b"\n", EMPTY, b" blob 0"],
+        &[b"\n", X, b" blob 1\nx"],
+        &[b"\n", EMPTY, b" blob 1\nx"],
+        &[b"\n", EMPTY, b" blob 8388608\nx\n"],
+        &[b"\n", TREE, b" tree 0\n"],
+    ];
+    for &parts in ROWS {
+        let bytes = joined(rt.alloc(), parts)?;
+        assert!(rt;
+            breaks(rt.alloc(), bytes.as_slice(), StreamFault::Truncated),
+            "{parts:?}"
+        );
+    }
+    Ok(())
+}
+
+#[test]
+fn another_name_than_the_contents_is_told(rt: HostRuntime) -> Result<(), Fail> {
+    const ROWS: &[(&[&[u8]], &[u8; 64])] = &[
+        (&[b"\n", X, b" tree 1\nx\n"], X),
+        (&[b"\n", EMPTY, b" blob 1\nx\n"], EMPTY),
         (
             &[b"\n", EMPTY, b" blob 1\nx\n", EMPTY, b" blob 00\n"],
-            StreamFault::WrongName(name),
+            EMPTY,
         ),
-        (
-            &[
-                b"\n",
-                X,
-                b" blob 1\nx\n",
-                EMPTY,
-                b" blob 00\n",
-                EMPTY,
-                b" blob 1\nx\n",
-            ],
-            StreamFault::Syntax,
-        ),
-        (
-            &[b"\n", EMPTY, b" blob 8388608\nx\n"],
-            StreamFault::Truncated,
-        ),
-        (
-            &[b"\n", EMPTY, b" blob 8388609\n"],
-            StreamFault::TooLarge(name),
-        ),
-        (
-            &[b"\n", EMPTY, b" blob 18446744073709551615\n"],
-            StreamFault::TooLarge(name),
-        ),
-        (
-            &[b"\n", EMPTY, b" blob 18446744073709551616\n"],
-            StreamFault::Syntax,
-        ),
-        (&[b"\n", TREE, b" tree 0\nx"], StreamFault::Syntax),
-        (&[b"\n", TREE, b" tree 0\n"], StreamFault::Truncated),
-        (
-            &[b"\n", TREE, b" commit 0\n\n"],
-            StreamFault::WrongName(named(TREE)?),
-        ),
-        (
-            &[b"\n", EMPTY, b" tag 8388609\n"],
-            StreamFault::TooLarge(name),
-        ),
-        (
-            &[b"\n", EMPTY, b" commit 8388609\n"],
-            StreamFault::TooLarge(name),
-        ),
-        (
-            &[b"\n", EMPTY, b" tree 8388609\n"],
-            StreamFault::TooLarge(name),
-        ),
+        (&[b"\n", TREE, b" commit 0\n\n"], TREE),
     ];
-    for (parts, fault) in rows {
-        let bytes = joined(alloc, parts)?;
-        assert!(rt; breaks(alloc, bytes.as_slice(), fault), "{parts:?}");
+    for &(parts, digits) in ROWS {
+        let bytes = joined(rt.alloc(), parts)?;
+        let fault = StreamFault::WrongName(named(digits)?);
+        assert!(rt; breaks(rt.alloc(), bytes.as_slice(), fault), "{parts:?}");
+    }
+    Ok(())
+}
+
+#[test]
+fn a_content_that_is_too_long_is_told_by_its_line(rt: HostRuntime) -> Result<(), Fail> {
+    const ENDS: &[&[u8]] = &[
+        b" blob 8388609\n",
+        b" blob 18446744073709551615\n",
+        b" tag 8388609\n",
+        b" commit 8388609\n",
+        b" tree 8388609\n",
+    ];
+    let fault = StreamFault::TooLarge(named(EMPTY)?);
+    for &end in ENDS {
+        let bytes = joined(rt.alloc(), &[b"\n", EMPTY, end])?;
+        assert!(rt; breaks(rt.alloc(), bytes.as_slice(), fault), "{end:?}");
     }
     Ok(())
 }
@@ -162,7 +168,7 @@ fn the_first_wrong_record_decides(rt: HostRuntime) -> Result<(), Fail> {
 #[test]
 fn a_line_that_begins_no_record_is_a_syntax_fault(rt: HostRuntime) -> Result<(), Fail> {
     let alloc = rt.alloc();
-    let rows: [&[&[u8]]; 16] = [
+    const ROWS: &[&[&[u8]]] = &[
         &[b"\n", EMPTY, b" blob 00\n"],
         &[b"\n", EMPTY, b" blob +0\n\n"],
         &[b"\n", EMPTY, b" blob -0\n\n"],
@@ -180,7 +186,7 @@ fn a_line_that_begins_no_record_is_a_syntax_fault(rt: HostRuntime) -> Result<(),
         &[b"\n", EMPTY, b" trees 0\n\n"],
         &[b"\ncreate refs/heads/a ", EMPTY, b"\n"],
     ];
-    for parts in rows {
+    for &parts in ROWS {
         let bytes = joined(alloc, parts)?;
         assert!(rt;
             breaks(alloc, bytes.as_slice(), StreamFault::Syntax),

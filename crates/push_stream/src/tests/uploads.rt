@@ -133,8 +133,8 @@ fn a_stream_byte_by_byte_says_what_the_whole_says(rt: HostRuntime) -> Result<(),
 fn an_upload_counts_its_bytes(rt: HostRuntime) -> Result<(), Fail> {
     let mut upload = Upload::new(rt.alloc());
     assert_eq!(rt; upload.count(), 0);
-    let rows: [(&[u8], u64); 4] = [(b"", 0), (b"delete", 6), (b"", 6), (b" r\n\n", 10)];
-    for (piece, count) in rows {
+    const ROWS: &[(&[u8], u64)] = &[(b"", 0), (b"delete", 6), (b"", 6), (b" r\n\n", 10)];
+    for &(piece, count) in ROWS {
         feed(&mut upload, piece)?;
         assert_eq!(rt; upload.count(), count, "{piece:?}");
     }
@@ -144,8 +144,8 @@ fn an_upload_counts_its_bytes(rt: HostRuntime) -> Result<(), Fail> {
 #[test]
 fn a_fault_is_kept_and_later_pieces_are_counted(rt: HostRuntime) -> Result<(), Fail> {
     let mut upload = Upload::new(rt.alloc());
-    let rows: [(&[u8], u64); 3] = [(b"no\n", 3), (b"\n", 4), (b"delete r\n\n", 14)];
-    for (piece, count) in rows {
+    const ROWS: &[(&[u8], u64)] = &[(b"no\n", 3), (b"\n", 4), (b"delete r\n\n", 14)];
+    for &(piece, count) in ROWS {
         feed(&mut upload, piece)?;
         assert_eq!(rt; upload.count(), count, "{piece:?}");
         let answer = told(rt.alloc(), upload.finish(rt.alloc()))?;
@@ -157,13 +157,13 @@ fn a_fault_is_kept_and_later_pieces_are_counted(rt: HostRuntime) -> Result<(), F
 #[test]
 fn an_upload_goes_on_behind_an_early_end(rt: HostRuntime) -> Result<(), Fail> {
     let mut upload = Upload::new(rt.alloc());
-    let rows: [(&[u8], &[u8]); 4] = [
+    const ROWS: &[(&[u8], &[u8])] = &[
         (b"", b"truncated"),
         (b"delete r", b"truncated"),
         (b"\n\n", b"r\n"),
         (b"x", b"truncated"),
     ];
-    for (piece, wanted) in rows {
+    for &(piece, wanted) in ROWS {
         feed(&mut upload, piece)?;
         let answer = told(rt.alloc(), upload.finish(rt.alloc()))?;
         assert_eq!(rt; answer.as_slice(), wanted, "{piece:?}");

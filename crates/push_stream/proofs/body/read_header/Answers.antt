@@ -1,5 +1,6 @@
 use Rattle.std.proofs.Common.{◌≡◌, ◌<◌, length, arith, ap, List}
 use Rattle.std.proofs.lemmas.Bool.Decides.{nat_tests}
+use Rattle.git_reftx.specs.declared.reading.TheConstants.{MAX_COMMANDS}
 use Rattle.git_reftx.specs.declared.command.Command.{Command}
 use Rattle.git_reftx.proofs.ReadingLemmas.{command_shorter}
 use Rattle.push_stream.proofs.HeaderLemmas.{header_none, header_more, header_fault}
@@ -9,7 +10,7 @@ pub loop-rest-init : goal.loop-rest-init
 loop-rest-init c =
     let none = c.new-commands.ensures.items in
     let empty : length c.new-commands.result.items ≡ 0 = ap (λ (l : List Command). length l) none in
-    (256, omega arith, header_none c.args.bytes.now c.new-commands.result.items none)
+    (MAX_COMMANDS, omega arith, header_none c.args.bytes.now c.new-commands.result.items none)
 
 pub returns-in-Err-clause-exact : goal.returns-in-Err-clause-exact
 returns-in-Err-clause-exact c =
@@ -24,5 +25,5 @@ pub loop-rest-preserved : goal.loop-rest-preserved
 loop-rest-preserved c =
     let so_far = c.loop-rest.invariant in
     let some : 0 < length c.loop-rest.rest.now = grind (arith, nat_tests) in
-    let few : length c.loop-rest.commands.items < 256 = grind (arith, nat_tests) in
+    let few : length c.loop-rest.commands.items < MAX_COMMANDS = grind (arith, nat_tests) in
     header_more _ so_far.0 c.loop-rest.commands.items c.push.new.self.items c.loop-rest.rest.now c.in-Ok.taken.1.now c.in-Ok.taken.0 some c.in_default.ensures.none so_far.1 few so_far.2 c.in-Ok.ensures.taken c.in-Ok-push.ensures.items

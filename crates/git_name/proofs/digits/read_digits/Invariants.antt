@@ -1,0 +1,10 @@
+use Rattle.std.proofs.Common.{◌≡◌, ◌≢◌, ◌*◌, ℕ, List, true, false, length, take}
+use Rattle.hex.specs.Hex.{encode_lower}
+use Rattle.git_name.specs.Name.{IsName}
+use Rattle.git_name.proofs.digits.read_digits.Given as goal
+
+-- while all digits are right the bytes write what was read, and else the text writes no name
+abbrev pub invariant-pairs : goal.invariant-pairs
+invariant-pairs l = (length l.bytes ≡ 32)
+    × (l.right ≡ true → encode_lower (take l.at l.bytes) ≡ take (2 * l.at) l.fn.text)
+    × (l.right ≡ false → (name : List ℕ) → IsName name → l.fn.text ≢ encode_lower name)

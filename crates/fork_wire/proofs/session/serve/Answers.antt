@@ -26,3 +26,6 @@ pub returns-in-Err-send_reply-clause-stopped : goal.returns-in-Err-send_reply-cl
 returns-in-Err-send_reply-clause-stopped g c =
     let frame = rw c.in-Ok-Frame.field-0-is at c.in-Ok-Frame.ensures in
     unsent _ _ _ _ _ _ _ _ _ c.in-Ok-Frame.frame c.answer-reply.result c.of_reply.result c.loop.invariant.going frame.0 frame.1 c.loop.invariant.trusted c.answer-reply.ensures.explained c.answer-reply.ensures.faults c.of_reply.ensures
+
+pub returns-in-Err-send_reply-clause-right : goal.returns-in-Err-send_reply-clause-right
+returns-in-Err-send_reply-clause-right g c trusted = c.answer-reply.ensures.right (c.loop.invariant.trusted trusted)

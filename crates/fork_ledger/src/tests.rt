@@ -20,7 +20,7 @@ fn name_of_blob(content: &[u8]) -> Name {
     name_of(Kind::Blob, content)
 }
 
-// What the tenant sees of the blob with this content, and what it sees or has staged.
+// Whether the tenant sees the blob with this content, and whether it has staged it.
 fn finds(
     alloc: Global,
     vault: &mut Vault,
@@ -29,8 +29,8 @@ fn finds(
 ) -> Result<(bool, bool), Fail> {
     let name = name_of_blob(content);
     let seen = vault.get(alloc, tenant, name)?;
-    let found = vault.find(alloc, tenant, name)?;
-    Ok((is_blob_of(&seen, content), is_blob_of(&found, content)))
+    let staged = vault.get_staged(alloc, tenant, name)?;
+    Ok((is_blob_of(&seen, content), is_blob_of(&staged, content)))
 }
 
 fn is_blob_of(found: &Option<Sealed>, content: &[u8]) -> bool {
@@ -58,7 +58,7 @@ fn what_is_staged_stands_beside_what_is_seen(rt: HostRuntime) -> Result<(), Fail
     let alloc = rt.alloc();
     let alice = named(b"alice")?;
     let mut vault = vault_of(alloc, &alice)?;
-    assert_eq!(rt; finds(alloc, &mut vault, &alice, b"one")?, (true, true));
+    assert_eq!(rt; finds(alloc, &mut vault, &alice, b"one")?, (true, false));
     assert_eq!(rt; finds(alloc, &mut vault, &alice, b"four")?, (false, true));
     assert_eq!(rt; finds(alloc, &mut vault, &alice, b"five")?, (false, false));
     assert_eq!(rt; vault.used(&alice), 67);
@@ -96,8 +96,8 @@ fn what_is_published_is_seen(rt: HostRuntime) -> Result<(), Fail> {
     let alice = named(b"alice")?;
     let mut vault = vault_of(alloc, &alice)?;
     vault.publish(&alice);
-    assert_eq!(rt; finds(alloc, &mut vault, &alice, b"one")?, (true, true));
-    assert_eq!(rt; finds(alloc, &mut vault, &alice, b"four")?, (true, true));
+    assert_eq!(rt; finds(alloc, &mut vault, &alice, b"one")?, (true, false));
+    assert_eq!(rt; finds(alloc, &mut vault, &alice, b"four")?, (true, false));
     assert_eq!(rt; vault.used(&alice), 135);
     vault.discard(&alice);
     assert_eq!(rt; vault.used(&alice), 135);
@@ -110,7 +110,7 @@ fn what_is_discarded_is_gone(rt: HostRuntime) -> Result<(), Fail> {
     let alice = named(b"alice")?;
     let mut vault = vault_of(alloc, &alice)?;
     vault.discard(&alice);
-    assert_eq!(rt; finds(alloc, &mut vault, &alice, b"one")?, (true, true));
+    assert_eq!(rt; finds(alloc, &mut vault, &alice, b"one")?, (true, false));
     assert_eq!(rt; finds(alloc, &mut vault, &alice, b"four")?, (false, false));
     assert_eq!(rt; vault.used(&alice), 67);
     assert!(rt; vault.is_within(&alice, 67));
@@ -127,8 +127,24 @@ fn an_object_that_comes_twice_is_staged_once(rt: HostRuntime) -> Result<(), Fail
     let four = blob(alloc, b"four")?;
     vault.stage(alloc, &alice, four)?;
     assert!(rt; vault.is_within(&alice, 135));
-    vault.discard(&alice);
     assert_eq!(rt; finds(alloc, &mut vault, &alice, b"one")?, (true, true));
+    vault.discard(&alice);
+    assert_eq!(rt; finds(alloc, &mut vault, &alice, b"one")?, (true, false));
+    Ok(())
+}
+
+#[test]
+fn an_object_that_is_staged_again_outlives_its_removal(rt: HostRuntime) -> Result<(), Fail> {
+    let alloc = rt.alloc();
+    let alice = named(b"alice")?;
+    let mut vault = vault_of(alloc, &alice)?;
+    let one = blob(alloc, b"one")?;
+    vault.stage(alloc, &alice, one)?;
+    vault.keep_only(&alice, &BTreeSet::new(alloc));
+    assert_eq!(rt; finds(alloc, &mut vault, &alice, b"one")?, (false, true));
+    vault.publish(&alice);
+    assert_eq!(rt; finds(alloc, &mut vault, &alice, b"one")?, (true, false));
+    assert_eq!(rt; vault.used(&alice), 135);
     Ok(())
 }
 
@@ -140,7 +156,7 @@ fn kept_names_stay_and_so_does_what_is_staged(rt: HostRuntime) -> Result<(), Fai
     let mut names = BTreeSet::new(alloc);
     names.insert(name_of_blob(b"one"))?;
     vault.keep_only(&alice, &names);
-    assert_eq!(rt; finds(alloc, &mut vault, &alice, b"one")?, (true, true));
+    assert_eq!(rt; finds(alloc, &mut vault, &alice, b"one")?, (true, false));
     vault.keep_only(&alice, &BTreeSet::new(alloc));
     assert_eq!(rt; finds(alloc, &mut vault, &alice, b"one")?, (false, false));
     assert_eq!(rt; finds(alloc, &mut vault, &alice, b"four")?, (false, true));
@@ -165,7 +181,7 @@ fn tenants_do_not_see_each_others_objects(rt: HostRuntime) -> Result<(), Fail> {
     let one = blob(alloc, b"one")?;
     vault.stage(alloc, &bob, one)?;
     vault.discard(&bob);
-    assert_eq!(rt; finds(alloc, &mut vault, &alice, b"one")?, (true, true));
+    assert_eq!(rt; finds(alloc, &mut vault, &alice, b"one")?, (true, false));
     vault.keep_only(&bob, &BTreeSet::new(alloc));
     assert_eq!(rt; vault.used(&alice), 135);
     Ok(())

@@ -1,7 +1,9 @@
 -- What a session does: the frames that came, the replies that go out, and the worlds that the host shows.
-use Rattle.std.specs.Prelude.{◌≡◌, ℕ, IfSome, List, [], ◌∷◌, ◌++◌, Option, Some, flat_map, map, ⊤}
+use Rattle.std.specs.Prelude.{◌≡◌, ℕ, Bool, false, cond, IfSome, List, [], ◌∷◌, ◌++◌, Option, Some, flat_map, map, ⊤}
 use Rattle.std.specs.FinMap.{get}
+use Rattle.std.specs.Ordering.{eq_by_cmp}
 use Rattle.std.specs.Io.KnownBytes.{Appends}
+use Rattle.git_name.specs.Name.{name_cmp}
 use Rattle.fork_request.specs.Asked.{asked, asked_host}
 use Rattle.fork_request.specs.Told.{bytes_of}
 use Rattle.fork_request.specs.declared.reply.Reply.{Reply}
@@ -30,9 +32,22 @@ event_of frame = event_by frame.asker frame.payload
 abbrev pub events_of : List Frame → List Event
 events_of frames = map event_of frames
 
+-- the payloads that a tenant sends in these frames, in order
+abbrev pub is_of : List ℕ → Asker → Bool
+is_of tenant (Tenant name) = eq_by_cmp name_cmp tenant name
+is_of tenant Host = false
+
+abbrev pub sent_by : List ℕ → List Frame → List (List ℕ)
+sent_by tenant [] = []
+sent_by tenant (frame ∷ frames) = cond (is_of tenant frame.asker) (frame.payload ∷ sent_by tenant frames) (sent_by tenant frames)
+
 -- the frames of these replies, one after another
 abbrev pub frames_of : List Reply → List ℕ
 frames_of replies = flat_map (λ reply. reply_frame (bytes_of reply)) replies
+
+-- the bytes that go out to a tenant: the frames of the replies to what it sent
+abbrev pub told_to : List ℕ → List Frame → List Reply → List ℕ
+told_to tenant frames replies = frames_of (told tenant (events_of frames) replies)
 
 -- each tenant that no host fault answered was told what a private host would tell it, and is left as there
 abbrev pub IsPrivateRun : World → List Event → List Reply → World → Type 0

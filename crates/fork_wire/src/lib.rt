@@ -4,7 +4,9 @@
 #![tactic(auto)]
 
 mod fault;
+mod laws;
 mod session;
 
 pub use crate::fault::SessionFault;
+pub use crate::laws::two_sessions_agree;
 pub use crate::session::serve;

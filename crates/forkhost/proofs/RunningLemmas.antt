@@ -6,12 +6,13 @@ use Rattle.fork_command.specs.declared.grant.Grant.{Grant}
 use Rattle.fork_frame.specs.declared.ended.Ended.{Ended}
 use Rattle.fork_host.specs.Adding.{refusal_to_add}
 use Rattle.fork_host.specs.declared.add_error.AddError.{AddError}
+use Rattle.fork_host.specs.Shown.{HostState, Trusted, world_of}
 use Rattle.fork_model.specs.World.{World}
 use Rattle.fork_wire.specs.Sessions.{IsServed, IsStopped}
 use Rattle.fork_wire.specs.declared.fault.SessionFault.{SessionFault}
 use Rattle.fork_wire.specs.declared.fault.SessionFault.TheVariants as session
 use Rattle.forkhost.specs.Fault.{session_fault}
-use Rattle.forkhost.specs.Running.{AreFree, IsFirstRefused, IsRun, IsUnadded, IsUnserved, IsUntouched, with_tenant, world_with}
+use Rattle.forkhost.specs.Running.{AreFree, IsFirstRefused, IsHostOf, IsRun, IsUnadded, IsUnserved, IsUntouched, with_tenant, world_with}
 use Rattle.forkhost.specs.declared.fault.Fault.{Fault}
 use Rattle.forkhost.specs.declared.fault.Fault.TheVariants.{TooLarge, BadObject, BadFrame, Read, Write, Memory, There, TooManyTenants}
 
@@ -88,17 +89,17 @@ not_added grants rest grant world input left before after Memory so_far why same
 not_added grants rest grant world input left before after (There tenant) so_far why same = (first_refused grants rest grant world _ so_far why.1, why.0, same)
 not_added grants rest grant world input left before after TooManyTenants so_far why same = (first_refused grants rest grant world _ so_far why, same)
 
+-- the host before its first request
+host_of : (grants : List Grant) (first : HostState) → Adding grants [] (world_of first) → Trusted first → IsHostOf grants first
+host_of grants first added trusted = record { free = all_free grants (world_of first) added; trusted = trusted; shows = all_made grants (world_of first) added }
+
 -- the session was served
-pub served : (grants : List Grant) (world last : World) (input before after : Option (List ℕ)) (ended : Ended) → Adding grants [] world → IsServed world last input before after ended → IsRun grants input before after ended
-served grants world last input before after ended added session = record {
-  free = all_free grants world added;
-  last = last;
-  served = subst (λ w. IsServed w last input before after ended) (all_made grants world added) session;
-}
+pub served : (grants : List Grant) (first last : HostState) (input before after : Option (List ℕ)) (ended : Ended) → Adding grants [] (world_of first) → Trusted first → IsServed first last input before after ended → IsRun grants input before after ended
+served grants first last input before after ended added trusted session = record { first = first; last = last; host = host_of grants first added trusted; served = session }
 
 -- or a fault stopped it
-pub stopped : (grants : List Grant) (world last : World) (input left before after : Option (List ℕ)) (fault : SessionFault) → Adding grants [] world → IsStopped world last input before after fault
+pub stopped : (grants : List Grant) (first last : HostState) (input left before after : Option (List ℕ)) (fault : SessionFault) → Adding grants [] (world_of first) → Trusted first → IsStopped first last input before after fault
     → IsUnserved grants input left before after (session_fault fault)
-stopped grants world last input left before after session.Read added why = record { free = all_free grants world added; last = last; stopped = subst (λ w. IsStopped w last input before after session.Read) (all_made grants world added) why }
-stopped grants world last input left before after session.Write added why = record { free = all_free grants world added; last = last; stopped = subst (λ w. IsStopped w last input before after session.Write) (all_made grants world added) why }
-stopped grants world last input left before after session.Memory added why = inl (record { free = all_free grants world added; last = last; stopped = subst (λ w. IsStopped w last input before after session.Memory) (all_made grants world added) why })
+stopped grants first last input left before after session.Read added trusted why = record { first = first; last = last; host = host_of grants first added trusted; stopped = why }
+stopped grants first last input left before after session.Write added trusted why = record { first = first; last = last; host = host_of grants first added trusted; stopped = why }
+stopped grants first last input left before after session.Memory added trusted why = inl (record { first = first; last = last; host = host_of grants first added trusted; stopped = why })

@@ -8,6 +8,7 @@ use Rattle.fork_frame.specs.declared.ended.Ended.TheVariants as ended
 use Rattle.fork_host.specs.Adding.{new_view, refusal_to_add}
 use Rattle.fork_host.specs.declared.add_error.AddError.{AddError}
 use Rattle.fork_host.specs.declared.add_error.AddError.TheVariants as add
+use Rattle.fork_host.specs.Shown.{HostState, Trusted, world_of}
 use Rattle.fork_model.specs.World.{World}
 use Rattle.fork_wire.specs.Sessions.{IsServed, IsStopped}
 use Rattle.fork_wire.specs.declared.fault.SessionFault.{SessionFault}
@@ -53,17 +54,25 @@ pub record IsUntouched (input left before after : Option (List ℕ)) : Type 0 wh
   pub unread : Keeps input left
   pub unwritten : Keeps before after
 
--- a session of a host with these tenants was served up to this end
-pub record IsRun (grants : List Grant) (input before after : Option (List ℕ)) (ended : Ended) : Type 0 where
+-- a host that has these tenants, which see nothing yet, over a store that is trusted
+pub record IsHostOf (grants : List Grant) (host : HostState) : Type 0 where
   pub free : AreFree grants
-  pub last : World
-  pub served : IsServed (world_with grants) last input before after ended
+  pub trusted : Trusted host
+  pub shows : world_of host ≡ world_with grants
+
+-- a session of such a host was served up to this end
+pub record IsRun (grants : List Grant) (input before after : Option (List ℕ)) (ended : Ended) : Type 0 where
+  pub first : HostState
+  pub last : HostState
+  pub host : IsHostOf grants first
+  pub served : IsServed first last input before after ended
 
 -- or a fault stopped it
 pub record IsStoppedRun (grants : List Grant) (input before after : Option (List ℕ)) (fault : SessionFault) : Type 0 where
-  pub free : AreFree grants
-  pub last : World
-  pub stopped : IsStopped (world_with grants) last input before after fault
+  pub first : HostState
+  pub last : HostState
+  pub host : IsHostOf grants first
+  pub stopped : IsStopped first last input before after fault
 
 -- why no session was served up to the input's end
 abbrev pub IsUnserved : List Grant → Option (List ℕ) → Option (List ℕ) → Option (List ℕ) → Option (List ℕ) → Fault → Type 0

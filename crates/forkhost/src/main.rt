@@ -22,7 +22,17 @@ use std::{env, io};
 fn started<R: Env + AllocGlobal + Input + Print + Eprint>(rt: &R) -> io::Result<u8> {
     let alloc = rt.alloc();
     let mut texts = Vec::new(alloc);
-    for text in env::args(rt)? {
+    let args = match env::args(rt) {
+        Ok(args) => args,
+        Err(error) => {
+            if error.kind() != io::ErrorKind::InvalidData {
+                return Err(error);
+            }
+            rt.eprint("forkhost: an argument is not UTF-8\n")?;
+            return Ok(2);
+        }
+    };
+    for text in args {
         texts.push(text)?;
     }
     let mut words = Vec::new(alloc);

@@ -26,14 +26,14 @@ returns-in-Err-clause-err g c =
 pub returns-in-Ok-Clean-clause-ok : goal.returns-in-Ok-Clean-clause-ok
 returns-in-Ok-Clean-clause-ok g c =
     let all = all_added _ _ _ c.loop-grant.grant-iterator.rest.len c.loop-grant.grant-iterator.rest.ok.0 c.in-None.ensures.steps.0 c.loop-grant.invariant.adding in
-    served _ (world_of c.loop-grant.host) (world_of c.serve.new.host) _ _ _ _ all (rw c.in-Ok-Clean.field-0-is at c.in-Ok-Clean.ensures.served c.loop-grant.invariant.trusted)
+    served _ c.loop-grant.host c.serve.new.host _ _ _ _ all c.loop-grant.invariant.trusted (rw c.in-Ok-Clean.field-0-is at c.in-Ok-Clean.ensures.served)
 
 pub returns-in-Ok-BadFrame-clause-err : goal.returns-in-Ok-BadFrame-clause-err
 returns-in-Ok-BadFrame-clause-err g c =
     let all = all_added _ _ _ c.loop-grant.grant-iterator.rest.len c.loop-grant.grant-iterator.rest.ok.0 c.in-None.ensures.steps.0 c.loop-grant.invariant.adding in
-    served _ (world_of c.loop-grant.host) (world_of c.serve.new.host) _ _ _ _ all (rw c.in-Ok-BadFrame.field-0-is at c.in-Ok-BadFrame.ensures.served c.loop-grant.invariant.trusted)
+    served _ c.loop-grant.host c.serve.new.host _ _ _ _ all c.loop-grant.invariant.trusted (rw c.in-Ok-BadFrame.field-0-is at c.in-Ok-BadFrame.ensures.served)
 
 pub returns-clause-err : goal.returns-clause-err
 returns-clause-err g c =
     let all = all_added _ _ _ c.loop-grant.grant-iterator.rest.len c.loop-grant.grant-iterator.rest.ok.0 c.in-None.ensures.steps.0 c.loop-grant.invariant.adding in
-    rw c.of_session.ensures (stopped _ (world_of c.loop-grant.host) (world_of c.serve.new.host) _ _ _ _ c.in-Err-serve.fault all (c.in-Err-serve.ensures.stopped c.loop-grant.invariant.trusted))
+    rw c.of_session.ensures (stopped _ c.loop-grant.host c.serve.new.host _ _ _ _ c.in-Err-serve.fault all c.loop-grant.invariant.trusted c.in-Err-serve.ensures.stopped)

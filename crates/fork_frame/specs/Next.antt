@@ -20,6 +20,15 @@ pub record FindsNoFrame (old new : Option (List ℕ)) : Type 0 where
   pub taken : Consumes old new front
   pub enough : IsEnough front
 
+-- a right line comes, LF, and the frame is to have a payload
+pub record BeginsFrame (input : List ℕ) : Type 0 where
+  pub line : Line
+  pub text : List ℕ
+  pub rest : List ℕ
+  pub right : IsLine line text
+  pub some : 1 ≤ line.len
+  pub parts : input ≡ text ++ 10 ∷ rest
+
 -- a frame was taken, and nothing more; or there was nothing; or no frame comes
 abbrev pub IsNext : Option (List ℕ) → Option (List ℕ) → Next → Type 0
 IsNext old new (Frame frame) = IsFrame frame × Consumes old new (frame_bytes frame)

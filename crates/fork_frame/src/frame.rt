@@ -1,5 +1,5 @@
-ghost use Rattle.std.specs.Prelude.{IfOk};
-ghost use Rattle.fork_frame.specs.Next.{IsNext};
+ghost use Rattle.std.specs.Prelude.{◌≡◌, IfErr, IfOk, IfSome};
+ghost use Rattle.fork_frame.specs.Next.{BeginsFrame, IsNext};
 
 use crate::asker::Asker;
 use crate::fault::FrameFault;
@@ -32,7 +32,8 @@ pub enum Next {
 /// read a byte at a time, so the reader had better be buffered. Memory is taken for the payload as it
 /// comes. After an `Err` nothing more is to be read as a frame.
 pub fn next_frame<R: Read>(alloc: Global, reader: &mut R) -> Result<Next, FrameFault>
-    ensures { IfOk result (λ next. IsNext (R.remaining reader.old) (R.remaining reader.new) next) }
+    ensures next { IfOk result (λ next. IsNext (R.remaining reader.old) (R.remaining reader.new) next) }
+    ensures memory { IfErr result (λ fault. fault ≡ FrameFault.Memory → IfSome (R.remaining reader.old) BeginsFrame) }
 {
     let text = match take_line(reader)? {
         Taken::Line(text) => text,

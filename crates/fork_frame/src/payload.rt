@@ -1,4 +1,4 @@
-ghost use Rattle.std.specs.Prelude.{◌≡◌, ◌<◌, ℕ, List, IfSome, IfNone, IfOk, length};
+ghost use Rattle.std.specs.Prelude.{◌≡◌, ◌<◌, ◌≤◌, ℕ, List, IfSome, IfNone, IfOk, IfErr, length};
 ghost use Rattle.std.specs.Io.KnownBytes.{Consumes, IsAtEnd};
 
 use crate::fault::FrameFault;
@@ -19,6 +19,7 @@ pub(crate) fn take_payload<R: Read>(
     ensures none { IfOk result (λ o. IfNone o ((front : List ℕ) × (length front < len)
         × Consumes (R.remaining reader.old) (R.remaining reader.new) front
         × IsAtEnd (R.remaining reader.new))) }
+    ensures wanted { IfErr result (λ _. 1 ≤ len) }
 {
     let mut bytes = Vec::new(alloc);
     while bytes.len() < len {

@@ -45,6 +45,7 @@ fn read_byte<R: Read>(reader: &mut R) -> Result<Option<u8>, FrameFault>
     ensures some { IfOk result (λ o. IfSome o (λ byte. Consumes (R.remaining reader.old) (R.remaining reader.new) (byte ∷ []))) }
     ensures none { IfOk result (λ o. IfNone o (Keeps (R.remaining reader.old) (R.remaining reader.new)
         × IsAtEnd (R.remaining reader.old) × IsAtEnd (R.remaining reader.new))) }
+    ensures cause { IfErr result (λ fault. fault ≡ FrameFault.Read) }
 {
     let mut one = [0u8; 1];
     let n = read_some(reader, &mut one)?;
@@ -76,7 +77,8 @@ pub(crate) fn read_onto<R: Read>(
 
 /// Takes a line. It takes no memory.
 pub(crate) fn take_line<R: Read>(reader: &mut R) -> Result<Taken, FrameFault>
-    ensures { IfOk result (λ taken. TakesLine (R.remaining reader.old) (R.remaining reader.new) taken) }
+    ensures taken { IfOk result (λ taken. TakesLine (R.remaining reader.old) (R.remaining reader.new) taken) }
+    ensures cause { IfErr result (λ fault. fault ≡ FrameFault.Read) }
 {
     let mut text = Text::new();
     while text.len() < LONGEST {

@@ -1,10 +1,10 @@
 -- A session goes on by one frame, and ends.
 use Rattle.std.specs.Prelude.{IfSome}
-use Rattle.std.proofs.Common.{◌≡◌, Option, Some, None, ℕ, List, [], ◌∷◌, ◌++◌, sym, ap, ◌∙◌, subst}
+use Rattle.std.proofs.Common.{◌≡◌, Option, Some, None, inl, inr, refl, ℕ, List, [], ◌∷◌, ◌++◌, sym, ap, ◌∙◌, subst}
 use Rattle.std.proofs.lemmas.Grind.{flat_map-append}
 use Rattle.std.proofs.lemmas.List.{append-nil, map-append}
-use Rattle.std.proofs.KnownBytes.{Consumes-trans, Appends-trans}
-use Rattle.std.specs.Io.KnownBytes.{Appends, Consumes}
+use Rattle.std.proofs.KnownBytes.{Consumes-trans, Appends-kept, Appends-trans}
+use Rattle.std.specs.Io.KnownBytes.{Appends, Consumes, Keeps}
 use Rattle.git_name.specs.Name.{name_cmp}
 use Rattle.git_name.proofs.Names.{name_total}
 use Rattle.fork_request.specs.Told.{bytes_of, is_host_fault}
@@ -20,10 +20,11 @@ use Rattle.fork_host.specs.Shown.{HostState, Trusted, world_of}
 use Rattle.fork_host.proofs.FaultLemmas.{faults_more}
 use Rattle.fork_frame.specs.declared.frame.Frame.{Frame}
 use Rattle.fork_frame.specs.Frame.{AreFrames, IsFrame, frame_bytes}
+use Rattle.fork_frame.specs.Next.{BeginsFrame}
 use Rattle.fork_frame.specs.Reply.{reply_frame}
 use Rattle.fork_frame.proofs.StreamLemmas.{frames_more}
 use Rattle.fork_wire.specs.declared.fault.SessionFault.{SessionFault}
-use Rattle.fork_wire.specs.declared.fault.SessionFault.TheVariants.{Read}
+use Rattle.fork_wire.specs.declared.fault.SessionFault.TheVariants.{Read, Write, Memory}
 use Rattle.fork_wire.specs.Sessions.{BeginsWith, IsAnswered, IsPrivateRun, IsStopped, IsTelling, event_of, events_of, frames_of}
 
 -- what came so far was answered by what went out so far
@@ -79,10 +80,10 @@ going_more old mid new input left now before during after frame reply so_far rig
 }
 
 -- the input begins with the frames that were taken
-pub begins : (input left : Option (List ℕ)) (came : List ℕ) (frames : List Frame) → Consumes input left came → AreFrames frames came → IfSome input (BeginsWith frames)
-begins None left came frames taken right = tt
-begins (Some bytes) None came frames taken right = absurd taken
-begins (Some bytes) (Some rest) came frames taken right = (came, rest, right, taken)
+pub begins_with : (input left : Option (List ℕ)) (came : List ℕ) (frames : List Frame) → Consumes input left came → AreFrames frames came → IfSome input (BeginsWith frames)
+begins_with None left came frames taken right = tt
+begins_with (Some bytes) None came frames taken right = absurd taken
+begins_with (Some bytes) (Some rest) came frames taken right = (came, rest, right, taken)
 
 -- a run is private
 private_of : (old new : World) (events : List Event) (replies : List Reply) → Explains old events replies new → IsPrivateRun old events replies new
@@ -104,8 +105,8 @@ answered_so_far old new frames replies run faults = record {
 
 -- a frame was answered, and its reply did not go out, or not wholly
 pub unsent : (old mid new : HostState) (input left now before during after : Option (List ℕ)) (frame : Frame) (reply : Reply) (fault : SessionFault) → Going old mid input left before during → IsFrame frame → Consumes left now (frame_bytes frame)
-    → (Trusted old → Trusted mid) → (Trusted mid → Steps (world_of mid) (event_of frame) reply (world_of new)) → FaultsWithin mid (event_of frame) reply new → (fault ≡ Read → ⊥) → IsStopped old new input before after fault
-unsent old mid new input left now before during after frame reply fault so_far right taken still step within other =
+    → (Trusted old → Trusted mid) → (Trusted mid → Steps (world_of mid) (event_of frame) reply (world_of new)) → FaultsWithin mid (event_of frame) reply new → (fault ≡ Read → ⊥) → (fault ≡ Memory → Keeps during after) → IsStopped old new input before after fault
+unsent old mid new input left now before during after frame reply fault so_far right taken still step within other kept =
     let frames = so_far.frames ++ frame ∷ [] in
     let replies = so_far.replies ++ reply ∷ [] in
     let came = so_far.came ++ frame_bytes frame in
@@ -113,7 +114,8 @@ unsent old mid new input left now before during after frame reply fault so_far r
       frames = frames;
       replies = replies;
       answered = answered_so_far old new frames replies (explained_on old mid new so_far.frames so_far.replies frame reply still so_far.explained step) (faults_on old mid new so_far.frames so_far.replies frame reply so_far.faults within);
-      read = begins input now came frames (Consumes-trans input left now so_far.came (frame_bytes frame) so_far.taken taken) (frames_more so_far.frames so_far.came frame so_far.right right);
+      read = begins_with input now came frames (Consumes-trans input left now so_far.came (frame_bytes frame) so_far.taken taken) (frames_more so_far.frames so_far.came frame so_far.right right);
       written = λ is. absurd (other is);
       told = λ is. telling_more so_far.frames frame input;
+      memory = λ is. inr (record { sent = so_far.replies; last = reply; parts = refl; written = Appends-kept before during after (frames_of so_far.replies) so_far.written (kept is) });
     }

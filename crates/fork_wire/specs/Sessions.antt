@@ -1,5 +1,5 @@
 -- What a session does: the frames that came, the replies that go out, and the worlds that the host shows.
-use Rattle.std.specs.Prelude.{◌≡◌, ℕ, Bool, false, cond, IfSome, List, [], ◌∷◌, ◌++◌, Option, Some, flat_map, map, ⊤}
+use Rattle.std.specs.Prelude.{◌≡◌, ◌⊎◌, ℕ, Bool, false, cond, IfSome, List, [], ◌∷◌, ◌++◌, Option, Some, flat_map, map, ⊤}
 use Rattle.std.specs.FinMap.{get}
 use Rattle.std.specs.Ordering.{eq_by_cmp}
 use Rattle.std.specs.Io.KnownBytes.{Appends}
@@ -13,13 +13,14 @@ use Rattle.fork_model.specs.World.{World, Event, Explains, IsUnfaulted, alone, o
 use Rattle.fork_host.specs.Faults.{FaultsAlong}
 use Rattle.fork_host.specs.Shown.{HostState, Trusted, world_of}
 use Rattle.fork_frame.specs.Frame.{AreFrames, IsBad, IsRequestStream}
+use Rattle.fork_frame.specs.Next.{BeginsFrame}
 use Rattle.fork_frame.specs.Reply.{last_line, reply_frame}
 use Rattle.fork_frame.specs.declared.asker.Asker.{Asker}
 use Rattle.fork_frame.specs.declared.asker.Asker.TheVariants.{Tenant, Host}
 use Rattle.fork_frame.specs.declared.ended.Ended.{Ended}
 use Rattle.fork_frame.specs.declared.frame.Frame.{Frame}
 use Rattle.fork_wire.specs.declared.fault.SessionFault.{SessionFault}
-use Rattle.fork_wire.specs.declared.fault.SessionFault.TheVariants.{Read, Write}
+use Rattle.fork_wire.specs.declared.fault.SessionFault.TheVariants.{Read, Write, Memory}
 
 -- what a payload asks, by who sends it
 abbrev pub event_by : Asker → List ℕ → Event
@@ -78,8 +79,20 @@ abbrev pub IsTelling : List Frame → Option (List ℕ) → Type 0
 IsTelling [] input = IfSome input IsBad
 IsTelling (frame ∷ frames) input = ⊤
 
+-- all replies so far went out, and behind the frames so far a frame comes that is to have a payload
+pub record LacksPayload (frames : List Frame) (replies : List Reply) (input before after : Option (List ℕ)) : Type 0 where
+  pub comes : IfSome input (λ bytes. (came : List ℕ) × (rest : List ℕ) × AreFrames frames came × (bytes ≡ came ++ rest) × BeginsFrame rest)
+  pub written : Appends before after (frames_of replies)
+
+-- the last reply did not go out, and nothing of it; those before it did
+pub record LacksReply (replies : List Reply) (before after : Option (List ℕ)) : Type 0 where
+  pub sent : List Reply
+  pub last : Reply
+  pub parts : replies ≡ sent ++ last ∷ []
+  pub written : Appends before after (frames_of sent)
+
 -- a session that a fault stopped: the first frames of the input were answered; where reading failed all their replies went out,
--- and writing fails only where something is to be told
+-- and writing fails only where something is to be told; memory is wanted for a payload that comes or for the bytes of a reply
 pub record IsStopped (old new : HostState) (input before after : Option (List ℕ)) (fault : SessionFault) : Type 0 where
   pub frames : List Frame
   pub replies : List Reply
@@ -87,3 +100,4 @@ pub record IsStopped (old new : HostState) (input before after : Option (List �
   pub read : IfSome input (BeginsWith frames)
   pub written : fault ≡ Read → Appends before after (frames_of replies)
   pub told : fault ≡ Write → IsTelling frames input
+  pub memory : fault ≡ Memory → LacksPayload frames replies input before after ⊎ LacksReply replies before after

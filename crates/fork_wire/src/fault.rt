@@ -16,7 +16,8 @@ pub enum SessionFault {
 
 // The fault of a frame that could not be read.
 pub(crate) fn of_frame(fault: FrameFault) -> SessionFault
-    ensures { result ≢ SessionFault.Write }
+    ensures read { result ≢ SessionFault.Write }
+    ensures memory { result ≡ SessionFault.Memory → fault ≡ FrameFault.Memory }
 {
     match fault {
         FrameFault::Read => SessionFault::Read,
@@ -26,7 +27,8 @@ pub(crate) fn of_frame(fault: FrameFault) -> SessionFault
 
 // The fault of a reply that could not be sent.
 pub(crate) fn of_reply(fault: ReplyFault) -> SessionFault
-    ensures { result ≢ SessionFault.Read }
+    ensures sent { result ≢ SessionFault.Read }
+    ensures memory { result ≡ SessionFault.Memory → fault ≡ ReplyFault.Memory }
 {
     match fault {
         ReplyFault::Memory => SessionFault::Memory,

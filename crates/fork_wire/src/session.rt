@@ -70,10 +70,10 @@ fn answer(host: &mut Host, alloc: Global, frame: Frame) -> Reply
 fn end_badly<W: Write>(writer: &mut W) -> Result<Ended, SessionFault>
     ensures ok { IfOk result (λ ended. (ended ≡ Ended.BadFrame)
         × Appends (W.contents writer.old) (W.contents writer.new) (last_line ended)) }
-    ensures cause { IfErr result (λ fault. fault ≢ SessionFault.Read) }
+    ensures cause { IfErr result (λ fault. fault ≡ SessionFault.Write) }
 {
     match send_bad_frame(writer) {
         Ok(()) => Ok(Ended::BadFrame),
-        Err(fault) => Err(of_reply(fault)),
+        Err(_) => Err(SessionFault::Write),
     }
 }

@@ -1,6 +1,7 @@
 //! The program as a whole, over readers and writers in memory.
 
 mod command_line;
+mod examples;
 mod frames;
 mod isolation;
 mod objects;

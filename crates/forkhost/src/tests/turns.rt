@@ -9,12 +9,18 @@ use super::ran;
 use std::alloc::Global;
 use std::test::Fail;
 
+// The first commit of A, of 128 bytes, with the tree T.
+const A: &[u8] =
+    b"e8a978f76d5cd058c4e0a87ee726a0a64c3226607247a98dd98a3bff21bec8a0 commit 128\ntree 6ef19b41225c5369f1c104d45d8d85efa9b057b53b14b4b9b939dd74decc5321\nauthor A <a@x> 100 +0000\ncommitter A <a@x> 100 +0000\n\none\n\n";
 // The blob `hello` LF.
 const B: &[u8] =
     b"2cf8d83d9ee29543b34a87727421fdecb7e3f3a183d337639025de576db9ebb4 blob 6\nhello\n\n";
 // A commit of 128 bytes, with the tree T.
 const C: &[u8] =
     b"ebf19fdd8350b77fa7dc28d348756e6e44686800e9a932ed072db05f9b2b538f commit 128\ntree 6ef19b41225c5369f1c104d45d8d85efa9b057b53b14b4b9b939dd74decc5321\nauthor Ada <a@x> 1 +0000\ncommitter Ada <a@x> 1 +0000\n\none\n\n";
+// The second commit of A, with the tree T and the parent A.
+const D: &[u8] =
+    b"cc9b69cb140af90bf62c1b5f50941cc4cb6e1801d5f903a0f7f4f514ad0a6547 commit 200\ntree 6ef19b41225c5369f1c104d45d8d85efa9b057b53b14b4b9b939dd74decc5321\nparent e8a978f76d5cd058c4e0a87ee726a0a64c3226607247a98dd98a3bff21bec8a0\nauthor A <a@x> 200 +0000\ncommitter A <a@x> 200 +0000\n\ntwo\n\n";
 // The empty blob.
 const E: &[u8] = b"473a0f4c3be8a93681a267e3b1e9a7dcda1185436fe141f7749120a303721813 blob 0\n\n";
 // A tree with a file, E.
@@ -23,6 +29,12 @@ const F: &[u8] =
 // A tag of the commit C.
 const G: &[u8] =
     b"cd3ee7283d46398b327f75f2c8f768d611bb79af2973d6f112943a0efe4a1e23 tag 120\nobject ebf19fdd8350b77fa7dc28d348756e6e44686800e9a932ed072db05f9b2b538f\ntype commit\ntag v1\ntagger Ada <a@x> 1 +0000\n\nv1\n\n";
+// No tree: a file's name of 31 bytes.
+const H: &[u8] =
+    b"d9c61775b3d40e29e8355f98aba690636ae8b7e26404700c10c5ac42dafe0bfa tree 40\n100644 a\x00G:\x0fL;\xe8\xa96\x81\xa2g\xe3\xb1\xe9\xa7\xdc\xda\x11\x85Co\xe1A\xf7t\x91 \xa3\x03r\x18\n";
+// No tree: a mode that begins with a zero.
+const J: &[u8] =
+    b"d0ce2c27c7c60fafc075611084a2ea0fad0711e9459bdd287ca5f237e0a5fb4f tree 41\n040000 a\x00n\xf1\x9bA\x22\x5cSi\xf1\xc1\x04\xd4]\x8d\x85\xef\xa9\xb0W\xb5;\x14\xb4\xb9\xb99\xddt\xde\xccS!\n";
 // A commit with the tree E, which is a blob.
 const K: &[u8] =
     b"85007abe8b0669d4700cb79c085670e400f41646ce1325e0e8e81ae71699cd9b commit 128\ntree 473a0f4c3be8a93681a267e3b1e9a7dcda1185436fe141f7749120a303721813\nauthor Ada <a@x> 1 +0000\ncommitter Ada <a@x> 1 +0000\n\none\n\n";
@@ -60,11 +72,15 @@ const PIECES: [&[u8]; 3] = [
 // The record that a capital stands for.
 fn record(letter: u8) -> &'static [u8] {
     match letter {
+        b'A' => A,
         b'B' => B,
         b'C' => C,
+        b'D' => D,
         b'E' => E,
         b'F' => F,
         b'G' => G,
+        b'H' => H,
+        b'J' => J,
         b'K' => K,
         b'L' => L,
         b'N' => N,

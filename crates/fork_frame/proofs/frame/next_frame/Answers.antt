@@ -5,25 +5,25 @@ use Rattle.std.specs.Io.KnownBytes.{Consumes}
 use Rattle.fork_frame.proofs.FrameLemmas.{finds_no_line, finds_no_right_line, finds_short_payload, is_frame}
 use Rattle.fork_frame.proofs.frame.next_frame.Goals as goal
 
-pub returns-in-NoLine : goal.returns-in-NoLine
-returns-in-NoLine g c = finds_no_line _ _ (rw c.in-NoLine.is at c.in_ok-text.ensures)
+pub returns-in-NoLine-clause-next : goal.returns-in-NoLine-clause-next
+returns-in-NoLine-clause-next g c = finds_no_line _ _ (rw c.in-NoLine.is at c.in_ok-text.ensures.taken)
 
-pub returns-in_default : goal.returns-in_default
-returns-in_default g c =
-    let taken = rw c.in-Line.is at c.in_ok-text.ensures in
+pub returns-in_default-clause-next : goal.returns-in_default-clause-next
+returns-in_default-clause-next g c =
+    let taken = rw c.in-Line.is at c.in_ok-text.ensures.taken in
     finds_no_right_line _ _ c.in-Line.text taken.0 taken.1 taken.2 (rw c.as_bytes.ensures at c.in_default.ensures.none)
 
-pub returns-in_default-2 : goal.returns-in_default-2
-returns-in_default-2 g c =
-    let taken = rw c.in-Line.is at c.in_ok-text.ensures in
+pub returns-in_default-2-clause-next : goal.returns-in_default-2-clause-next
+returns-in_default-2-clause-next g c =
+    let taken = rw c.in-Line.is at c.in_ok-text.ensures.taken in
     let short = rw c.in_default-2.is at c.in_ok-payload.ensures.none in
     let text = c.in-Line.text in
     finds_short_payload _ _ _ text short.0 c.in-Some.line taken.0 taken.2 (rw c.as_bytes.ensures at c.in-Some.ensures.found) short.1 short.2 short.3
     (subst (Consumes _ _) (append_assoc text (10 ∷ []) short.0) (Consumes-trans _ _ _ (text ++ 10 ∷ []) short.0 taken.2 short.2))
 
-pub returns : goal.returns
-returns g c =
-    let taken = rw c.in-Line.is at c.in_ok-text.ensures in
+pub returns-clause-next : goal.returns-clause-next
+returns-clause-next g c =
+    let taken = rw c.in-Line.is at c.in_ok-text.ensures.taken in
     let text = c.in-Line.text in
     let payload = c.in-Some-2.payload in
     let whole = rw c.in-Some-2.is at c.in_ok-payload.ensures.some in

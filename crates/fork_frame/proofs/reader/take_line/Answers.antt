@@ -2,8 +2,8 @@ use Rattle.std.proofs.Common.{inr, arith}
 use Rattle.std.proofs.KnownBytes.{Consumes-kept}
 use Rattle.fork_frame.proofs.reader.take_line.Goals as goal
 
-pub returns-in_default : goal.returns-in_default
-returns-in_default g c =
+pub returns-in_default-clause-taken : goal.returns-in_default-clause-taken
+returns-in_default-clause-taken g c =
     let ended = rw c.in_default.is at c.in_ok-byte.ensures.none in
     let so_far = c.loop-text.invariant in
     let nonzero = c.if-len-eq0.false in

@@ -1,5 +1,7 @@
 -- When a tenant is not added, and what it sees at first.
 use Rattle.std.specs.Prelude.{ℕ, List, Option, None, Some, nat_le, nat_lt, if◌then◌else◌}
+use Rattle.fork_request.specs.declared.limit.TheConstants.{MAX_LIMIT}
+use Rattle.fork_model.specs.declared.limits.TheConstants.{MAX_TENANTS}
 use Rattle.std.specs.FinMap.{contains_key, len, empty}
 use Rattle.fork_model.specs.View.{View}
 use Rattle.fork_model.specs.World.{World}
@@ -11,8 +13,8 @@ use Rattle.fork_host.specs.declared.add_error.AddError.TheVariants.{There, TooMa
 abbrev pub refusal_to_add : World → List ℕ → ℕ → Option AddError
 refusal_to_add world name limit =
     if contains_key world name then Some There
-    else if nat_le 64 (len world) then Some TooMany
-    else if nat_lt 1099511627776 limit then Some Limit
+    else if nat_le MAX_TENANTS (len world) then Some TooMany
+    else if nat_lt MAX_LIMIT limit then Some Limit
     else None
 
 -- an account without repositories, under this limit

@@ -1,5 +1,6 @@
 -- What a row of the answer comes to: the row itself, or want of memory.
 use Rattle.std.specs.Prelude.{◌≡◌, ℕ, ◌+◌, true, false, nat_lt, List, [], length, Option, Result, Ok, Err, ⊤}
+use Rattle.push_stream.specs.declared.upload.TheConstants.{MAX_UPLOAD}
 use Rattle.git_name.specs.Object.{Object}
 use Rattle.fork_request.specs.declared.host_fault.HostFault.{HostFault}
 use Rattle.fork_request.specs.declared.host_fault.HostFault.TheVariants.{Memory, Store, Damaged}
@@ -65,8 +66,8 @@ read_told (Err fault) = Err (fault_read fault)
 -- what a piece of an upload comes to
 pub data IsFed (old : UploadValue) (piece : List ℕ) (reply : Reply) (new : UploadValue) : Type 0 where
   -- it has room
-  Fed : reply ≡ Done [] → new ≡ continued old piece → nat_lt 33554432 (old.count + length piece) ≡ false → IsFed old piece reply new
+  Fed : reply ≡ Done [] → new ≡ continued old piece → nat_lt MAX_UPLOAD (old.count + length piece) ≡ false → IsFed old piece reply new
   -- it has none
-  Full : reply ≡ Refused StagedTooLong → new ≡ old → nat_lt 33554432 (old.count + length piece) ≡ true → IsFed old piece reply new
+  Full : reply ≡ Refused StagedTooLong → new ≡ old → nat_lt MAX_UPLOAD (old.count + length piece) ≡ true → IsFed old piece reply new
   -- want of memory
   Unfed : reply ≡ Failed Memory → new ≡ old → IsFed old piece reply new

@@ -17,21 +17,18 @@ use crate::accounts::Accounts;
 use crate::add_error::AddError;
 use crate::step::HostStep;
 use fork_ledger::Vault;
-use fork_model::a_run_is_private;
+use fork_model::{MAX_TENANTS, a_run_is_private};
 use fork_request::{HostRequest, MAX_LIMIT, Refusal, Reply, Request, TenantName};
 use std::alloc::{AllocError, Global};
 use std::marker::Model;
 use thiserror::Error;
-
-/// The most tenants of a host.
-const MOST_TENANTS: usize = 64;
 
 /// There was no memory, and nothing was done.
 #[derive(Clone, Copy, Debug, PartialEq, Eq, Error)]
 #[error("no memory")]
 pub struct NoMemory;
 
-/// A host of at most 64 tenants.
+/// A host of at most `MAX_TENANTS` tenants.
 #[derive(Drop)]
 pub struct Host {
     accounts: Accounts,
@@ -90,7 +87,7 @@ impl Host {
         if self.accounts.contains(&name) {
             return Err(AddError::There);
         }
-        if self.accounts.len() >= MOST_TENANTS {
+        if self.accounts.len() >= MAX_TENANTS {
             return Err(AddError::TooMany);
         }
         if limit > MAX_LIMIT {

@@ -19,9 +19,6 @@ use push_stream::Upload;
 use std::alloc::Global;
 use std::marker::Model;
 
-/// The most repositories of a tenant.
-pub(crate) const MOST_REPOSITORIES: usize = 256;
-
 // One tenant of a host: its account. Its objects lie in the vault.
 #[derive(Drop)]
 pub(crate) struct Tenant {

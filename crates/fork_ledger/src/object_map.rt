@@ -11,6 +11,7 @@ ghost use Rattle.fork_ledger.specs.Staged.{is_hidden, seen};
 ghost use Rattle.fork_ledger.specs.Used.{capped};
 
 use crate::hidden::is_hidden;
+use fork_reach::OBJECT_USE;
 use git_name::{Name, Sealed};
 use std::alloc::{AllocError, Global};
 use std::collections::{BTreeMap, BTreeSet};
@@ -141,7 +142,7 @@ fn uses_in(
 fn size_of(sealed: &Sealed) -> u128
     ensures { result ≡ use_of_object sealed.now }
 {
-    sealed.bytes().len() as u128 + 64
+    sealed.bytes().len() as u128 + OBJECT_USE as u128
 }
 
 // What an object counts for where hidden ones do not count.

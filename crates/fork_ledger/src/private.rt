@@ -14,6 +14,7 @@ use crate::fault::VaultFault;
 use crate::held::Held;
 use crate::hidden::is_hidden;
 use crate::object_map::ObjectMap;
+use fork_reach::OBJECT_USE;
 use git_name::{Name, Sealed};
 use std::alloc::{AllocError, Global};
 use std::collections::BTreeSet;
@@ -113,7 +114,7 @@ impl Private {
             };
             return Ok(());
         }
-        let size = sealed.bytes().len() as u128 + 64;
+        let size = sealed.bytes().len() as u128 + OBJECT_USE as u128;
         let Ok(()) = stage_new(&mut self.objects, &mut self.staged, sealed) else {
             return Err(AllocError);
         };

@@ -1,5 +1,8 @@
 -- The answer to each request: the reply, and the view afterwards. Refusals stand in the order in which they are judged.
 use Rattle.std.specs.Prelude.{ℕ, ◌+◌, nat_le, nat_lt, List, [], ◌++◌, length, codes, decimal, Option, Some, None, is_some, Result, Ok, Err, if◌then◌else◌}
+use Rattle.fork_request.specs.declared.name.TheConstants.{MAX_REPOSITORY_NAME}
+use Rattle.push_stream.specs.declared.upload.TheConstants.{MAX_UPLOAD}
+use Rattle.fork_model.specs.declared.limits.TheConstants.{MAX_REPOSITORIES}
 use Rattle.std.specs.List.{flat_map}
 use Rattle.std.specs.FinMap.{get, insert, remove, contains_key, len, empty, retain_keys, values}
 use Rattle.git_name.specs.Object.{Object}
@@ -33,13 +36,13 @@ use Rattle.fork_model.specs.View.{View, Repositories}
 
 -- the answer to a word in a repository's place: a refusal of the word, or the row's answer
 abbrev pub named_repository : View → List ℕ → Reply × View → Reply × View
-named_repository view word row = if is_plain_name 64 word then row else (Refused (BadName word), view)
+named_repository view word row = if is_plain_name MAX_REPOSITORY_NAME word then row else (Refused (BadName word), view)
 
--- a new repository with these references: a tenant has 256 at the most
+-- a new repository with these references, where there is room for one more
 abbrev pub new_repository : View → List ℕ → References → Reply × View
 new_repository view repository references =
     if contains_key view.repositories repository then (Refused (RepositoryExists repository), view)
-    else if nat_le 256 (len view.repositories) then (Refused TooMany, view)
+    else if nat_le MAX_REPOSITORIES (len view.repositories) then (Refused TooMany, view)
     else (Done [], record view { repositories = insert view.repositories repository references })
 
 -- `init REPO`: a new repository without references
@@ -130,7 +133,7 @@ open_upload None = upload_of []
 -- `part` and a body: the upload goes on by these bytes; what is wrong with it is told at its end
 unfoldable pub part_answer : View → List ℕ → Reply × View
 part_answer view body =
-    if nat_lt 33554432 ((open_upload view.upload).count + length body) then (Refused StagedTooLong, view)
+    if nat_lt MAX_UPLOAD ((open_upload view.upload).count + length body) then (Refused StagedTooLong, view)
     else (Done [], record view { upload = Some (continued (open_upload view.upload) body) })
 
 -- the view without the upload

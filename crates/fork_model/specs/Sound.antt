@@ -1,6 +1,10 @@
 -- Sound views (own): in order, which is that references name what is there and the limits hold; and right, which is that
 -- objects stand under their own names, are in their grammars and link to what is there.
 use Rattle.std.specs.Prelude.{◌≡◌, ◌≢◌, ℕ, ◌≤◌, true, List, Some, None}
+use Rattle.fork_request.specs.declared.limit.TheConstants.{MAX_LIMIT}
+use Rattle.git_reftx.specs.declared.transact.TheConstants.{MAX_REFERENCES}
+use Rattle.push_stream.specs.declared.upload.TheConstants.{MAX_UPLOAD}
+use Rattle.fork_model.specs.declared.limits.TheConstants.{MAX_REPOSITORIES, MAX_TENANTS}
 use Rattle.std.specs.List.{AllByRecursion}
 use Rattle.std.specs.FinMap.{get, contains_key, keys, len}
 use Rattle.git_refname.specs.Rule.{IsRefName}
@@ -38,14 +42,14 @@ pub record IsReference (objects : Objects) (reference target : List ℕ) : Type 
 pub record AreReferences (objects : Objects) (references : References) : Type 0 where
   pub each : (reference target : List ℕ) → get references reference ≡ Some target → IsReference objects reference target
   pub apart : least_upper (keys references) ≡ None
-  pub few : len references ≤ 4096
+  pub few : len references ≤ MAX_REFERENCES
 
 -- what names, kinds, lengths, references and limits decide of a view: it holds over any store
 pub record IsOrderly (view : View) : Type 0 where
-  pub upload : (upload : UploadValue) → view.upload ≡ Some upload → upload.count ≤ 33554432
+  pub upload : (upload : UploadValue) → view.upload ≡ Some upload → upload.count ≤ MAX_UPLOAD
   pub within_limit : use_of view.objects ≤ view.limit
-  pub limit : view.limit ≤ 1099511627776
-  pub few_repositories : len view.repositories ≤ 256
+  pub limit : view.limit ≤ MAX_LIMIT
+  pub few_repositories : len view.repositories ≤ MAX_REPOSITORIES
   pub repositories : (name : List ℕ) (references : References) → get view.repositories name ≡ Some references → IsRepositoryName name
   pub references : (name : List ℕ) (references : References) → get view.repositories name ≡ Some references → AreReferences view.objects references
 
@@ -61,9 +65,9 @@ pub record IsSound (view : View) : Type 0 where
   pub orderly : IsOrderly view
   pub right : IsRight view
 
--- at most 64 tenants, of right names, each with an orderly view
+-- no more tenants than a host may have, of right names, each with an orderly view
 pub record IsOrderlyWorld (world : World) : Type 0 where
-  pub few : len world ≤ 64
+  pub few : len world ≤ MAX_TENANTS
   pub named : (tenant : List ℕ) → contains_key world tenant ≡ true → IsTenantName tenant
   pub views : (tenant : List ℕ) (view : View) → get world tenant ≡ Some view → IsOrderly view
 

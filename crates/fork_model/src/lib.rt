@@ -4,6 +4,10 @@
 //! would tell it.
 #![tactic(auto)]
 
+mod limits;
+
+pub use crate::limits::{MAX_REPOSITORIES, MAX_TENANTS};
+
 ghost use Rattle.std.specs.Prelude.{◌≡◌, ℕ, List, Some, false};
 ghost use Rattle.std.specs.FinMap.{get};
 ghost use Rattle.fork_request.specs.declared.reply.Reply.{Reply};

@@ -9,6 +9,7 @@ use Rattle.git_name.specs.Object.{Object}
 use Rattle.git_name.specs.Maps.{mapped}
 use Rattle.git_name.proofs.MapLemmas.{entries_map_values, get_map_values}
 use Rattle.git_name.proofs.Names.{name_total}
+use Rattle.fork_reach.specs.declared.usage.TheConstants.{OBJECT_USE}
 use Rattle.fork_reach.specs.Objects.{Measures, measure_of, measures_of, use_of, use_of_object}
 use Rattle.fork_reach.specs.Source.{Objects, kind_in}
 
@@ -41,7 +42,7 @@ same_kinds objects others name same = sym (measured_kind objects name) ∙ ap (�
 
 -- what a measured object uses
 abbrev use_at : List ℕ × (Kind × ℕ) → ℕ
-use_at entry = entry.1.1 + 64
+use_at entry = entry.1.1 + OBJECT_USE
 
 use_measured : (es : List (List ℕ × Object)) → sum_by use_of_object (map (λ e. e.1) es) ≡ sum_by use_at (mapped measure_of es)
 use_measured [] = refl

@@ -1,6 +1,7 @@
 -- Objects that come beside others, what objects use, and what of them no store can change (own).
 use Rattle.std.specs.Prelude.{◌≡◌, ℕ, ◌+◌, List, [], ◌∷◌, Some, length, sum_by, if◌then◌else◌}
 use Rattle.std.specs.FinMap.{FinMap, get, insert, contains_key, values}
+use Rattle.fork_reach.specs.declared.usage.TheConstants.{OBJECT_USE}
 use Rattle.git_name.specs.Maps.{map_values}
 use Rattle.git_name.specs.Name.{name_cmp}
 use Rattle.git_name.specs.declared.kind.Kind.{Kind}
@@ -20,9 +21,9 @@ abbrev pub with_objects : Objects → List Object → Objects
 with_objects objects [] = objects
 with_objects objects (object ∷ sent) = with_objects (with_object objects object) sent
 
--- what an object uses: its length and 64
+-- what an object uses: its length, and so much beside it
 abbrev pub use_of_object : Object → ℕ
-use_of_object object = length object.bytes + 64
+use_of_object object = length object.bytes + OBJECT_USE
 
 -- what objects use together
 unfoldable pub use_of : Objects → ℕ

@@ -10,8 +10,10 @@ mod reaching;
 mod source;
 #[cfg(test)]
 mod tests;
+mod usage;
 mod walk;
 
 pub use crate::laws::reached_is_led_to;
 pub use crate::reaching::{ancestors, reach};
 pub use crate::source::{Source, SourceFault};
+pub use crate::usage::OBJECT_USE;

@@ -5,6 +5,7 @@ use Rattle.hex.specs.Hex.{encode_lower}
 use Rattle.git_name.specs.declared.kind.Kind.{Kind}
 use Rattle.git_name.specs.Object.{object_name}
 use Rattle.git_object.specs.Object.{ObjectValue, IsObject}
+use Rattle.push_stream.specs.declared.record.TheConstants.{MAX_CONTENT}
 use Rattle.forkhost.specs.declared.fault.Fault.{Fault}
 use Rattle.forkhost.specs.declared.fault.Fault.TheVariants.{TooLarge, BadObject, BadFrame, Read, Write, Memory, There, TooManyTenants}
 
@@ -18,12 +19,12 @@ name_line kind bytes = encode_lower (object_name (record { kind = kind; bytes = 
 
 -- the input has more than an object may have
 abbrev pub IsTooLarge : Option (List ℕ) → Type 0
-IsTooLarge input = IfSome input (λ bytes. 8388608 < length bytes)
+IsTooLarge input = IfSome input (λ bytes. MAX_CONTENT < length bytes)
 
 -- this is all of the input, and no more than an object may have
 pub record IsContent (input : Option (List ℕ)) (content : List ℕ) : Type 0 where
   pub whole : IfSome input (λ bytes. content ≡ bytes)
-  pub fits : length content ≤ 8388608
+  pub fits : length content ≤ MAX_CONTENT
 
 -- why the input was not read whole
 abbrev pub IsUnread : Option (List ℕ) → Fault → Type 0

@@ -6,7 +6,8 @@ ghost use Rattle.fork_host.specs.Rows.{Gives};
 ghost use Rattle.fork_host.specs.Shown.{seen_by};
 
 use crate::replies::{bad_name, done};
-use crate::tenant::{MOST_REPOSITORIES, Tenant};
+use crate::tenant::Tenant;
+use fork_model::MAX_REPOSITORIES;
 use fork_request::{HostFault, Refusal, Reply, RepositoryName};
 use git_reftx::Refs;
 use std::alloc::Global;
@@ -30,7 +31,7 @@ impl Tenant {
         if self.repositories.contains(&name) {
             return Reply::Refused(Refusal::RepositoryExists(name));
         }
-        if self.repositories.len() >= MOST_REPOSITORIES {
+        if self.repositories.len() >= MAX_REPOSITORIES {
             return Reply::Refused(Refusal::TooMany);
         }
         if self.repositories.insert(name, references).is_err() {

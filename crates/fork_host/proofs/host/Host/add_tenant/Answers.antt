@@ -12,8 +12,8 @@ returns-then-contains-clause-cause c _ =
     let known = ap (λ s. map.contains_key (world_of s) c.args.name) (sym c.self.view_is) ∙ known_world (state_of c.self.inside.accounts c.self.inside.vault) c.args.name in
     refused_there (world_of c.args.self.now) c.args.name c.args.limit (known ∙ sym c.contains.ensures ∙ c.if-contains.true)
 
-pub returns-then-len-ge-MOST_TENANTS-clause-cause : goal.returns-then-len-ge-MOST_TENANTS-clause-cause
-returns-then-len-ge-MOST_TENANTS-clause-cause c _ =
+pub returns-then-len-ge-MAX_TENANTS-clause-cause : goal.returns-then-len-ge-MAX_TENANTS-clause-cause
+returns-then-len-ge-MAX_TENANTS-clause-cause c _ =
     let known = ap (λ s. map.contains_key (world_of s) c.args.name) (sym c.self.view_is) ∙ known_world (state_of c.self.inside.accounts c.self.inside.vault) c.args.name in
     let count = ap (λ s. map.len (world_of s)) (sym c.self.view_is) ∙ len_world (state_of c.self.inside.accounts c.self.inside.vault) ∙ sym c.len.ensures in
     refused_many (world_of c.args.self.now) c.args.name c.args.limit (known ∙ sym c.contains.ensures ∙ c.if-contains.false) (omega (arith, count))

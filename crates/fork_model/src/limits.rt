@@ -1,0 +1,5 @@
+/// The most tenants of a host (own).
+pub const MAX_TENANTS: usize = 64;
+
+/// The most repositories of a tenant (own).
+pub const MAX_REPOSITORIES: usize = 256;

@@ -27,11 +27,11 @@ impl Source for Both<'_> {
     ghost Rest = { Tenants };
 
     ghost state = { λ both. record {
-        objects = both_of (private_of both.vault.now.tenants both.tenant.now);
-        honest = both.vault.now.honest;
-        failures = 0;
-        base = ((both.vault.ghost_name, both.tenant), shape_of both.vault.now.tenants);
-        rest = both.vault.now.tenants;
+      objects = both_of (private_of both.vault.now.tenants both.tenant.now);
+      honest = both.vault.now.honest;
+      failures = 0;
+      base = ((both.vault.ghost_name, both.tenant), shape_of both.vault.now.tenants);
+      rest = both.vault.now.tenants;
     } };
 
     fn kind_of(&self, name: Name) -> Option<Kind> {

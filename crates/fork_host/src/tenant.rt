@@ -52,12 +52,7 @@ impl Tenant {
     #[tactic(auto, unfolding(fork_model::specs::Answer::answer))]
     // Answers a request from the tenant's account and its own part of the vault: a row of the answer a
     // method, each in the file of its subject.
-    pub(crate) fn answer(
-        &mut self,
-        alloc: Global,
-        own: &mut Own<'_>,
-        request: Request<'_>,
-    ) -> Reply
+    pub(crate) fn answer(&mut self, alloc: Global, own: &mut Own<'_>, request: Request<'_>) -> Reply
         requires ready { Ready own.old self.old.limit }
         ensures row { Gives (answer (shown_by self.old own.old) (ask_of request.entry)) (shown_by self.old own.old) result (shown self.new own.new.vault.now own.old.tenant.now) }
         ensures own { Uses own.old own.new }

@@ -17,9 +17,7 @@ pub(crate) fn source_fault(fault: VaultFault) -> SourceFault
 }
 
 // How a source tells what a read of the vault gave.
-pub(crate) fn told(
-    found: Result<Option<Sealed>, VaultFault>,
-) -> Result<Option<Sealed>, SourceFault>
+pub(crate) fn told(found: Result<Option<Sealed>, VaultFault>) -> Result<Option<Sealed>, SourceFault>
     ensures { result ≡ read_told found }
 {
     match found {

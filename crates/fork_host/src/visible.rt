@@ -30,11 +30,11 @@ impl Source for Own<'_> {
     ghost Rest = { Tenants };
 
     ghost state = { λ own. record {
-        objects = (private_of own.vault.now.tenants own.tenant.now).visible;
-        honest = own.vault.now.honest;
-        failures = 0;
-        base = ((own.vault.ghost_name, own.tenant), shape_of own.vault.now.tenants);
-        rest = own.vault.now.tenants;
+      objects = (private_of own.vault.now.tenants own.tenant.now).visible;
+      honest = own.vault.now.honest;
+      failures = 0;
+      base = ((own.vault.ghost_name, own.tenant), shape_of own.vault.now.tenants);
+      rest = own.vault.now.tenants;
     } };
 
     fn kind_of(&self, name: Name) -> Option<Kind> {

@@ -37,11 +37,11 @@ pub held_some : (own : Private) (objects : Objects) (staged again : BTreeSet (Li
     → Some (record { kind = kind; length = len; visible = not h; staged = s }) ≡ held_in own name
 held_some own objects staged again name object kind len h s view here of_kind of_length hides stages =
     let visible : contains_key (shown objects staged again).visible name ≡ not h =
-        ap is_some (get_without objects (is_hidden staged again) name) ∙ seen_is (is_hidden staged again name) (get objects name) object here ∙ ap not (sym hides) in
+    ap is_some (get_without objects (is_hidden staged again) name) ∙ seen_is (is_hidden staged again name) (get objects name) object here ∙ ap not (sym hides) in
     let waits : contains_key (shown objects staged again).staged name ≡ s =
-        ap is_some (get_kept objects (contains name_cmp staged) name) ∙ staged_is (contains name_cmp staged name) (get objects name) object here ∙ sym stages in
+    ap is_some (get_kept objects (contains name_cmp staged) name) ∙ staged_is (contains name_cmp staged name) (get objects name) object here ∙ sym stages in
     let held : ◌≡◌ {A = Held} (record { kind = kind; length = len; visible = not h; staged = s }) (held_of object (contains_key (shown objects staged again).visible name) (contains_key (shown objects staged again).staged name)) =
-        λ i. record { kind = of_kind i; length = of_length i; visible = sym visible i; staged = sym waits i } in
+    λ i. record { kind = of_kind i; length = of_length i; visible = sym visible i; staged = sym waits i } in
     subst (λ o. Some (record { kind = kind; length = len; visible = not h; staged = s }) ≡ held_in o name) view
     (ap Some held ∙ ap (option_map (λ o. held_of o (contains_key (shown objects staged again).visible name) (contains_key (shown objects staged again).staged name))) (sym here ∙ ap (λ m. get m name) (sym (both_is objects staged again))))
 

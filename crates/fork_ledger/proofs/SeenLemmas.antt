@@ -96,11 +96,11 @@ pub seen_less : (objects : Objects) {now : Objects} (staged left again : BTreeSe
 seen_less objects {now} staged left again name true there less is set =
     ap (seen left again) set
     ∙ seen_alike objects (is_hidden staged again) (is_hidden left again) (λ q. hidden_less (is_at (name_cmp name) q) (contains name_cmp staged q) (contains name_cmp left q) (contains name_cmp again q) (less q)
-      (λ same. ap (contains name_cmp again) (sym (tied_names name q same)) ∙ sym is))
+    (λ same. ap (contains name_cmp again) (sym (tied_names name q same)) ∙ sym is))
 seen_less objects {now} staged left again name false there less is set =
     ap (seen left again) set
     ∙ seen_removed objects (is_hidden staged again) (is_hidden left again) name (ap (λ b. b && not (contains name_cmp again name)) there ∙ ap not (sym is))
-      (λ q apart. ap (λ b. b && not (contains name_cmp again q)) (less q ∙ ap (λ b. cond b false (contains name_cmp staged q)) apart))
+    (λ q apart. ap (λ b. b && not (contains name_cmp again q)) (less q ∙ ap (λ b. cond b false (contains name_cmp staged q)) apart))
 
 -- a list that is not longer than none
 pub none_left : (names : List (List ℕ)) → (0 < length names → ⊥) → names ≡ []

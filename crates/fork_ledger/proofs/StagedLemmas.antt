@@ -61,7 +61,7 @@ pub awaiting_more : (objects now : Objects) (old new : List ℕ → Bool) (name 
 awaiting_more objects now old new name object more here apart = same_map name_total name_exact _ _ (λ q.
     get_kept now new q
     ∙ set_at (eq_by_cmp name_cmp q name) (get now q) (get objects q) (old q) (new q) object (more q ∙ ap (λ b. cond b true (old q)) (sym (turned q name)))
-      (λ same. ap (get now) (tied_names q name same) ∙ here) (λ is. apart q (sym (turned q name) ∙ is))
+    (λ same. ap (get now) (tied_names q name same) ∙ here) (λ is. apart q (sym (turned q name) ∙ is))
     ∙ ap (cond (eq_by_cmp name_cmp q name) (Some object)) (sym (get_kept objects old q))
     ∙ sym (get-insert name_total (retain_keys objects old) name object q))
 

@@ -31,7 +31,7 @@ pub staged_already : (own : Private) (objects : Objects) (staged again : BTreeSe
 staged_already own objects staged again object name view named is stages there =
     subst (λ o. o ≡ with_staged object o) view
     (staged_again (shown objects staged again) object (named_visible objects staged again named)
-      (ap (contains_key (awaiting staged objects)) (sym is) ∙ ap is_some (get_kept objects (contains name_cmp staged) name) ∙ waits (contains name_cmp staged name) (get objects name) stages there))
+    (ap (contains_key (awaiting staged objects)) (sym is) ∙ ap is_some (get_kept objects (contains name_cmp staged) name) ∙ waits (contains name_cmp staged name) (get objects name) stages there))
 
 none_waits : (b : Bool) (o : Option Object) → b ≡ false → is_some (cond b o None) ≡ false
 none_waits true o is = absurd (cc)
@@ -54,12 +54,12 @@ staged_seen own objects staged now again more object name view named is staged_m
     by None here some = absurd (cc)
     by (Some x) here some =
         let stands : standing (shown objects staged again) object ≡ x =
-            ap (λ n. unwrap_or (get (seen staged again objects) n) object) (sym is) ∙ ap (λ o. unwrap_or o object) (seen_there objects staged again name absent ∙ here) in
+        ap (λ n. unwrap_or (get (seen staged again objects) n) object) (sym is) ∙ ap (λ o. unwrap_or o object) (seen_there objects staged again name absent ∙ here) in
         let set = staged_new (shown objects staged again) object x (named_visible objects staged again named) (ap (contains_key (awaiting staged objects)) (sym is) ∙ absent_staged objects staged name absent) stands in
         subst (λ o. shown objects now more ≡ with_staged object o) view
         (same_private _ _
-          (seen_alike objects (is_hidden staged again) (is_hidden now more) (hidden_same staged now again more name staged_more again_more absent) ∙ ap (λ p. p.visible) (sym set))
-          (awaiting_more objects objects (contains name_cmp staged) (contains name_cmp now) name x staged_more here (λ q apart. refl) ∙ ap (λ n. insert (awaiting staged objects) n x) is ∙ ap (λ p. p.staged) (sym set)))
+        (seen_alike objects (is_hidden staged again) (is_hidden now more) (hidden_same staged now again more name staged_more again_more absent) ∙ ap (λ p. p.visible) (sym set))
+        (awaiting_more objects objects (contains name_cmp staged) (contains name_cmp now) name x staged_more here (λ q apart. refl) ∙ ap (λ n. insert (awaiting staged objects) n x) is ∙ ap (λ p. p.staged) (sym set)))
 
 absent_of : (o : Option Object) → is_some o ≡ false → o ≡ None
 absent_of None is = refl
@@ -81,7 +81,7 @@ staged_fresh own objects now_objects staged now again object view named more abs
     let set = staged_new (shown objects staged again) object object (named_visible objects staged again named) (absent_staged objects staged name absent) stands in
     subst (λ o. shown now_objects now again ≡ with_staged object o) view
     (same_private _ _
-      (ap (seen now again) set_objects ∙ seen_new objects staged now again name object more none not_again ∙ ap (λ p. p.visible) (sym set))
-      (ap (awaiting now) set_objects
-        ∙ awaiting_more objects (insert objects name object) (contains name_cmp staged) (contains name_cmp now) name object more (at_name objects name object) (λ q apart. at_others objects name q object apart)
-        ∙ ap (λ p. p.staged) (sym set)))
+    (ap (seen now again) set_objects ∙ seen_new objects staged now again name object more none not_again ∙ ap (λ p. p.visible) (sym set))
+    (ap (awaiting now) set_objects
+    ∙ awaiting_more objects (insert objects name object) (contains name_cmp staged) (contains name_cmp now) name object more (at_name objects name object) (λ q apart. at_others objects name q object apart)
+    ∙ ap (λ p. p.staged) (sym set)))

@@ -258,7 +258,7 @@ part_row view body =
     (λ fits. Does [] refl
     (orderly_upload view (Some (continued (open_upload view.upload) body)) (λ value is. subst (λ (u : UploadValue). u.count ≤ 33554432) (some_same (continued (open_upload view.upload) body) value is) (counted (open_upload view.upload) body fits)))
     (λ right. right_upload view (Some (continued (open_upload view.upload) body)) (λ value is.
-      subst (λ (u : UploadValue). AreObjects (sent_in u.stream)) (some_same (continued (open_upload view.upload) body) value is) (continued_right (open_upload view.upload) body (open_right view.upload right.upload))) right))
+    subst (λ (u : UploadValue). AreObjects (sent_in u.stream)) (some_same (continued (open_upload view.upload) body) value is) (continued_right (open_upload view.upload) body (open_right view.upload right.upload))) right))
 
 upload_row : (view : View) (word : List ℕ) (old : References) (o : Option UploadValue) → view.upload ≡ o → get view.repositories word ≡ Some old → IsRepositoryName word → IsRow view (upload_into view word old o)
 upload_row view word old None is there right = refuses view NoUpload

@@ -6,13 +6,13 @@
 
 mod limits;
 
-pub use crate::limits::{MAX_REPOSITORIES, MAX_TENANTS};
-
 ghost use Rattle.std.specs.Prelude.{◌≡◌, ℕ, List, Some, false};
 ghost use Rattle.std.specs.FinMap.{get};
 ghost use Rattle.fork_request.specs.declared.reply.Reply.{Reply};
 ghost use Rattle.fork_model.specs.View.{View};
 ghost use Rattle.fork_model.specs.World.{World, Event, Explains, IsUnfaulted, Agree, own, told, alone};
+
+pub use crate::limits::{MAX_REPOSITORIES, MAX_TENANTS};
 
 /// What a tenant is told, and its view afterwards, are those of a private host that holds this
 /// tenant alone, whatever requests of others stand between, where no host fault answered it.

@@ -38,5 +38,5 @@ pub sessions_agree : (tenant : List ℕ) (old new : HostState) (frames : List Fr
 sessions_agree tenant old new frames replies old2 new2 frames2 replies2 one fine other fine2 trusted trusted2 agree same =
     let asks = own_sent tenant frames ∙ ap (map asked) same ∙ sym (own_sent tenant frames2) in
     let both = runs_agree name_cmp name_total answer (Refused UnknownTenant) is_host_fault HostSays tenant (world_of old) (world_of new) (events_of frames) replies (world_of old2) (world_of new2) (events_of frames2) replies2
-      (one.explained trusted) fine (other.explained trusted2) fine2 agree asks in
+    (one.explained trusted) fine (other.explained trusted2) fine2 agree asks in
     (ap frames_of both.0, both.1)

@@ -59,14 +59,7 @@ impl Tenant {
         ensures own { Uses own.old own.new }
     {
         match finished {
-            Ok(body) => take(
-                alloc,
-                &mut self.repositories,
-                own,
-                self.limit,
-                name,
-                body,
-            ),
+            Ok(body) => take(alloc, &mut self.repositories, own, self.limit, name, body),
             Err(BodyError::Fault(fault)) => Reply::Refused(stream_refusal(fault)),
             Err(BodyError::Memory) => Reply::Failed(HostFault::Memory),
         }
@@ -105,12 +98,7 @@ impl Tenant {
     }
 
     // The upload is judged as the body of a push, and stays.
-    fn end_upload(
-        &mut self,
-        alloc: Global,
-        own: &mut Own<'_>,
-        word: &[u8],
-    ) -> Reply
+    fn end_upload(&mut self, alloc: Global, own: &mut Own<'_>, word: &[u8]) -> Reply
         requires ready { Ready own.old self.old.limit }
         ensures row { Gives (named_repository (shown_by self.old own.old) word.now (end_in (shown_by self.old own.old) word.now (map.get self.old.repositories word.now))) (shown_by self.old own.old) result (shown self.new own.new.vault.now own.old.tenant.now) }
         ensures own { Uses own.old own.new }

@@ -39,7 +39,7 @@ discard-requires c =
     let t = c.args.own.now.tenant.now in
     record {
       there = ap (λ r. map.contains_key c.stage.new.self.vault.now.tenants r.now) (c.in_default.ensures.same.tenant ∙ before.same.tenant)
-        ∙ ap (λ tenants. map.contains_key tenants t) (c.in_default.ensures.err trusted) ∙ before.stages.leaves.there t ∙ c.requires.there;
+          ∙ ap (λ tenants. map.contains_key tenants t) (c.in_default.ensures.err trusted) ∙ before.stages.leaves.there t ∙ c.requires.there;
     }
 
 pub returns-in_default-clause-err : goal.returns-in_default-clause-err
@@ -51,7 +51,7 @@ returns-in_default-clause-err c =
     let stages = stages_still first.vault.now c.loop-sealed.own.vault.now c.stage.new.self.vault.now first.tenant.now _ (c.in_default.ensures.err trusted) c.in_default.ensures.honest before.stages in
     subst (λ r. Settles r.now (visible_in first.vault.now r.now) first.vault.now c.discard.new.own.vault.now) tenant
     (c.discard.ensures.settles first.vault.now (both_in c.loop-sealed.own.vault.now first.tenant.now)
-      (subst (λ r. Stages r.now (both_in c.loop-sealed.own.vault.now first.tenant.now) first.vault.now c.stage.new.self.vault.now) (sym tenant) stages))
+    (subst (λ r. Stages r.now (both_in c.loop-sealed.own.vault.now first.tenant.now) first.vault.now c.stage.new.self.vault.now) (sym tenant) stages))
 
 pub returns-in_default-clause-same : goal.returns-in_default-clause-same
 returns-in_default-clause-same c =

@@ -12,7 +12,7 @@ returns-clause-asked c =
     let told = c.get.ensures in
     record {
       measures = ap (λ r. measures_of (private_of new.vault.now.tenants r.now).visible) told.same.tenant
-        ∙ ap (λ p. p.0) (same_measures old.vault.now.tenants new.vault.now.tenants old.tenant.now told.shape);
+          ∙ ap (λ p. p.0) (same_measures old.vault.now.tenants new.vault.now.tenants old.tenant.now told.shape);
       honest = told.honest;
       base = λ i. ((told.same.vault i, told.same.tenant i), told.shape i);
       counted = told_counts c.get.result c.told.result c.told.ensures told.faults;

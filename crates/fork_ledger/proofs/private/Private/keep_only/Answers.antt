@@ -27,6 +27,6 @@ returns c =
     let staged = contains name_cmp c.self.inside.staged in
     same_private _ _
     (ap (seen c.self.inside.staged c.keep_among.new.names) c.keep_only.ensures
-      ∙ visible_kept c.self.inside.objects names c.self.inside.staged c.self.inside.again c.keep_among.new.names c.keep_among.ensures
-      ∙ ap (λ own. map.retain_keys own.visible names) c.self.view_is)
+    ∙ visible_kept c.self.inside.objects names c.self.inside.staged c.self.inside.again c.keep_among.new.names c.keep_among.ensures
+    ∙ ap (λ own. map.retain_keys own.visible names) c.self.view_is)
     (ap (awaiting c.self.inside.staged) c.keep_only.ensures ∙ staged_kept c.self.inside.objects names staged ∙ ap (λ own. own.staged) c.self.view_is)

@@ -46,7 +46,7 @@ invariant_of-self-2 c =
     counted_new c.self.inside.objects c.stage_new.new.objects c.self.inside.staged c.stage_new.new.staged c.self.inside.again c.self.inside.used c.self.inside.total c.saturating_add-self-inside.result c.args.sealed
     c.in-Ok-stage_new.ensures.staged.0 absent c.in-Ok-stage_new.ensures.objects
     (c.saturating_add-self-inside.ensures ∙ ap (λ bytes. capped (c.self.inside.total + (length bytes + 64))) c.bytes.ensures
-      ∙ capped_more 340282366920938463463374607431768211455 c.self.inside.total (use_of c.self.inside.objects) (use_of_object c.args.sealed) c.self.invariant.both)
+    ∙ capped_more 340282366920938463463374607431768211455 c.self.inside.total (use_of c.self.inside.objects) (use_of_object c.args.sealed) c.self.invariant.both)
     c.self.invariant
 
 pub returns-clause-ok : goal.returns-clause-ok

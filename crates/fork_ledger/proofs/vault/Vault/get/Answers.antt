@@ -27,4 +27,3 @@ returns-clause-there c =
     let own = private_found c.args.self.now.tenants c.self.inside.tenants.entries c.args.tenant.now (Some c.in-Some.own.now) (ap (λ s. s.tenants) c.self.view_is) c.in-Some.ensures.value in
     found_there (private_of c.args.self.now.tenants c.args.tenant.now).visible c.args.name c.get-2.result
     (subst (λ o. IfOk c.get-2.result (λ found. found ≡ map.get o.visible c.args.name)) (sym own) c.get-2.ensures.found)
-

@@ -27,4 +27,3 @@ returns-clause-there c =
     let own = private_found c.args.self.now.tenants c.self.inside.tenants.entries c.args.tenant.now (Some c.in-Some.own.now) (ap (λ s. s.tenants) c.self.view_is) c.in-Some.ensures.value in
     found_there (private_of c.args.self.now.tenants c.args.tenant.now).staged c.args.name c.get_staged.result
     (subst (λ o. IfOk c.get_staged.result (λ found. found ≡ map.get o.staged c.args.name)) (sym own) c.get_staged.ensures.found)
-

@@ -12,7 +12,7 @@ pub returns-in_default : goal.returns-in_default
 returns-in_default c =
     let own = private_found c.args.self.now.tenants c.self.inside.tenants.entries c.args.tenant.now None (ap (λ s. s.tenants) c.self.view_is) c.in_default.ensures.value in
     ap (option_map (λ object. held_of object (map.contains_key nothing.visible c.args.name) (map.contains_key nothing.staged c.args.name)))
-      (sym (map.get-empty name_cmp c.args.name) ∙ ap (λ m. map.get m c.args.name) (sym (joined_empty name_total name_exact nothing.visible)))
+    (sym (map.get-empty name_cmp c.args.name) ∙ ap (λ m. map.get m c.args.name) (sym (joined_empty name_total name_exact nothing.visible)))
     ∙ ap (λ o. held_in o c.args.name) (sym own)
 
 pub returns : goal.returns

@@ -59,8 +59,7 @@ impl Host {
         }
     }
 
-    /// How many tenants there are. What a host shows is in order over any store, and right over one that
-    /// is trusted.
+    /// How many tenants there are. What a host shows is in order, and right where its store is trusted.
     pub fn tenants(&self) -> usize
         ensures value { result ≡ map.len (world_of self.now) }
         ensures orderly { IsOrderlyWorld (world_of self.now) }
@@ -83,6 +82,7 @@ impl Host {
         ensures err { OnErr result (self.new ≡ self.old) }
         ensures trusted { Trusted self.old → Trusted self.new }
     {
+        // Only for its clause: the bytes are a tenant's name.
         let _bytes = name.as_bytes();
         if self.accounts.contains(&name) {
             return Err(AddError::There);
@@ -106,7 +106,7 @@ impl Host {
         ensures orderly { IsOrderlyWorld (world_of self.new) }
         ensures right { Trusted self.old → IsRightWorld (world_of self.new) }
 
-        // Over any store, what is refused or failed and what others see keep their shape.
+        // What is refused or failed and what others see keep their shape.
         ensures kept { is_done result ≡ false → (tenant : List ℕ) → SameShape tenant (world_of self.old) (world_of self.new) }
         ensures others { (tenant : List ℕ) → tenant ≢ name.now → SameShape tenant (world_of self.old) (world_of self.new) }
 

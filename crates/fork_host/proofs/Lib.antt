@@ -4,6 +4,7 @@ pub mod HandleLemmas
 pub mod OwnLemmas
 pub mod ReadLemmas
 pub mod RowLemmas
+pub mod SafeLemmas
 pub mod ShapeLemmas
 pub mod TakingLemmas
 pub mod UpdateLemmas

@@ -1,117 +1,183 @@
 -- What staging, publishing, discarding and keeping leave of the vault.
-use Rattle.std.proofs.Common.{◌≡◌, ℕ, Bool, true, List, [], ◌∷◌, length, arith, refl, sym, ap, subst, ◌∙◌}
+use Rattle.std.proofs.Common.{◌≡◌, ℕ, Bool, true, IsTrue, List, [], ◌∷◌, length, arith, refl, sym, ap, ◌∙◌}
 use Rattle.std.specs.FinMap.{contains_key, empty, retain_keys}
 use Rattle.git_name.specs.Object.{Object}
-use Rattle.fork_reach.specs.Objects.{IsNamed, with_object}
+use Rattle.fork_reach.specs.Objects.{Measures, measures_of, with_object}
 use Rattle.fork_reach.specs.Source.{Objects}
-use Rattle.fork_ledger.specs.Private.{Private, both_of, with_discarded, with_kept, with_published, with_staged}
-use Rattle.fork_ledger.specs.Tenants.{VaultState, at_tenant, private_of}
-use Rattle.fork_ledger.proofs.BothLemmas.{both_more}
+use Rattle.fork_ledger.specs.Private.{Private, both_of, private_measures, with_discarded, with_kept, with_published, with_staged}
+use Rattle.fork_ledger.specs.Tenants.{Tenants, VaultState, at_tenant, private_of, shape_of}
+use Rattle.fork_ledger.proofs.BothLemmas.{both_more, none_of, same_both, same_measures, same_tenants_there}
+use Rattle.fork_ledger.proofs.ShapeLemmas.{Respects, respects_discarded, respects_kept, respects_published, respects_staged, shape_at}
 use Rattle.fork_ledger.proofs.TenantLemmas.{private_at, private_others, there_still}
-use Rattle.fork_host.specs.Own.{IsOwn, LeavesOthers, Settles, Stages, both_in, staged_in, visible_in}
+use Rattle.fork_host.specs.Own.{Changes, IsOf, IsOwn, LeavesOthers, Settles, Stages, staged_in, visible_in}
 
 pub none_left : {A : Type 0} (xs : List A) → length xs ≡ 0 → xs ≡ []
 none_left [] is = refl
 none_left (x ∷ xs) is = absurd (omega arith)
 
--- a change of a tenant's own private maps
-own_changed : (old new : VaultState) (own : List ℕ) (change : Private → Private) → contains_key old.tenants own ≡ true → new.tenants ≡ at_tenant old.tenants own change
-    → private_of new.tenants own ≡ change (private_of old.tenants own)
-own_changed old new own change there is = ap (λ tenants. private_of tenants own) is ∙ private_at old.tenants own change there
+-- other tenants, as one tenant's private maps change
+leaves_all : (tenants : Tenants) (own : List ℕ) → LeavesOthers own tenants tenants
+leaves_all tenants own = record { there = λ q. refl; others = λ q differs. refl }
 
-others_left : (before old new : VaultState) (own : List ℕ) (change : Private → Private) → LeavesOthers own before old → new.tenants ≡ at_tenant old.tenants own change → new.honest ≡ old.honest → LeavesOthers own before new
-others_left before old new own change leaves is honest = record {
-  there = λ q. ap (λ tenants. contains_key tenants q) is ∙ there_still old.tenants own q change ∙ leaves.there q;
-  others = λ q differs. ap (λ tenants. private_of tenants q) is ∙ private_others old.tenants own q change differs ∙ leaves.others q differs;
-  honest = honest ∙ leaves.honest;
+leaves_more : (before old : Tenants) (own : List ℕ) (change : Private → Private) → LeavesOthers own before old → LeavesOthers own before (at_tenant old own change)
+leaves_more before old own change leaves = record {
+  there = λ q. there_still old own q change ∙ leaves.there q;
+  others = λ q differs. private_others old own q change differs ∙ leaves.others q differs;
 }
 
-still_left : (before old new : VaultState) (own : List ℕ) → LeavesOthers own before old → new.tenants ≡ old.tenants → new.honest ≡ old.honest → LeavesOthers own before new
-still_left before old new own leaves is honest = record {
-  there = λ q. ap (λ tenants. contains_key tenants q) is ∙ leaves.there q;
-  others = λ q differs. ap (λ tenants. private_of tenants q) is ∙ leaves.others q differs;
-  honest = honest ∙ leaves.honest;
+here_still : (before old : Tenants) (own : List ℕ) → contains_key before own ≡ true → LeavesOthers own before old → contains_key old own ≡ true
+here_still before old own there leaves = leaves.there own ∙ there
+
+-- what is staged and what is seen, from change to change
+pub stages_none : (tenants : Tenants) (own : List ℕ) → Stages own (both_of (private_of tenants own)) tenants tenants
+stages_none tenants own = record { leaves = leaves_all tenants own; sees = refl; staged = refl }
+
+stages_more : (before old : Tenants) (own : List ℕ) (both : Objects) (object : Object) → contains_key before own ≡ true → Stages own both before old → Stages own (with_object both object) before (at_tenant old own (with_staged object))
+stages_more before old own both object there stages =
+    let set = private_at old own (with_staged object) (here_still before old own there stages.leaves) in
+    record {
+      leaves = leaves_more before old own (with_staged object) stages.leaves;
+      sees = ap (λ p. p.visible) set ∙ stages.sees;
+      staged = ap both_of set ∙ both_more (private_of old own) object ∙ ap (λ objects. with_object objects object) stages.staged;
+    }
+
+discards : (before old : Tenants) (own : List ℕ) (both : Objects) → contains_key before own ≡ true → Stages own both before old → Settles own (private_of before own).visible before (at_tenant old own with_discarded)
+discards before old own both there stages =
+    let set = private_at old own with_discarded (here_still before old own there stages.leaves) in
+    record {
+      leaves = leaves_more before old own with_discarded stages.leaves;
+      sees = ap (λ p. p.visible) set ∙ stages.sees;
+      quiet = ap (λ p. p.staged) set;
+    }
+
+publishes : (before old : Tenants) (own : List ℕ) (both : Objects) → contains_key before own ≡ true → Stages own both before old → Settles own both before (at_tenant old own with_published)
+publishes before old own both there stages =
+    let set = private_at old own with_published (here_still before old own there stages.leaves) in
+    record {
+      leaves = leaves_more before old own with_published stages.leaves;
+      sees = ap (λ p. p.visible) set ∙ stages.staged;
+      quiet = ap (λ p. p.staged) set;
+    }
+
+keeps : (tenants : Tenants) (own : List ℕ) (names : List ℕ → Bool) → contains_key tenants own ≡ true → (private_of tenants own).staged ≡ empty
+    → Settles own (retain_keys (private_of tenants own).visible names) tenants (at_tenant tenants own (with_kept names))
+keeps tenants own names there quiet =
+    let set = private_at tenants own (with_kept names) there in
+    record {
+      leaves = leaves_more tenants tenants own (with_kept names) (leaves_all tenants own);
+      sees = ap (λ p. p.visible) set;
+      quiet = ap (λ p. p.staged) set ∙ quiet;
+    }
+
+-- the vault shows the private maps that it would have over an honest store: at first, where it is read, and where they change
+of_itself : (vault : VaultState) → IsOf vault.tenants vault
+of_itself vault = record { shape = refl; exact = λ honest. refl }
+
+of_still : (tenants : Tenants) (old new : VaultState) → shape_of new.tenants ≡ shape_of old.tenants → (IsTrue old.honest → new.tenants ≡ old.tenants) → new.honest ≡ old.honest → IsOf tenants old → IsOf tenants new
+of_still tenants old new shape same honest shown = record {
+  shape = shape ∙ shown.shape;
+  exact = λ is. same (sym honest ∙ is) ∙ shown.exact (sym honest ∙ is);
 }
 
-pub leaves_all : (old new : VaultState) (own : List ℕ) → new.tenants ≡ old.tenants → new.honest ≡ old.honest → LeavesOthers own old new
-leaves_all old new own is honest = record {
-  there = λ q. ap (λ tenants. contains_key tenants q) is;
-  others = λ q differs. ap (λ tenants. private_of tenants q) is;
+of_changed : (tenants : Tenants) (old new : VaultState) (own : List ℕ) (change : Private → Private) → Respects change → shape_of new.tenants ≡ shape_of (at_tenant old.tenants own change)
+    → (IsTrue old.honest → new.tenants ≡ at_tenant old.tenants own change) → new.honest ≡ old.honest → IsOf tenants old → IsOf (at_tenant tenants own change) new
+of_changed tenants old new own change respects shape same honest shown = record {
+  shape = shape ∙ shape_at old.tenants tenants own change respects shown.shape;
+  exact = λ is. same (sym honest ∙ is) ∙ ap (λ m. at_tenant m own change) (shown.exact (sym honest ∙ is));
+}
+
+pub changes_none : (Way : Tenants → Tenants → Type 0) (vault : VaultState) → Way vault.tenants vault.tenants → Changes Way vault vault
+changes_none Way vault way = record { tenants = vault.tenants; way = way; shown = of_itself vault; honest = refl }
+
+-- where a vault is read alone
+pub changes_still : (Way : Tenants → Tenants → Type 0) (before old new : VaultState) → shape_of new.tenants ≡ shape_of old.tenants → (IsTrue old.honest → new.tenants ≡ old.tenants) → new.honest ≡ old.honest
+    → Changes Way before old → Changes Way before new
+changes_still Way before old new shape same honest changes = record {
+  tenants = changes.tenants;
+  way = changes.way;
+  shown = of_still changes.tenants old new shape same honest changes.shown;
+  honest = honest ∙ changes.honest;
+}
+
+-- one more object is staged
+pub changes_more : (before old new : VaultState) (own : List ℕ) (both : Objects) (object : Object) → contains_key before.tenants own ≡ true → shape_of new.tenants ≡ shape_of (at_tenant old.tenants own (with_staged object))
+    → (IsTrue old.honest → new.tenants ≡ at_tenant old.tenants own (with_staged object)) → new.honest ≡ old.honest → Changes (Stages own both) before old → Changes (Stages own (with_object both object)) before new
+changes_more before old new own both object there shape same honest changes = record {
+  tenants = at_tenant changes.tenants own (with_staged object);
+  way = stages_more before.tenants changes.tenants own both object there changes.way;
+  shown = of_changed changes.tenants old new own (with_staged object) (respects_staged object) shape same honest changes.shown;
+  honest = honest ∙ changes.honest;
+}
+
+-- the tenant is there still
+pub here_changed : (before now : VaultState) (own : List ℕ) (both : Objects) → contains_key before.tenants own ≡ true → Changes (Stages own both) before now → contains_key now.tenants own ≡ true
+here_changed before now own both there changes = same_tenants_there changes.tenants now.tenants own changes.shown.shape ∙ changes.way.leaves.there own ∙ there
+
+first_here : (before now : VaultState) (own : List ℕ) (both : Objects) → contains_key now.tenants own ≡ true → Changes (Stages own both) before now → contains_key before.tenants own ≡ true
+first_here before now own both there changes = sym (changes.way.leaves.there own) ∙ sym (same_tenants_there changes.tenants now.tenants own changes.shown.shape) ∙ there
+
+pub discarded : (before old new : VaultState) (own : List ℕ) (both : Objects) → contains_key old.tenants own ≡ true → new.tenants ≡ at_tenant old.tenants own with_discarded → new.honest ≡ old.honest
+    → Changes (Stages own both) before old → Changes (Settles own (visible_in before own)) before new
+discarded before old new own both there is honest changes = record {
+  tenants = at_tenant changes.tenants own with_discarded;
+  way = discards before.tenants changes.tenants own both (first_here before old own both there changes) changes.way;
+  shown = of_changed changes.tenants old new own with_discarded respects_discarded (ap shape_of is) (λ _. is) honest changes.shown;
+  honest = honest ∙ changes.honest;
+}
+
+pub published : (before old new : VaultState) (own : List ℕ) (both : Objects) → contains_key old.tenants own ≡ true → new.tenants ≡ at_tenant old.tenants own with_published → new.honest ≡ old.honest
+    → Changes (Stages own both) before old → Changes (Settles own both) before new
+published before old new own both there is honest changes = record {
+  tenants = at_tenant changes.tenants own with_published;
+  way = publishes before.tenants changes.tenants own both (first_here before old own both there changes) changes.way;
+  shown = of_changed changes.tenants old new own with_published respects_published (ap shape_of is) (λ _. is) honest changes.shown;
+  honest = honest ∙ changes.honest;
+}
+
+-- some of what is seen stays, of a vault that was read before
+pub kept : (old mid new : VaultState) (own : List ℕ) (names : List ℕ → Bool) → contains_key old.tenants own ≡ true → staged_in old own ≡ empty → shape_of mid.tenants ≡ shape_of old.tenants → (IsTrue old.honest → mid.tenants ≡ old.tenants)
+    → mid.honest ≡ old.honest → new.tenants ≡ at_tenant mid.tenants own (with_kept names) → new.honest ≡ mid.honest → Changes (Settles own (retain_keys (visible_in old own) names)) old new
+kept old mid new own names there quiet shape same honest is still = record {
+  tenants = at_tenant old.tenants own (with_kept names);
+  way = keeps old.tenants own names there quiet;
+  shown = of_changed old.tenants mid new own (with_kept names) (respects_kept names) (ap shape_of is) (λ _. is) still (of_still old.tenants old mid shape same honest (of_itself old));
+  honest = still ∙ honest;
+}
+
+-- what a tenant sees where nothing is staged: over any store its measures, and over an honest one itself
+pub seen_measures : (old new : VaultState) (own : List ℕ) (objects : Objects) → Changes (Settles own objects) old new → measures_of (visible_in new own) ≡ measures_of objects
+seen_measures old new own objects changes = ap (λ (p : Measures × Measures). p.0) (same_measures changes.tenants new.tenants own changes.shown.shape) ∙ ap measures_of changes.way.sees
+
+pub seen_itself : (old new : VaultState) (own : List ℕ) (objects : Objects) → Changes (Settles own objects) old new → IsTrue old.honest → visible_in new own ≡ objects
+seen_itself old new own objects changes honest = ap (λ m. (private_of m own).visible) (changes.shown.exact (changes.honest ∙ honest)) ∙ changes.way.sees
+
+-- and both sides, where something is
+pub both_measures : (old new : VaultState) (own : List ℕ) (both : Objects) → Changes (Stages own both) old new → measures_of (both_of (private_of new.tenants own)) ≡ measures_of both
+both_measures old new own both changes =
+    same_both (private_of new.tenants own) (private_of changes.tenants own) (same_measures changes.tenants new.tenants own changes.shown.shape) ∙ ap measures_of changes.way.staged
+
+pub both_itself : (old new : VaultState) (own : List ℕ) (both : Objects) → Changes (Stages own both) old new → IsTrue old.honest → both_of (private_of new.tenants own) ≡ both
+both_itself old new own both changes honest = ap (λ m. both_of (private_of m own)) (changes.shown.exact (changes.honest ∙ honest)) ∙ changes.way.staged
+
+-- a tenant's part alone was used
+pub own_of : (old new : VaultState) (own : List ℕ) (objects : Objects) → Changes (Settles own objects) old new → IsOwn own old new
+own_of old new own objects changes = record {
+  there = λ t. same_tenants_there changes.tenants new.tenants t changes.shown.shape ∙ changes.way.leaves.there t;
+  shape = λ t differs. same_measures changes.tenants new.tenants t changes.shown.shape ∙ ap private_measures (changes.way.leaves.others t differs);
+  others = λ honest t differs. ap (λ m. private_of m t) (changes.shown.exact (changes.honest ∙ honest)) ∙ changes.way.leaves.others t differs;
+  quiet = none_of (staged_in new own) (ap (λ (p : Measures × Measures). p.1) (same_measures changes.tenants new.tenants own changes.shown.shape) ∙ ap measures_of changes.way.quiet);
+  honest = changes.honest;
+}
+
+-- where it was read alone
+pub own_read : (old new : VaultState) (own : List ℕ) → staged_in old own ≡ empty → shape_of new.tenants ≡ shape_of old.tenants → (IsTrue old.honest → new.tenants ≡ old.tenants) → new.honest ≡ old.honest → IsOwn own old new
+own_read old new own quiet shape same honest = record {
+  there = λ t. same_tenants_there old.tenants new.tenants t shape;
+  shape = λ t differs. same_measures old.tenants new.tenants t shape;
+  others = λ is t differs. ap (λ m. private_of m t) (same is);
+  quiet = none_of (staged_in new own) (ap (λ (p : Measures × Measures). p.1) (same_measures old.tenants new.tenants own shape) ∙ ap measures_of quiet);
   honest = honest;
 }
 
--- where nothing is staged and nothing changes
-pub own_same : (old new : VaultState) (own : List ℕ) → staged_in old own ≡ empty → new.tenants ≡ old.tenants → new.honest ≡ old.honest → IsOwn own old new
-own_same old new own quiet is honest = record {
-  leaves = leaves_all old new own is honest;
-  quiet = ap (λ tenants. (private_of tenants own).staged) is ∙ quiet;
-}
-
-pub stages_none : (vault : VaultState) (own : List ℕ) → Stages own (both_in vault own) vault vault
-stages_none vault own = record { leaves = leaves_all vault vault own refl refl; sees = refl; staged = refl }
-
-pub stages_more : (before old new : VaultState) (own : List ℕ) (both : Objects) (object : Object) → IsNamed (visible_in before own) → contains_key old.tenants own ≡ true
-    → new.tenants ≡ at_tenant old.tenants own (with_staged object) → new.honest ≡ old.honest → Stages own both before old → Stages own (with_object both object) before new
-stages_more before old new own both object named there is honest stages =
-    let set = own_changed old new own (with_staged object) there is in
-    record {
-      leaves = others_left before old new own (with_staged object) stages.leaves is honest;
-      sees = ap (λ p. p.visible) set ∙ stages.sees;
-      staged = ap both_of set ∙ both_more (private_of old.tenants own) object (subst IsNamed (sym stages.sees) named) ∙ ap (λ objects. with_object objects object) stages.staged;
-    }
-
--- what is staged is what both sides are
-pub same_stages : (before new : VaultState) (own : List ℕ) (both : Objects) → Stages own both before new → Stages own (both_in new own) before new
-same_stages before new own both stages = record { leaves = stages.leaves; sees = stages.sees; staged = refl }
-
-pub stages_all : (before new : VaultState) (own : List ℕ) (some all : Objects) → Stages own some before new → some ≡ all → Stages own all before new
-stages_all before new own some all stages is = record { leaves = stages.leaves; sees = stages.sees; staged = stages.staged ∙ is }
-
--- and stays where nothing changes
-pub stages_still : (before old new : VaultState) (own : List ℕ) (both : Objects) → new.tenants ≡ old.tenants → new.honest ≡ old.honest → Stages own both before old → Stages own both before new
-stages_still before old new own both is honest stages = record {
-  leaves = still_left before old new own stages.leaves is honest;
-  sees = ap (λ tenants. (private_of tenants own).visible) is ∙ stages.sees;
-  staged = ap (λ tenants. both_of (private_of tenants own)) is ∙ stages.staged;
-}
-
-pub discarded : (before old new : VaultState) (own : List ℕ) (both : Objects) → contains_key old.tenants own ≡ true → new.tenants ≡ at_tenant old.tenants own with_discarded → new.honest ≡ old.honest
-    → Stages own both before old → Settles own (visible_in before own) before new
-discarded before old new own both there is honest stages =
-    let set = own_changed old new own with_discarded there is in
-    record {
-      done = record {
-        leaves = others_left before old new own with_discarded stages.leaves is honest;
-        quiet = ap (λ p. p.staged) set;
-      };
-      sees = ap (λ p. p.visible) set ∙ stages.sees;
-    }
-
-pub published : (before old new : VaultState) (own : List ℕ) (both : Objects) → contains_key old.tenants own ≡ true → new.tenants ≡ at_tenant old.tenants own with_published → new.honest ≡ old.honest
-    → Stages own both before old → Settles own both before new
-published before old new own both there is honest stages =
-    let set = own_changed old new own with_published there is in
-    record {
-      done = record {
-        leaves = others_left before old new own with_published stages.leaves is honest;
-        quiet = ap (λ p. p.staged) set;
-      };
-      sees = ap (λ p. p.visible) set ∙ stages.staged;
-    }
-
-pub keeps_visible : (old mid new : VaultState) (own : List ℕ) (names test : List ℕ → Bool) → contains_key old.tenants own ≡ true → mid.tenants ≡ old.tenants → new.tenants ≡ at_tenant mid.tenants own (with_kept names)
-    → ((name : List ℕ) → names name ≡ test name) → visible_in new own ≡ retain_keys (visible_in old own) test
-keeps_visible old mid new own names test there same is alike =
-    let here : contains_key mid.tenants own ≡ true = ap (λ tenants. contains_key tenants own) same ∙ there in
-    ap (λ p. p.visible) (own_changed mid new own (with_kept names) here is)
-    ∙ ap (λ tenants. retain_keys (private_of tenants own).visible names) same
-    ∙ ap (retain_keys (visible_in old own)) (λ i name. alike name i)
-
-pub keeps_own : (old mid new : VaultState) (own : List ℕ) (names : List ℕ → Bool) → contains_key old.tenants own ≡ true → staged_in old own ≡ empty → mid.tenants ≡ old.tenants → mid.honest ≡ old.honest
-    → new.tenants ≡ at_tenant mid.tenants own (with_kept names) → new.honest ≡ mid.honest → IsOwn own old new
-keeps_own old mid new own names there quiet same honest is still =
-    let here : contains_key mid.tenants own ≡ true = ap (λ tenants. contains_key tenants own) same ∙ there in
-    record {
-      leaves = others_left old mid new own (with_kept names) (leaves_all old mid own same honest) is still;
-      quiet = ap (λ p. p.staged) (own_changed mid new own (with_kept names) here is) ∙ ap (λ tenants. (private_of tenants own).staged) same ∙ quiet;
-    }
+pub own_same : (vault : VaultState) (own : List ℕ) → staged_in vault own ≡ empty → IsOwn own vault vault
+own_same vault own quiet = own_read vault vault own quiet refl (λ _. refl) refl

@@ -3,23 +3,12 @@ use Rattle.std.proofs.Common.{◌≡◌, false, refl, sym, ap, subst, ◌∙◌}
 use Rattle.fork_request.specs.Asked.{Ask}
 use Rattle.fork_request.specs.Told.{is_host_fault}
 use Rattle.fork_request.specs.declared.reply.Reply.{Reply}
-use Rattle.fork_request.specs.declared.reply.Reply.TheVariants.{Done, Refused, Failed as Failing}
 use Rattle.fork_model.specs.Answer.{answer}
 use Rattle.fork_model.specs.Runs.{Told, Failed}
 use Rattle.fork_model.specs.View.{View}
 use Rattle.fork_model.specs.World.{Answers}
-use Rattle.fork_model.proofs.StepLemmas.{answer_tells}
-use Rattle.fork_host.specs.Rows.{Gives, Given, Wanting, IsMemoryAtMost}
+use Rattle.fork_host.specs.Rows.{Gives, Given, Wanting}
 
 pub answers_of : (view new : View) (ask : Ask) (reply : Reply) → Gives (answer view ask) view reply new → Answers view ask reply new
 answers_of view new ask reply (Given told is) = Told told is
 answers_of view new ask reply (Wanting wanting stays) = Failed (ap is_host_fault wanting) stays
-
-no_fault : (reply : Reply) → is_host_fault reply ≡ false → IsMemoryAtMost reply
-no_fault (Done text) is = tt
-no_fault (Refused refusal) is = tt
-no_fault (Failing fault) is = absurd (cc)
-
-pub memory_of : (view new : View) (ask : Ask) (reply : Reply) → Gives (answer view ask) view reply new → IsMemoryAtMost reply
-memory_of view new ask reply (Given told is) = no_fault reply (ap is_host_fault told ∙ answer_tells view ask)
-memory_of view new ask reply (Wanting wanting stays) = subst IsMemoryAtMost (sym wanting) refl

@@ -12,3 +12,6 @@ seen (Some view) = refl
 -- views that differ in their uploads at the most have the same shape
 pub same_shape : (new old : Option View) → option_map without_upload new ≡ option_map without_upload old → option_map shape_of new ≡ option_map shape_of old
 same_shape new old same = seen new ∙ ap (option_map shape_of) same ∙ sym (seen old)
+
+pub shape_but_upload : (new old : View) → without_upload new ≡ without_upload old → shape_of new ≡ shape_of old
+shape_but_upload new old same = ap shape_of same

@@ -28,3 +28,8 @@ put_and_taken {X} m k v absent =
     at : (q : List ℕ) (b : Bool) → eq_by_cmp name_cmp q k ≡ b → cond b None (cond b (Some v) (get m q)) ≡ get m q
     at q true same = none (get m q) (ap (contains_key m) (tied_names q k same) ∙ absent)
     at q false apart = refl
+
+-- what is there is found
+pub found : {X : Type 0} (o : Option X) → is_some o ≡ true → (x : X) × (o ≡ Some x)
+found (Some x) is = (x, refl)
+found None is = absurd (cc)

@@ -1,8 +1,9 @@
 -- States stay whole: where tenants come, and where one is answered.
-use Rattle.std.proofs.Common.{◌≡◌, ◌≢◌, IsTrue, inl, inr, ℕ, ◌<◌, ◌≤◌, Bool, true, false, cond, List, Option, None, Some, refl, sym, ap, subst, ◌∙◌, is_some}
+use Rattle.std.proofs.Common.{◌≡◌, ◌≢◌, IsTrue, inl, inr, ℕ, ◌+◌, ◌<◌, ◌≤◌, Bool, true, false, cond, List, Option, None, Some, refl, sym, ap, subst, ◌∙◌, is_some}
 use Rattle.std.specs.Option.{option_map, unwrap_or}
+use Rattle.std.specs.Cmp.{eq_by_cmp_equiv}
 use Rattle.std.specs.Ordering.{eq_by_cmp}
-use Rattle.std.specs.FinMap.{contains_key, empty, get, get-empty, get-insert, insert, len, same_map}
+use Rattle.std.specs.FinMap.{contains_key, empty, get, get-empty, get-insert, insert, len, len-insert, same_map}
 use Rattle.git_name.specs.Name.{name_cmp}
 use Rattle.git_name.proofs.Names.{name_total, name_exact}
 use Rattle.fork_reach.proofs.KeptObjects.{at_key, tied_names}
@@ -14,22 +15,30 @@ use Rattle.fork_request.specs.declared.reply.Reply.TheVariants.{Refused}
 use Rattle.fork_ledger.specs.Private.{Private, nothing}
 use Rattle.fork_ledger.specs.Store.{LeavesStore}
 use Rattle.fork_ledger.specs.Tenants.{VaultState, private_of, with_tenant}
+use Rattle.fork_reach.specs.Objects.{Measures, measures_of}
+use Rattle.fork_ledger.proofs.BothLemmas.{none_of}
 use Rattle.fork_ledger.proofs.TenantLemmas.{private_new, private_none, there_new, there_others}
 use Rattle.fork_model.specs.Answer.{answer}
 use Rattle.fork_model.specs.Runs.{Asks, Unknown}
 use Rattle.fork_request.specs.Names.{IsTenantName}
-use Rattle.fork_model.specs.Sound.{IsOrderlyWorld, IsRightWorld}
+use Rattle.fork_model.specs.Sound.{IsOrderly, IsOrderlyWorld, IsRightWorld}
 use Rattle.fork_model.specs.View.{View}
 use Rattle.fork_model.specs.World.{HostSays, Steps}
-use Rattle.fork_model.proofs.SoundWorlds.{orderly_step, right_step}
+use Rattle.fork_model.proofs.SoundWorlds.{right_step}
 use Rattle.fork_model.proofs.Worlds.{answered}
 use Rattle.fork_host.specs.Adding.{new_account, new_view}
 use Rattle.fork_host.specs.Own.{IsOwn, IsReady, staged_in, visible_in}
 use Rattle.fork_host.specs.Rows.{Gives}
-use Rattle.fork_host.specs.Shown.{Account, Accounts, HostState, IsWhole, shown, state_of, uploaded, world_of}
+use Rattle.fork_host.specs.Safe.{IsSafe}
+use Rattle.fork_host.specs.Shape.{SameShape, shape_of}
+use Rattle.fork_host.specs.Shown.{Account, Accounts, HostState, IsWhole, Trusted, shown, state_of, uploaded, world_of}
 use Rattle.fork_host.proofs.AddingLemmas.{orderly_more, orderly_none, right_more, right_none}
 use Rattle.fork_host.proofs.RowLemmas.{answers_of}
 use Rattle.fork_host.proofs.WorldLemmas.{distinct, get_world, known_world, len_world, world_set}
+use Rattle.fork_host.proofs.SafeLemmas.{orderly_measured, shape_measured}
+
+some_same : {X : Type 0} (x y : X) → Some x ≡ Some y → x ≡ y
+some_same x y is = cc
 
 -- no accounts show no tenants
 pub world_none : (accounts : Accounts) (vault : VaultState) → accounts ≡ empty → world_of (state_of accounts vault) ≡ empty
@@ -40,11 +49,10 @@ world_none accounts vault none =
 no_account : (t : List ℕ) (account : Account) → get (empty {X = Account} {R = name_cmp}) t ≡ Some account → ⊥
 no_account t account is = (let differs : ⊥ = cc (sym (get-empty {X = Account} name_cmp t) ∙ is) in differs)
 
-pub whole_none : (accounts : Accounts) (vault : VaultState) → accounts ≡ empty → vault.tenants ≡ empty → IsTrue vault.honest → IsWhole (state_of accounts vault)
-whole_none accounts vault none empty_vault trusted = record {
-  trusted = trusted;
+pub whole_none : (accounts : Accounts) (vault : VaultState) → accounts ≡ empty → vault.tenants ≡ empty → IsWhole (state_of accounts vault)
+whole_none accounts vault none empty_vault = record {
   orderly = subst IsOrderlyWorld (sym (world_none accounts vault none)) orderly_none;
-  right = subst IsRightWorld (sym (world_none accounts vault none)) right_none;
+  right = λ trusted. subst IsRightWorld (sym (world_none accounts vault none)) right_none;
   there = λ q. ap (λ m. contains_key m q) empty_vault ∙ ap is_some (get-empty {X = Private} name_cmp q ∙ none_twice) ∙ sym (ap (λ m. contains_key m q) none ∙ ap is_some (get-empty {X = Account} name_cmp q));
   staged = λ q account is. absurd (no_account q account (sym (ap (λ m. get m q) none) ∙ is));
 }
@@ -70,10 +78,9 @@ world_more old new t limit whole absent added placed =
 pub whole_more : (old new : HostState) (t : List ℕ) (limit : ℕ) → IsTenantName t → IsWhole old → contains_key old.accounts t ≡ false → len old.accounts < 64 → limit ≤ 1099511627776
     → new.accounts ≡ insert old.accounts t (new_account limit) → new.vault.tenants ≡ with_tenant old.vault.tenants t → new.vault.honest ≡ old.vault.honest → IsWhole new
 whole_more old new t limit of_tenant whole absent few low added placed honest = record {
-  trusted = honest ∙ whole.trusted;
   orderly = subst IsOrderlyWorld (sym (world_more old new t limit whole absent added placed))
       (orderly_more (world_of old) t limit of_tenant (known_world old t ∙ absent) (subst (λ n. n < 64) (sym (len_world old)) few) low whole.orderly);
-  right = subst IsRightWorld (sym (world_more old new t limit whole absent added placed)) (right_more (world_of old) t limit whole.right);
+  right = λ trusted. subst IsRightWorld (sym (world_more old new t limit whole absent added placed)) (right_more (world_of old) t limit (whole.right (sym honest ∙ trusted)));
   there = λ q. at q (eq_by_cmp name_cmp q t) refl;
   staged = λ q account is. stays q ∙ (elim (at_key (eq_by_cmp name_cmp q t) (new_account limit) account (get old.accounts q) (sym (get-insert name_total old.accounts t (new_account limit) q) ∙ sym (ap (λ m. get m q) added) ∙ is)) [
     | inl set ↦ ap (λ k. staged_in old.vault k) (tied_names q t set.0) ∙ ap (λ p. p.staged) (absent_nothing old.vault t (whole.there t ∙ absent))
@@ -104,39 +111,115 @@ pub ready : (state : HostState) (t : List ℕ) (account : Account) → IsWhole s
 ready state t account whole here =
     let view_is = get_world state t ∙ ap (option_map (λ a. shown a state.vault t)) here in
     record {
-      trusted = whole.trusted;
       there = whole.there t ∙ ap is_some here;
       quiet = whole.staged t account here;
       within = (whole.orderly.views t (shown account state.vault t) view_is).within_limit;
-      named = (whole.right t (shown account state.vault t) view_is).named;
     }
 
 -- it is answered from its account and its own part of the vault, which alone change
 pub answered_step : (old new : HostState) (t : List ℕ) (ask : Ask) (account after : Account) (reply : Reply) → get old.accounts t ≡ Some account → new.accounts ≡ insert old.accounts t after
-    → Gives (answer (shown account old.vault t) ask) (shown account old.vault t) reply (shown after new.vault t) → IsOwn t old.vault new.vault → Steps (world_of old) (Asks t ask) reply (world_of new)
-answered_step old new t ask account after reply here set gives own =
+    → Gives (answer (shown account old.vault t) ask) (shown account old.vault t) reply (shown after new.vault t) → IsOwn t old.vault new.vault → Trusted old → Steps (world_of old) (Asks t ask) reply (world_of new)
+answered_step old new t ask account after reply here set gives own trusted =
     answered name_cmp name_total name_exact answer (Refused UnknownTenant) is_host_fault HostSays (world_of old) (world_of new) t ask (shown account old.vault t) reply (shown after new.vault t)
     (get_world old t ∙ ap (option_map (λ a. shown a old.vault t)) here) (answers_of (shown account old.vault t) (shown after new.vault t) ask reply gives)
-    (world_set old new t after set own.leaves.others)
+    (world_set old new t after set (own.others trusted))
 
 pub unknown_step : (state : HostState) (t : List ℕ) (ask : Ask) → get state.accounts t ≡ None → Steps (world_of state) (Asks t ask) (Refused UnknownTenant) (world_of state)
 unknown_step state t ask none = Unknown (get_world state t ∙ ap (option_map (λ a. shown a state.vault t)) none) refl refl
 
--- and the state stays whole
-pub whole_after : (old new : HostState) (t : List ℕ) (ask : Ask) (account after : Account) (reply : Reply) → IsWhole old → get old.accounts t ≡ Some account → new.accounts ≡ insert old.accounts t after
-    → Steps (world_of old) (Asks t ask) reply (world_of new) → IsOwn t old.vault new.vault → IsWhole new
-whole_after old new t ask account after reply whole here set step own = record {
-  trusted = own.leaves.honest ∙ whole.trusted;
-  orderly = orderly_step (world_of old) (world_of new) (Asks t ask) reply whole.orderly step;
-  right = right_step (world_of old) (world_of new) (Asks t ask) reply whole.right step;
-  there = λ q. own.leaves.there q ∙ whole.there q ∙ sym (ap (λ m. contains_key m q) set ∙ ap is_some (get-insert name_total old.accounts t after q) ∙ at q (eq_by_cmp name_cmp q t) refl);
-  staged = λ q other is. rests q other (eq_by_cmp name_cmp q t) refl (sym (get-insert name_total old.accounts t after q) ∙ sym (ap (λ m. get m q) set) ∙ is);
+-- one account is set
+account_set : (old new : HostState) (t q : List ℕ) (after : Account) → new.accounts ≡ insert old.accounts t after → get new.accounts q ≡ cond (eq_by_cmp name_cmp q t) (Some after) (get old.accounts q)
+account_set old new t q after set = ap (λ m. get m q) set ∙ get-insert name_total old.accounts t after q
+
+at_own : (old new : HostState) (t q : List ℕ) (after : Account) → new.accounts ≡ insert old.accounts t after → eq_by_cmp name_cmp q t ≡ true → get (world_of new) q ≡ Some (shown after new.vault t)
+at_own old new t q after set tied =
+    get_world new q ∙ ap (λ k. option_map (λ a. shown a new.vault k) (get new.accounts k)) (tied_names q t tied)
+    ∙ ap (option_map (λ a. shown a new.vault t)) (account_set old new t t after set ∙ ap (λ b. cond b (Some after) (get old.accounts t)) ((eq_by_cmp_equiv name_total).refl t))
+
+at_other : (old new : HostState) (t q : List ℕ) (after : Account) → new.accounts ≡ insert old.accounts t after → eq_by_cmp name_cmp q t ≡ false → get new.accounts q ≡ get old.accounts q
+at_other old new t q after set apart = account_set old new t q after set ∙ ap (λ b. cond b (Some after) (get old.accounts q)) apart
+
+-- the tenants are those that were there
+known_still : (old new : HostState) (t q : List ℕ) (account after : Account) → get old.accounts t ≡ Some account → new.accounts ≡ insert old.accounts t after → contains_key new.accounts q ≡ contains_key old.accounts q
+known_still old new t q account after here set = ap is_some (account_set old new t q after set) ∙ by (eq_by_cmp name_cmp q t) refl
+  where
+    by : (b : Bool) → eq_by_cmp name_cmp q t ≡ b → is_some (cond b (Some after) (get old.accounts q)) ≡ contains_key old.accounts q
+    by true same = sym (ap (contains_key old.accounts) (tied_names q t same) ∙ ap is_some here)
+    by false apart = refl
+
+as_many : (old new : HostState) (t : List ℕ) (account after : Account) → get old.accounts t ≡ Some account → new.accounts ≡ insert old.accounts t after → len (world_of new) ≡ len (world_of old)
+as_many old new t account after here set =
+    len_world new ∙ ap len set ∙ len-insert name_total old.accounts t after ∙ ap (λ b. cond b (len old.accounts) (len old.accounts + 1)) (ap is_some here) ∙ sym (len_world old)
+
+-- what a tenant sees of another has its measures still
+seen_still : (old new : HostState) (t q : List ℕ) → IsOwn t old.vault new.vault → eq_by_cmp name_cmp q t ≡ false → measures_of (visible_in new.vault q) ≡ measures_of (visible_in old.vault q)
+seen_still old new t q own apart = ap (λ (p : Measures × Measures). p.0) (own.shape q (λ same. distinct t q same apart))
+
+orderly_still : (old new : HostState) (t q : List ℕ) (o : Option Account) (view : View) → measures_of (visible_in new.vault q) ≡ measures_of (visible_in old.vault q) → option_map (λ a. shown a new.vault q) o ≡ Some view
+    → ((other : View) → option_map (λ a. shown a old.vault q) o ≡ Some other → IsOrderly other) → IsOrderly view
+orderly_still old new t q None view same is each = absurd (cc)
+orderly_still old new t q (Some a) view same is each =
+    subst IsOrderly (some_same (shown a new.vault q) view is) (orderly_measured a.repositories (visible_in old.vault q) (visible_in new.vault q) a.upload a.limit same (each (shown a old.vault q) refl))
+
+-- the world stays in order where the tenant's view does
+pub orderly_after : (old new : HostState) (t : List ℕ) (account after : Account) → IsOrderlyWorld (world_of old) → get old.accounts t ≡ Some account → new.accounts ≡ insert old.accounts t after → IsOwn t old.vault new.vault
+    → (IsOrderly (shown account old.vault t) → IsOrderly (shown after new.vault t)) → IsOrderlyWorld (world_of new)
+orderly_after old new t account after orderly here set own still = record {
+  few = subst (λ n. n ≤ 64) (sym (as_many old new t account after here set)) orderly.few;
+  named = λ q is. orderly.named q (known_world old q ∙ sym (known_still old new t q account after here set) ∙ sym (known_world new q) ∙ is);
+  views = λ q view is. at q view (eq_by_cmp name_cmp q t) refl is;
 }
   where
-    at : (q : List ℕ) (b : Bool) → eq_by_cmp name_cmp q t ≡ b → is_some (cond b (Some after) (get old.accounts q)) ≡ contains_key old.accounts q
-    at q true same = sym (ap (contains_key old.accounts) (tied_names q t same) ∙ ap is_some here)
-    at q false apart = refl
+    at : (q : List ℕ) (view : View) (b : Bool) → eq_by_cmp name_cmp q t ≡ b → get (world_of new) q ≡ Some view → IsOrderly view
+    at q view true tied is =
+        subst IsOrderly (some_same (shown after new.vault t) view (sym (at_own old new t q after set tied) ∙ is))
+        (still (orderly.views t (shown account old.vault t) (get_world old t ∙ ap (option_map (λ a. shown a old.vault t)) here)))
+    at q view false apart is =
+        orderly_still old new t q (get old.accounts q) view (seen_still old new t q own apart)
+        (sym (ap (option_map (λ a. shown a new.vault q)) (at_other old new t q after set apart)) ∙ sym (get_world new q) ∙ is)
+        (λ other found. orderly.views q other (get_world old q ∙ found))
 
-    rests : (q : List ℕ) (other : Account) (b : Bool) → eq_by_cmp name_cmp q t ≡ b → cond b (Some after) (get old.accounts q) ≡ Some other → staged_in new.vault q ≡ uploaded other.upload
+-- each other tenant's shape stays
+shape_still : (old new : HostState) (q : List ℕ) (o : Option Account) → measures_of (visible_in new.vault q) ≡ measures_of (visible_in old.vault q)
+    → option_map shape_of (option_map (λ a. shown a new.vault q) o) ≡ option_map shape_of (option_map (λ a. shown a old.vault q) o)
+shape_still old new q None same = refl
+shape_still old new q (Some a) same = ap Some (shape_measured a.repositories (visible_in old.vault q) (visible_in new.vault q) a.upload a.upload a.limit same)
+
+others_shape : (old new : HostState) (t q : List ℕ) (after : Account) → new.accounts ≡ insert old.accounts t after → IsOwn t old.vault new.vault → eq_by_cmp name_cmp q t ≡ false → SameShape q (world_of old) (world_of new)
+others_shape old new t q after set own apart =
+    ap (option_map shape_of) (get_world new q ∙ ap (option_map (λ a. shown a new.vault q)) (at_other old new t q after set apart))
+    ∙ shape_still old new q (get old.accounts q) (seen_still old new t q own apart) ∙ ap (option_map shape_of) (sym (get_world old q))
+
+pub others_stay : (old new : HostState) (t : List ℕ) (after : Account) → new.accounts ≡ insert old.accounts t after → IsOwn t old.vault new.vault → (q : List ℕ) → q ≢ t → SameShape q (world_of old) (world_of new)
+others_stay old new t after set own q differs = by (eq_by_cmp name_cmp q t) refl
+  where
+    by : (b : Bool) → eq_by_cmp name_cmp q t ≡ b → SameShape q (world_of old) (world_of new)
+    by true tied = absurd (differs (tied_names q t tied))
+    by false apart = others_shape old new t q after set own apart
+
+-- and so does that of the tenant, where its view's does
+pub all_stay : (old new : HostState) (t : List ℕ) (account after : Account) → get old.accounts t ≡ Some account → new.accounts ≡ insert old.accounts t after → IsOwn t old.vault new.vault
+    → shape_of (shown after new.vault t) ≡ shape_of (shown account old.vault t) → (q : List ℕ) → SameShape q (world_of old) (world_of new)
+all_stay old new t account after here set own same q = by (eq_by_cmp name_cmp q t) refl
+  where
+    by : (b : Bool) → eq_by_cmp name_cmp q t ≡ b → SameShape q (world_of old) (world_of new)
+    by true tied =
+        ap (option_map shape_of) (at_own old new t q after set tied) ∙ ap Some same
+        ∙ ap (option_map shape_of) (sym (ap (get (world_of old)) (tied_names q t tied) ∙ get_world old t ∙ ap (option_map (λ a. shown a old.vault t)) here))
+    by false apart = others_shape old new t q after set own apart
+
+-- and the state stays whole
+pub whole_after : (old new : HostState) (t : List ℕ) (ask : Ask) (account after : Account) (reply : Reply) → IsWhole old → get old.accounts t ≡ Some account → new.accounts ≡ insert old.accounts t after
+    → (Trusted old → Steps (world_of old) (Asks t ask) reply (world_of new)) → IsSafe old.vault.honest (shown account old.vault t) reply (shown after new.vault t) → IsOwn t old.vault new.vault → IsWhole new
+whole_after old new t ask account after reply whole here set step safe own = record {
+  orderly = orderly_after old new t account after whole.orderly here set own safe.orderly;
+  right = λ trusted. (let before = sym own.honest ∙ trusted in right_step (world_of old) (world_of new) (Asks t ask) reply (whole.right before) (step before));
+  there = λ q. own.there q ∙ whole.there q ∙ sym (known_still old new t q account after here set);
+  staged = λ q other is. rests q other (eq_by_cmp name_cmp q t) refl is;
+}
+  where
+    rests : (q : List ℕ) (other : Account) (b : Bool) → eq_by_cmp name_cmp q t ≡ b → get new.accounts q ≡ Some other → staged_in new.vault q ≡ uploaded other.upload
     rests q other true same is = ap (staged_in new.vault) (tied_names q t same) ∙ own.quiet
-    rests q other false apart is = ap (λ p. p.staged) (own.leaves.others q (λ same. distinct t q same apart)) ∙ whole.staged q other is
+    rests q other false apart is =
+        none_of (staged_in new.vault q)
+        (ap (λ (p : Measures × Measures). p.1) (own.shape q (λ same. distinct t q same apart)) ∙ ap measures_of (whole.staged q other (sym (at_other old new t q after set apart) ∙ is)))

@@ -4,13 +4,13 @@ use Rattle.fork_request.specs.Told.{is_host_fault}
 use Rattle.fork_request.specs.declared.reply.Reply.{Reply}
 use Rattle.fork_model.specs.Runs.{Asks, HostAsks}
 use Rattle.fork_model.specs.World.{Event}
-use Rattle.fork_host.specs.Rows.{IsMemoryAtMost}
+use Rattle.fork_host.specs.Safe.{IsReplyOver}
 use Rattle.fork_host.specs.Shown.{HostState}
 
--- a tenant's request is answered with no other host fault than want of memory: there is no store that could fail, lose an
--- object or have two of one name. A bad request of the host's own is answered with none
+-- a tenant's request is answered with no other host faults than those that may come over a store of this honesty. A bad
+-- request of the host's own is answered with none
 abbrev pub FaultsWithin : HostState → Event → Reply → HostState → Type 0
-FaultsWithin old (Asks tenant ask) reply new = IsMemoryAtMost reply
+FaultsWithin old (Asks tenant ask) reply new = IsReplyOver old.vault.honest reply
 FaultsWithin old (HostAsks ask) reply new = is_host_fault reply ≡ false
 
 -- the same of each step of a run, from state to state

@@ -5,5 +5,6 @@ pub mod Handle
 pub mod Own
 pub mod Pushed
 pub mod Rows
+pub mod Safe
 pub mod Shape
 pub mod Shown

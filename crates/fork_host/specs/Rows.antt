@@ -1,5 +1,6 @@
 -- What a row of the answer comes to: the row itself, or want of memory.
-use Rattle.std.specs.Prelude.{◌≡◌, ℕ, ◌+◌, true, false, nat_lt, List, [], length, Option, Result, Ok, Err, ⊤}
+use Rattle.std.specs.Prelude.{◌≡◌, ℕ, ◌+◌, Bool, true, false, nat_lt, List, [], length, Contains, Option, Result, Ok, Err}
+use Rattle.std.specs.FinMap.{contains_key, retain_keys}
 use Rattle.push_stream.specs.declared.upload.TheConstants.{MAX_UPLOAD}
 use Rattle.git_name.specs.Object.{Object}
 use Rattle.fork_request.specs.declared.host_fault.HostFault.{HostFault}
@@ -12,29 +13,18 @@ use Rattle.fork_reach.specs.declared.source.SourceFault.{SourceFault}
 use Rattle.fork_reach.specs.declared.source.SourceFault.TheVariants as source
 use Rattle.fork_ledger.specs.declared.fault.VaultFault.{VaultFault}
 use Rattle.fork_ledger.specs.declared.fault.VaultFault.TheVariants as ledger
-use Rattle.fork_push.specs.declared.verdict.Verdict.{Verdict}
-use Rattle.fork_push.specs.declared.verdict.Verdict.TheVariants.{Accepted}
-use Rattle.fork_push.specs.declared.verdict.Verdict.TheVariants as push
+use Rattle.fork_reach.specs.Objects.{measures_of}
 use Rattle.fork_reach.specs.Source.{Objects}
+use Rattle.fork_ledger.specs.Tenants.{VaultState}
 use Rattle.fork_model.specs.View.{View, Repositories}
+use Rattle.fork_host.specs.Own.{Changes, Settles}
+use Rattle.fork_host.specs.Safe.{IsFaultOver}
 
 pub data Gives (row : Reply × View) (old : View) (reply : Reply) (new : View) : Type 0 where
   -- the row's reply and view
   Given : reply ≡ row.0 → new ≡ row.1 → Gives row old reply new
   -- want of memory, which leaves the view
   Wanting : reply ≡ Failed Memory → new ≡ old → Gives row old reply new
-
--- a host fault is want of memory and no other
-abbrev pub IsMemoryAtMost : Reply → Type 0
-IsMemoryAtMost (Done text) = ⊤
-IsMemoryAtMost (Refused refusal) = ⊤
-IsMemoryAtMost (Failed fault) = fault ≡ Memory
-
--- and so is the fault of a verdict
-abbrev pub IsMemoryVerdict : Verdict → Type 0
-IsMemoryVerdict (Accepted references) = ⊤
-IsMemoryVerdict (push.Refused refusal) = ⊤
-IsMemoryVerdict (push.Failed fault) = fault ≡ source.Memory
 
 -- how a reply tells a fault of the store
 abbrev pub fault_told : SourceFault → HostFault
@@ -47,10 +37,16 @@ pub data IsKept (kept old : Objects) (reply : Reply) (new : Objects) : Type 0 wh
   Kept : reply ≡ Done [] → new ≡ kept → IsKept kept old reply new
   Unkept : reply ≡ Failed Memory → new ≡ old → IsKept kept old reply new
 
--- references and objects are taken, or want of memory leaves both
-pub data IsTaken (before after : Repositories) (seen both : Objects) (reply : Reply) (new : Repositories) (objects : Objects) : Type 0 where
-  Took : reply ≡ Done [] → new ≡ after → objects ≡ both → IsTaken before after seen both reply new objects
-  Lacked : reply ≡ Failed Memory → new ≡ before → objects ≡ seen → IsTaken before after seen both reply new objects
+-- the same over any store, as far as names, kinds and lengths go: among those that are kept are the roots
+pub data IsPruned (honest : Bool) (roots : List (List ℕ)) (old : Objects) (reply : Reply) (new : Objects) : Type 0 where
+  Pruned : (kept : List ℕ → Bool) → reply ≡ Done [] → measures_of new ≡ measures_of (retain_keys old kept)
+      → ((name : List ℕ) → Contains roots name → contains_key old name ≡ true → kept name ≡ true) → IsPruned honest roots old reply new
+  Unpruned : (fault : HostFault) → reply ≡ Failed fault → IsFaultOver honest fault → measures_of new ≡ measures_of old → IsPruned honest roots old reply new
+
+-- references are taken and what is staged is seen, or want of memory leaves both
+pub data IsTaken (before after : Repositories) (own : List ℕ) (seen both : Objects) (old : VaultState) (reply : Reply) (now : Repositories) (new : VaultState) : Type 0 where
+  Took : reply ≡ Done [] → now ≡ after → Changes (Settles own both) old new → IsTaken before after own seen both old reply now new
+  Lacked : reply ≡ Failed Memory → now ≡ before → Changes (Settles own seen) old new → IsTaken before after own seen both old reply now new
 
 -- how a source tells a fault of the vault; two objects of one name never meet in a read
 abbrev pub fault_read : VaultFault → SourceFault

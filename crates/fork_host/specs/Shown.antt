@@ -52,12 +52,11 @@ uploaded upload = empty
 abbrev pub Trusted : HostState → Type 0
 Trusted state = IsTrue state.vault.honest
 
--- the store is trusted, as there is none yet that could lie; the world is in order and right; the vault has the tenants of the
--- accounts, each with what its open upload has staged
+-- the world is in order, and right where the store is trusted; the vault has the tenants of the accounts, each with what its
+-- open upload has staged
 pub record IsWhole (state : HostState) : Type 0 where
-  pub trusted : Trusted state
   pub orderly : IsOrderlyWorld (world_of state)
-  pub right : IsRightWorld (world_of state)
+  pub right : Trusted state → IsRightWorld (world_of state)
   pub there : (tenant : List ℕ) → contains_key state.vault.tenants tenant ≡ contains_key state.accounts tenant
   pub staged : (tenant : List ℕ) (account : Account) → get state.accounts tenant ≡ Some account → staged_in state.vault tenant ≡ uploaded account.upload
 

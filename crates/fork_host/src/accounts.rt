@@ -1,15 +1,18 @@
-ghost use Rattle.std.specs.Prelude.{◌≡◌, OnOk, OnErr, Some, None, false};
+ghost use Rattle.std.specs.Prelude.{◌≡◌, ◌≢◌, IsTrue, List, ℕ, OnOk, OnErr, Some, None, false};
 ghost use Rattle.std.specs.FinMap as map;
 ghost use Rattle.std.specs.BTreeMap.{IsUnchanged, Updates};
 ghost use Rattle.git_name.specs.Name.{name_cmp};
 ghost use Rattle.fork_request.specs.Asked.{ask_of};
+ghost use Rattle.fork_request.specs.Told.{is_done};
 ghost use Rattle.fork_model.specs.Runs.{Asks};
 ghost use Rattle.fork_model.specs.World.{Steps};
 ghost use Rattle.fork_host.specs.Adding.{new_account};
 ghost use Rattle.fork_model.specs.Answer.{answer};
 ghost use Rattle.fork_host.specs.Own.{IsOwn, IsReady};
-ghost use Rattle.fork_host.specs.Rows.{Gives, IsMemoryAtMost};
-ghost use Rattle.fork_host.specs.Shown.{IsWhole, shown, state_of, world_of};
+ghost use Rattle.fork_host.specs.Rows.{Gives};
+ghost use Rattle.fork_host.specs.Safe.{IsReplyOver, IsSafe};
+ghost use Rattle.fork_host.specs.Shape.{SameShape};
+ghost use Rattle.fork_host.specs.Shown.{IsWhole, Trusted, shown, state_of, world_of};
 
 use crate::own::Own;
 use crate::tenant::Tenant;
@@ -90,9 +93,14 @@ impl Accounts {
         request: Request<'_>,
     ) -> Reply
         requires whole { IsWhole (state_of self.old vault.old) }
-        ensures explained { Steps (world_of (state_of self.old vault.old)) (Asks name.now (ask_of request.entry)) result (world_of (state_of self.new vault.new)) }
+        ensures explained { Trusted (state_of self.old vault.old) → Steps (world_of (state_of self.old vault.old)) (Asks name.now (ask_of request.entry)) result (world_of (state_of self.new vault.new)) }
         ensures whole { IsWhole (state_of self.new vault.new) }
-        ensures faults { IsMemoryAtMost result }
+        ensures trusted { vault.new.honest ≡ vault.old.honest }
+
+        // Over any store.
+        ensures kept { is_done result ≡ false → (tenant : List ℕ) → SameShape tenant (world_of (state_of self.old vault.old)) (world_of (state_of self.new vault.new)) }
+        ensures others { (tenant : List ℕ) → tenant ≢ name.now → SameShape tenant (world_of (state_of self.old vault.old)) (world_of (state_of self.new vault.new)) }
+        ensures faults { IsReplyOver vault.old.honest result }
     {
         let Some(tenant) = self.tenants.get_mut(name) else {
             return Reply::Refused(Refusal::UnknownTenant);
@@ -110,7 +118,8 @@ fn answer_from(
     request: Request<'_>,
 ) -> Reply
     requires ready { IsReady vault.old name.now tenant.old.limit }
-    ensures row { Gives (answer (shown tenant.old vault.old name.now) (ask_of request.entry)) (shown tenant.old vault.old name.now) result (shown tenant.new vault.new name.now) }
+    ensures row { IsTrue vault.old.honest → Gives (answer (shown tenant.old vault.old name.now) (ask_of request.entry)) (shown tenant.old vault.old name.now) result (shown tenant.new vault.new name.now) }
+    ensures safe { IsSafe vault.old.honest (shown tenant.old vault.old name.now) result (shown tenant.new vault.new name.now) }
     ensures own { IsOwn name.now vault.old vault.new }
 {
     let mut own = Own::new(vault, name);

@@ -13,9 +13,10 @@ ghost use Rattle.fork_ledger.specs.Store.{AsksStore, LeavesStore, fault_in};
 ghost use Rattle.fork_ledger.specs.Tenants.{at_tenant, shape_of};
 ghost use Rattle.fork_ledger.specs.Used.{capped};
 ghost use Rattle.fork_push.specs.Push.{judged};
-ghost use Rattle.fork_push.specs.Verdict.{TellsJudged};
-ghost use Rattle.fork_host.specs.Rows.{IsMemoryVerdict};
-ghost use Rattle.std.specs.Prelude.{ℕ, List};
+ghost use Rattle.fork_push.specs.Verdict.{IfAccepted, IsOrderly, TellsJudged, fault_of_verdict};
+ghost use Rattle.fork_host.specs.Rows.{fault_told};
+ghost use Rattle.fork_host.specs.Safe.{IsFaultOver};
+ghost use Rattle.std.specs.Prelude.{ℕ, List, Contains, true};
 
 use crate::both::Both;
 use fork_ledger::{Held, Vault, VaultFault};
@@ -72,6 +73,10 @@ impl<'a> Own<'a> {
     pub(crate) fn stage(&mut self, alloc: Global, sealed: Sealed) -> Result<(), VaultFault>
         ensures ok { IsTrue self.old.vault.now.honest → OnOk result (self.new.vault.now.tenants ≡ at_tenant self.old.vault.now.tenants self.old.tenant.now (with_staged sealed)) }
         ensures err { IsTrue self.old.vault.now.honest → OnErr result (self.new.vault.now.tenants ≡ self.old.vault.now.tenants) }
+
+        // Over any store.
+        ensures shape { OnOk result (shape_of self.new.vault.now.tenants ≡ shape_of (at_tenant self.old.vault.now.tenants self.old.tenant.now (with_staged sealed))) }
+        ensures kept { OnErr result (shape_of self.new.vault.now.tenants ≡ shape_of self.old.vault.now.tenants) }
         ensures honest { self.new.vault.now.honest ≡ self.old.vault.now.honest }
         ensures same { IsSame self.old self.new }
     {
@@ -118,11 +123,14 @@ impl<'a> Own<'a> {
         alloc: Global,
         roots: &[Name],
     ) -> Result<BTreeSet<Name>, SourceFault>
-        requires trusted { IsTrue self.old.vault.now.honest }
-        ensures found { IfOk result (λ found. (name : List ℕ) → contains name_cmp found name ≡ is_reached (linked_names (visible_by self.old)) (visible_by self.old) roots.now name) }
-        ensures kept { self.new.vault.now.tenants ≡ self.old.vault.now.tenants }
+        ensures found { IsTrue self.old.vault.now.honest → IfOk result (λ found. (name : List ℕ) → contains name_cmp found name ≡ is_reached (linked_names (visible_by self.old)) (visible_by self.old) roots.now name) }
+        ensures kept { IsTrue self.old.vault.now.honest → self.new.vault.now.tenants ≡ self.old.vault.now.tenants }
+
+        // Over any store.
+        ensures rooted { IfOk result (λ found. (name : List ℕ) → Contains roots.now name → map.contains_key (visible_by self.old) name ≡ true → contains name_cmp found name ≡ true) }
+        ensures shape { shape_of self.new.vault.now.tenants ≡ shape_of self.old.vault.now.tenants }
         ensures honest { self.new.vault.now.honest ≡ self.old.vault.now.honest }
-        ensures faults { IfErr result (λ fault. fault ≡ SourceFault.Memory) }
+        ensures faults { IfErr result (λ fault. IsFaultOver self.old.vault.now.honest (fault_told fault)) }
         ensures same { IsSame self.old self.new }
     {
         reach(alloc, self, roots)
@@ -137,11 +145,14 @@ impl<'a> Own<'a> {
         references: &Refs,
         limit: u64,
     ) -> Verdict
-        requires trusted { IsTrue self.old.vault.now.honest }
-        ensures judged { TellsJudged (judged (both_by self.old) references.now limit (brief_shown finished.now)) result }
-        ensures kept { self.new.vault.now.tenants ≡ self.old.vault.now.tenants }
+        ensures judged { IsTrue self.old.vault.now.honest → TellsJudged (judged (both_by self.old) references.now limit (brief_shown finished.now)) result }
+        ensures kept { IsTrue self.old.vault.now.honest → self.new.vault.now.tenants ≡ self.old.vault.now.tenants }
+
+        // Over any store.
+        ensures accepted { IfAccepted result (IsOrderly (both_by self.old) references.now limit) }
+        ensures shape { shape_of self.new.vault.now.tenants ≡ shape_of self.old.vault.now.tenants }
         ensures honest { self.new.vault.now.honest ≡ self.old.vault.now.honest }
-        ensures faults { IsMemoryVerdict result }
+        ensures faults { IfSome (fault_of_verdict result) (λ fault. IsFaultOver self.old.vault.now.honest (fault_told fault)) }
         ensures same { IsSame self.old self.new }
     {
         let mut both = Both {

@@ -90,7 +90,7 @@ impl Repositories {
         ensures cause { IfErr result (λ error. (old : References) → map.get self.old name.now ≡ Some old → TellsTransacted (transacted old commands.now (K.kinds known.now)) error) }
     {
         let Some(references) = self.repositories.get_mut(name) else {
-            return Err(ApplyError::Memory);
+            unreachable!();
         };
         references.apply(alloc, commands, known)
     }

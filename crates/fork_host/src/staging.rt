@@ -1,11 +1,11 @@
 // What a push does to a tenant's own part of the vault.
-ghost use Rattle.std.specs.Prelude.{◌≡◌, IsTrue, OnOk, OnErr, true};
+ghost use Rattle.std.specs.Prelude.{◌≡◌, OnOk, OnErr, true};
 ghost use Rattle.std.specs.FinMap as map;
-ghost use Rattle.fork_reach.specs.Objects.{IsNamed, with_objects};
+ghost use Rattle.fork_reach.specs.Objects.{with_objects};
 ghost use Rattle.fork_reach.specs.Source.{Objects};
 ghost use Rattle.fork_ledger.specs.Tenants.{VaultState};
 ghost use Rattle.fork_host.specs.Handle.{IsSame, both_by, visible_by};
-ghost use Rattle.fork_host.specs.Own.{Settles, Stages, visible_in};
+ghost use Rattle.fork_host.specs.Own.{Changes, Settles, Stages, visible_in};
 
 use crate::own::Own;
 use git_name::Sealed;
@@ -17,11 +17,9 @@ pub(crate) fn stage_all(
     own: &mut Own<'_>,
     sent: Vec<Sealed>,
 ) -> Result<(), AllocError>
-    requires trusted { IsTrue own.old.vault.now.honest }
     requires there { map.contains_key own.old.vault.now.tenants own.old.tenant.now ≡ true }
-    requires named { IsNamed (visible_by own.old) }
-    ensures ok { OnOk result (Stages own.old.tenant.now (with_objects (both_by own.old) sent.items) own.old.vault.now own.new.vault.now) }
-    ensures err { OnErr result (Settles own.old.tenant.now (visible_by own.old) own.old.vault.now own.new.vault.now) }
+    ensures ok { OnOk result (Changes (Stages own.old.tenant.now (with_objects (both_by own.old) sent.items)) own.old.vault.now own.new.vault.now) }
+    ensures err { OnErr result (Changes (Settles own.old.tenant.now (visible_by own.old)) own.old.vault.now own.new.vault.now) }
     ensures same { IsSame own.old own.new }
 {
     for sealed in sent {
@@ -36,7 +34,7 @@ pub(crate) fn stage_all(
 // What is staged goes.
 pub(crate) fn discard(own: &mut Own<'_>)
     requires there { map.contains_key own.old.vault.now.tenants own.old.tenant.now ≡ true }
-    ensures settles { (before : VaultState) (both : Objects) → Stages own.old.tenant.now both before own.old.vault.now → Settles own.old.tenant.now (visible_in before own.old.tenant.now) before own.new.vault.now }
+    ensures settles { (before : VaultState) (both : Objects) → Changes (Stages own.old.tenant.now both) before own.old.vault.now → Changes (Settles own.old.tenant.now (visible_in before own.old.tenant.now)) before own.new.vault.now }
     ensures same { IsSame own.old own.new }
 {
     own.discard();
@@ -45,7 +43,7 @@ pub(crate) fn discard(own: &mut Own<'_>)
 // What is staged is seen.
 pub(crate) fn publish(own: &mut Own<'_>)
     requires there { map.contains_key own.old.vault.now.tenants own.old.tenant.now ≡ true }
-    ensures settles { (before : VaultState) (both : Objects) → Stages own.old.tenant.now both before own.old.vault.now → Settles own.old.tenant.now both before own.new.vault.now }
+    ensures settles { (before : VaultState) (both : Objects) → Changes (Stages own.old.tenant.now both) before own.old.vault.now → Changes (Settles own.old.tenant.now both) before own.new.vault.now }
     ensures same { IsSame own.old own.new }
 {
     own.publish();

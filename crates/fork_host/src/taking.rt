@@ -1,17 +1,18 @@
-ghost use Rattle.std.specs.Prelude.{◌≡◌, ◌≤◌, IsTrue, IfOk, OnOk, OnErr, IfErr, Ok, Option, Some, map as map_list, true};
+ghost use Rattle.std.specs.Prelude.{◌≡◌, IsTrue, IfOk, IfSome, Ok, Option, Some, map as map_list, true};
 ghost use Rattle.std.specs.FinMap as map;
 ghost use Rattle.git_name.specs.Object.{object_name};
 ghost use Rattle.git_reftx.specs.Transaction.{References};
 ghost use Rattle.push_stream.specs.Brief.{brief_shown};
 ghost use Rattle.push_stream.specs.Upload.{UploadValue};
 ghost use Rattle.fork_reach.specs.Source.{Objects};
-ghost use Rattle.fork_ledger.specs.Tenants.{VaultState};
+ghost use Rattle.fork_ledger.specs.Tenants.{VaultState, shape_of};
 ghost use Rattle.fork_push.specs.Push.{judged};
-ghost use Rattle.fork_push.specs.Verdict.{TellsJudged};
+ghost use Rattle.fork_push.specs.Verdict.{IfAccepted, IsOrderly, TellsJudged, fault_of_verdict};
 ghost use Rattle.fork_model.specs.Answer.{pushed};
 ghost use Rattle.fork_host.specs.Handle.{IsSame, Ready, Uses, both_by, visible_by};
-ghost use Rattle.fork_host.specs.Own.{IsOwn, Stages, visible_in};
-ghost use Rattle.fork_host.specs.Rows.{Gives, IsMemoryVerdict, IsTaken};
+ghost use Rattle.fork_host.specs.Own.{Changes, Stages, visible_in};
+ghost use Rattle.fork_host.specs.Rows.{Gives, IsTaken, fault_told};
+ghost use Rattle.fork_host.specs.Safe.{IsFaultOver, IsSafe};
 ghost use Rattle.fork_host.specs.Pushed.{view_of};
 
 use crate::own::Own;
@@ -19,7 +20,6 @@ use crate::replies::{done, host_fault, push_refusal};
 use crate::repositories::Repositories;
 use crate::staging::{discard, publish, stage_all};
 use fork_push::Verdict;
-use fork_reach::SourceFault;
 use fork_request::{HostFault, Reply, RepositoryName};
 use git_name::{Name, Sealed};
 use git_reftx::Refs;
@@ -37,9 +37,13 @@ pub(crate) fn take(
     body: Body,
 ) -> Reply
     requires ready { Ready own.old limit }
-    ensures row { (upload : Option UploadValue) (references : References) → map.get repositories.old name ≡ Some references
+    requires there { map.contains_key repositories.old name ≡ true }
+    ensures row { (upload : Option UploadValue) (references : References) → map.get repositories.old name ≡ Some references → IsTrue own.old.vault.now.honest
         → Gives (pushed (view_of repositories.old (visible_by own.old) upload limit) name references (Ok (body.commands.items, body.objects.items)))
         (view_of repositories.old (visible_by own.old) upload limit) result (view_of repositories.new (visible_in own.new.vault.now own.old.tenant.now) upload limit) }
+    // Over any store.
+    ensures safe { (upload : Option UploadValue) → IsSafe own.old.vault.now.honest (view_of repositories.old (visible_by own.old) upload limit)
+        result (view_of repositories.new (visible_in own.new.vault.now own.old.tenant.now) upload limit) }
     ensures own { Uses own.old own.new }
 {
     let Body {
@@ -75,9 +79,8 @@ fn accept(
     new: Refs,
 ) -> Reply
     requires there { map.contains_key own.old.vault.now.tenants own.old.tenant.now ≡ true }
-    ensures taken { (before : VaultState) (both : Objects) → Stages own.old.tenant.now both before own.old.vault.now
-        → IsTaken repositories.old (map.insert repositories.old name new) (visible_in before own.old.tenant.now) both result repositories.new (visible_in own.new.vault.now own.old.tenant.now) }
-    ensures own { (before : VaultState) (both : Objects) → Stages own.old.tenant.now both before own.old.vault.now → IsOwn own.old.tenant.now before own.new.vault.now }
+    ensures taken { (before : VaultState) (both : Objects) → Changes (Stages own.old.tenant.now both) before own.old.vault.now
+        → IsTaken repositories.old (map.insert repositories.old name new) own.old.tenant.now (visible_in before own.old.tenant.now) both before result repositories.new own.new.vault.now }
     ensures same { IsSame own.old own.new }
 {
     let Ok(()) = repositories.insert(name, new) else {
@@ -108,16 +111,20 @@ fn verdict(
     name: &RepositoryName,
     finished: &Result<Brief, StreamFault>,
 ) -> Verdict
-    requires trusted { IsTrue own.old.vault.now.honest }
-    ensures judged { (references : References) → map.get repositories.now name.now ≡ Some references
+    requires there { map.contains_key repositories.now name.now ≡ true }
+    ensures judged { (references : References) → map.get repositories.now name.now ≡ Some references → IsTrue own.old.vault.now.honest
         → TellsJudged (judged (both_by own.old) references limit (brief_shown finished.now)) result }
-    ensures kept { own.new.vault.now.tenants ≡ own.old.vault.now.tenants }
+    ensures kept { IsTrue own.old.vault.now.honest → own.new.vault.now.tenants ≡ own.old.vault.now.tenants }
+
+    // Over any store.
+    ensures accepted { (references : References) → map.get repositories.now name.now ≡ Some references → IfAccepted result (IsOrderly (both_by own.old) references limit) }
+    ensures shape { shape_of own.new.vault.now.tenants ≡ shape_of own.old.vault.now.tenants }
     ensures honest { own.new.vault.now.honest ≡ own.old.vault.now.honest }
-    ensures faults { IsMemoryVerdict result }
+    ensures faults { IfSome (fault_of_verdict result) (λ fault. IsFaultOver own.old.vault.now.honest (fault_told fault)) }
     ensures same { IsSame own.old own.new }
 {
     let Some(references) = repositories.get(name) else {
-        return Verdict::Failed(SourceFault::Memory);
+        unreachable!();
     };
     own.judge(alloc, finished, references, limit)
 }

@@ -1,9 +1,10 @@
-ghost use Rattle.std.specs.Prelude.{◌≡◌};
+ghost use Rattle.std.specs.Prelude.{◌≡◌, IsTrue};
 ghost use Rattle.fork_request.specs.Asked.{ask_of};
 ghost use Rattle.fork_model.specs.Answer.{answer};
 ghost use Rattle.fork_host.specs.Adding.{new_account};
 ghost use Rattle.fork_host.specs.Handle.{Ready, Uses, shown_by};
 ghost use Rattle.fork_host.specs.Rows.{Gives};
+ghost use Rattle.fork_host.specs.Safe.{IsSafe};
 ghost use Rattle.fork_host.specs.Shown.{shown};
 
 mod objects;
@@ -54,7 +55,8 @@ impl Tenant {
     // method, each in the file of its subject.
     pub(crate) fn answer(&mut self, alloc: Global, own: &mut Own<'_>, request: Request<'_>) -> Reply
         requires ready { Ready own.old self.old.limit }
-        ensures row { Gives (answer (shown_by self.old own.old) (ask_of request.entry)) (shown_by self.old own.old) result (shown self.new own.new.vault.now own.old.tenant.now) }
+        ensures row { IsTrue own.old.vault.now.honest → Gives (answer (shown_by self.old own.old) (ask_of request.entry)) (shown_by self.old own.old) result (shown self.new own.new.vault.now own.old.tenant.now) }
+        ensures safe { IsSafe own.old.vault.now.honest (shown_by self.old own.old) result (shown self.new own.new.vault.now own.old.tenant.now) }
         ensures own { Uses own.old own.new }
     {
         match request {

@@ -9,10 +9,10 @@ use Rattle.git_name.specs.Name.{name_cmp}
 use Rattle.git_name.specs.Object.{Object, object_name}
 use Rattle.git_name.proofs.MapLemmas.{get_joined, get_map_values, joined_empty}
 use Rattle.git_name.proofs.Names.{name_total, name_exact}
-use Rattle.fork_reach.specs.Objects.{IsNamed, Measures, measure_of, measures_of, with_object}
+use Rattle.fork_reach.specs.Objects.{Measures, measure_of, measures_of, with_object}
 use Rattle.fork_reach.specs.Source.{Objects}
 use Rattle.fork_reach.proofs.KeptObjects.{tied_names}
-use Rattle.fork_ledger.specs.Private.{Private, both_of, private_measures, standing, with_staged}
+use Rattle.fork_ledger.specs.Private.{Private, both_of, private_measures, with_staged, with_under}
 use Rattle.fork_ledger.specs.Tenants.{Tenants, private_of, shape_of}
 use Rattle.fork_ledger.specs.Private as private
 
@@ -42,18 +42,18 @@ set_in true seen waits x none = ap (λ o. option_or o (Some x)) (none refl)
 set_in false seen waits x none = refl
 
 -- one more staged object, of a name that is seen
-behind_seen : (seen waits : Objects) (x : Object) (name : List ℕ) → object_name x ≡ name → contains_key seen name ≡ true → joined seen (with_object waits x) ≡ joined seen waits
-behind_seen seen waits x name is there = by (contains_key waits (object_name x))
+behind_seen : (seen waits : Objects) (x : Object) (name : List ℕ) → contains_key seen name ≡ true → joined seen (with_under waits name x) ≡ joined seen waits
+behind_seen seen waits x name there = by (contains_key waits name)
   where
-    by : (b : Bool) → joined seen (cond b waits (insert waits (object_name x) x)) ≡ joined seen waits
+    by : (b : Bool) → joined seen (cond b waits (insert waits name x)) ≡ joined seen waits
     by true = refl
     by false = same_map name_total name_exact _ _ (λ q.
-        get_joined name_total seen (insert waits (object_name x) x) q ∙ ap (option_or (get seen q)) (get-insert name_total waits (object_name x) x q)
-        ∙ set_behind (eq_by_cmp name_cmp q (object_name x)) (get seen q) (get waits q) x (λ same. ap (contains_key seen) (tied_names q (object_name x) same ∙ is) ∙ there)
+        get_joined name_total seen (insert waits name x) q ∙ ap (option_or (get seen q)) (get-insert name_total waits name x q)
+        ∙ set_behind (eq_by_cmp name_cmp q name) (get seen q) (get waits q) x (λ same. ap (contains_key seen) (tied_names q name same) ∙ there)
         ∙ sym (get_joined name_total seen waits q))
 
 -- one more of a name that is not seen
-beside_seen : (seen waits : Objects) (x : Object) → get seen (object_name x) ≡ None → joined seen (with_object waits x) ≡ with_object (joined seen waits) x
+beside_seen : (seen waits : Objects) (x : Object) → get seen (object_name x) ≡ None → joined seen (with_under waits (object_name x) x) ≡ with_object (joined seen waits) x
 beside_seen seen waits x none = by (contains_key waits (object_name x)) (contains_key (joined seen waits) (object_name x)) refl same
   where
     same : contains_key (joined seen waits) (object_name x) ≡ contains_key waits (object_name x)
@@ -73,14 +73,14 @@ there_already : (objects : Objects) (x : Object) → contains_key objects (objec
 there_already objects x is = ap (λ b. cond b objects (insert objects (object_name x) x)) is
 
 -- an object is staged: both sides have it, unless one of its name was there
-pub both_more : (own : Private) (object : Object) → IsNamed own.visible → both_of (with_staged object own) ≡ with_object (both_of own) object
-both_more own object named = by (get own.visible (object_name object)) refl
+pub both_more : (own : Private) (object : Object) → both_of (with_staged object own) ≡ with_object (both_of own) object
+both_more own object = by (get own.visible (object_name object)) refl
   where
-    by : (o : Option Object) → get own.visible (object_name object) ≡ o → joined own.visible (with_object own.staged (unwrap_or (get own.visible (object_name object)) object)) ≡ with_object (joined own.visible own.staged) object
-    by None is = ap (λ o. joined own.visible (with_object own.staged (unwrap_or o object))) is ∙ beside_seen own.visible own.staged object is
+    by : (o : Option Object) → get own.visible (object_name object) ≡ o → joined own.visible (with_under own.staged (object_name object) (unwrap_or (get own.visible (object_name object)) object)) ≡ with_object (joined own.visible own.staged) object
+    by None is = ap (λ o. joined own.visible (with_under own.staged (object_name object) (unwrap_or o object))) is ∙ beside_seen own.visible own.staged object is
     by (Some x) is =
-        ap (λ o. joined own.visible (with_object own.staged (unwrap_or o object))) is
-        ∙ behind_seen own.visible own.staged x (object_name object) (named (object_name object) x is) (ap is_some is)
+        ap (λ o. joined own.visible (with_under own.staged (object_name object) (unwrap_or o object))) is
+        ∙ behind_seen own.visible own.staged x (object_name object) (ap is_some is)
         ∙ sym (there_already (joined own.visible own.staged) object (ap is_some (get_joined name_total own.visible own.staged (object_name object)) ∙ there_or (get own.visible (object_name object)) (get own.staged (object_name object)) (ap is_some is)))
 
 or_mapped : (f : Object → Kind × ℕ) (a b : Option Object) → option_map f (option_or a b) ≡ option_or (option_map f a) (option_map f b)

@@ -5,6 +5,7 @@ pub mod HeldLemmas
 pub mod KeepingLemmas
 pub mod PrivateLemmas
 pub mod SeenLemmas
+pub mod ShapeLemmas
 pub mod StagedLemmas
 pub mod StagingLemmas
 pub mod StoreLemmas

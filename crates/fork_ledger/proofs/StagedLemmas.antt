@@ -12,11 +12,11 @@ use Rattle.git_name.specs.Name.{name_cmp}
 use Rattle.git_name.specs.Object.{Object, object_name}
 use Rattle.git_name.proofs.MapLemmas.{get_joined}
 use Rattle.git_name.proofs.Names.{name_total, name_exact}
-use Rattle.fork_reach.specs.Objects.{IsNamed, with_object}
+use Rattle.fork_reach.specs.Objects.{with_object}
 use Rattle.fork_reach.specs.Source.{Objects}
 use Rattle.fork_reach.proofs.KeptObjects.{tied_names}
 use Rattle.fork_reach.proofs.UseLemmas.{with_object-new}
-use Rattle.fork_ledger.specs.Private.{Private, both_of, standing, with_staged}
+use Rattle.fork_ledger.specs.Private.{Private, both_of, standing, with_staged, with_under}
 use Rattle.fork_ledger.specs.Staged.{awaiting, is_hidden, seen}
 use Rattle.fork_ledger.proofs.SeenLemmas.{get_kept, get_without}
 
@@ -65,38 +65,20 @@ awaiting_more objects now old new name object more here apart = same_map name_to
     ∙ ap (cond (eq_by_cmp name_cmp q name) (Some object)) (sym (get_kept objects old q))
     ∙ sym (get-insert name_total (retain_keys objects old) name object q))
 
--- what stands for an object has its name
-pub standing_name : (own : Private) (object : Object) → IsNamed own.visible → object_name (standing own object) ≡ object_name object
-standing_name own object named = by (get own.visible (object_name object)) refl
-  where
-    by : (o : Option Object) → get own.visible (object_name object) ≡ o → object_name (unwrap_or o object) ≡ object_name object
-    by None is = refl
-    by (Some x) is = named (object_name object) x is
-
-not_both : (b : Bool) → b ≡ true → b ≡ false → ⊥
-not_both b is apart = (let differs : ⊥ = cc in differs)
-
 -- an object of a name that is staged changes nothing
-pub staged_again : (own : Private) (object : Object) → IsNamed own.visible → contains_key own.staged (object_name object) ≡ true → own ≡ with_staged object own
-staged_again own object named there = λ i. record { visible = own.visible; staged = same i }
+pub staged_again : (own : Private) (object : Object) → contains_key own.staged (object_name object) ≡ true → own ≡ with_staged object own
+staged_again own object there = λ i. record { visible = own.visible; staged = same i }
   where
-    kept : (b : Bool) → b ≡ true → own.staged ≡ cond b own.staged (insert own.staged (object_name (standing own object)) (standing own object))
-    kept true is = refl
-    kept false is = absurd (not_both false is refl)
-
-    same : own.staged ≡ with_object own.staged (standing own object)
-    same = kept (contains_key own.staged (object_name (standing own object))) (ap (contains_key own.staged) (standing_name own object named) ∙ there)
+    same : own.staged ≡ with_under own.staged (object_name object) (standing own object)
+    same = sym (ap (λ b. cond b own.staged (insert own.staged (object_name object) (standing own object))) there)
 
 -- an object of a name that is not staged comes to those that are
-pub staged_new : (own : Private) (object x : Object) → IsNamed own.visible → contains_key own.staged (object_name object) ≡ false → standing own object ≡ x
+pub staged_new : (own : Private) (object x : Object) → contains_key own.staged (object_name object) ≡ false → standing own object ≡ x
     → with_staged object own ≡ record { visible = own.visible; staged = insert own.staged (object_name object) x }
-staged_new own object x named absent stands = λ i. record { visible = own.visible; staged = set i }
+staged_new own object x absent stands = λ i. record { visible = own.visible; staged = set i }
   where
-    of_name : object_name x ≡ object_name object
-    of_name = ap object_name (sym stands) ∙ standing_name own object named
-
-    set : with_object own.staged (standing own object) ≡ insert own.staged (object_name object) x
-    set = ap (with_object own.staged) stands ∙ with_object-new own.staged x (ap (contains_key own.staged) of_name ∙ absent) ∙ ap (λ n. insert own.staged n x) of_name
+    set : with_under own.staged (object_name object) (standing own object) ≡ insert own.staged (object_name object) x
+    set = ap (λ b. cond b own.staged (insert own.staged (object_name object) (standing own object))) absent ∙ ap (insert own.staged (object_name object)) stands
 
 still_hidden : (b s t g h : Bool) → t ≡ cond b true s → h ≡ cond b true g → (b ≡ true → (s && not g) ≡ false) → (t && not h) ≡ (s && not g)
 still_hidden true s t g h staged again not_hidden = ap (λ x. x && not h) staged ∙ ap not again ∙ sym (not_hidden refl)

@@ -89,14 +89,14 @@ same_option (Some x) (Some y) there same = ap Some same
 pub same_tenants : (m n : Tenants) → ((q : List ℕ) → contains_key m q ≡ contains_key n q) → ((q : List ℕ) → private_of m q ≡ private_of n q) → m ≡ n
 same_tenants m n there own = same_map name_total name_exact m n (λ q. same_option (get m q) (get n q) (there q) (own q))
 
-by_test : (b : Bool) (G : Type 0) → (b ≡ true → G) → (b ≡ false → G) → G
+pub by_test : (b : Bool) (G : Type 0) → (b ≡ true → G) → (b ≡ false → G) → G
 by_test true G f g = f refl
 by_test false G f g = g refl
 
-absent_still : (tenants : Tenants) (t : List ℕ) (change : Private → Private) → contains_key tenants t ≡ false → at_tenant tenants t change ≡ tenants
+pub absent_still : (tenants : Tenants) (t : List ℕ) (change : Private → Private) → contains_key tenants t ≡ false → at_tenant tenants t change ≡ tenants
 absent_still tenants t change absent = ap (λ b. cond b (insert tenants t (change (private_of tenants t))) tenants) absent
 
-self_apart : (q t : List ℕ) → eq_by_cmp name_cmp q t ≡ false → q ≡ t → ⊥
+pub self_apart : (q t : List ℕ) → eq_by_cmp name_cmp q t ≡ false → q ≡ t → ⊥
 self_apart q t apart same =
     let itself = (eq_by_cmp_equiv name_total).refl t in
     let differs : ⊥ = cc (ap (λ x. eq_by_cmp name_cmp x t) same) in

@@ -2,12 +2,12 @@
 use Rattle.std.specs.Prelude.{ℕ, Bool, List, Option, None, Some, length, option_map, refl, if◌then◌else◌}
 use Rattle.std.specs.Option.{unwrap_or}
 use Rattle.std.specs.Coded.{Coded, code_by, coded×, coded_ℕ, coded_list}
-use Rattle.std.specs.FinMap.{get, empty, contains_key, retain_keys, code}
+use Rattle.std.specs.FinMap.{get, empty, insert, contains_key, retain_keys, code}
 use Rattle.git_name.specs.declared.kind.Kind.{Kind}
 use Rattle.git_name.specs.Maps.{joined}
 use Rattle.git_name.specs.Object.{Object, object_name}
 use Rattle.git_name.specs.contracts.sealed.Sealed as sealed
-use Rattle.fork_reach.specs.Objects.{Measures, measures_of, with_object}
+use Rattle.fork_reach.specs.Objects.{Measures, measures_of}
 use Rattle.fork_reach.specs.Source.{Objects}
 use Rattle.fork_ledger.specs.declared.held.Held.{Held}
 
@@ -28,9 +28,13 @@ both_of own = joined own.visible own.staged
 abbrev pub standing : Private → Object → Object
 standing own object = unwrap_or (get own.visible (object_name object)) object
 
+-- objects with this one under this name, unless there is one
+abbrev pub with_under : Objects → List ℕ → Object → Objects
+with_under objects name object = if contains_key objects name then objects else insert objects name object
+
 -- with an object staged, unless one of its name is staged already
 abbrev pub with_staged : Object → Private → Private
-with_staged object own = record { visible = own.visible; staged = with_object own.staged (standing own object) }
+with_staged object own = record { visible = own.visible; staged = with_under own.staged (object_name object) (standing own object) }
 
 -- with what is staged visible
 abbrev pub with_published : Private → Private

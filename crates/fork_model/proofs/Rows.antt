@@ -21,7 +21,7 @@ use Rattle.push_stream.proofs.ObjectLemmas.{continued_right, stream_right}
 use Rattle.fork_push.specs.declared.refusal.PushRefusal.{PushRefusal}
 use Rattle.fork_push.specs.declared.refusal.PushRefusal.TheVariants.{Stream}
 use Rattle.fork_push.specs.Push.{judged}
-use Rattle.fork_reach.specs.Objects.{with_objects}
+use Rattle.fork_reach.specs.Objects.{use_of, with_objects}
 use Rattle.fork_reach.specs.Reach.{is_reached, linked_names}
 use Rattle.fork_reach.proofs.ReachLemmas.{next_reached, root_reached}
 use Rattle.fork_reach.specs.Source.{Objects, kind_in}
@@ -172,17 +172,17 @@ still_few view word old new there few =
     subst (λ n. n ≤ 256) (sym (len-insert name_total view.repositories word new ∙ ap (λ b. cond b (len view.repositories) (len view.repositories + 1)) (ap is_some there))) few
 
 -- an accepted push leaves an orderly view
-orderly_pushed : (view : View) (word : List ℕ) (old new : References) (held : List Command × List Object) → get view.repositories word ≡ Some old → IsRepositoryName word
-    → IsAccepted (with_objects view.objects held.1) old view.limit (held.0, map object_name held.1) new → IsOrderly view
-    → IsOrderly (record view { repositories = insert view.repositories word new; objects = with_objects view.objects held.1 })
-orderly_pushed view word old new held there right accepted orderly =
-    let both = with_objects view.objects held.1 in
+pub orderly_pushed : (view : View) (word : List ℕ) (old new : References) (commands : List Command) (sent : List Object) → get view.repositories word ≡ Some old → IsRepositoryName word
+    → transacted old commands (kind_in (with_objects view.objects sent)) ≡ Ok new → use_of (with_objects view.objects sent) ≤ view.limit → IsOrderly view
+    → IsOrderly (record view { repositories = insert view.repositories word new; objects = with_objects view.objects sent })
+orderly_pushed view word old new commands sent there right carried within orderly =
+    let both = with_objects view.objects sent in
     let each = each_inserted both view.repositories word new right
-    (sound_transacted both old new held.0 (references_kept view.objects held.1 old (orderly.references word old there)) accepted.carried)
-    (λ name references is. (orderly.repositories name references is, references_kept view.objects held.1 references (orderly.references name references is))) in
+    (sound_transacted both old new commands (references_kept view.objects sent old (orderly.references word old there)) carried)
+    (λ name references is. (orderly.repositories name references is, references_kept view.objects sent references (orderly.references name references is))) in
     record {
       upload = orderly.upload;
-      within_limit = accepted.within;
+      within_limit = within;
       limit = orderly.limit;
       few_repositories = still_few view word old new there orderly.few_repositories;
       repositories = λ name references is. (each name references is).0;
@@ -213,7 +213,9 @@ faulty_row view word old fault = refuses view (push_refusal (Stream fault))
 pushed_row : (view : View) (word : List ℕ) (old : References) (held : Held) → get view.repositories word ≡ Some old → IsRepositoryName word → (IsRight view → AreHeld held) → IsRow view (pushed view word old held)
 pushed_row view word old (Ok held) there right are =
     taken_row view word (with_objects view.objects held.1) (judged (with_objects view.objects held.1) old view.limit (Ok (held.0, map object_name held.1)))
-    (λ new is orderly. orderly_pushed view word old new held there right (accepted (with_objects view.objects held.1) old view.limit (held.0, map object_name held.1) new is) orderly)
+    (λ new is orderly.
+    let told = accepted (with_objects view.objects held.1) old view.limit (held.0, map object_name held.1) new is in
+    orderly_pushed view word old new held.0 held.1 there right told.carried told.within orderly)
     (λ new is was. right_pushed view word old new held (are was) (accepted (with_objects view.objects held.1) old view.limit (held.0, map object_name held.1) new is) was)
 pushed_row view word old (Err fault) there right are = faulty_row view word old fault
 

@@ -36,13 +36,13 @@ apart q t true differ is = absurd (differ (name_exact q t (is_equal (name_cmp q 
 apart q t false differ is = refl
 
 -- an answer that is no data leaves what a refusal leaves
-undone : (view : View) (ask : Ask) (reply : Reply) → reply ≡ (answer view ask).0 → is_done reply ≡ false → (answer view ask).1 ≡ left_by view ask
+pub undone : (view : View) (ask : Ask) (reply : Reply) → reply ≡ (answer view ask).0 → is_done reply ≡ false → (answer view ask).1 ≡ left_by view ask
 undone view ask (Done text) is not_done = absurd (cc)
 undone view ask (Refused refusal) is not_done = refusal_keeps view ask refusal (sym is)
 undone view ask (Failed fault) is not_done = (let told = answer_tells view ask in let no : ⊥ = cc (ap is_host_fault is) in absurd no)
 
 -- which differs from the view in the upload at the most
-left_but_upload : (view : View) (ask : Ask) → without_upload (left_by view ask) ≡ without_upload view
+pub left_but_upload : (view : View) (ask : Ask) → without_upload (left_by view ask) ≡ without_upload view
 left_but_upload view (Inits repository) = refl
 left_but_upload view (Drops repository) = refl
 left_but_upload view (Forks source copy) = refl

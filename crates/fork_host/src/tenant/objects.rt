@@ -1,7 +1,9 @@
 // Rows about the objects that a tenant sees.
+ghost use Rattle.std.specs.Prelude.{IsTrue};
 ghost use Rattle.fork_model.specs.Answer.{cat_file_answer, prune_answer, quota_answer};
 ghost use Rattle.fork_host.specs.Handle.{Ready, Uses, shown_by};
 ghost use Rattle.fork_host.specs.Rows.{Gives};
+ghost use Rattle.fork_host.specs.Safe.{IsSafe};
 ghost use Rattle.fork_host.specs.Shown.{shown};
 
 use crate::own::Own;
@@ -19,7 +21,8 @@ impl Tenant {
     // The record of an object.
     pub(crate) fn cat_file(&self, alloc: Global, own: &mut Own<'_>, name: Name) -> Reply
         requires ready { Ready own.old self.now.limit }
-        ensures row { Gives (cat_file_answer (shown_by self.now own.old) name) (shown_by self.now own.old) result (shown self.now own.new.vault.now own.old.tenant.now) }
+        ensures row { IsTrue own.old.vault.now.honest → Gives (cat_file_answer (shown_by self.now own.old) name) (shown_by self.now own.old) result (shown self.now own.new.vault.now own.old.tenant.now) }
+        ensures safe { IsSafe own.old.vault.now.honest (shown_by self.now own.old) result (shown self.now own.new.vault.now own.old.tenant.now) }
         ensures own { Uses own.old own.new }
     {
         match own.get(alloc, name) {
@@ -45,7 +48,8 @@ impl Tenant {
     // Objects go that no reference reaches.
     pub(crate) fn prune(&self, alloc: Global, own: &mut Own<'_>) -> Reply
         requires ready { Ready own.old self.now.limit }
-        ensures row { Gives (prune_answer (shown_by self.now own.old)) (shown_by self.now own.old) result (shown self.now own.new.vault.now own.old.tenant.now) }
+        ensures row { IsTrue own.old.vault.now.honest → Gives (prune_answer (shown_by self.now own.old)) (shown_by self.now own.old) result (shown self.now own.new.vault.now own.old.tenant.now) }
+        ensures safe { IsSafe own.old.vault.now.honest (shown_by self.now own.old) result (shown self.now own.new.vault.now own.old.tenant.now) }
         ensures own { Uses own.old own.new }
     {
         let Ok(targets) = self.repositories.targets(alloc) else {

@@ -1,5 +1,5 @@
 // Rows of pushes, in one body and in parts.
-ghost use Rattle.std.specs.Prelude.{◌≡◌, Some};
+ghost use Rattle.std.specs.Prelude.{◌≡◌, IsTrue, Some, true};
 ghost use Rattle.std.specs.FinMap as map;
 ghost use Rattle.git_reftx.specs.Transaction.{References};
 ghost use Rattle.fork_reach.specs.Source.{Objects};
@@ -7,6 +7,7 @@ ghost use Rattle.fork_model.specs.Answer.{Held, end_in, named_repository, part_a
 ghost use Rattle.fork_host.specs.Handle.{Ready, Uses, shown_by};
 ghost use Rattle.fork_host.specs.Pushed.{TellsHeld};
 ghost use Rattle.fork_host.specs.Rows.{Gives};
+ghost use Rattle.fork_host.specs.Safe.{IsSafe};
 ghost use Rattle.fork_host.specs.Shown.{seen_by, shown};
 
 use crate::own::Own;
@@ -29,7 +30,8 @@ impl Tenant {
         body: &[u8],
     ) -> Reply
         requires ready { Ready own.old self.old.limit }
-        ensures row { Gives (push_answer (shown_by self.old own.old) word.now body.now) (shown_by self.old own.old) result (shown self.new own.new.vault.now own.old.tenant.now) }
+        ensures row { IsTrue own.old.vault.now.honest → Gives (push_answer (shown_by self.old own.old) word.now body.now) (shown_by self.old own.old) result (shown self.new own.new.vault.now own.old.tenant.now) }
+        ensures safe { IsSafe own.old.vault.now.honest (shown_by self.old own.old) result (shown self.new own.new.vault.now own.old.tenant.now) }
         ensures own { Uses own.old own.new }
     {
         let Some(name) = RepositoryName::read(word) else {
@@ -54,8 +56,10 @@ impl Tenant {
         finished: Result<Body, BodyError>,
     ) -> Reply
         requires ready { Ready own.old self.old.limit }
-        ensures row { (held : Held) (references : References) → TellsHeld held finished → map.get self.old.repositories name ≡ Some references
+        requires there { map.contains_key self.old.repositories name ≡ true }
+        ensures row { (held : Held) (references : References) → TellsHeld held finished → map.get self.old.repositories name ≡ Some references → IsTrue own.old.vault.now.honest
             → Gives (pushed (shown_by self.old own.old) name references held) (shown_by self.old own.old) result (shown self.new own.new.vault.now own.old.tenant.now) }
+        ensures safe { IsSafe own.old.vault.now.honest (shown_by self.old own.old) result (shown self.new own.new.vault.now own.old.tenant.now) }
         ensures own { Uses own.old own.new }
     {
         match finished {
@@ -87,7 +91,8 @@ impl Tenant {
     // The upload is judged as the body of a push, and goes.
     pub(crate) fn part_end(&mut self, alloc: Global, own: &mut Own<'_>, word: &[u8]) -> Reply
         requires ready { Ready own.old self.old.limit }
-        ensures row { Gives (part_end_answer (shown_by self.old own.old) word.now) (shown_by self.old own.old) result (shown self.new own.new.vault.now own.old.tenant.now) }
+        ensures row { IsTrue own.old.vault.now.honest → Gives (part_end_answer (shown_by self.old own.old) word.now) (shown_by self.old own.old) result (shown self.new own.new.vault.now own.old.tenant.now) }
+        ensures safe { IsSafe own.old.vault.now.honest (shown_by self.old own.old) result (shown self.new own.new.vault.now own.old.tenant.now) }
         ensures own { Uses own.old own.new }
     {
         let reply = self.end_upload(alloc, own, word);
@@ -100,7 +105,8 @@ impl Tenant {
     // The upload is judged as the body of a push, and stays.
     fn end_upload(&mut self, alloc: Global, own: &mut Own<'_>, word: &[u8]) -> Reply
         requires ready { Ready own.old self.old.limit }
-        ensures row { Gives (named_repository (shown_by self.old own.old) word.now (end_in (shown_by self.old own.old) word.now (map.get self.old.repositories word.now))) (shown_by self.old own.old) result (shown self.new own.new.vault.now own.old.tenant.now) }
+        ensures row { IsTrue own.old.vault.now.honest → Gives (named_repository (shown_by self.old own.old) word.now (end_in (shown_by self.old own.old) word.now (map.get self.old.repositories word.now))) (shown_by self.old own.old) result (shown self.new own.new.vault.now own.old.tenant.now) }
+        ensures safe { IsSafe own.old.vault.now.honest (shown_by self.old own.old) result (shown self.new own.new.vault.now own.old.tenant.now) }
         ensures own { Uses own.old own.new }
     {
         let Some(name) = RepositoryName::read(word) else {

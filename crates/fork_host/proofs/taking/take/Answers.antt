@@ -1,33 +1,57 @@
-use Rattle.std.proofs.Common.{Ok, sym, subst, ap, ◌∙◌, map as map_list, rules}
-use Rattle.std.specs.FinMap.{insert}
+use Rattle.std.proofs.Common.{◌≡◌, Ok, refl, sym, true, subst, ap, ◌∙◌, map as map_list, rules}
+use Rattle.std.specs.FinMap.{contains_key, get, insert}
 use Rattle.git_name.specs.Object.{object_name}
 use Rattle.fork_reach.specs.Objects.{with_objects}
-use Rattle.fork_request.specs.declared.reply.Reply.TheVariants.{Refused}
+use Rattle.fork_request.specs.declared.reply.Reply.TheVariants.{Refused, Failed}
 use Rattle.fork_push.specs.Push.{judged}
 use Rattle.fork_host.specs.Handle.{both_by, visible_by}
-use Rattle.fork_host.specs.Own.{IsOwn, Settles, visible_in}
-use Rattle.fork_host.specs.Rows.{IsTaken}
-use Rattle.fork_host.proofs.HandleLemmas.{both_sent, of_first, same_then, sent_staged, sent_still}
-use Rattle.fork_host.proofs.TakingLemmas.{gives_nothing, gives_refused, gives_taken}
+use Rattle.fork_host.specs.Own.{Changes, Settles, visible_in}
+use Rattle.fork_host.specs.Rows.{IsTaken, fault_told}
+use Rattle.fork_host.specs.Safe.{IsFaultOver}
+use Rattle.fork_host.proofs.HandleLemmas.{of_first, same_then, sent_itself, sent_measures, sent_staged, sent_still}
+use Rattle.fork_host.proofs.UpdateLemmas.{found}
+use Rattle.fork_host.proofs.OwnLemmas.{here_changed, own_of, seen_itself, seen_measures}
+use Rattle.fork_host.proofs.SafeLemmas.{memory_over, safe_left}
+use Rattle.fork_host.proofs.TakingLemmas.{gives_nothing, gives_refused, gives_taken, own_taken, taken_safe}
 use Rattle.fork_host.proofs.taking.take.Goals as goal
 
 pub returns-in-Accepted-clause-row : goal.returns-in-Accepted-clause-row
-returns-in-Accepted-clause-row c upload references here =
+returns-in-Accepted-clause-row c upload references here honest =
     let first = c.args.own.now in
     let staged = c.stage_all.new.own in
     let mid = c.verdict.new.own in
     let sent = c.args.body.objects.items in
     let all = sent_staged first staged sent c.requires.ready.quiet c.in-Ok-stage_all.ensures.ok in
     let same = same_then first staged mid c.in-Ok-stage_all.ensures.same c.verdict.ensures.same in
-    let stages = sent_still first staged mid sent same c.verdict.ensures.kept c.verdict.ensures.honest all in
-    let value = ap (λ objects. judged objects references c.args.limit (Ok (c.args.body.commands.items, map_list object_name sent))) (sym (both_sent first staged sent c.in-Ok-stage_all.ensures.same all))
+    let stages = sent_still first staged mid sent same c.verdict.ensures.shape c.verdict.ensures.kept c.verdict.ensures.honest all in
+    let both = with_objects (visible_by first) sent in
+    let trusted = all.honest ∙ honest in
+    let value = ap (λ objects. judged objects references c.args.limit (Ok (c.args.body.commands.items, map_list object_name sent))) (sym (sent_itself first staged sent c.in-Ok-stage_all.ensures.same all honest))
     ∙ ap (λ names. judged (both_by staged) references c.args.limit (Ok (c.args.body.commands.items, names))) (ap (map_list object_name) (sym c.as_slice.ensures.value) ∙ sym c.in-Ok.ensures) in
     let new = c.accept.new.own in
     let repositories = c.args.repositories.now in
-    let taken = of_first first mid (λ t. IsTaken repositories (insert repositories c.args.name c.in-Accepted.new) (visible_in first.vault.now t) (with_objects (visible_by first) sent) c.accept.result c.accept.new.repositories (visible_in new.vault.now t)) same
-    (c.accept.ensures.taken first.vault.now (with_objects (visible_by first) sent) stages) in
-    gives_taken repositories c.accept.new.repositories (visible_by first) (with_objects (visible_by first) sent) (visible_in new.vault.now first.tenant.now) upload c.args.limit c.args.name c.in-Accepted.new _ c.accept.result
-    (value ∙ c.in-Accepted.ensures.judged references here) taken
+    let taken = of_first first mid (λ t. IsTaken repositories (insert repositories c.args.name c.in-Accepted.new) t (visible_in first.vault.now t) both first.vault.now c.accept.result c.accept.new.repositories new.vault.now) same
+    (c.accept.ensures.taken first.vault.now both stages) in
+    gives_taken first.vault.now new.vault.now first.tenant.now repositories c.accept.new.repositories both upload c.args.limit c.args.name c.in-Accepted.new _ c.accept.result honest
+    (value ∙ c.in-Accepted.ensures.judged references here trusted) taken
+
+pub returns-in-Accepted-clause-safe : goal.returns-in-Accepted-clause-safe
+returns-in-Accepted-clause-safe c upload =
+    let first = c.args.own.now in
+    let staged = c.stage_all.new.own in
+    let mid = c.verdict.new.own in
+    let sent = c.args.body.objects.items in
+    let all = sent_staged first staged sent c.requires.ready.quiet c.in-Ok-stage_all.ensures.ok in
+    let same = same_then first staged mid c.in-Ok-stage_all.ensures.same c.verdict.ensures.same in
+    let stages = sent_still first staged mid sent same c.verdict.ensures.shape c.verdict.ensures.kept c.verdict.ensures.honest all in
+    let both = with_objects (visible_by first) sent in
+    let new = c.accept.new.own in
+    let repositories = c.args.repositories.now in
+    let taken = of_first first mid (λ t. IsTaken repositories (insert repositories c.args.name c.in-Accepted.new) t (visible_in first.vault.now t) both first.vault.now c.accept.result c.accept.new.repositories new.vault.now) same
+    (c.accept.ensures.taken first.vault.now both stages) in
+    let here = found (get repositories c.args.name) c.requires.there in
+    taken_safe first.vault.now new.vault.now first.tenant.now repositories c.accept.new.repositories (both_by staged) sent upload c.args.limit c.args.name here.0 c.in-Accepted.new c.accept.result here.1
+    (sent_measures first staged sent c.in-Ok-stage_all.ensures.same all) (c.in-Accepted.ensures.accepted here.0 here.1) taken
 
 pub returns-in-Accepted-clause-own : goal.returns-in-Accepted-clause-own
 returns-in-Accepted-clause-own c =
@@ -37,28 +61,49 @@ returns-in-Accepted-clause-own c =
     let sent = c.args.body.objects.items in
     let all = sent_staged first staged sent c.requires.ready.quiet c.in-Ok-stage_all.ensures.ok in
     let same = same_then first staged mid c.in-Ok-stage_all.ensures.same c.verdict.ensures.same in
-    let stages = sent_still first staged mid sent same c.verdict.ensures.kept c.verdict.ensures.honest all in
+    let stages = sent_still first staged mid sent same c.verdict.ensures.shape c.verdict.ensures.kept c.verdict.ensures.honest all in
+    let both = with_objects (visible_by first) sent in
     let new = c.accept.new.own in
+    let repositories = c.args.repositories.now in
+    let taken = of_first first mid (λ t. IsTaken repositories (insert repositories c.args.name c.in-Accepted.new) t (visible_in first.vault.now t) both first.vault.now c.accept.result c.accept.new.repositories new.vault.now) same
+    (c.accept.ensures.taken first.vault.now both stages) in
     record {
       same = same_then first mid new same c.accept.ensures.same;
-      own = of_first first mid (λ t. IsOwn t first.vault.now new.vault.now) same (c.accept.ensures.own first.vault.now (with_objects (visible_by first) sent) stages);
+      own = own_taken first.vault.now new.vault.now first.tenant.now repositories _ c.accept.new.repositories both c.accept.result taken;
     }
 
 pub returns-in-Refused-clause-row : goal.returns-in-Refused-clause-row
-returns-in-Refused-clause-row c upload references here =
+returns-in-Refused-clause-row c upload references here honest =
     let first = c.args.own.now in
     let staged = c.stage_all.new.own in
     let mid = c.verdict.new.own in
     let sent = c.args.body.objects.items in
     let all = sent_staged first staged sent c.requires.ready.quiet c.in-Ok-stage_all.ensures.ok in
     let same = same_then first staged mid c.in-Ok-stage_all.ensures.same c.verdict.ensures.same in
-    let stages = sent_still first staged mid sent same c.verdict.ensures.kept c.verdict.ensures.honest all in
-    let value = ap (λ objects. judged objects references c.args.limit (Ok (c.args.body.commands.items, map_list object_name sent))) (sym (both_sent first staged sent c.in-Ok-stage_all.ensures.same all))
+    let stages = sent_still first staged mid sent same c.verdict.ensures.shape c.verdict.ensures.kept c.verdict.ensures.honest all in
+    let both = with_objects (visible_by first) sent in
+    let trusted = all.honest ∙ honest in
+    let value = ap (λ objects. judged objects references c.args.limit (Ok (c.args.body.commands.items, map_list object_name sent))) (sym (sent_itself first staged sent c.in-Ok-stage_all.ensures.same all honest))
     ∙ ap (λ names. judged (both_by staged) references c.args.limit (Ok (c.args.body.commands.items, names))) (ap (map_list object_name) (sym c.as_slice.ensures.value) ∙ sym c.in-Ok.ensures) in
     let new = c.discard.new.own in
-    let settles = of_first first mid (λ t. Settles t (visible_in first.vault.now t) first.vault.now new.vault.now) same (c.discard.ensures.settles first.vault.now (with_objects (visible_by first) sent) stages) in
-    gives_refused c.args.repositories.now (visible_by first) (with_objects (visible_by first) sent) (visible_in new.vault.now first.tenant.now) upload c.args.limit c.args.name c.in-Refused.refusal _ _
-    (value ∙ c.in-Refused.ensures.judged references here) (ap (λ r. Refused r) c.push_refusal.ensures) settles.sees
+    let settles = of_first first mid (λ t. Changes (Settles t (visible_in first.vault.now t)) first.vault.now new.vault.now) same (c.discard.ensures.settles first.vault.now both stages) in
+    gives_refused c.args.repositories.now (visible_by first) both (visible_in new.vault.now first.tenant.now) upload c.args.limit c.args.name c.in-Refused.refusal _ _
+    (value ∙ c.in-Refused.ensures.judged references here trusted) (ap (λ r. Refused r) c.push_refusal.ensures) (seen_itself first.vault.now new.vault.now first.tenant.now (visible_by first) settles honest)
+
+pub returns-in-Refused-clause-safe : goal.returns-in-Refused-clause-safe
+returns-in-Refused-clause-safe c upload =
+    let first = c.args.own.now in
+    let staged = c.stage_all.new.own in
+    let mid = c.verdict.new.own in
+    let sent = c.args.body.objects.items in
+    let all = sent_staged first staged sent c.requires.ready.quiet c.in-Ok-stage_all.ensures.ok in
+    let same = same_then first staged mid c.in-Ok-stage_all.ensures.same c.verdict.ensures.same in
+    let stages = sent_still first staged mid sent same c.verdict.ensures.shape c.verdict.ensures.kept c.verdict.ensures.honest all in
+    let both = with_objects (visible_by first) sent in
+    let new = c.discard.new.own in
+    let settles = of_first first mid (λ t. Changes (Settles t (visible_in first.vault.now t)) first.vault.now new.vault.now) same (c.discard.ensures.settles first.vault.now both stages) in
+    safe_left first.vault.now.honest c.args.repositories.now c.args.repositories.now (visible_by first) (visible_in new.vault.now first.tenant.now) upload c.args.limit _ refl
+    (seen_measures first.vault.now new.vault.now first.tenant.now (visible_by first) settles) tt
 
 pub returns-in-Refused-clause-own : goal.returns-in-Refused-clause-own
 returns-in-Refused-clause-own c =
@@ -68,26 +113,45 @@ returns-in-Refused-clause-own c =
     let sent = c.args.body.objects.items in
     let all = sent_staged first staged sent c.requires.ready.quiet c.in-Ok-stage_all.ensures.ok in
     let same = same_then first staged mid c.in-Ok-stage_all.ensures.same c.verdict.ensures.same in
-    let stages = sent_still first staged mid sent same c.verdict.ensures.kept c.verdict.ensures.honest all in
+    let stages = sent_still first staged mid sent same c.verdict.ensures.shape c.verdict.ensures.kept c.verdict.ensures.honest all in
+    let both = with_objects (visible_by first) sent in
     let new = c.discard.new.own in
+    let settles = of_first first mid (λ t. Changes (Settles t (visible_in first.vault.now t)) first.vault.now new.vault.now) same (c.discard.ensures.settles first.vault.now both stages) in
     record {
       same = same_then first mid new same c.discard.ensures.same;
-      own = of_first first mid (λ t. IsOwn t first.vault.now new.vault.now) same (c.discard.ensures.settles first.vault.now (with_objects (visible_by first) sent) stages).done;
+      own = own_of first.vault.now new.vault.now first.tenant.now (visible_by first) settles;
     }
 
 pub returns-clause-row : goal.returns-clause-row
-returns-clause-row c upload references here =
+returns-clause-row c upload references here honest =
     let first = c.args.own.now in
     let staged = c.stage_all.new.own in
     let mid = c.verdict.new.own in
     let sent = c.args.body.objects.items in
     let all = sent_staged first staged sent c.requires.ready.quiet c.in-Ok-stage_all.ensures.ok in
     let same = same_then first staged mid c.in-Ok-stage_all.ensures.same c.verdict.ensures.same in
-    let stages = sent_still first staged mid sent same c.verdict.ensures.kept c.verdict.ensures.honest all in
+    let stages = sent_still first staged mid sent same c.verdict.ensures.shape c.verdict.ensures.kept c.verdict.ensures.honest all in
+    let both = with_objects (visible_by first) sent in
     let new = c.discard-in-Failed.new.own in
-    let settles = of_first first mid (λ t. Settles t (visible_in first.vault.now t) first.vault.now new.vault.now) same (c.discard-in-Failed.ensures.settles first.vault.now (with_objects (visible_by first) sent) stages) in
+    let settles = of_first first mid (λ t. Changes (Settles t (visible_in first.vault.now t)) first.vault.now new.vault.now) same (c.discard-in-Failed.ensures.settles first.vault.now both stages) in
     gives_nothing _ c.args.repositories.now (visible_by first) (visible_in new.vault.now first.tenant.now) upload c.args.limit _
-    (search rules) settles.sees
+    (ap (λ f. Failed f) (c.host_fault.ensures ∙ memory_over staged.vault.now.honest c.in-Failed.fault (all.honest ∙ honest) c.in-Failed.ensures.faults))
+    (seen_itself first.vault.now new.vault.now first.tenant.now (visible_by first) settles honest)
+
+pub returns-clause-safe : goal.returns-clause-safe
+returns-clause-safe c upload =
+    let first = c.args.own.now in
+    let staged = c.stage_all.new.own in
+    let mid = c.verdict.new.own in
+    let sent = c.args.body.objects.items in
+    let all = sent_staged first staged sent c.requires.ready.quiet c.in-Ok-stage_all.ensures.ok in
+    let same = same_then first staged mid c.in-Ok-stage_all.ensures.same c.verdict.ensures.same in
+    let stages = sent_still first staged mid sent same c.verdict.ensures.shape c.verdict.ensures.kept c.verdict.ensures.honest all in
+    let both = with_objects (visible_by first) sent in
+    let new = c.discard-in-Failed.new.own in
+    let settles = of_first first mid (λ t. Changes (Settles t (visible_in first.vault.now t)) first.vault.now new.vault.now) same (c.discard-in-Failed.ensures.settles first.vault.now both stages) in
+    safe_left first.vault.now.honest c.args.repositories.now c.args.repositories.now (visible_by first) (visible_in new.vault.now first.tenant.now) upload c.args.limit _ refl
+    (seen_measures first.vault.now new.vault.now first.tenant.now (visible_by first) settles) (subst (λ f. IsFaultOver first.vault.now.honest f) (sym c.host_fault.ensures) (subst (λ b. IsFaultOver b (fault_told c.in-Failed.fault)) all.honest c.in-Failed.ensures.faults))
 
 pub returns-clause-own : goal.returns-clause-own
 returns-clause-own c =
@@ -97,9 +161,62 @@ returns-clause-own c =
     let sent = c.args.body.objects.items in
     let all = sent_staged first staged sent c.requires.ready.quiet c.in-Ok-stage_all.ensures.ok in
     let same = same_then first staged mid c.in-Ok-stage_all.ensures.same c.verdict.ensures.same in
-    let stages = sent_still first staged mid sent same c.verdict.ensures.kept c.verdict.ensures.honest all in
+    let stages = sent_still first staged mid sent same c.verdict.ensures.shape c.verdict.ensures.kept c.verdict.ensures.honest all in
+    let both = with_objects (visible_by first) sent in
     let new = c.discard-in-Failed.new.own in
+    let settles = of_first first mid (λ t. Changes (Settles t (visible_in first.vault.now t)) first.vault.now new.vault.now) same (c.discard-in-Failed.ensures.settles first.vault.now both stages) in
     record {
       same = same_then first mid new same c.discard-in-Failed.ensures.same;
-      own = of_first first mid (λ t. IsOwn t first.vault.now new.vault.now) same (c.discard-in-Failed.ensures.settles first.vault.now (with_objects (visible_by first) sent) stages).done;
+      own = own_of first.vault.now new.vault.now first.tenant.now (visible_by first) settles;
     }
+
+pub returns-in_default-stage_all-clause-safe : goal.returns-in_default-stage_all-clause-safe
+returns-in_default-stage_all-clause-safe c upload =
+    let first = c.args.own.now in
+    let new = c.stage_all.new.own in
+    safe_left first.vault.now.honest c.args.repositories.now c.args.repositories.now (visible_by first) (visible_in new.vault.now first.tenant.now) upload c.args.limit _ refl
+    (seen_measures first.vault.now new.vault.now first.tenant.now (visible_by first) c.in_default-stage_all.ensures.err) tt
+
+pub returns-in_default-stage_all-clause-own : goal.returns-in_default-stage_all-clause-own
+returns-in_default-stage_all-clause-own c =
+    let first = c.args.own.now in
+    record {
+      same = c.in_default-stage_all.ensures.same;
+      own = own_of first.vault.now c.stage_all.new.own.vault.now first.tenant.now (visible_by first) c.in_default-stage_all.ensures.err;
+    }
+
+pub accept-requires : goal.accept-requires
+accept-requires c =
+    let first = c.args.own.now in
+    let staged = c.stage_all.new.own in
+    let mid = c.verdict.new.own in
+    let sent = c.args.body.objects.items in
+    let all = sent_staged first staged sent c.requires.ready.quiet c.in-Ok-stage_all.ensures.ok in
+    let same = same_then first staged mid c.in-Ok-stage_all.ensures.same c.verdict.ensures.same in
+    let stages = sent_still first staged mid sent same c.verdict.ensures.shape c.verdict.ensures.kept c.verdict.ensures.honest all in
+    let both = with_objects (visible_by first) sent in
+    record { there = here_changed first.vault.now mid.vault.now mid.tenant.now both (subst (λ r. contains_key first.vault.now.tenants r.now ≡ true) (sym same.tenant) c.requires.ready.there) stages }
+
+pub discard-requires : goal.discard-requires
+discard-requires c =
+    let first = c.args.own.now in
+    let staged = c.stage_all.new.own in
+    let mid = c.verdict.new.own in
+    let sent = c.args.body.objects.items in
+    let all = sent_staged first staged sent c.requires.ready.quiet c.in-Ok-stage_all.ensures.ok in
+    let same = same_then first staged mid c.in-Ok-stage_all.ensures.same c.verdict.ensures.same in
+    let stages = sent_still first staged mid sent same c.verdict.ensures.shape c.verdict.ensures.kept c.verdict.ensures.honest all in
+    let both = with_objects (visible_by first) sent in
+    record { there = here_changed first.vault.now mid.vault.now mid.tenant.now both (subst (λ r. contains_key first.vault.now.tenants r.now ≡ true) (sym same.tenant) c.requires.ready.there) stages }
+
+pub discard-requires-in-Failed : goal.discard-requires-in-Failed
+discard-requires-in-Failed c =
+    let first = c.args.own.now in
+    let staged = c.stage_all.new.own in
+    let mid = c.verdict.new.own in
+    let sent = c.args.body.objects.items in
+    let all = sent_staged first staged sent c.requires.ready.quiet c.in-Ok-stage_all.ensures.ok in
+    let same = same_then first staged mid c.in-Ok-stage_all.ensures.same c.verdict.ensures.same in
+    let stages = sent_still first staged mid sent same c.verdict.ensures.shape c.verdict.ensures.kept c.verdict.ensures.honest all in
+    let both = with_objects (visible_by first) sent in
+    record { there = here_changed first.vault.now mid.vault.now mid.tenant.now both (subst (λ r. contains_key first.vault.now.tenants r.now ≡ true) (sym same.tenant) c.requires.ready.there) stages }

@@ -1,13 +1,20 @@
-use Rattle.std.proofs.Common.{◌≡◌, Ok, Some, ap, subst, rules, ◌∙◌}
+use Rattle.std.proofs.Common.{◌≡◌, Ok, Some, ap, is_some, subst, sym, rules, ◌∙◌}
 use Rattle.std.specs.FinMap as map
 use Rattle.std.proofs.lemmas.Result.{on_ok_weaker, on_err_weaker}
 use Rattle.git_name.proofs.Names.{name_total, name_exact}
+use Rattle.git_name.proofs.TreeMaps.{get_of_entries}
 use Rattle.git_reftx.specs.Transaction.{transacted}
 use Rattle.git_reftx.specs.Judging.{TellsTransacted}
 use Rattle.fork_model.proofs.Worlds.{insert_same}
 use Rattle.fork_ledger.proofs.UpdateLemmas.{found_in, written_back}
 use Rattle.fork_host.proofs.UpdateLemmas.{same_value, if_err_weaker}
 use Rattle.fork_host.proofs.repositories.Repositories.apply.Goals as goal
+
+pub unreachable-requires : goal.unreachable-requires
+unreachable-requires g c =
+    let none = ap (λ m. map.get m c.args.name.now) (sym c.self.view_is) ∙ get_of_entries name_total c.self.inside.repositories.entries c.args.name.now ∙ sym c.in_default.ensures.value in
+    let never : ⊥ = cc (sym (ap is_some none) ∙ c.requires) in
+    never
 
 pub returns-clause-ok : goal.returns-clause-ok
 returns-clause-ok g c =

@@ -18,7 +18,7 @@ use Rattle.fork_ledger.proofs.private.Private.stage.Goals as goal
 pub returns-then-contains-clause-ok : goal.returns-then-contains-clause-ok
 returns-then-contains-clause-ok c =
     let stages = sym c.contains.ensures ∙ c.if-contains.true in
-    staged_already c.args.self.now c.self.inside.objects c.self.inside.staged c.self.inside.again c.args.sealed c.name-name.result c.self.view_is c.self.invariant.named c.name-name.ensures stages (c.self.invariant.there c.name-name.result stages)
+    staged_already c.args.self.now c.self.inside.objects c.self.inside.staged c.self.inside.again c.args.sealed c.name-name.result c.self.view_is c.name-name.ensures stages (c.self.invariant.there c.name-name.result stages)
 
 pub invariant_of-self : goal.invariant_of-self
 invariant_of-self c = counted_alike c.self.inside.objects c.self.inside.staged c.note_again.new.staged c.self.inside.again c.note_again.new.again c.self.inside.used c.self.inside.total
@@ -37,7 +37,7 @@ invariant_of-self-then-contains-2 c =
 
 pub returns-then-contains-2-clause-ok : goal.returns-then-contains-2-clause-ok
 returns-then-contains-2-clause-ok c =
-    staged_seen c.args.self.now c.self.inside.objects c.self.inside.staged c.note_again.new.staged c.self.inside.again c.note_again.new.again c.args.sealed c.name-name.result c.self.view_is c.self.invariant.named c.name-name.ensures
+    staged_seen c.args.self.now c.self.inside.objects c.self.inside.staged c.note_again.new.staged c.self.inside.again c.note_again.new.again c.args.sealed c.name-name.result c.self.view_is c.name-name.ensures
     c.in-Ok.ensures.staged.0 c.in-Ok.ensures.again.0 (sym c.contains.ensures ∙ c.if-contains.false) (sym c.contains-2.ensures ∙ c.if-contains-2.true)
 
 pub invariant_of-self-2 : goal.invariant_of-self-2
@@ -52,6 +52,6 @@ invariant_of-self-2 c =
 pub returns-clause-ok : goal.returns-clause-ok
 returns-clause-ok c =
     let absent : map.contains_key c.self.inside.objects (object_name c.args.sealed) ≡ false = ap (map.contains_key c.self.inside.objects) (sym c.name-name.ensures) ∙ sym c.contains-2.ensures ∙ c.if-contains-2.false in
-    staged_fresh c.args.self.now c.self.inside.objects c.stage_new.new.objects c.self.inside.staged c.stage_new.new.staged c.self.inside.again c.args.sealed c.self.view_is c.self.invariant.named
+    staged_fresh c.args.self.now c.self.inside.objects c.stage_new.new.objects c.self.inside.staged c.stage_new.new.staged c.self.inside.again c.args.sealed c.self.view_is
     c.in-Ok-stage_new.ensures.staged.0 (ap (contains name_cmp c.self.inside.staged) (sym c.name-name.ensures) ∙ sym c.contains.ensures ∙ c.if-contains.false) absent
     (not_again c.self.inside.objects c.self.inside.staged c.self.inside.again c.self.inside.used c.self.inside.total (object_name c.args.sealed) absent c.self.invariant) c.in-Ok-stage_new.ensures.objects

@@ -79,7 +79,7 @@ asked_part_end (Some repository) [] = EndsParts repository
 asked_part_end (Some repository) (b ∷ body) = NoRequest
 asked_part_end None body = NoRequest
 
--- a verb alone, and nothing behind it
+-- this, where nothing stands behind the line
 abbrev pub asked_plain : Ask → List ℕ → Ask
 asked_plain ask [] = ask
 asked_plain ask (b ∷ body) = NoRequest

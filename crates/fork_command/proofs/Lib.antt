@@ -1,3 +1,4 @@
+pub mod EnteredLemmas
 pub mod Examples
 pub mod GrantLemmas
 pub mod MetLemmas

@@ -1,10 +1,10 @@
-ghost use Rattle.std.specs.Prelude.{◌≡◌, ◌≢◌, IfOk, IfErr, IfSome, IfNone, List, [], Option, codes, map, option_map, unwrap_or};
-ghost use Rattle.clap.specs.Words.{HasKind, Kinds, Row, Text, fault_of, found_of, rows_of, subcommand_of, subcommand_rows_of};
+ghost use Rattle.std.specs.Prelude.{◌≡◌, ◌≢◌, Bool, IfOk, IfErr, IfSome, IfNone, List, [], Option, codes, map, option_map, true, unwrap_or};
+ghost use Rattle.clap.specs.Words.{HasKind, Kinds, Row, Text, fault_of, found_of, kind_of, rows_of, subcommand_of, subcommand_rows_of, takes};
 ghost use Rattle.git_name.specs.declared.kind.Kind.{Kind};
 ghost use Rattle.git_name.specs.Kind.{type_word};
 ghost use Rattle.fork_command.specs.Grant.{AreGrants, IsBadGrant};
 ghost use Rattle.fork_command.specs.Table.{table_app};
-ghost use Rattle.fork_command.specs.Command.{Asks, AsksNothing, IsRefused, tenants_given};
+ghost use Rattle.fork_command.specs.Command.{Asks, IsBadType, IsFaulty, IsMet, IsRefused, tenants_given};
 
 use crate::error::CommandError;
 use crate::grant::Grant;
@@ -26,7 +26,8 @@ pub enum Command {
 
 // What clap's refusal of the words is.
 fn refusal<'a>(error: Error) -> CommandError<'a>
-    ensures { (faults : Kinds) (met : Option (Text × List Row)) → HasKind faults error → IsRefused faults met result }
+    ensures refused { (faults : Kinds) (met : Option (Text × List Row)) → HasKind faults error → IsRefused faults met result }
+    ensures faulty { (taken : Bool) (met : Option (Text × List Row)) → (taken ≡ true → kind_of error ≡ ErrorKind.OutOfMemory) → IsFaulty taken met result }
 {
     match error.kind() {
         ErrorKind::OutOfMemory => CommandError::Memory,
@@ -57,14 +58,15 @@ fn tenants_of<'a>(alloc: Global, matches: &ArgMatches<'a>) -> Result<Vec<Grant>,
     }
 }
 
-// What the words ask for that clap took.
+// What the words ask for that clap took; nothing where TYPE is bad.
 fn asked<'a>(alloc: Global, matches: &ArgMatches<'a>) -> Result<Option<Command>, CommandError<'a>>
+    requires met { IsMet (subcommand_rows_of matches.now) }
     ensures some { IfOk result (λ o. IfSome o (Asks (subcommand_rows_of matches.entry.now))) }
-    ensures none { IfOk result (λ o. IfNone o (AsksNothing (subcommand_rows_of matches.entry.now))) }
+    ensures none { IfOk result (λ o. IfNone o (IsBadType (subcommand_rows_of matches.entry.now))) }
     ensures err { IfErr result (IsRefused [] (subcommand_rows_of matches.entry.now)) }
 {
     let Some((name, matches)) = matches.subcommand() else {
-        return Ok(None);
+        unreachable!();
     };
     if name == "hash-object" {
         let Some(kind) = kind_given(matches.get_str("type")) else {
@@ -76,12 +78,13 @@ fn asked<'a>(alloc: Global, matches: &ArgMatches<'a>) -> Result<Option<Command>,
         let tenants = tenants_of(alloc, matches)?;
         return Ok(Some(Command::Run { tenants }));
     }
-    Ok(None)
+    unreachable!()
 }
 
-// The refusal of words that clap took, and that ask for nothing all the same.
-fn no_command<'a>(top: &mut clap::Command<'_>) -> CommandError<'a>
-    ensures { (faults : Kinds) (met : Option (Text × List Row)) → AsksNothing met → IsRefused faults met result }
+// The refusal of a bad TYPE in words that clap took.
+fn bad_type<'a>(top: &mut clap::Command<'_>) -> CommandError<'a>
+    ensures refused { (met : Option (Text × List Row)) → IsBadType met → IsRefused [] met result }
+    ensures faulty { (taken : Bool) (met : Option (Text × List Row)) → IsBadType met → IsFaulty taken met result }
 {
     match top.error(ErrorKind::InvalidValue, "TYPE is blob, tree, commit or tag") {
         Ok(error) => CommandError::Usage(error),
@@ -96,6 +99,8 @@ pub fn command_of<'a>(alloc: Global, words: &'a [&'a str]) -> Result<Command, Co
         IfOk result (λ command. (fault_of table_app texts ≡ []) × Asks (subcommand_of table_app texts) command) }
     ensures err { let texts = map (λ word. word.now) words.entry.now in
         IfErr result (IsRefused (fault_of table_app texts) (subcommand_of table_app texts)) }
+    ensures faulty { let texts = map (λ word. word.now) words.entry.now in
+        IfErr result (IsFaulty (takes table_app texts) (subcommand_of table_app texts)) }
 {
     let Ok(mut top) = table(alloc) else {
         return Err(CommandError::Memory);
@@ -106,6 +111,6 @@ pub fn command_of<'a>(alloc: Global, words: &'a [&'a str]) -> Result<Command, Co
     };
     match asked(alloc, &matches)? {
         Some(command) => Ok(command),
-        None => Err(no_command(&mut top)),
+        None => Err(bad_type(&mut top)),
     }
 }

@@ -12,10 +12,12 @@ use Rattle.git_name.specs.Name.{IsName, name_in, same_again}
 use Rattle.git_name.specs.Text.{split_once, words_of}
 use Rattle.git_name.proofs.ReadingLemmas.{written_name}
 use Rattle.git_name.proofs.TextLemmas.{split_once-append, split_once-none, words_of-append, words_of-plain}
-use Rattle.fork_request.specs.Asked.{Ask, NoRequest, DropsParts, AsksUse, Prunes, asked, asked_alone, asked_cat_file, asked_drop, asked_fork, asked_init, asked_object, asked_part_end, asked_parts, asked_plain, asked_push, asked_references, asked_update, asked_verb, asked_words, one_or_two, pair, sole}
+use Rattle.fork_request.specs.Asked.{Ask, NoRequest, DropsParts, AsksUse, Prunes, asked, asked_alone, asked_bases, asked_cat_file, asked_drop, asked_fetch, asked_fork, asked_init, asked_ls_tree, asked_object, asked_part_end, asked_parts, asked_plain, asked_push, asked_query, asked_references, asked_revisions, asked_tree, asked_update, asked_verb, asked_words}
 use Rattle.fork_request.specs.declared.request.TheConstants.{MAX_PAYLOAD}
 use Rattle.fork_request.specs.Spelling.{IsWord, Spells}
-use Rattle.fork_request.proofs.PartLemmas.{Lacks, Parted, TwoWords, lacks_behind, one_or_two_right, pair_right, parted, sole_right}
+use Rattle.fork_request.specs.Words.{one_or_two, pair, sole, three, word_and_items}
+use Rattle.fork_request.proofs.ItemLemmas.{WordAndItems, word_and_items_right}
+use Rattle.fork_request.proofs.PartLemmas.{Lacks, Parted, ThreeWords, TwoWords, lacks_behind, one_or_two_right, pair_right, parted, sole_right, three_line, three_right}
 use Rattle.fork_request.proofs.WordLemmas.{verb_many}
 
 -- a payload is no request, or spells one
@@ -87,6 +89,40 @@ cat_file_right : (payload rest body : List ℕ) (words : Option (List ℕ)) → 
 cat_file_right payload rest body words is (inl none) = inl (ap (λ o. asked_cat_file o body) none)
 cat_file_right payload rest body words is (inr some) = subst (Right payload) (sym (ap (λ o. asked_cat_file o body) some.0)) (object_right payload rest body (name_in rest) is refl)
 
+tree_right : (payload digits body : List ℕ) (name : Option (List ℕ)) → payload ≡ codes "ls-tree " ++ digits ++ 10 ∷ body → name_in digits ≡ name → Right payload (asked_tree name body)
+tree_right payload digits body None is found = inl refl
+tree_right payload digits [] (Some name) is found =
+    inr (named digits name found, is ∙ ap (λ ds. codes "ls-tree " ++ ds ++ 10 ∷ []) (written_name digits name found))
+tree_right payload digits (b ∷ body) (Some name) is found = inl refl
+
+ls_tree_right : (payload rest body : List ℕ) (words : Option (List ℕ)) → payload ≡ codes "ls-tree " ++ rest ++ 10 ∷ body → IsSole rest words → Right payload (asked_ls_tree words body)
+ls_tree_right payload rest body words is (inl none) = inl (ap (λ o. asked_ls_tree o body) none)
+ls_tree_right payload rest body words is (inr some) = subst (Right payload) (sym (ap (λ o. asked_ls_tree o body) some.0)) (tree_right payload rest body (name_in rest) is refl)
+
+-- a word and items, or none
+abbrev HasItems : List ℕ → Option (List ℕ × List (List ℕ)) → Type 0
+HasItems rest words = (words ≡ None) ⊎ ((t : WordAndItems rest) × (words ≡ Some (t.word, t.items)))
+
+revisions_right : (payload rest body : List ℕ) (words : Option (List ℕ × List (List ℕ))) → payload ≡ codes "rev-list " ++ rest ++ 10 ∷ body → HasItems rest words → Right payload (asked_revisions words body)
+revisions_right payload rest body words is (inl none) = inl (ap (λ o. asked_revisions o body) none)
+revisions_right payload rest [] words is (inr some) =
+    right_at payload _ _ (ap (λ o. asked_revisions o []) some.1) (some.0.is_word, some.0.are_items, is ∙ ap (λ text. codes "rev-list " ++ text ++ 10 ∷ []) some.0.whole)
+revisions_right payload rest (b ∷ body) words is (inr some) = inl (ap (λ o. asked_revisions o (b ∷ body)) some.1)
+
+fetch_right : (payload rest body : List ℕ) (words : Option (List ℕ × List (List ℕ))) → payload ≡ codes "fetch " ++ rest ++ 10 ∷ body → HasItems rest words → Right payload (asked_fetch words body)
+fetch_right payload rest body words is (inl none) = inl (ap (λ o. asked_fetch o body) none)
+fetch_right payload rest [] words is (inr some) =
+    right_at payload _ _ (ap (λ o. asked_fetch o []) some.1) (some.0.is_word, some.0.are_items, is ∙ ap (λ text. codes "fetch " ++ text ++ 10 ∷ []) some.0.whole)
+fetch_right payload rest (b ∷ body) words is (inr some) = inl (ap (λ o. asked_fetch o (b ∷ body)) some.1)
+
+bases_right : (payload rest body : List ℕ) (words : Option (List ℕ × List ℕ × List ℕ)) → payload ≡ codes "merge-base " ++ rest ++ 10 ∷ body → (words ≡ None) ⊎ ((t : ThreeWords rest) × (words ≡ Some (t.first, t.second, t.third)))
+    → Right payload (asked_bases words body)
+bases_right payload rest body words is (inl none) = inl (ap (λ o. asked_bases o body) none)
+bases_right payload rest [] words is (inr some) =
+    let line = ap (λ text. codes "merge-base " ++ text ++ 10 ∷ []) some.0.whole ∙ three_line some.0.first some.0.second some.0.third in
+    right_at payload _ _ (ap (λ o. asked_bases o []) some.1) (some.0.is_first, some.0.is_second, some.0.is_third, is ∙ line)
+bases_right payload rest (b ∷ body) words is (inr some) = inl (ap (λ o. asked_bases o (b ∷ body)) some.1)
+
 -- a line of two words behind a verb
 two_words : (verb first second rest end : List ℕ) → rest ≡ first ++ 32 ∷ second → verb ++ rest ++ end ≡ verb ++ first ++ codes " " ++ second ++ end
 two_words verb first second rest end is =
@@ -115,20 +151,29 @@ by_word payload verb word x y is other = by (bytes_eq verb word) (bytes_eq-Decid
     by true same = is (same refl)
     by false same = other
 
+query_right : (payload verb rest body : List ℕ) → payload ≡ (verb ++ 32 ∷ rest) ++ 10 ∷ body → Lacks 10 rest → Right payload (asked_query verb (words_of rest) body)
+query_right payload verb rest body is ends =
+    let at = (λ (word : List ℕ) (same : verb ≡ word). is ∙ ap (λ v. (v ++ 32 ∷ rest) ++ 10 ∷ body) same) in
+    let one = sole_right rest ends in
+    let items = word_and_items_right rest ends in
+    by_word payload verb (codes "cat-file") _ _ (λ v. cat_file_right payload rest body (sole (words_of rest)) (at (codes "cat-file") v) one)
+    (by_word payload verb (codes "ls-tree") _ _ (λ v. ls_tree_right payload rest body (sole (words_of rest)) (at (codes "ls-tree") v) one)
+    (by_word payload verb (codes "rev-list") _ _ (λ v. revisions_right payload rest body (word_and_items (words_of rest)) (at (codes "rev-list") v) items)
+    (by_word payload verb (codes "merge-base") _ _ (λ v. bases_right payload rest body (three (words_of rest)) (at (codes "merge-base") v) (three_right rest ends))
+    (by_word payload verb (codes "for-each-ref") _ _ (λ v. references_right payload rest body (one_or_two (words_of rest)) (at (codes "for-each-ref") v) (one_or_two_right rest ends))
+    (by_word payload verb (codes "fetch") _ _ (λ v. fetch_right payload rest body (word_and_items (words_of rest)) (at (codes "fetch") v) items) (inl refl))))))
+
 verb_right : (payload verb rest body : List ℕ) → payload ≡ (verb ++ 32 ∷ rest) ++ 10 ∷ body → Lacks 10 rest → Right payload (asked_verb verb (words_of rest) body)
 verb_right payload verb rest body is ends =
     let at = (λ (word : List ℕ) (same : verb ≡ word). is ∙ ap (λ v. (v ++ 32 ∷ rest) ++ 10 ∷ body) same) in
     let one = sole_right rest ends in
     let two = pair_right rest ends in
-    let some = one_or_two_right rest ends in
     by_word payload verb (codes "init") _ _ (λ v. init_right payload rest body (sole (words_of rest)) (at (codes "init") v) one)
     (by_word payload verb (codes "drop") _ _ (λ v. drop_right payload rest body (sole (words_of rest)) (at (codes "drop") v) one)
     (by_word payload verb (codes "fork") _ _ (λ v. fork_right payload rest body (pair (words_of rest)) (at (codes "fork") v) two)
     (by_word payload verb (codes "push") _ _ (λ v. push_right payload rest body (sole (words_of rest)) (at (codes "push") v) one)
     (by_word payload verb (codes "part-end") _ _ (λ v. part_end_right payload rest body (sole (words_of rest)) (at (codes "part-end") v) one)
-    (by_word payload verb (codes "update-refs") _ _ (λ v. update_right payload rest body (sole (words_of rest)) (at (codes "update-refs") v) one)
-    (by_word payload verb (codes "cat-file") _ _ (λ v. cat_file_right payload rest body (sole (words_of rest)) (at (codes "cat-file") v) one)
-    (by_word payload verb (codes "for-each-ref") _ _ (λ v. references_right payload rest body (one_or_two (words_of rest)) (at (codes "for-each-ref") v) some) (inl refl))))))))
+    (by_word payload verb (codes "update-refs") _ _ (λ v. update_right payload rest body (sole (words_of rest)) (at (codes "update-refs") v) one) (query_right payload verb rest body is ends))))))
 
 plain_right : (payload body end : List ℕ) (ask : Ask) → (body ≡ [] → Spells ask payload) → Right payload (asked_plain ask body)
 plain_right payload [] end ask spells = inr (spells refl)

@@ -1,13 +1,14 @@
 -- A text is parted at its first byte of a kind, and a line into its words.
-use Rattle.std.proofs.Common.{◌≡◌, ◌≢◌, ℕ, ◌≤◌, Bool, true, false, not, eqb, All, List, [], ◌∷◌, ◌++◌, Option, Some, None, option_map, refl, sym, ap, subst, ◌∙◌, inl, inr, ◌⊎◌, arith, length}
+use Rattle.std.proofs.Common.{◌≡◌, ◌≢◌, ℕ, ◌≤◌, Bool, true, false, not, eqb, All, List, [], ◌∷◌, ◌++◌, Option, Some, None, option_map, refl, sym, ap, subst, ◌∙◌, inl, inr, ◌⊎◌, arith, codes, length}
 use Rattle.std.specs.List.{list_all}
 use Rattle.std.proofs.lemmas.Bool.Decides.{nat_tests}
+use Rattle.std.proofs.lemmas.List.{append_assoc}
 use Rattle.std.proofs.lemmas.List.Elements.{All-nil, All-cons, All-head, All-tail}
 use Rattle.std.proofs.lemmas.List.Sums.{AllPass-from_list_all}
 use Rattle.git_name.specs.Text.{words_of}
 use Rattle.git_name.proofs.TextLemmas.{first_of_words, words_of-append, words_of-plain}
-use Rattle.fork_request.specs.Asked.{and_word, both_words, one_or_two, pair, sole, some_word}
 use Rattle.fork_request.specs.Spelling.{IsWord}
+use Rattle.fork_request.specs.Words.{all_words, and_word, both_words, one_or_two, pair, sole, some_word, three}
 use Rattle.fork_request.proofs.WordLemmas.{sole_many}
 
 -- no such byte stands in a text
@@ -63,7 +64,7 @@ pub some_there : (word : List ℕ) → 1 ≤ length word → some_word word ≡ 
 some_there [] some = absurd (omega arith)
 some_there (b ∷ word) some = refl
 
-some_right : (word : List ℕ) → Lacks 32 word → Lacks 10 word → (some_word word ≡ None) ⊎ ((some_word word ≡ Some word) × IsWord word)
+pub some_right : (word : List ℕ) → Lacks 32 word → Lacks 10 word → (some_word word ≡ None) ⊎ ((some_word word ≡ Some word) × IsWord word)
 some_right [] spaces ends = inl refl
 some_right (b ∷ word) spaces ends = inr (refl, record { some = omega arith; no_space = spaces; no_line_end = ends })
 
@@ -117,6 +118,57 @@ pair_right rest ends = by (parted 32 rest)
         let front = lacks_front 10 part.front (32 ∷ part.behind) whole in
         let behind = All-tail (λ b. b ≢ 10) 32 part.behind (lacks_behind 10 part.front (32 ∷ part.behind) whole) in
         made part (both_right part.front part.behind (some_word part.front) (sole (words_of part.behind)) (some_right part.front part.lacks front) (sole_right part.behind behind))
+
+-- three words, parted by a space each
+pub record ThreeWords (text : List ℕ) : Type 0 where
+  pub first : List ℕ
+  pub second : List ℕ
+  pub third : List ℕ
+  pub is_first : IsWord first
+  pub is_second : IsWord second
+  pub is_third : IsWord third
+  pub whole : text ≡ first ++ 32 ∷ (second ++ 32 ∷ third)
+
+-- a line of three words behind a verb
+pub three_line : (first second third : List ℕ) → codes "merge-base " ++ (first ++ 32 ∷ (second ++ 32 ∷ third)) ++ 10 ∷ [] ≡ codes "merge-base " ++ first ++ codes " " ++ second ++ codes " " ++ third ++ codes "\n"
+three_line first second third = simp append_assoc
+
+no_others : (one : Option (List ℕ)) → all_words one None ≡ None
+no_others None = refl
+no_others (Some first) = refl
+
+-- what stands behind a verb is three words, or the reader has none
+pub three_right : (rest : List ℕ) → Lacks 10 rest → (three (words_of rest) ≡ None) ⊎ ((t : ThreeWords rest) × (three (words_of rest) ≡ Some (t.first, t.second, t.third)))
+three_right rest ends = by (parted 32 rest)
+  where
+    made : (part : Parted 32 rest) → three (words_of rest) ≡ all_words (some_word part.front) (pair (words_of part.behind))
+        → (some_word part.front ≡ None) ⊎ ((some_word part.front ≡ Some part.front) × IsWord part.front)
+        → (pair (words_of part.behind) ≡ None) ⊎ ((t : TwoWords part.behind) × (pair (words_of part.behind) ≡ Some (t.first, t.second)))
+        → (three (words_of rest) ≡ None) ⊎ ((t : ThreeWords rest) × (three (words_of rest) ≡ Some (t.first, t.second, t.third)))
+    made part words (inl none) others = inl (words ∙ ap (λ o. all_words o (pair (words_of part.behind))) none)
+    made part words (inr some) (inl none) = inl (words ∙ ap (all_words (some_word part.front)) none ∙ no_others (some_word part.front))
+    made part words (inr some) (inr others) =
+        inr (
+          record {
+            first = part.front;
+            second = others.0.first;
+            third = others.0.second;
+            is_first = some.1;
+            is_second = others.0.is_first;
+            is_third = others.0.is_second;
+            whole = part.whole ∙ ap (λ text. part.front ++ 32 ∷ text) others.0.whole;
+          },
+          words ∙ ap (λ o. all_words o (pair (words_of part.behind))) some.0 ∙ ap (all_words (Some part.front)) others.1,
+        )
+
+    by : Lacks 32 rest ⊎ Parted 32 rest → (three (words_of rest) ≡ None) ⊎ ((t : ThreeWords rest) × (three (words_of rest) ≡ Some (t.first, t.second, t.third)))
+    by (inl spaces) = inl (ap three (words_of-plain rest spaces) ∙ no_others (some_word rest))
+    by (inr part) =
+        let whole : Lacks 10 (part.front ++ 32 ∷ part.behind) = subst (Lacks 10) part.whole ends in
+        let front = lacks_front 10 part.front (32 ∷ part.behind) whole in
+        let behind = All-tail (λ b. b ≢ 10) 32 part.behind (lacks_behind 10 part.front (32 ∷ part.behind) whole) in
+        let words = ap three (ap words_of part.whole ∙ words_of-append part.front part.behind part.lacks) in
+        made part words (some_right part.front part.lacks front) (pair_right part.behind behind)
 
 many_words : (word rest : List ℕ) → one_or_two (word ∷ words_of rest) ≡ and_word (pair (word ∷ words_of rest))
 many_words word rest = (let more = first_of_words rest in ap (λ words. one_or_two (word ∷ words)) more.2 ∙ sym (ap (λ words. and_word (pair (word ∷ words))) more.2))

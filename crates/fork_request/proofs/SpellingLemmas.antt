@@ -1,19 +1,21 @@
 -- A payload that is spelled as a request asks for it.
-use Rattle.std.proofs.Common.{◌≡◌, ◌≢◌, ℕ, suc, ◌<◌, ◌≤◌, ◌/◌, ◌%◌, true, not, eqb, cond, get_or, option_map, All, List, [], ◌∷◌, ◌++◌, Some, None, refl, ap, ◌∙◌, arith, codes, length, nat_le, rules}
+use Rattle.std.proofs.Common.{◌≡◌, ◌≢◌, ℕ, suc, ◌<◌, ◌≤◌, ◌/◌, ◌%◌, true, not, eqb, cond, get_or, option_map, All, List, [], ◌∷◌, ◌++◌, Some, None, refl, sym, ap, ◌∙◌, arith, codes, length, nat_le, rules}
 use Rattle.std.specs.List.{AllByRecursion, list_all}
 use Rattle.std.proofs.lemmas.Bool.Decides.{nat_tests}
-use Rattle.std.proofs.lemmas.List.{append_assoc}
-use Rattle.std.proofs.lemmas.List.Elements.{All-append, All-cons, All-from_recursion}
+use Rattle.std.proofs.lemmas.List.{append-nil, append_assoc}
+use Rattle.std.proofs.lemmas.List.Elements.{All-append, All-cons, All-from_recursion, All-nil, All-weaker}
 use Rattle.hex.specs.Hex.{IsBytes, encode_lower, encode_with, lower_digits}
 use Rattle.hex.proofs.HexLemmas.{length-encode_with}
 use Rattle.git_name.specs.Name.{IsName}
 use Rattle.git_name.specs.Text.{split_once, words_of}
 use Rattle.git_name.proofs.ReadingLemmas.{name_in-encode_lower}
 use Rattle.git_name.proofs.TextLemmas.{split_once-append, words_of-append, words_of-plain}
-use Rattle.fork_request.specs.Asked.{Ask, Inits, Drops, Forks, Pushes, SendsPart, EndsParts, DropsParts, Updates, AsksObject, AsksReferences, AsksUse, Prunes, NoRequest, asked, asked_cat_file, asked_drop, asked_fork, asked_init, asked_object, asked_part_end, asked_parts, asked_push, asked_references, asked_update, asked_words, both_words, and_word, some_word}
+use Rattle.fork_request.specs.Asked.{Ask, Inits, Drops, Forks, Pushes, SendsPart, EndsParts, DropsParts, Updates, AsksObject, AsksTree, AsksRevisions, AsksBases, AsksReferences, Fetches, AsksUse, Prunes, NoRequest, asked, asked_bases, asked_cat_file, asked_drop, asked_fetch, asked_fork, asked_init, asked_ls_tree, asked_object, asked_part_end, asked_parts, asked_push, asked_references, asked_revisions, asked_tree, asked_update, asked_words}
 use Rattle.fork_request.specs.declared.request.TheConstants.{MAX_PAYLOAD}
-use Rattle.fork_request.specs.Spelling.{IsWord, Spells}
-use Rattle.fork_request.proofs.PartLemmas.{Lacks, lacks_by, some_there}
+use Rattle.fork_request.specs.Spelling.{AreItems, IsItem, IsWord, Spells, behind_spaces}
+use Rattle.fork_request.specs.Words.{all_words, and_items, and_word, both_words, items_in, some_word}
+use Rattle.fork_request.proofs.ItemLemmas.{behind_lacks, items_there, words_of-behind}
+use Rattle.fork_request.proofs.PartLemmas.{Lacks, lacks_by, some_there, three_line}
 
 -- a verb: a word that is written out
 pub record IsVerb (verb : List ℕ) : Type 0 where
@@ -42,6 +44,14 @@ with_two payload verb one two body is_verb is_one is_two is fits =
     asked_line payload (verb ++ 32 ∷ (one ++ 32 ∷ two)) body is (All-append (λ b. b ≢ 10) verb (32 ∷ (one ++ 32 ∷ two)) is_verb.ends words) fits
     ∙ ap (λ ws. asked_words ws body) (words_of-append verb (one ++ 32 ∷ two) is_verb.spaces ∙ ap (λ ws. verb ∷ ws) (words_of-append one two is_one.no_space ∙ ap (λ ws. one ∷ ws) (words_of-plain two is_two.no_space)))
 
+with_words : (payload verb : List ℕ) (words : List (List ℕ)) (body : List ℕ) → IsVerb verb → All IsWord words → payload ≡ (verb ++ behind_spaces words) ++ 10 ∷ body → length payload ≤ MAX_PAYLOAD
+    → asked payload ≡ asked_words (verb ∷ words) body
+with_words payload verb words body is_verb are is fits =
+    let ends = behind_lacks words (All-weaker IsWord (Lacks 10) (λ word is_word. is_word.no_line_end) words are) in
+    let spaces = All-weaker IsWord (Lacks 32) (λ word is_word. is_word.no_space) words are in
+    asked_line payload (verb ++ behind_spaces words) body is (All-append (λ b. b ≢ 10) verb (behind_spaces words) is_verb.ends ends) fits
+    ∙ ap (λ ws. asked_words ws body) (words_of-behind verb words is_verb.spaces spaces)
+
 -- LF at the end of a line, and a body behind it
 line_end : (payload line body : List ℕ) → payload ≡ line ++ codes "\n" ++ body → payload ≡ line ++ 10 ∷ body
 line_end payload line body is = is ∙ append_assoc line (codes "\n") body
@@ -49,6 +59,13 @@ line_end payload line body is = is ∙ append_assoc line (codes "\n") body
 -- two words behind a verb
 two_words : (payload verb one two : List ℕ) → payload ≡ verb ++ one ++ codes " " ++ two ++ codes "\n" → payload ≡ verb ++ (one ++ 32 ∷ two) ++ codes "\n"
 two_words payload verb one two is = is ∙ ap (λ text. text ++ codes "\n") (append_assoc (verb ++ one) (codes " ") two ∙ append_assoc verb one (32 ∷ two))
+
+-- three words behind a verb
+three_words : (payload first second third : List ℕ) → payload ≡ codes "merge-base " ++ first ++ codes " " ++ second ++ codes " " ++ third ++ codes "\n"
+    → payload ≡ (codes "merge-base" ++ behind_spaces (first ∷ second ∷ third ∷ [])) ++ 10 ∷ []
+three_words payload first second third is =
+    let words : behind_spaces (first ∷ second ∷ third ∷ []) ≡ 32 ∷ (first ++ 32 ∷ (second ++ 32 ∷ third)) = ap (λ text. 32 ∷ (first ++ 32 ∷ (second ++ 32 ∷ text))) (append-nil third) in
+    is ∙ sym (ap (λ (text : List ℕ). codes "merge-base" ++ text ++ 10 ∷ []) words ∙ three_line first second third)
 
 -- ---- the digits of a name are a word
 
@@ -80,6 +97,13 @@ verb_by verb spaces ends = record { spaces = lacks_by 32 verb spaces; ends = lac
 two_there : (one two : List ℕ) → IsWord one → IsWord two → both_words (some_word one) (some_word two) ≡ Some (one, two)
 two_there one two is_one is_two = ap (λ o. both_words o (some_word two)) (some_there one is_one.some) ∙ ap (both_words (Some one)) (some_there two is_two.some)
 
+-- a repository and items are words
+words_are : (repository : List ℕ) (items : List (List ℕ)) → IsWord repository → AreItems items → All IsWord (repository ∷ items)
+words_are repository items is are = All-cons IsWord repository items is (All-weaker IsItem IsWord (λ item is_item. is_item.word) items are.each)
+
+items_read : (repository : List ℕ) (items : List (List ℕ)) → IsWord repository → AreItems items → and_items (some_word repository) (items_in items) ≡ Some (repository, items)
+items_read repository items is are = ap (λ o. and_items o (items_in items)) (some_there repository is.some) ∙ ap (and_items (Some repository)) (items_there items are)
+
 -- what spells something asks for it
 pub spelled_asked : (payload : List ℕ) (ask : Ask) → length payload ≤ MAX_PAYLOAD → Spells ask payload → asked payload ≡ ask
 spelled_asked payload (Inits repository) fits spells =
@@ -103,12 +127,27 @@ spelled_asked payload (AsksObject name) fits spells =
     let word = digits_word name spells.0 in
     with_word payload (codes "cat-file") (encode_lower name) [] (verb_by (codes "cat-file") refl refl) word spells.1 fits
     ∙ ap (λ o. asked_cat_file o []) (some_there (encode_lower name) word.some) ∙ ap (λ o. asked_object o []) (name_in-encode_lower name spells.0)
+spelled_asked payload (AsksTree name) fits spells =
+    let word = digits_word name spells.0 in
+    with_word payload (codes "ls-tree") (encode_lower name) [] (verb_by (codes "ls-tree") refl refl) word spells.1 fits
+    ∙ ap (λ o. asked_ls_tree o []) (some_there (encode_lower name) word.some) ∙ ap (λ o. asked_tree o []) (name_in-encode_lower name spells.0)
+spelled_asked payload (AsksRevisions repository items) fits spells =
+    with_words payload (codes "rev-list") (repository ∷ items) [] (verb_by (codes "rev-list") refl refl) (words_are repository items spells.0 spells.1) spells.2 fits
+    ∙ ap (λ o. asked_revisions o []) (items_read repository items spells.0 spells.1)
+spelled_asked payload (AsksBases repository first second) fits spells =
+    let words = All-cons IsWord repository (first ∷ second ∷ []) spells.0 (All-cons IsWord first (second ∷ []) spells.1 (All-cons IsWord second [] spells.2 (All-nil IsWord))) in
+    with_words payload (codes "merge-base") (repository ∷ first ∷ second ∷ []) [] (verb_by (codes "merge-base") refl refl) words (three_words payload repository first second spells.3) fits
+    ∙ ap (λ o. asked_bases (all_words o (both_words (some_word first) (some_word second))) []) (some_there repository spells.0.some)
+    ∙ ap (λ o. asked_bases (all_words (Some repository) o) []) (two_there first second spells.1 spells.2)
 spelled_asked payload (AsksReferences repository None) fits spells =
     with_word payload (codes "for-each-ref") repository [] (verb_by (codes "for-each-ref") refl refl) spells.0 spells.1 fits
     ∙ ap (λ o. asked_references (option_map (λ first. (first, None)) o) []) (some_there repository spells.0.some)
 spelled_asked payload (AsksReferences repository (Some prefix)) fits spells =
     with_two payload (codes "for-each-ref") repository prefix [] (verb_by (codes "for-each-ref") refl refl) spells.0 spells.1 (two_words payload (codes "for-each-ref ") repository prefix spells.2) fits
     ∙ ap (λ o. asked_references (and_word o) []) (two_there repository prefix spells.0 spells.1)
+spelled_asked payload (Fetches repository items) fits spells =
+    with_words payload (codes "fetch") (repository ∷ items) [] (verb_by (codes "fetch") refl refl) (words_are repository items spells.0 spells.1) spells.2 fits
+    ∙ ap (λ o. asked_fetch o []) (items_read repository items spells.0 spells.1)
 spelled_asked payload AsksUse fits spells = alone payload (codes "quota") [] (verb_by (codes "quota") refl refl) spells fits
 spelled_asked payload Prunes fits spells = alone payload (codes "prune") [] (verb_by (codes "prune") refl refl) spells fits
 spelled_asked payload NoRequest fits spells = absurd spells

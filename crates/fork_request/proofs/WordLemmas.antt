@@ -2,7 +2,8 @@
 use Rattle.std.proofs.Common.{◌≡◌, ℕ, List, ◌∷◌, None, sym, ap, ◌∙◌}
 use Rattle.git_name.specs.Text.{words_of}
 use Rattle.git_name.proofs.TextLemmas.{first_of_words}
-use Rattle.fork_request.specs.Asked.{asked_verb, asked_words, sole}
+use Rattle.fork_request.specs.Asked.{asked_verb, asked_words}
+use Rattle.fork_request.specs.Words.{sole}
 
 -- a line of two words or more has no sole one
 pub sole_many : (word rest : List ℕ) → sole (word ∷ words_of rest) ≡ None

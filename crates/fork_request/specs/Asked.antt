@@ -4,10 +4,11 @@ use Rattle.std.specs.Str.{bytes_eq}
 use Rattle.git_name.specs.Name.{name_in}
 use Rattle.git_name.specs.Text.{split_once, words_of}
 use Rattle.fork_request.specs.declared.request.Request.{Request}
-use Rattle.fork_request.specs.declared.request.Request.TheVariants.{Init, Drop, Fork, Push, Part, PartEnd, PartDrop, UpdateRefs, CatFile, ForEachRef, Quota, Prune, Bad}
+use Rattle.fork_request.specs.declared.request.Request.TheVariants.{Init, Drop, Fork, Push, Part, PartEnd, PartDrop, UpdateRefs, CatFile, LsTree, RevList, MergeBase, ForEachRef, Fetch, Quota, Prune, Bad}
 use Rattle.fork_request.specs.declared.request.TheConstants.{MAX_PAYLOAD}
 use Rattle.fork_request.specs.declared.host_request.HostRequest.{HostRequest}
 use Rattle.fork_request.specs.declared.host_request.HostRequest.TheVariants.{Bad as Bad_host}
+use Rattle.fork_request.specs.Words.{one_or_two, pair, sole, three, word_and_items}
 
 -- a tenant's request as a value: words and bodies are lists of bytes
 pub data Ask : Type 0 where
@@ -20,7 +21,11 @@ pub data Ask : Type 0 where
   DropsParts : Ask
   Updates : (repository : List ℕ) (body : List ℕ) → Ask
   AsksObject : (name : List ℕ) → Ask
+  AsksTree : (name : List ℕ) → Ask
+  AsksRevisions : (repository : List ℕ) (items : List (List ℕ)) → Ask
+  AsksBases : (repository : List ℕ) (first : List ℕ) (second : List ℕ) → Ask
   AsksReferences : (repository : List ℕ) (prefix : Option (List ℕ)) → Ask
+  Fetches : (repository : List ℕ) (items : List (List ℕ)) → Ask
   AsksUse : Ask
   Prunes : Ask
   NoRequest : Ask
@@ -36,41 +41,14 @@ ask_of (PartEnd repository) = EndsParts repository.now
 ask_of PartDrop = DropsParts
 ask_of (UpdateRefs repository body) = Updates repository.now body.now
 ask_of (CatFile name) = AsksObject name
+ask_of (LsTree name) = AsksTree name
+ask_of (RevList repository items) = AsksRevisions repository.now (words_of items.now)
+ask_of (MergeBase repository first second) = AsksBases repository.now first.now second.now
 ask_of (ForEachRef repository prefix) = AsksReferences repository.now (option_map (λ word. word.now) prefix)
+ask_of (Fetch repository items) = Fetches repository.now (words_of items.now)
 ask_of Quota = AsksUse
 ask_of Prune = Prunes
 ask_of Bad = NoRequest
-
--- a word, where it isn't empty
-abbrev pub some_word : List ℕ → Option (List ℕ)
-some_word [] = None
-some_word (b ∷ bs) = Some (b ∷ bs)
-
--- the one word that stands there
-abbrev pub sole : List (List ℕ) → Option (List ℕ)
-sole [] = None
-sole (word ∷ []) = some_word word
-sole (word ∷ other ∷ words) = None
-
-abbrev pub both_words : Option (List ℕ) → Option (List ℕ) → Option (List ℕ × List ℕ)
-both_words (Some first) (Some second) = Some (first, second)
-both_words (Some first) None = None
-both_words None second = None
-
--- the two words that stand there
-abbrev pub pair : List (List ℕ) → Option (List ℕ × List ℕ)
-pair [] = None
-pair (word ∷ words) = both_words (some_word word) (sole words)
-
-abbrev pub and_word : Option (List ℕ × List ℕ) → Option (List ℕ × Option (List ℕ))
-and_word None = None
-and_word (Some p) = Some (p.0, Some p.1)
-
--- the word that stands there, and one more where there is one
-abbrev pub one_or_two : List (List ℕ) → Option (List ℕ × Option (List ℕ))
-one_or_two [] = None
-one_or_two (word ∷ []) = option_map (λ first. (first, None)) (some_word word)
-one_or_two (word ∷ other ∷ words) = and_word (pair (word ∷ other ∷ words))
 
 -- `init REPO`
 abbrev pub asked_init : Option (List ℕ) → List ℕ → Ask
@@ -101,7 +79,7 @@ asked_part_end (Some repository) [] = EndsParts repository
 asked_part_end (Some repository) (b ∷ body) = NoRequest
 asked_part_end None body = NoRequest
 
--- a verb alone, and nothing behind it
+-- this, where nothing stands behind the line
 abbrev pub asked_plain : Ask → List ℕ → Ask
 asked_plain ask [] = ask
 asked_plain ask (b ∷ body) = NoRequest
@@ -110,12 +88,6 @@ asked_plain ask (b ∷ body) = NoRequest
 abbrev pub asked_update : Option (List ℕ) → List ℕ → Ask
 asked_update (Some repository) body = Updates repository body
 asked_update None body = NoRequest
-
--- `for-each-ref REPO [PREFIX]`
-abbrev pub asked_references : Option (List ℕ × Option (List ℕ)) → List ℕ → Ask
-asked_references (Some p) [] = AsksReferences p.0 p.1
-asked_references (Some p) (b ∷ body) = NoRequest
-asked_references None body = NoRequest
 
 -- the object of a name, where there is a name and nothing behind it
 abbrev pub asked_object : Option (List ℕ) → List ℕ → Ask
@@ -128,6 +100,48 @@ abbrev pub asked_cat_file : Option (List ℕ) → List ℕ → Ask
 asked_cat_file (Some digits) body = asked_object (name_in digits) body
 asked_cat_file None body = NoRequest
 
+-- the tree that a name leads to, where there is a name and nothing behind it
+abbrev pub asked_tree : Option (List ℕ) → List ℕ → Ask
+asked_tree (Some name) body = asked_plain (AsksTree name) body
+asked_tree None body = NoRequest
+
+-- `ls-tree NAME`
+abbrev pub asked_ls_tree : Option (List ℕ) → List ℕ → Ask
+asked_ls_tree (Some digits) body = asked_tree (name_in digits) body
+asked_ls_tree None body = NoRequest
+
+-- `rev-list REPO ITEM..`
+abbrev pub asked_revisions : Option (List ℕ × List (List ℕ)) → List ℕ → Ask
+asked_revisions (Some p) body = asked_plain (AsksRevisions p.0 p.1) body
+asked_revisions None body = NoRequest
+
+-- `merge-base REPO A B`
+abbrev pub asked_bases : Option (List ℕ × List ℕ × List ℕ) → List ℕ → Ask
+asked_bases (Some p) body = asked_plain (AsksBases p.0 p.1 p.2) body
+asked_bases None body = NoRequest
+
+-- `for-each-ref REPO [PREFIX]`
+abbrev pub asked_references : Option (List ℕ × Option (List ℕ)) → List ℕ → Ask
+asked_references (Some p) [] = AsksReferences p.0 p.1
+asked_references (Some p) (b ∷ body) = NoRequest
+asked_references None body = NoRequest
+
+-- `fetch REPO ITEM..`
+abbrev pub asked_fetch : Option (List ℕ × List (List ℕ)) → List ℕ → Ask
+asked_fetch (Some p) body = asked_plain (Fetches p.0 p.1) body
+asked_fetch None body = NoRequest
+
+-- a query, by its verb and the words behind it
+abbrev pub asked_query : List ℕ → List (List ℕ) → List ℕ → Ask
+asked_query verb words body =
+    if bytes_eq verb (codes "cat-file") then asked_cat_file (sole words) body
+    else if bytes_eq verb (codes "ls-tree") then asked_ls_tree (sole words) body
+    else if bytes_eq verb (codes "rev-list") then asked_revisions (word_and_items words) body
+    else if bytes_eq verb (codes "merge-base") then asked_bases (three words) body
+    else if bytes_eq verb (codes "for-each-ref") then asked_references (one_or_two words) body
+    else if bytes_eq verb (codes "fetch") then asked_fetch (word_and_items words) body
+    else NoRequest
+
 -- by a verb and the words behind it
 abbrev pub asked_verb : List ℕ → List (List ℕ) → List ℕ → Ask
 asked_verb verb words body =
@@ -137,9 +151,7 @@ asked_verb verb words body =
     else if bytes_eq verb (codes "push") then asked_push (sole words) body
     else if bytes_eq verb (codes "part-end") then asked_part_end (sole words) body
     else if bytes_eq verb (codes "update-refs") then asked_update (sole words) body
-    else if bytes_eq verb (codes "cat-file") then asked_cat_file (sole words) body
-    else if bytes_eq verb (codes "for-each-ref") then asked_references (one_or_two words) body
-    else NoRequest
+    else asked_query verb words body
 
 -- by a verb that stands alone: `part` and a body, `part-drop`, `quota`, `prune`
 abbrev pub asked_alone : List ℕ → List ℕ → Ask

@@ -1,14 +1,29 @@
 -- How each request is spelled (own): a line of words, LF, and for some requests a body.
 use Rattle.std.specs.Prelude.{◌≡◌, ◌≢◌, ℕ, ◌≤◌, List, ◌++◌, None, Some, length, All, codes}
+use Rattle.std.specs.List.{flat_map}
 use Rattle.hex.specs.Hex.{encode_lower}
 use Rattle.git_name.specs.Name.{IsName}
-use Rattle.fork_request.specs.Asked.{Ask, Inits, Drops, Forks, Pushes, SendsPart, EndsParts, DropsParts, Updates, AsksObject, AsksReferences, AsksUse, Prunes, NoRequest}
+use Rattle.fork_request.specs.Asked.{Ask, Inits, Drops, Forks, Pushes, SendsPart, EndsParts, DropsParts, Updates, AsksObject, AsksTree, AsksRevisions, AsksBases, AsksReferences, Fetches, AsksUse, Prunes, NoRequest}
 
 -- a word of a line: some bytes, none of which is SP or LF
 pub record IsWord (word : List ℕ) : Type 0 where
   pub some : 1 ≤ length word
   pub no_space : All (λ byte. byte ≢ 32) word
   pub no_line_end : All (λ byte. byte ≢ 10) word
+
+-- an item: a word, and not `^` alone
+pub record IsItem (item : List ℕ) : Type 0 where
+  pub word : IsWord item
+  pub more : item ≢ codes "^"
+
+-- items, one at least
+pub record AreItems (items : List (List ℕ)) : Type 0 where
+  pub some : 1 ≤ length items
+  pub each : All IsItem items
+
+-- the words, each behind a SP
+abbrev pub behind_spaces : List (List ℕ) → List ℕ
+behind_spaces words = flat_map (λ word. codes " " ++ word) words
 
 -- the payload that asks for this; what is no request is spelled by none
 abbrev pub Spells : Ask → List ℕ → Type 0
@@ -21,8 +36,12 @@ Spells (EndsParts repository) payload = IsWord repository × (payload ≡ codes 
 Spells DropsParts payload = payload ≡ codes "part-drop\n"
 Spells (Updates repository body) payload = IsWord repository × (payload ≡ codes "update-refs " ++ repository ++ codes "\n" ++ body)
 Spells (AsksObject name) payload = IsName name × (payload ≡ codes "cat-file " ++ encode_lower name ++ codes "\n")
+Spells (AsksTree name) payload = IsName name × (payload ≡ codes "ls-tree " ++ encode_lower name ++ codes "\n")
+Spells (AsksRevisions repository items) payload = IsWord repository × AreItems items × (payload ≡ codes "rev-list " ++ repository ++ behind_spaces items ++ codes "\n")
+Spells (AsksBases repository first second) payload = IsWord repository × IsWord first × IsWord second × (payload ≡ codes "merge-base " ++ repository ++ codes " " ++ first ++ codes " " ++ second ++ codes "\n")
 Spells (AsksReferences repository None) payload = IsWord repository × (payload ≡ codes "for-each-ref " ++ repository ++ codes "\n")
 Spells (AsksReferences repository (Some prefix)) payload = IsWord repository × IsWord prefix × (payload ≡ codes "for-each-ref " ++ repository ++ codes " " ++ prefix ++ codes "\n")
+Spells (Fetches repository items) payload = IsWord repository × AreItems items × (payload ≡ codes "fetch " ++ repository ++ behind_spaces items ++ codes "\n")
 Spells AsksUse payload = payload ≡ codes "quota\n"
 Spells Prunes payload = payload ≡ codes "prune\n"
 Spells NoRequest payload = ⊥

@@ -1,8 +1,12 @@
-ghost use Rattle.std.specs.Prelude.{◌≡◌, ◌∷◌, option_map};
-ghost use Rattle.std.specs.Str.{bytes_eq};
+ghost use Rattle.std.specs.Prelude.{◌≡◌, ◌∷◌};
 
-use crate::words::{one_or_two_words, sole_word, two_words};
-use git_name::{Name, first_word, split_once};
+mod changes;
+mod queries;
+
+use crate::words::{is_word, sole_word, two_words};
+use changes::{drop_of, fork, init, part_end, push, update_refs};
+use git_name::{first_word, split_once};
+use queries::read_query;
 
 /// The most bytes that a payload has.
 pub const MAX_PAYLOAD: usize = 1_048_576;
@@ -29,8 +33,19 @@ pub enum Request<'a> {
     UpdateRefs(&'a [u8], &'a [u8]),
     /// `cat-file NAME`: the record of an object.
     CatFile([u8; 32]),
+    /// `ls-tree NAME`: the rows of the tree that a name leads to.
+    LsTree([u8; 32]),
+    /// `rev-list REPO ITEM..`: the commits that the items reach, less those that the items with `^`
+    /// reach. The items stand as in the line, parted by one SP each; there is one at least, and
+    /// none is empty or `^` alone.
+    RevList(&'a [u8], &'a [u8]),
+    /// `merge-base REPO A B`: the best common ancestors of two items.
+    MergeBase(&'a [u8], &'a [u8], &'a [u8]),
     /// `for-each-ref REPO [PREFIX]`: the references of a repository.
     ForEachRef(&'a [u8], Option<&'a [u8]>),
+    /// `fetch REPO ITEM..`: the records of the objects that the items reach, less those that the
+    /// items with `^` reach. The items stand as in `RevList`.
+    Fetch(&'a [u8], &'a [u8]),
     /// `quota`: what the objects that are seen use, and the limit.
     Quota,
     /// `prune`: objects go that no reference reaches.
@@ -58,7 +73,7 @@ impl<'a> Request<'a> {
 }
 
 ghost use Rattle.git_name.specs.Text.{words_of};
-ghost use Rattle.fork_request.specs.Asked.{ask_of, asked_words, asked_verb, asked_init, asked_drop, asked_fork, asked_push, asked_part_end, asked_plain, asked_update, asked_alone, asked_cat_file, asked_references};
+ghost use Rattle.fork_request.specs.Asked.{ask_of, asked_alone, asked_plain, asked_verb, asked_words};
 
 // What a line and the body behind it ask.
 fn read_line<'a>(line: &'a [u8], body: &'a [u8]) -> Request<'a>
@@ -111,64 +126,7 @@ fn read_words<'a>(verb: &'a [u8], words: &'a [u8], body: &'a [u8]) -> Request<'a
     if is_word(verb, b"update-refs") {
         return update_refs(sole_word(words), body);
     }
-    if is_word(verb, b"cat-file") {
-        return cat_file(sole_word(words), body);
-    }
-    if is_word(verb, b"for-each-ref") {
-        return for_each_ref(one_or_two_words(words), body);
-    }
-    Request::Bad
-}
-
-fn is_word(text: &[u8], word: &[u8]) -> bool
-    ensures { result ≡ bytes_eq text.now word.now }
-{
-    text == word
-}
-
-fn init<'a>(sole: Option<&'a [u8]>, body: &'a [u8]) -> Request<'a>
-    ensures { ask_of result ≡ asked_init (option_map (λ word. word.now) sole.entry) body.now }
-{
-    match sole {
-        Some(repository) if body.is_empty() => Request::Init(repository),
-        _ => Request::Bad,
-    }
-}
-
-fn drop_of<'a>(sole: Option<&'a [u8]>, body: &'a [u8]) -> Request<'a>
-    ensures { ask_of result ≡ asked_drop (option_map (λ word. word.now) sole.entry) body.now }
-{
-    match sole {
-        Some(repository) if body.is_empty() => Request::Drop(repository),
-        _ => Request::Bad,
-    }
-}
-
-fn fork<'a>(pair: Option<(&'a [u8], &'a [u8])>, body: &'a [u8]) -> Request<'a>
-    ensures { ask_of result ≡ asked_fork (option_map (λ p. (p.0.now, p.1.now)) pair.entry) body.now }
-{
-    match pair {
-        Some((source, copy)) if body.is_empty() => Request::Fork(source, copy),
-        _ => Request::Bad,
-    }
-}
-
-fn push<'a>(sole: Option<&'a [u8]>, body: &'a [u8]) -> Request<'a>
-    ensures { ask_of result ≡ asked_push (option_map (λ word. word.now) sole.entry) body.now }
-{
-    match sole {
-        Some(repository) => Request::Push(repository, body),
-        None => Request::Bad,
-    }
-}
-
-fn part_end<'a>(sole: Option<&'a [u8]>, body: &'a [u8]) -> Request<'a>
-    ensures { ask_of result ≡ asked_part_end (option_map (λ word. word.now) sole.entry) body.now }
-{
-    match sole {
-        Some(repository) if body.is_empty() => Request::PartEnd(repository),
-        _ => Request::Bad,
-    }
+    read_query(verb, words, body)
 }
 
 fn plain<'a>(request: Request<'a>, body: &'a [u8]) -> Request<'a>
@@ -178,35 +136,5 @@ fn plain<'a>(request: Request<'a>, body: &'a [u8]) -> Request<'a>
         request
     } else {
         Request::Bad
-    }
-}
-
-fn update_refs<'a>(sole: Option<&'a [u8]>, body: &'a [u8]) -> Request<'a>
-    ensures { ask_of result ≡ asked_update (option_map (λ word. word.now) sole.entry) body.now }
-{
-    match sole {
-        Some(repository) => Request::UpdateRefs(repository, body),
-        None => Request::Bad,
-    }
-}
-
-fn cat_file<'a>(sole: Option<&'a [u8]>, body: &'a [u8]) -> Request<'a>
-    ensures { ask_of result ≡ asked_cat_file (option_map (λ word. word.now) sole.entry) body.now }
-{
-    let Some(digits) = sole else {
-        return Request::Bad;
-    };
-    match Name::parse_hex(digits) {
-        Some(name) if body.is_empty() => Request::CatFile(*name.as_bytes()),
-        _ => Request::Bad,
-    }
-}
-
-fn for_each_ref<'a>(words: Option<(&'a [u8], Option<&'a [u8]>)>, body: &'a [u8]) -> Request<'a>
-    ensures { ask_of result ≡ asked_references (option_map (λ p. (p.0.now, option_map (λ word. word.now) p.1)) words.entry) body.now }
-{
-    match words {
-        Some((repository, prefix)) if body.is_empty() => Request::ForEachRef(repository, prefix),
-        _ => Request::Bad,
     }
 }

@@ -133,9 +133,17 @@ fn asks(payload: &[u8], verb: &[u8], word: &[u8], body: &[u8]) -> bool {
         Request::ForEachRef(repository, None) => verb == b"for-each-ref".as_slice()
             && repository == word
             && body == b"no prefix".as_slice(),
+        Request::RevList(repository, items) => verb == b"rev-list".as_slice()
+            && repository == word
+            && items == body,
+        Request::Fetch(repository, items) => verb == b"fetch".as_slice()
+            && repository == word
+            && items == body,
         Request::Quota => verb == b"quota".as_slice() && word.is_empty() && body.is_empty(),
         Request::Prune => verb == b"prune".as_slice() && word.is_empty() && body.is_empty(),
         Request::CatFile(_) => false,
+        Request::LsTree(_) => false,
+        Request::MergeBase(_, _, _) => false,
         Request::Bad => false,
     }
 }
@@ -196,6 +204,121 @@ fn a_right_line_and_its_body_are_a_request(rt: HostRuntime) -> Result<(), Fail> 
         _ => assert!(rt; false, "no request for an object"),
     }
     Ok(())
+}
+
+#[test]
+fn items_stand_as_in_the_line(rt: HostRuntime) {
+    const LINES: &[(&[u8], &[u8], &[u8], &[u8])] = &[
+        (b"rev-list r a\n", b"rev-list", b"r", b"a"),
+        (b"rev-list r ^a\n", b"rev-list", b"r", b"^a"),
+        (b"rev-list r ^^\n", b"rev-list", b"r", b"^^"),
+        (b"rev-list r ^^x a^\n", b"rev-list", b"r", b"^^x a^"),
+        (b"rev-list ^ a\n", b"rev-list", b"^", b"a"),
+        (
+            b"rev-list r refs/heads/main ^refs/tags/v1.0 refs/heads/main\n",
+            b"rev-list",
+            b"r",
+            b"refs/heads/main ^refs/tags/v1.0 refs/heads/main",
+        ),
+        (b"fetch r a\n", b"fetch", b"r", b"a"),
+        (b"fetch r ^a b ^c\n", b"fetch", b"r", b"^a b ^c"),
+        (
+            b"fetch .A\xff ^\xff ^\r\n",
+            b"fetch",
+            b".A\xff",
+            b"^\xff ^\r",
+        ),
+        (b"fetch fetch fetch\n", b"fetch", b"fetch", b"fetch"),
+    ];
+    for (payload, verb, word, items) in LINES {
+        assert!(rt; asks(payload, verb, word, items), "{payload:?}");
+    }
+}
+
+// Whether the payload asks for the bases of these two items of this repository.
+fn asks_bases(payload: &[u8], repository: &[u8], first: &[u8], second: &[u8]) -> bool {
+    match Request::read(payload) {
+        Request::MergeBase(word, one, two) => word == repository && one == first && two == second,
+        _ => false,
+    }
+}
+
+#[test]
+fn a_caret_is_part_of_an_item_of_merge_base(rt: HostRuntime) {
+    const LINES: &[(&[u8], &[u8], &[u8], &[u8])] = &[
+        (b"merge-base r a b\n", b"r", b"a", b"b"),
+        (b"merge-base r a a\n", b"r", b"a", b"a"),
+        (b"merge-base r ^a ^\n", b"r", b"^a", b"^"),
+        (b"merge-base ^ ^ ^\n", b"^", b"^", b"^"),
+    ];
+    for (payload, repository, first, second) in LINES {
+        assert!(rt;
+            asks_bases(payload, repository, first, second),
+            "{payload:?}"
+        );
+    }
+}
+
+#[test]
+fn a_tree_is_asked_by_its_name(rt: HostRuntime) -> Result<(), Fail> {
+    let asked = Request::read(
+        b"ls-tree 473a0f4c3be8a93681a267e3b1e9a7dcda1185436fe141f7749120a303721813\n",
+    );
+    let name = Name::parse_hex(EMPTY_BLOB).ok_or("no name")?;
+    match asked {
+        Request::LsTree(bytes) => assert_eq!(rt; &bytes, name.as_bytes()),
+        _ => assert!(rt; false, "no request for a tree"),
+    }
+    Ok(())
+}
+
+#[test]
+fn a_faulty_query_is_a_bad_request(rt: HostRuntime) {
+    const PAYLOADS: &[&[u8]] = &[
+        b"ls-tree\n",
+        b"ls-tree \n",
+        b"ls-tree refs/heads/main\n",
+        b"ls-tree r 473a0f4c3be8a93681a267e3b1e9a7dcda1185436fe141f7749120a303721813\n",
+        b"ls-tree 473A0F4C3BE8A93681A267E3B1E9A7DCDA1185436FE141F7749120A303721813\n",
+        b"ls-tree 473a0f4c3be8a93681a267e3b1e9a7dcda1185436fe141f7749120a30372181\n",
+        b"ls-tree 473a0f4c3be8a93681a267e3b1e9a7dcda1185436fe141f7749120a303721813\nx",
+        b"rev-list\n",
+        b"rev-list r\n",
+        b"rev-list r \n",
+        b"rev-list  a\n",
+        b"rev-list r  a\n",
+        b"rev-list r a \n",
+        b"rev-list r a  b\n",
+        b"rev-list r ^\n",
+        b"rev-list r a ^\n",
+        b"rev-list r ^ a\n",
+        b"rev-list r a\nx",
+        b"rev-list r a\n\n",
+        b"rev-list r a",
+        b"revlist r a\n",
+        b"merge-base r\n",
+        b"merge-base r a\n",
+        b"merge-base r a b c\n",
+        b"merge-base r a \n",
+        b"merge-base r  b\n",
+        b"merge-base  a b\n",
+        b"merge-base r a b \n",
+        b"merge-base r a b\nx",
+        b"fetch\n",
+        b"fetch r\n",
+        b"fetch r \n",
+        b"fetch  a\n",
+        b"fetch r a  b\n",
+        b"fetch r a \n",
+        b"fetch r ^ \n",
+        b"fetch r a ^\n",
+        b"fetch r a\nx",
+        b"fetch r a\n\n",
+        b"Fetch r a\n",
+    ];
+    for payload in PAYLOADS {
+        assert!(rt; is_bad(payload), "{payload:?}");
+    }
 }
 
 #[test]
@@ -366,7 +489,7 @@ fn data_and_host_faults_are_told(rt: HostRuntime) -> Result<(), Fail> {
 fn each_refusal_has_its_word_and_what_it_is_about(rt: HostRuntime) -> Result<(), Fail> {
     let alloc = rt.alloc();
     let name = Name::parse_hex(EMPTY_BLOB).ok_or("no name")?;
-    let rows: [(Refusal, &[u8]); 22] = [
+    let rows: [(Refusal, &[u8]); 24] = [
         (Refusal::BadRequest, b"no bad-request\n"),
         (Refusal::UnknownTenant, b"no unknown-tenant\n"),
         (
@@ -380,6 +503,10 @@ fn each_refusal_has_its_word_and_what_it_is_about(rt: HostRuntime) -> Result<(),
         (
             Refusal::NoRepository(repository(b"a-long_name")?),
             b"no no-repository a-long_name\n",
+        ),
+        (
+            Refusal::NoRef(ByteString::new(b"^refs/heads/a\xff".to_vec(alloc)?)),
+            b"no no-ref ^refs/heads/a\xff\n",
         ),
         (
             Refusal::BadRef(ByteString::new(b"a..\xff".to_vec(alloc)?)),
@@ -408,6 +535,10 @@ fn each_refusal_has_its_word_and_what_it_is_about(rt: HostRuntime) -> Result<(),
         (
             Refusal::WrongType(name),
             b"no wrong-type 473a0f4c3be8a93681a267e3b1e9a7dcda1185436fe141f7749120a303721813\n",
+        ),
+        (
+            Refusal::NotATree(name),
+            b"no not-a-tree 473a0f4c3be8a93681a267e3b1e9a7dcda1185436fe141f7749120a303721813\n",
         ),
         (Refusal::OverQuota, b"no over-quota\n"),
         (Refusal::TooMany, b"no too-many\n"),

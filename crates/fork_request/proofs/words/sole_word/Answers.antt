@@ -1,5 +1,5 @@
 use Rattle.std.proofs.Common.{sym, ap, ◌∙◌}
-use Rattle.fork_request.specs.Asked.{sole}
+use Rattle.fork_request.specs.Words.{sole}
 use Rattle.fork_request.proofs.WordLemmas.{sole_many}
 use Rattle.fork_request.proofs.words.sole_word.Goals as goal
 

@@ -197,7 +197,7 @@ names_push : (names : List (List ℕ)) (n : List ℕ) → map parent_line (names
 names_push [] n = refl
 names_push (m ∷ names) n = ap (λ (t : List (List ℕ)). parent_line m ∷ t) (names_push names n)
 
-all_push : (names : List (List ℕ)) (n : List ℕ) → AllByRecursion IsName names → IsName n → AllByRecursion IsName (names ++ n ∷ [])
+pub all_push : (names : List (List ℕ)) (n : List ℕ) → AllByRecursion IsName names → IsName n → AllByRecursion IsName (names ++ n ∷ [])
 all_push [] n all one = (one, tt)
 all_push (m ∷ names) n all one = (all.0, all_push names n all.1 one)
 

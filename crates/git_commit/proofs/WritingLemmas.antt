@@ -1,10 +1,16 @@
--- What is written line by line is the spelling of the whole.
-use Rattle.std.proofs.Common.{◌≡◌, ℕ, ◌+◌, ◌<◌, List, [], ◌∷◌, ◌++◌, map, take, length, get_or, sym, ap, ◌∙◌, append_assoc}
-use Rattle.std.specs.List.{flat_map}
+-- What is written line by line is the spelling of the whole, and its parts are right.
+use Rattle.std.proofs.Common.{◌≡◌, ℕ, ◌+◌, ◌<◌, List, [], ◌∷◌, ◌++◌, map, take, length, get_or, sym, ap, subst, ◌∙◌, append_assoc}
+use Rattle.std.specs.List.{flat_map, AllByRecursion}
 use Rattle.std.proofs.lemmas.List.{take_more, map_push}
 use Rattle.std.proofs.lemmas.List.Concat.{flat_map-append}
+use Rattle.git_name.specs.Name.{IsName}
+use Rattle.git_name.specs.declared.kind.Kind.TheVariants.{Commit}
+use Rattle.git_header.specs.declared.header.Header.{Header}
+use Rattle.git_header.specs.Header.{IsHeader}
+use Rattle.git_header.specs.Left.{header_of}
 use Rattle.git_header.specs.Line.{ended}
 use Rattle.git_commit.specs.Commit.{parent_line}
+use Rattle.git_commit.proofs.CommitLemmas.{all_push}
 
 flat_push : (lines : List (List ℕ)) (line : List ℕ) → flat_map ended (lines ++ line ∷ []) ≡ flat_map ended lines ++ ended line
 flat_push [] line = append_assoc line (10 ∷ []) []
@@ -18,6 +24,17 @@ one_parent_more out old names i name within is written =
     let lines : map parent_line (take (i + 1) names) ≡ map parent_line (take i names) ++ parent_line name ∷ [] = ap (map parent_line) front ∙ map_push parent_line (take i names) name in
     written ∙ append_assoc old (flat_map ended (map parent_line (take i names))) (ended (parent_line name))
     ∙ ap (λ (t : List ℕ). old ++ t) (sym (ap (flat_map ended) lines ∙ flat_push (map parent_line (take i names)) (parent_line name)))
+
+-- one parent more is a name
+pub one_name_more : (names : List (List ℕ)) (i : ℕ) (name : List ℕ) → i < length names → name ≡ get_or names i name → AllByRecursion IsName (take i names) → IsName name → AllByRecursion IsName (take (i + 1) names)
+one_name_more names i name within is before right =
+    let front : take (i + 1) names ≡ take i names ++ name ∷ [] = take_more names i name within ∙ ap (λ (n : List ℕ). take i names ++ n ∷ []) (sym is) in
+    subst (AllByRecursion IsName) (sym front) (all_push (take i names) name before right)
+
+-- a further header of a commit is right by its type
+pub headers_right : (headers : List (Header 0)) → AllByRecursion (IsHeader Commit) (map header_of headers)
+headers_right [] = tt
+headers_right (header ∷ headers) = (header.right, headers_right headers)
 
 -- all of a commit
 pub written_whole : (x0 x1 x2 x3 x4 x5 x6 t a c e : List ℕ) (ps hs : List (List ℕ)) → x0 ≡ [] → x1 ≡ x0 ++ ended t → x2 ≡ x1 ++ flat_map ended ps → x3 ≡ x2 ++ ended a → x4 ≡ x3 ++ ended c → x5 ≡ x4 ++ flat_map ended hs → x6 ≡ x5 ++ e

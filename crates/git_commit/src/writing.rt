@@ -1,9 +1,10 @@
 ghost use Rattle.std.specs.Prelude.{◌≡◌, ◌++◌, List, ℕ, map, codes, OnOk, IfOk};
-ghost use Rattle.std.specs.List.{flat_map};
+ghost use Rattle.std.specs.List.{flat_map, AllByRecursion};
+ghost use Rattle.git_name.specs.Name.{IsName};
 ghost use Rattle.git_header.specs.Line.{ended, ending};
 ghost use Rattle.git_header.specs.Header.{continued, header_lines};
 ghost use Rattle.git_header.specs.Value.{name_line, ident_line};
-ghost use Rattle.git_commit.specs.Commit.{parent_line, spelled_commit};
+ghost use Rattle.git_commit.specs.Commit.{IsCommit, parent_line};
 ghost use Rattle.git_header.specs.View.{ident_of};
 ghost use Rattle.git_header.specs.Ident.{spelled_time, spelled_ident};
 ghost use Rattle.git_header.specs.Left.{header_of, more_left};
@@ -17,8 +18,11 @@ use std::alloc::{AllocError, Global};
 
 // Writes a word, a name and a line feed.
 fn put_name(out: &mut Vec<u8>, word: &[u8], name: &Name) -> Result<(), AllocError>
-    ensures { OnOk result (out.new.items ≡ out.old.items ++ ended (name_line word.now name.now)) }
+    ensures line { OnOk result (out.new.items ≡ out.old.items ++ ended (name_line word.now name.now)) }
+    ensures name { IsName name.now }
 {
+    // The clauses learn here that it is a name.
+    let _bytes = name.as_bytes();
     let mut digits = [0; 64];
     name.write_hex(&mut digits);
     out.extend_from_slice(word)?;
@@ -29,7 +33,8 @@ fn put_name(out: &mut Vec<u8>, word: &[u8], name: &Name) -> Result<(), AllocErro
 
 // Writes a line for each parent.
 fn put_parents(out: &mut Vec<u8>, parents: &[Name]) -> Result<(), AllocError>
-    ensures { OnOk result (out.new.items ≡ out.old.items ++ flat_map ended (map parent_line parents.now)) }
+    ensures lines { OnOk result (out.new.items ≡ out.old.items ++ flat_map ended (map parent_line parents.now)) }
+    ensures names { OnOk result (AllByRecursion IsName parents.now) }
 {
     for parent in parents {
         put_name(out, b"parent ", parent)?;
@@ -126,7 +131,7 @@ pub fn write(
     headers: &[Header<'_>],
     message: Option<&[u8]>,
 ) -> Result<Vec<u8>, AllocError>
-    ensures { IfOk result (λ out. out.items ≡ spelled_commit (record { tree = tree.now; parents = parents.now; author = ident_of author.entry; committer = ident_of committer.entry; headers = map header_of headers.now; message = message_of message.entry })) }
+    ensures { IfOk result (λ out. IsCommit (record { tree = tree.now; parents = parents.now; author = ident_of author.entry; committer = ident_of committer.entry; headers = map header_of headers.now; message = message_of message.entry }) out.items) }
 {
     let mut out = Vec::new(alloc);
     put_name(&mut out, b"tree ", tree)?;

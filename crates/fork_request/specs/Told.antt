@@ -2,7 +2,7 @@
 use Rattle.std.specs.Prelude.{ℕ, List, ◌++◌, Bool, true, false, codes}
 use Rattle.hex.specs.Hex.{encode_lower}
 use Rattle.fork_request.specs.declared.refusal.Refusal.{Refusal}
-use Rattle.fork_request.specs.declared.refusal.Refusal.TheVariants.{BadRequest, UnknownTenant, BadName, RepositoryExists, NoRepository, BadRef, RepeatedRef, Stale, RefConflict, NotACommit, Missing, WrongType, OverQuota, TooMany, Syntax, WrongName, BadObject, Truncated, TooLarge, StagedTooLong, NoUpload, UploadOpen}
+use Rattle.fork_request.specs.declared.refusal.Refusal.TheVariants.{BadRequest, UnknownTenant, BadName, RepositoryExists, NoRepository, NoRef, BadRef, RepeatedRef, Stale, RefConflict, NotACommit, Missing, WrongType, NotATree, OverQuota, TooMany, Syntax, WrongName, BadObject, Truncated, TooLarge, StagedTooLong, NoUpload, UploadOpen}
 use Rattle.fork_request.specs.declared.host_fault.HostFault.{HostFault}
 use Rattle.fork_request.specs.declared.host_fault.HostFault.TheVariants.{Memory, Store, Damaged, Collision}
 use Rattle.fork_request.specs.declared.reply.Reply.{Reply}
@@ -15,6 +15,7 @@ refusal_text UnknownTenant = codes "unknown-tenant"
 refusal_text (BadName word) = codes "bad-name " ++ word
 refusal_text (RepositoryExists repository) = codes "repository-exists " ++ repository
 refusal_text (NoRepository repository) = codes "no-repository " ++ repository
+refusal_text (NoRef item) = codes "no-ref " ++ item
 refusal_text (BadRef word) = codes "bad-ref " ++ word
 refusal_text (RepeatedRef reference) = codes "repeated-ref " ++ reference
 refusal_text (Stale reference) = codes "stale " ++ reference
@@ -22,6 +23,7 @@ refusal_text (RefConflict reference) = codes "ref-conflict " ++ reference
 refusal_text (NotACommit name) = codes "not-a-commit " ++ encode_lower name
 refusal_text (Missing name) = codes "missing " ++ encode_lower name
 refusal_text (WrongType name) = codes "wrong-type " ++ encode_lower name
+refusal_text (NotATree name) = codes "not-a-tree " ++ encode_lower name
 refusal_text OverQuota = codes "over-quota"
 refusal_text TooMany = codes "too-many"
 refusal_text Syntax = codes "syntax"

@@ -21,6 +21,8 @@ pub enum Refusal {
     RepositoryExists(RepositoryName),
     /// The tenant has no such repository.
     NoRepository(RepositoryName),
+    /// The repository has no reference of this name.
+    NoRef(ByteString),
     /// The word breaks a rule of reference names.
     BadRef(ByteString),
     /// The reference stands in two commands.
@@ -35,6 +37,8 @@ pub enum Refusal {
     Missing(Name),
     /// An object that a sent one links to has another kind than the link demands.
     WrongType(Name),
+    /// The name leads to no tree.
+    NotATree(Name),
     /// The objects would use more than the tenant's limit.
     OverQuota,
     /// A limit on a number is met.
@@ -74,6 +78,7 @@ impl Refusal {
             Refusal::NoRepository(repository) => {
                 write_about(text, b"no-repository ", repository.as_bytes())
             }
+            Refusal::NoRef(item) => write_about(text, b"no-ref ", item.as_bytes()),
             Refusal::BadRef(word) => write_about(text, b"bad-ref ", word.as_bytes()),
             Refusal::RepeatedRef(reference) => {
                 write_about(text, b"repeated-ref ", reference.as_bytes())
@@ -85,6 +90,7 @@ impl Refusal {
             Refusal::NotACommit(name) => write_name(text, b"not-a-commit ", *name),
             Refusal::Missing(name) => write_name(text, b"missing ", *name),
             Refusal::WrongType(name) => write_name(text, b"wrong-type ", *name),
+            Refusal::NotATree(name) => write_name(text, b"not-a-tree ", *name),
             Refusal::OverQuota => text.extend_from_slice(b"over-quota"),
             Refusal::TooMany => text.extend_from_slice(b"too-many"),
             Refusal::Syntax => text.extend_from_slice(b"syntax"),

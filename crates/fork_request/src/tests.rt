@@ -366,7 +366,7 @@ fn data_and_host_faults_are_told(rt: HostRuntime) -> Result<(), Fail> {
 fn each_refusal_has_its_word_and_what_it_is_about(rt: HostRuntime) -> Result<(), Fail> {
     let alloc = rt.alloc();
     let name = Name::parse_hex(EMPTY_BLOB).ok_or("no name")?;
-    let rows: [(Refusal, &[u8]); 22] = [
+    let rows: [(Refusal, &[u8]); 24] = [
         (Refusal::BadRequest, b"no bad-request\n"),
         (Refusal::UnknownTenant, b"no unknown-tenant\n"),
         (
@@ -380,6 +380,10 @@ fn each_refusal_has_its_word_and_what_it_is_about(rt: HostRuntime) -> Result<(),
         (
             Refusal::NoRepository(repository(b"a-long_name")?),
             b"no no-repository a-long_name\n",
+        ),
+        (
+            Refusal::NoRef(ByteString::new(b"^refs/heads/a\xff".to_vec(alloc)?)),
+            b"no no-ref ^refs/heads/a\xff\n",
         ),
         (
             Refusal::BadRef(ByteString::new(b"a..\xff".to_vec(alloc)?)),
@@ -408,6 +412,10 @@ fn each_refusal_has_its_word_and_what_it_is_about(rt: HostRuntime) -> Result<(),
         (
             Refusal::WrongType(name),
             b"no wrong-type 473a0f4c3be8a93681a267e3b1e9a7dcda1185436fe141f7749120a303721813\n",
+        ),
+        (
+            Refusal::NotATree(name),
+            b"no not-a-tree 473a0f4c3be8a93681a267e3b1e9a7dcda1185436fe141f7749120a303721813\n",
         ),
         (Refusal::OverQuota, b"no over-quota\n"),
         (Refusal::TooMany, b"no too-many\n"),

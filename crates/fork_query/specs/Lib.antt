@@ -1,1 +1,12 @@
+pub mod Dates
+pub mod Fetch
+pub mod Items
+pub mod MergeBase
+pub mod Objects
+pub mod Peel
+pub mod Reached
 pub mod References
+pub mod RevList
+pub mod Sides
+pub mod Told
+pub mod Trees

@@ -2,6 +2,24 @@
 //! Each answer is its definition, over whatever answers as a `Source`.
 #![tactic(auto)]
 
+mod dated;
+mod fetching;
+mod items;
+mod laws;
+mod name_lines;
+mod objects;
+mod peeling;
+mod query_error;
 mod references;
+mod revisions;
+mod sides;
+mod trees;
+mod want;
 
+pub use crate::fetching::fetch;
+pub use crate::laws::peeled_is_led_to;
+pub use crate::objects::cat_file;
+pub use crate::query_error::QueryError;
 pub use crate::references::for_each_ref;
+pub use crate::revisions::rev_list;
+pub use crate::trees::ls_tree;

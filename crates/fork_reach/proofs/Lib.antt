@@ -1,10 +1,13 @@
 pub mod AlongLemmas
 pub mod AskedLemmas
 pub mod Examples
+pub mod HiddenLemmas
+pub mod HistoryLemmas
 pub mod KeptObjects
 pub mod MeasureLemmas
 pub mod NameLemmas
 pub mod ReachLemmas
+pub mod RisingLemmas
 pub mod SeeingLemmas
 pub mod UnseenLemmas
 pub mod UseLemmas

@@ -1,9 +1,10 @@
 -- Names among names: the test, and what it finds.
-use Rattle.std.proofs.Common.{◌≡◌, ℕ, Bool, true, false, List, [], subst, sym, ◌∙◌}
+use Rattle.std.proofs.Common.{◌≡◌, ℕ, Bool, true, false, List, [], length, refl, subst, sym, ◌∙◌}
 use Rattle.std.specs.List.{Contains, list_any}
-use Rattle.std.specs.FinMap.{FinMap, contains_key, contains_key-keys, keys}
+use Rattle.std.specs.FinMap.{FinMap, contains_key, contains_key-keys, entries, keys, len, len-entries}
 use Rattle.std.specs.Ordering.{eq_by_cmp}
 use Rattle.std.proofs.lemmas.Cmp.{nat_list_eq_equiv}
+use Rattle.std.proofs.lemmas.List.{length-map}
 use Rattle.std.proofs.lemmas.List.Folds.{list_any-from_Any}
 use Rattle.std.proofs.lemmas.Map.Views.{Contains-from_any, list_any-from_Contains}
 use Rattle.std.proofs.lemmas.Slice.Eq.{bytes_eq-Decides}
@@ -28,3 +29,16 @@ any_passes test names name among passes = list_any-from_Any test names (among.0,
 -- no name is among none
 pub empty_holds_none : (keys : List (List ℕ)) → keys ≡ [] → (name : List ℕ) → list_any (eq_by_cmp name_cmp name) keys ≡ true → ⊥
 empty_holds_none keys empty name among = (let no : false ≡ true = subst (λ ks. list_any (eq_by_cmp name_cmp name) ks ≡ true) empty among in cc)
+
+pub empty_lacks : (keys : List (List ℕ)) → keys ≡ [] → (name : List ℕ) → list_any (eq_by_cmp name_cmp name) keys ≡ false
+empty_lacks keys empty name = subst (λ ks. list_any (eq_by_cmp name_cmp name) ks ≡ false) (sym empty) refl
+
+-- there are as many keys as values
+pub len_keys : {X : Type 0} (values : FinMap name_cmp X) → length (keys values) ≡ len values
+len_keys values = length-map (entries values) (λ e. e.0) ∙ sym (len-entries values)
+
+-- two tests that pass the same are the same
+pub same_tests : (a b : Bool) → (a ≡ true → b ≡ true) → (b ≡ true → a ≡ true) → a ≡ b
+same_tests true b there back = sym (there refl)
+same_tests false true there back = back refl
+same_tests false false there back = refl

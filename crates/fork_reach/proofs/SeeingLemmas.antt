@@ -1,12 +1,11 @@
 -- Names that are seen to one by one, and list by list.
-use Rattle.std.proofs.Common.{◌≡◌, ℕ, zero, suc, ◌+◌, ◌<◌, Bool, true, false, not, cond, List, [], ◌∷◌, ◌++◌, refl, sym, ap, subst, ◌∙◌, arith, inl, inr, ◌⊎◌, length, length-append}
+use Rattle.std.proofs.Common.{◌≡◌, ℕ, zero, suc, ◌+◌, ◌<◌, ◌≤◌, Bool, true, false, not, cond, List, [], ◌∷◌, ◌++◌, refl, sym, ap, subst, ◌∙◌, arith, inl, inr, ◌⊎◌, length, length-append}
 use Rattle.std.specs.List.{Contains, slice_index_or}
-use Rattle.std.specs.FinMap.{contains_key, keys}
+use Rattle.std.specs.FinMap.{FinMap, contains_key, keys}
 use Rattle.std.specs.Ordering.{is_eq}
 use Rattle.std.proofs.lemmas.List.Elements.{Contains-append_left, Contains-append_right, Contains-append_cases}
 use Rattle.git_name.specs.Name.{name_cmp}
-use Rattle.fork_reach.specs.Objects.{Measures}
-use Rattle.fork_reach.specs.Seeing.{Sees}
+use Rattle.fork_reach.specs.Seeing.{Sees, unseen}
 use Rattle.fork_reach.proofs.KeptObjects.{tied_names}
 use Rattle.fork_reach.proofs.NameLemmas.{Contains-keys}
 use Rattle.fork_reach.proofs.UnseenLemmas.{left_out_less, left_out_no_more}
@@ -28,8 +27,8 @@ pub sole : (name : List ℕ) → Contains (name ∷ []) name
 sole name = (0, omega arith, refl)
 
 -- no names
-pub sees_none : (measures : Measures) (seen : List ℕ → Bool) (waits : Names) → Sees measures [] seen waits seen waits
-sees_none measures seen waits = record {
+pub sees_none : {X : Type 0} (objects : FinMap name_cmp X) (seen : List ℕ → Bool) (waits : Names) → Sees objects [] seen waits seen waits
+sees_none objects seen waits = record {
   kept = λ name is. is;
   stays = λ name is. is;
   all = λ name among there. absurd (none_there name among);
@@ -40,9 +39,9 @@ sees_none measures seen waits = record {
 }
 
 -- some names, and then others
-pub sees_both : (measures : Measures) (xs ys : Names) (seen : List ℕ → Bool) (waits : Names) (mid_seen : List ℕ → Bool) (mid_waits : Names) (now_seen : List ℕ → Bool) (now_waits : Names)
-    → Sees measures xs seen waits mid_seen mid_waits → Sees measures ys mid_seen mid_waits now_seen now_waits → Sees measures (xs ++ ys) seen waits now_seen now_waits
-sees_both measures xs ys seen waits mid_seen mid_waits now_seen now_waits first then = record {
+pub sees_both : {X : Type 0} (objects : FinMap name_cmp X) (xs ys : Names) (seen : List ℕ → Bool) (waits : Names) (mid_seen : List ℕ → Bool) (mid_waits : Names) (now_seen : List ℕ → Bool) (now_waits : Names)
+    → Sees objects xs seen waits mid_seen mid_waits → Sees objects ys mid_seen mid_waits now_seen now_waits → Sees objects (xs ++ ys) seen waits now_seen now_waits
+sees_both objects xs ys seen waits mid_seen mid_waits now_seen now_waits first then = record {
   kept = λ name is. then.kept name (first.kept name is);
   stays = λ name is. then.stays name (first.stays name is);
   all = λ name among there. elim (Contains-append_cases xs ys name among) [
@@ -74,11 +73,11 @@ sees_both measures xs ys seen waits mid_seen mid_waits now_seen now_waits first 
 }
 
 -- a name whose object is not there
-pub sees_absent : (measures : Measures) (first : List ℕ) (seen : List ℕ → Bool) (waits : Names) → contains_key measures first ≡ false → Sees measures (first ∷ []) seen waits seen waits
-sees_absent measures first seen waits absent = record {
+pub sees_absent : {X : Type 0} (objects : FinMap name_cmp X) (first : List ℕ) (seen : List ℕ → Bool) (waits : Names) → contains_key objects first ≡ false → Sees objects (first ∷ []) seen waits seen waits
+sees_absent objects first seen waits absent = record {
   kept = λ name is. is;
   stays = λ name is. is;
-  all = λ name among there. (let same = sole_there first name among in let no : ⊥ = cc (ap (contains_key measures) same) in absurd no);
+  all = λ name among there. (let same = sole_there first name among in let no : ⊥ = cc (ap (contains_key objects) same) in absurd no);
   only = λ name is. inl is;
   new = λ name is. inl is;
   noted = λ name is. inl is;
@@ -97,11 +96,11 @@ still_seen : (b old now : Bool) → now ≡ cond b true old → old ≡ true →
 still_seen true old now is seen = is
 still_seen false old now is seen = is ∙ seen
 
-kept_inserting : (first : List ℕ) (seen now_seen : List ℕ → Bool) → Inserts first seen now_seen → (name : List ℕ) → seen name ≡ true → now_seen name ≡ true
+pub kept_inserting : (first : List ℕ) (seen now_seen : List ℕ → Bool) → Inserts first seen now_seen → (name : List ℕ) → seen name ≡ true → now_seen name ≡ true
 kept_inserting first seen now_seen inserts name is = still_seen (is_eq (name_cmp first name)) (seen name) (now_seen name) (inserts name) is
 
-sees_again : (measures : Measures) (first : List ℕ) (seen : List ℕ → Bool) (waits : Names) (now_seen : List ℕ → Bool) → Inserts first seen now_seen → seen first ≡ true → Sees measures (first ∷ []) seen waits now_seen waits
-sees_again measures first seen waits now_seen inserts known =
+sees_again : {X : Type 0} (objects : FinMap name_cmp X) (first : List ℕ) (seen : List ℕ → Bool) (waits : Names) (now_seen : List ℕ → Bool) → Inserts first seen now_seen → seen first ≡ true → Sees objects (first ∷ []) seen waits now_seen waits
+sees_again objects first seen waits now_seen inserts known =
     let kept = kept_inserting first seen now_seen inserts in
     let old = (λ (name : List ℕ) (is : now_seen name ≡ true). by name (either_seen (is_eq (name_cmp first name)) (seen name) (now_seen name) (inserts name) is)) in
     record {
@@ -111,59 +110,65 @@ sees_again measures first seen waits now_seen inserts known =
       only = λ name is. inl (old name is);
       new = λ name is. inl (old name is);
       noted = λ name is. inl is;
-      less = (let no_more = left_out_no_more seen now_seen kept (keys measures) in omega arith);
+      less = (let no_more = left_out_no_more seen now_seen kept (keys objects) in omega arith);
     }
   where
     by : (name : List ℕ) → (is_eq (name_cmp first name) ≡ true) ⊎ (seen name ≡ true) → seen name ≡ true
     by name (inl tied) = subst (λ n. seen n ≡ true) (tied_names first name tied) known
     by name (inr before) = before
 
-was_seen : (added before : Bool) → added ≡ not before → added ≡ false → before ≡ true
+pub was_seen : (added before : Bool) → added ≡ not before → added ≡ false → before ≡ true
 was_seen added true is old = refl
 was_seen added false is old = absurd (cc)
 
 -- a name that was seen before
-pub sees_known : (measures : Measures) (first : List ℕ) (seen : List ℕ → Bool) (waits : Names) (now_seen : List ℕ → Bool) (added : Bool) → added ≡ not (seen first) → added ≡ false → Inserts first seen now_seen → Sees measures (first ∷ []) seen waits now_seen waits
-sees_known measures first seen waits now_seen added is old inserts = sees_again measures first seen waits now_seen inserts (was_seen added (seen first) is old)
+pub sees_known : {X : Type 0} (objects : FinMap name_cmp X) (first : List ℕ) (seen : List ℕ → Bool) (waits : Names) (now_seen : List ℕ → Bool) (added : Bool) → added ≡ not (seen first) → added ≡ false → Inserts first seen now_seen → Sees objects (first ∷ []) seen waits now_seen waits
+sees_known objects first seen waits now_seen added is old inserts = sees_again objects first seen waits now_seen inserts (was_seen added (seen first) is old)
 
-sees_last : (measures : Measures) (first : List ℕ) (seen : List ℕ → Bool) (waits : Names) (now_seen : List ℕ → Bool) → Inserts first seen now_seen → now_seen first ≡ true → seen first ≡ false → contains_key measures first ≡ true
-    → Sees measures (first ∷ []) seen waits now_seen (waits ++ first ∷ [])
-sees_last measures first seen waits now_seen inserts seen_now new there =
-    let kept = kept_inserting first seen now_seen inserts in
-    let found = (λ (name : List ℕ) (is : now_seen name ≡ true). by name (either_seen (is_eq (name_cmp first name)) (seen name) (now_seen name) (inserts name) is)) in
-    let key = Contains-keys measures first there in
-    record {
-      kept = kept;
-      stays = λ name is. Contains-append_left waits (first ∷ []) name is;
-      all = λ name among here. subst (λ n. now_seen n ≡ true) (sole_there first name among) seen_now;
-      only = λ name is. elim (found name is) [
-        | inl same ↦ inr (subst (λ n. Contains (first ∷ []) n) same (sole first), subst (λ n. contains_key measures n ≡ true) same there)
-        | inr before ↦ inl before
-      ];
-      new = λ name is. elim (found name is) [
-        | inl same ↦ inr (subst (λ n. Contains (waits ++ first ∷ []) n) same (Contains-append_right waits (first ∷ []) first (sole first)))
-        | inr before ↦ inl before
-      ];
-      noted = λ name is. elim (Contains-append_cases waits (first ∷ []) name is) [
-        | inl before ↦ inl before
-        | inr last ↦ inr (subst (λ n. now_seen n ≡ true) (sole_there first name last) seen_now)
-      ];
-      less =
-          (let fewer = left_out_less seen now_seen kept (keys measures) first key.0 key.1 key.2 new seen_now in
-          let longer : length (waits ++ first ∷ []) ≡ length waits + 1 = length-append waits (first ∷ []) in
-          omega arith);
-    }
+-- what is seen behind an insertion
+pub found_inserting : (first : List ℕ) (seen now_seen : List ℕ → Bool) → Inserts first seen now_seen → (name : List ℕ) → now_seen name ≡ true → (first ≡ name) ⊎ (seen name ≡ true)
+found_inserting first seen now_seen inserts name is = by (either_seen (is_eq (name_cmp first name)) (seen name) (now_seen name) (inserts name) is)
   where
-    by : (name : List ℕ) → (is_eq (name_cmp first name) ≡ true) ⊎ (seen name ≡ true) → (first ≡ name) ⊎ (seen name ≡ true)
-    by name (inl tied) = inl (tied_names first name tied)
-    by name (inr before) = inr before
+    by : (is_eq (name_cmp first name) ≡ true) ⊎ (seen name ≡ true) → (first ≡ name) ⊎ (seen name ≡ true)
+    by (inl tied) = inl (tied_names first name tied)
+    by (inr before) = inr before
 
-was_new : (added before : Bool) → added ≡ not before → added ≡ true → before ≡ false
+-- one that is there and was not seen is one less that is not
+pub unseen_less : {X : Type 0} (objects : FinMap name_cmp X) (first : List ℕ) (seen now_seen : List ℕ → Bool) → Inserts first seen now_seen → now_seen first ≡ true → seen first ≡ false → contains_key objects first ≡ true → unseen objects now_seen + 1 ≤ unseen objects seen
+unseen_less objects first seen now_seen inserts seen_now new there =
+    let key = Contains-keys objects first there in
+    left_out_less seen now_seen (kept_inserting first seen now_seen inserts) (keys objects) first key.0 key.1 key.2 new seen_now
+
+sees_last : {X : Type 0} (objects : FinMap name_cmp X) (first : List ℕ) (seen : List ℕ → Bool) (waits : Names) (now_seen : List ℕ → Bool) → Inserts first seen now_seen → now_seen first ≡ true → seen first ≡ false → contains_key objects first ≡ true
+    → Sees objects (first ∷ []) seen waits now_seen (waits ++ first ∷ [])
+sees_last objects first seen waits now_seen inserts seen_now new there = record {
+  kept = kept_inserting first seen now_seen inserts;
+  stays = λ name is. Contains-append_left waits (first ∷ []) name is;
+  all = λ name among last. subst (λ n. now_seen n ≡ true) (sole_there first name among) seen_now;
+  only = λ name is. elim (found_inserting first seen now_seen inserts name is) [
+    | inl same ↦ inr (subst (λ n. Contains (first ∷ []) n) same (sole first), subst (λ n. contains_key objects n ≡ true) same there)
+    | inr before ↦ inl before
+  ];
+  new = λ name is. elim (found_inserting first seen now_seen inserts name is) [
+    | inl same ↦ inr (subst (λ n. Contains (waits ++ first ∷ []) n) same (Contains-append_right waits (first ∷ []) first (sole first)))
+    | inr before ↦ inl before
+  ];
+  noted = λ name is. elim (Contains-append_cases waits (first ∷ []) name is) [
+    | inl before ↦ inl before
+    | inr last ↦ inr (subst (λ n. now_seen n ≡ true) (sole_there first name last) seen_now)
+  ];
+  less =
+      (let fewer = unseen_less objects first seen now_seen inserts seen_now new there in
+      let longer : length (waits ++ first ∷ []) ≡ length waits + 1 = length-append waits (first ∷ []) in
+      omega arith);
+}
+
+pub was_new : (added before : Bool) → added ≡ not before → added ≡ true → before ≡ false
 was_new added true is new = absurd (cc)
 was_new added false is new = refl
 
 -- a name that is new, and whose object is there
-pub sees_new : (measures : Measures) (first : List ℕ) (seen : List ℕ → Bool) (waits : Names) (now_seen : List ℕ → Bool) (now_waits : Names) (added : Bool) → added ≡ not (seen first) → added ≡ true → Inserts first seen now_seen → now_seen first ≡ true → contains_key measures first ≡ true → now_waits ≡ waits ++ first ∷ []
-    → Sees measures (first ∷ []) seen waits now_seen now_waits
-sees_new measures first seen waits now_seen now_waits added is new inserts seen_now there pushed =
-    subst (λ w. Sees measures (first ∷ []) seen waits now_seen w) (sym pushed) (sees_last measures first seen waits now_seen inserts seen_now (was_new added (seen first) is new) there)
+pub sees_new : {X : Type 0} (objects : FinMap name_cmp X) (first : List ℕ) (seen : List ℕ → Bool) (waits : Names) (now_seen : List ℕ → Bool) (now_waits : Names) (added : Bool) → added ≡ not (seen first) → added ≡ true → Inserts first seen now_seen → now_seen first ≡ true → contains_key objects first ≡ true → now_waits ≡ waits ++ first ∷ []
+    → Sees objects (first ∷ []) seen waits now_seen now_waits
+sees_new objects first seen waits now_seen now_waits added is new inserts seen_now there pushed =
+    subst (λ w. Sees objects (first ∷ []) seen waits now_seen w) (sym pushed) (sees_last objects first seen waits now_seen inserts seen_now (was_new added (seen first) is new) there)

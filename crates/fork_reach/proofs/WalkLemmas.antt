@@ -1,30 +1,26 @@
 -- A walk: what is seen is reached, and all that is reached is seen once nothing waits.
 use Rattle.std.proofs.Common.{◌≡◌, ℕ, ◌-◌, Bool, true, false, IsTrue, List, [], ◌∷◌, ◌++◌, refl, sym, ap, subst, ◌∙◌, inl, inr, ◌⊎◌, take, append-nil}
 use Rattle.std.specs.List.{Contains}
-use Rattle.std.specs.FinMap.{contains_key}
+use Rattle.std.specs.FinMap.{FinMap, contains_key}
 use Rattle.std.proofs.lemmas.List.Elements.{Contains-append_left, Contains-append_right, Contains-append_cases}
+use Rattle.git_name.specs.Name.{name_cmp}
 use Rattle.fork_reach.specs.Reach.{IsReached, Root, Next, is_reached}
-use Rattle.fork_reach.specs.Objects.{measures_of}
 use Rattle.fork_reach.specs.Seeing.{Sees}
-use Rattle.fork_reach.specs.Source.{Objects}
-use Rattle.fork_reach.proofs.MeasureLemmas.{measured_there}
+use Rattle.fork_reach.proofs.NameLemmas.{same_tests}
 use Rattle.fork_reach.proofs.ReachLemmas.{led_to_reached, reached_led_to}
 use Rattle.fork_reach.proofs.SeeingLemmas.{none_there, sole, sole_there}
 
 -- between two steps: what is seen is reached, and waits or leads to nothing that is not seen
-pub record Walks (next : List ℕ → List (List ℕ)) (objects : Objects) (roots : List (List ℕ)) (honest : Bool) (seen : List ℕ → Bool) (waits : List (List ℕ)) : Type 0 where
-  pub begun : (name : List ℕ) → Contains roots name → contains_key (measures_of objects) name ≡ true → seen name ≡ true
+pub record Walks {X : Type 0} (next : List ℕ → List (List ℕ)) (objects : FinMap name_cmp X) (roots : List (List ℕ)) (honest : Bool) (seen : List ℕ → Bool) (waits : List (List ℕ)) : Type 0 where
+  pub begun : (name : List ℕ) → Contains roots name → contains_key objects name ≡ true → seen name ≡ true
   pub noted : (name : List ℕ) → Contains waits name → seen name ≡ true
-  pub there : (name : List ℕ) → seen name ≡ true → contains_key (measures_of objects) name ≡ true
+  pub there : (name : List ℕ) → seen name ≡ true → contains_key objects name ≡ true
   pub reached : IsTrue honest → (name : List ℕ) → seen name ≡ true → IsReached next objects roots name
-  pub closed : IsTrue honest → (from : List ℕ) → seen from ≡ true → Contains waits from ⊎ ((name : List ℕ) → Contains (next from) name → contains_key (measures_of objects) name ≡ true → seen name ≡ true)
-
-objects_there : (objects : Objects) (name : List ℕ) → contains_key (measures_of objects) name ≡ true → contains_key objects name ≡ true
-objects_there objects name there = sym (measured_there objects name) ∙ there
+  pub closed : IsTrue honest → (from : List ℕ) → seen from ≡ true → Contains waits from ⊎ ((name : List ℕ) → Contains (next from) name → contains_key objects name ≡ true → seen name ≡ true)
 
 -- the roots were seen to, and nothing before
-pub walks_begin : (next : List ℕ → List (List ℕ)) (objects : Objects) (roots : List (List ℕ)) (honest : Bool) (seen : List ℕ → Bool) (waits : List (List ℕ)) (now_seen : List ℕ → Bool) (now_waits : List (List ℕ))
-    → ((name : List ℕ) → seen name ≡ true → ⊥) → waits ≡ [] → Sees (measures_of objects) roots seen waits now_seen now_waits → Walks next objects roots honest now_seen now_waits
+pub walks_begin : {X : Type 0} (next : List ℕ → List (List ℕ)) (objects : FinMap name_cmp X) (roots : List (List ℕ)) (honest : Bool) (seen : List ℕ → Bool) (waits : List (List ℕ)) (now_seen : List ℕ → Bool) (now_waits : List (List ℕ))
+    → ((name : List ℕ) → seen name ≡ true → ⊥) → waits ≡ [] → Sees objects roots seen waits now_seen now_waits → Walks next objects roots honest now_seen now_waits
 walks_begin next objects roots honest seen waits now_seen now_waits none_seen none_waits sees = record {
   begun = sees.all;
   noted = λ name is. elim (sees.noted name is) [
@@ -37,7 +33,7 @@ walks_begin next objects roots honest seen waits now_seen now_waits none_seen no
   ];
   reached = λ honest_is name is. elim (sees.only name is) [
     | inl before ↦ absurd (none_seen name before)
-    | inr found ↦ Root name found.0 (objects_there objects name found.1)
+    | inr found ↦ Root name found.0 found.1
   ];
   closed = λ honest_is from is. elim (sees.new from is) [
     | inl before ↦ absurd (none_seen from before)
@@ -45,8 +41,8 @@ walks_begin next objects roots honest seen waits now_seen now_waits none_seen no
   ];
 }
 
-walks_past : (next : List ℕ → List (List ℕ)) (objects : Objects) (roots : List (List ℕ)) (honest : Bool) (seen : List ℕ → Bool) (rest : List (List ℕ)) (last : List ℕ) (names : List (List ℕ)) (now_seen : List ℕ → Bool) (now_waits : List (List ℕ))
-    → Walks next objects roots honest seen (rest ++ last ∷ []) → (IsTrue honest → names ≡ next last) → Sees (measures_of objects) names seen rest now_seen now_waits → Walks next objects roots honest now_seen now_waits
+walks_past : {X : Type 0} (next : List ℕ → List (List ℕ)) (objects : FinMap name_cmp X) (roots : List (List ℕ)) (honest : Bool) (seen : List ℕ → Bool) (rest : List (List ℕ)) (last : List ℕ) (names : List (List ℕ)) (now_seen : List ℕ → Bool) (now_waits : List (List ℕ))
+    → Walks next objects roots honest seen (rest ++ last ∷ []) → (IsTrue honest → names ≡ next last) → Sees objects names seen rest now_seen now_waits → Walks next objects roots honest now_seen now_waits
 walks_past next objects roots honest seen rest last names now_seen now_waits walks right sees = record {
   begun = λ name root there. sees.kept name (walks.begun name root there);
   noted = λ name is. elim (sees.noted name is) [
@@ -59,7 +55,7 @@ walks_past next objects roots honest seen rest last names now_seen now_waits wal
   ];
   reached = λ honest_is name is. elim (sees.only name is) [
     | inl before ↦ walks.reached honest_is name before
-    | inr found ↦ Next last name (walks.reached honest_is last (walks.noted last (Contains-append_right rest (last ∷ []) last (sole last)))) (subst (λ ns. Contains ns name) (right honest_is) found.0) (objects_there objects name found.1)
+    | inr found ↦ Next last name (walks.reached honest_is last (walks.noted last (Contains-append_right rest (last ∷ []) last (sole last)))) (subst (λ ns. Contains ns name) (right honest_is) found.0) found.1
   ];
   closed = λ honest_is from is. elim (sees.new from is) [
     | inl before ↦ still honest_is from (walks.closed honest_is from before)
@@ -67,46 +63,37 @@ walks_past next objects roots honest seen rest last names now_seen now_waits wal
   ];
 }
   where
-    here : IsTrue honest → (from : List ℕ) → Contains rest from ⊎ Contains (last ∷ []) from → Contains now_waits from ⊎ ((name : List ℕ) → Contains (next from) name → contains_key (measures_of objects) name ≡ true → now_seen name ≡ true)
+    here : IsTrue honest → (from : List ℕ) → Contains rest from ⊎ Contains (last ∷ []) from → Contains now_waits from ⊎ ((name : List ℕ) → Contains (next from) name → contains_key objects name ≡ true → now_seen name ≡ true)
     here honest_is from (inl front) = inl (sees.stays from front)
     here honest_is from (inr end) =
         inr (λ name linked there. sees.all name (subst (λ ns. Contains ns name) (sym (right honest_is)) (subst (λ n. Contains (next n) name) (sym (sole_there last from end)) linked)) there)
 
-    still : IsTrue honest → (from : List ℕ) → Contains (rest ++ last ∷ []) from ⊎ ((name : List ℕ) → Contains (next from) name → contains_key (measures_of objects) name ≡ true → seen name ≡ true)
-        → Contains now_waits from ⊎ ((name : List ℕ) → Contains (next from) name → contains_key (measures_of objects) name ≡ true → now_seen name ≡ true)
+    still : IsTrue honest → (from : List ℕ) → Contains (rest ++ last ∷ []) from ⊎ ((name : List ℕ) → Contains (next from) name → contains_key objects name ≡ true → seen name ≡ true)
+        → Contains now_waits from ⊎ ((name : List ℕ) → Contains (next from) name → contains_key objects name ≡ true → now_seen name ≡ true)
     still honest_is from (inl waited) = here honest_is from (Contains-append_cases rest (last ∷ []) from waited)
     still honest_is from (inr done) = inr (λ name linked there. sees.kept name (done name linked there))
 
 -- the last of those that wait was followed
-pub walks_on : (next : List ℕ → List (List ℕ)) (objects : Objects) (roots : List (List ℕ)) (honest : Bool) (seen : List ℕ → Bool) (waits rest : List (List ℕ)) (last : List ℕ) (names : List (List ℕ)) (now_seen : List ℕ → Bool) (now_waits : List (List ℕ))
-    → waits ≡ rest ++ last ∷ [] → Walks next objects roots honest seen waits → (IsTrue honest → names ≡ next last) → Sees (measures_of objects) names seen rest now_seen now_waits → Walks next objects roots honest now_seen now_waits
+pub walks_on : {X : Type 0} (next : List ℕ → List (List ℕ)) (objects : FinMap name_cmp X) (roots : List (List ℕ)) (honest : Bool) (seen : List ℕ → Bool) (waits rest : List (List ℕ)) (last : List ℕ) (names : List (List ℕ)) (now_seen : List ℕ → Bool) (now_waits : List (List ℕ))
+    → waits ≡ rest ++ last ∷ [] → Walks next objects roots honest seen waits → (IsTrue honest → names ≡ next last) → Sees objects names seen rest now_seen now_waits → Walks next objects roots honest now_seen now_waits
 walks_on next objects roots honest seen waits rest last names now_seen now_waits popped walks right sees =
     walks_past next objects roots honest seen rest last names now_seen now_waits (subst (λ w. Walks next objects roots honest seen w) popped walks) right sees
 
 -- where nothing waits, what is reached is seen
-all_seen : (next : List ℕ → List (List ℕ)) (objects : Objects) (roots : List (List ℕ)) (honest : Bool) (seen : List ℕ → Bool) → Walks next objects roots honest seen [] → IsTrue honest → (name : List ℕ) → IsReached next objects roots name → seen name ≡ true
-all_seen next objects roots honest seen walks honest_is _ (Root name root there) = walks.begun name root (measured_there objects name ∙ there)
+all_seen : {X : Type 0} (next : List ℕ → List (List ℕ)) (objects : FinMap name_cmp X) (roots : List (List ℕ)) (honest : Bool) (seen : List ℕ → Bool) → Walks next objects roots honest seen [] → IsTrue honest → (name : List ℕ) → IsReached next objects roots name → seen name ≡ true
+all_seen next objects roots honest seen walks honest_is _ (Root name root there) = walks.begun name root there
 all_seen next objects roots honest seen walks honest_is _ (Next from name reached linked there) =
     elim (walks.closed honest_is from (all_seen next objects roots honest seen walks honest_is from reached)) [
       | inl waiting ↦ absurd (none_there from waiting)
-      | inr done ↦ done name linked (measured_there objects name ∙ there)
+      | inr done ↦ done name linked there
     ]
 
 -- nothing was popped, so nothing waits
 pub none_waits : (waits now : List (List ℕ)) (count : ℕ) → waits ≡ now ++ [] → now ≡ take (count - 1) waits → count ≡ 0 → waits ≡ []
 none_waits waits now count whole front none = whole ∙ append-nil now ∙ front ∙ ap (λ n. take (n - 1) waits) none
 
-same_tests : (a b : Bool) → (a ≡ true → b ≡ true) → (b ≡ true → a ≡ true) → a ≡ b
-same_tests true b there back = sym (there refl)
-same_tests false true there back = back refl
-same_tests false false there back = refl
-
 -- so what is seen is what is reached
-pub walks_end : (next : List ℕ → List (List ℕ)) (objects : Objects) (roots : List (List ℕ)) (honest : Bool) (seen : List ℕ → Bool) (waits : List (List ℕ)) → waits ≡ [] → Walks next objects roots honest seen waits → IsTrue honest → (name : List ℕ) → seen name ≡ is_reached next objects roots name
+pub walks_end : {X : Type 0} (next : List ℕ → List (List ℕ)) (objects : FinMap name_cmp X) (roots : List (List ℕ)) (honest : Bool) (seen : List ℕ → Bool) (waits : List (List ℕ)) → waits ≡ [] → Walks next objects roots honest seen waits → IsTrue honest → (name : List ℕ) → seen name ≡ is_reached next objects roots name
 walks_end next objects roots honest seen waits none walks honest_is name =
     let ended = subst (λ w. Walks next objects roots honest seen w) none walks in
     same_tests (seen name) (is_reached next objects roots name) (λ is. led_to_reached next objects roots name (ended.reached honest_is name is)) (λ is. all_seen next objects roots honest seen ended honest_is name (reached_led_to next objects roots name is))
-
--- and over any source it is there
-pub walks_there : (next : List ℕ → List (List ℕ)) (objects : Objects) (roots : List (List ℕ)) (honest : Bool) (seen : List ℕ → Bool) (waits : List (List ℕ)) → Walks next objects roots honest seen waits → (name : List ℕ) → seen name ≡ true → contains_key objects name ≡ true
-walks_there next objects roots honest seen waits walks name is = objects_there objects name (walks.there name is)

@@ -1,10 +1,11 @@
 -- What a walk over objects reaches (own): from some roots on, along links or along parents.
 use Rattle.std.specs.Prelude.{◌≡◌, ℕ, zero, suc, ◌&&◌, ◌||◌, Bool, true, List, [], map, Contains, Option, None, Some}
 use Rattle.std.specs.List.{list_any}
-use Rattle.std.specs.FinMap.{get, contains_key, keys, len}
+use Rattle.std.specs.FinMap.{FinMap, get, contains_key, keys, len}
 use Rattle.std.specs.Str.{bytes_eq}
 use Rattle.git_name.specs.declared.kind.Kind.{Kind}
 use Rattle.git_name.specs.declared.kind.Kind.TheVariants.{Blob, Tree, Commit, Tag}
+use Rattle.git_name.specs.Name.{name_cmp}
 use Rattle.git_name.specs.Object.{Object}
 use Rattle.git_commit.specs.Commit.{CommitValue}
 use Rattle.git_commit.specs.CommitIn.{commit_in}
@@ -43,7 +44,7 @@ abbrev pub parent_names : Objects → List ℕ → List (List ℕ)
 parent_names objects name = parents_of_found (get objects name)
 
 -- an object is reached: it is a root that is there, or one that is there and that a reached one leads to
-pub data IsReached (next : List ℕ → List (List ℕ)) (objects : Objects) (roots : List (List ℕ)) : List ℕ → Type 0 where
+pub data IsReached {X : Type 0} (next : List ℕ → List (List ℕ)) (objects : FinMap name_cmp X) (roots : List (List ℕ)) : List ℕ → Type 0 where
   Root : (name : List ℕ) → Contains roots name → contains_key objects name ≡ true → IsReached next objects roots name
   Next : (from name : List ℕ) → IsReached next objects roots from → Contains (next from) name → contains_key objects name ≡ true → IsReached next objects roots name
 
@@ -52,12 +53,12 @@ abbrev pub is_among : List (List ℕ) → List ℕ → Bool
 is_among names name = list_any (bytes_eq name) names
 
 -- whether a name is reached from a root in so many steps at the most, over objects that are there
-abbrev pub leads_within : (List ℕ → List (List ℕ)) → Objects → List (List ℕ) → ℕ → List ℕ → Bool
+abbrev pub leads_within : {X : Type 0} → (List ℕ → List (List ℕ)) → FinMap name_cmp X → List (List ℕ) → ℕ → List ℕ → Bool
 leads_within next objects roots zero name = contains_key objects name && is_among roots name
 leads_within next objects roots (suc most) name =
     leads_within next objects roots most name
     || contains_key objects name && list_any (λ from. leads_within next objects roots most from && is_among (next from) name) (keys objects)
 
 -- whether it is reached at all: no more steps are needed than there are objects
-unfoldable pub is_reached : (List ℕ → List (List ℕ)) → Objects → List (List ℕ) → List ℕ → Bool
+unfoldable pub is_reached : {X : Type 0} → (List ℕ → List (List ℕ)) → FinMap name_cmp X → List (List ℕ) → List ℕ → Bool
 is_reached next objects roots name = leads_within next objects roots (len objects) name

@@ -1,5 +1,6 @@
 ghost use Rattle.std.specs.Prelude.{◌≡◌, ◌≢◌, [], List, ℕ, map, IsTrue, IfOk, IfErr};
 ghost use Rattle.std.specs.Bool.{OnFalse};
+ghost use Rattle.git_commit.specs.Whole.{commit_of};
 ghost use Rattle.git_object.specs.ObjectIn.{links_in};
 ghost use Rattle.fork_reach.specs.Along.{names_along, names_in};
 ghost use Rattle.fork_reach.specs.Faults.{IsAsked, fault_in};
@@ -48,20 +49,27 @@ fn link_names(alloc: Global, sealed: &Sealed) -> Result<Vec<Name>, AllocError>
 }
 
 // The names of the commit's parents, in their order.
-fn commit_parents(alloc: Global, sealed: &Sealed) -> Result<Vec<Name>, AllocError>
-    ensures { IfOk result (λ names. names.items ≡ parents_in sealed.now.kind sealed.now.bytes) }
+pub(crate) fn parents_of(alloc: Global, commit: &Commit<'_>) -> Result<Vec<Name>, AllocError>
+    ensures { IfOk result (λ names. names.items ≡ (commit_of commit.now).parents) }
 {
     let mut names = Vec::new(alloc);
-    if !matches!(sealed.kind(), Kind::Commit) {
-        return Ok(names);
-    }
-    let Ok(commit) = Commit::read(sealed.bytes()) else {
-        return Ok(names);
-    };
     for parent in commit.parents() {
         names.push(parent)?;
     }
     Ok(names)
+}
+
+// The same of the commit that the object is; any other object has none.
+fn parent_names(alloc: Global, sealed: &Sealed) -> Result<Vec<Name>, AllocError>
+    ensures { IfOk result (λ names. names.items ≡ parents_in sealed.now.kind sealed.now.bytes) }
+{
+    if !matches!(sealed.kind(), Kind::Commit) {
+        return Ok(Vec::new(alloc));
+    }
+    let Ok(commit) = Commit::read(sealed.bytes()) else {
+        return Ok(Vec::new(alloc));
+    };
+    parents_of(alloc, &commit)
 }
 
 // The names that the object goes on to.
@@ -70,7 +78,7 @@ fn names_of(alloc: Global, along: Along, sealed: &Sealed) -> Result<Vec<Name>, A
 {
     match along {
         Along::Links => link_names(alloc, sealed),
-        Along::Parents => commit_parents(alloc, sealed),
+        Along::Parents => parent_names(alloc, sealed),
     }
 }
 

@@ -4,16 +4,23 @@
 #![tactic(auto)]
 
 mod along;
+mod history;
 mod laws;
+mod names;
+mod noted;
 mod noting;
 mod reaching;
+mod recording;
 mod source;
 #[cfg(test)]
 mod tests;
 mod usage;
 mod walk;
 
+pub use crate::history::History;
 pub use crate::laws::reached_is_led_to;
-pub use crate::reaching::{ancestors, reach};
+pub use crate::noted::Noted;
+pub use crate::reaching::{ancestors, reach, reach_past};
+pub use crate::recording::read_history;
 pub use crate::source::{Source, SourceFault};
 pub use crate::usage::OBJECT_USE;

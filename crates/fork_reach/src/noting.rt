@@ -1,50 +1,62 @@
-ghost use Rattle.std.specs.Prelude.{◌≡◌, [], ◌∷◌, IfErr, OnOk};
+ghost use Rattle.std.specs.Prelude.{[], ◌∷◌, OnOk};
 ghost use Rattle.std.specs.BTreeSet.{contains};
 ghost use Rattle.git_name.specs.Name.{name_cmp};
+ghost use Rattle.fork_reach.specs.Hidden.{without};
 ghost use Rattle.fork_reach.specs.Objects.{measures_of};
 ghost use Rattle.fork_reach.specs.Seeing.{Sees};
 
-use crate::source::{Source, SourceFault};
+use crate::names::{Names, Open};
+use crate::source::Source;
 use git_name::Name;
+use std::alloc::AllocError;
 use std::collections::BTreeSet;
 
-// Notes the name as seen, and as one that waits, where its object is there and was not seen yet.
-fn note<S: Source>(
-    source: &S,
+// Notes the name as seen, and as one that waits, where it is there and was not seen yet.
+fn note<N: Names>(
+    there: &N,
     name: Name,
     seen: &mut BTreeSet<Name>,
     waiting: &mut Vec<Name>,
-) -> Result<(), SourceFault>
-    ensures noted { OnOk result (Sees (measures_of (S.state source.now).objects) (name ∷ []) (contains name_cmp seen.old) waiting.old.items (contains name_cmp seen.new) waiting.new.items) }
-    ensures memory { IfErr result (λ fault. fault ≡ SourceFault.Memory) }
+) -> Result<(), AllocError>
+    ensures { OnOk result (Sees (N.names there.now) (name ∷ []) (contains name_cmp seen.old) waiting.old.items (contains name_cmp seen.new) waiting.new.items) }
 {
-    if source.kind_of(name).is_none() {
+    if !there.holds(name) {
         return Ok(());
     }
     let Ok(is_new) = seen.insert(name) else {
-        return Err(SourceFault::Memory);
+        return Err(AllocError);
     };
     if !is_new {
         return Ok(());
     }
-    let Ok(()) = waiting.push(name) else {
-        return Err(SourceFault::Memory);
-    };
+    waiting.push(name)?;
     Ok(())
 }
 
 // The same of each of these names.
-pub(crate) fn note_all<S: Source>(
-    source: &S,
+pub(crate) fn note_all<N: Names>(
+    there: &N,
     names: &[Name],
     seen: &mut BTreeSet<Name>,
     waiting: &mut Vec<Name>,
-) -> Result<(), SourceFault>
-    ensures noted { OnOk result (Sees (measures_of (S.state source.now).objects) names.now (contains name_cmp seen.old) waiting.old.items (contains name_cmp seen.new) waiting.new.items) }
-    ensures memory { IfErr result (λ fault. fault ≡ SourceFault.Memory) }
+) -> Result<(), AllocError>
+    ensures { OnOk result (Sees (N.names there.now) names.now (contains name_cmp seen.old) waiting.old.items (contains name_cmp seen.new) waiting.new.items) }
 {
     for name in names {
-        note(source, *name, seen, waiting)?;
+        note(there, *name, seen, waiting)?;
     }
     Ok(())
+}
+
+// The same over the objects of a source of which some are hidden.
+pub(crate) fn note_open<S: Source>(
+    source: &S,
+    hidden: &BTreeSet<Name>,
+    names: &[Name],
+    seen: &mut BTreeSet<Name>,
+    waiting: &mut Vec<Name>,
+) -> Result<(), AllocError>
+    ensures { OnOk result (Sees (without (measures_of (S.state source.now).objects) (contains name_cmp hidden.now)) names.now (contains name_cmp seen.old) waiting.old.items (contains name_cmp seen.new) waiting.new.items) }
+{
+    note_all(&Open { source, hidden }, names, seen, waiting)
 }

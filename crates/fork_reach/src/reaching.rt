@@ -1,9 +1,10 @@
-ghost use Rattle.std.specs.Prelude.{◌≡◌, ◌≢◌, true, List, ℕ, IsTrue, IfOk, IfErr};
+ghost use Rattle.std.specs.Prelude.{◌≡◌, true, List, ℕ, IsTrue, IfOk};
 ghost use Rattle.std.specs.List.{Contains};
 ghost use Rattle.std.specs.BTreeSet.{contains};
 ghost use Rattle.std.specs.FinMap as map;
 ghost use Rattle.git_name.specs.Name.{name_cmp};
 ghost use Rattle.fork_reach.specs.Faults.{IsAsked, fault_in};
+ghost use Rattle.fork_reach.specs.Hidden.{without};
 ghost use Rattle.fork_reach.specs.Reach.{is_reached, linked_names, parent_names};
 
 use crate::along::Along;
@@ -27,7 +28,21 @@ pub fn reach<S: Source>(
     ensures rooted { IfOk result (λ found. (name : List ℕ) → Contains roots.now name → map.contains_key (S.state source.old).objects name ≡ true → contains name_cmp found name ≡ true) }
     ensures asked { IsAsked (S.state source.old) (S.state source.new) (fault_in result) }
 {
-    walk(alloc, source, Along::Links, roots)
+    walk(alloc, source, Along::Links, roots, &BTreeSet::new(alloc))
+}
+
+/// The same, past none of the hidden names: neither they nor what they alone lead to. Where all is
+/// hidden that some names reach, this is what the roots reach and those names do not.
+pub fn reach_past<S: Source>(
+    alloc: Global,
+    source: &mut S,
+    roots: &[Name],
+    hidden: &BTreeSet<Name>,
+) -> Result<BTreeSet<Name>, SourceFault>
+    ensures found { IsTrue (S.state source.old).honest → IfOk result (λ found. (name : List ℕ) → contains name_cmp found name ≡ is_reached (linked_names (S.state source.old).objects) (without (S.state source.old).objects (contains name_cmp hidden.now)) roots.now name) }
+    ensures asked { IsAsked (S.state source.old) (S.state source.new) (fault_in result) }
+{
+    walk(alloc, source, Along::Links, roots, hidden)
 }
 
 /// The names of the source's objects that parents of commits lead to from these, and of those of these
@@ -43,5 +58,5 @@ pub fn ancestors<S: Source>(
     ensures rooted { IfOk result (λ found. (name : List ℕ) → Contains commits.now name → map.contains_key (S.state source.old).objects name ≡ true → contains name_cmp found name ≡ true) }
     ensures asked { IsAsked (S.state source.old) (S.state source.new) (fault_in result) }
 {
-    walk(alloc, source, Along::Parents, commits)
+    walk(alloc, source, Along::Parents, commits, &BTreeSet::new(alloc))
 }

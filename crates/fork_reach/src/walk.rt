@@ -1,47 +1,47 @@
-ghost use Rattle.std.specs.Prelude.{◌≡◌, ◌≢◌, true, List, ℕ, IsTrue, IfOk, IfErr};
+ghost use Rattle.std.specs.Prelude.{◌≡◌, true, List, ℕ, IsTrue, IfOk};
 ghost use Rattle.std.specs.List.{Contains};
 ghost use Rattle.std.specs.BTreeSet.{contains};
 ghost use Rattle.std.specs.FinMap as map;
 ghost use Rattle.git_name.specs.Name.{name_cmp};
 ghost use Rattle.fork_reach.specs.Along.{names_along};
 ghost use Rattle.fork_reach.specs.Faults.{IsAsked, fault_in};
+ghost use Rattle.fork_reach.specs.Hidden.{without};
 ghost use Rattle.fork_reach.specs.Reach.{is_reached};
 
 use crate::along::{Along, next_names};
-use crate::noting::note_all;
+use crate::noting::note_open;
 use crate::source::{Source, SourceFault};
 use git_name::Name;
 use std::alloc::Global;
 use std::collections::BTreeSet;
 
-// The names that are reached from the roots. A name is seen when it is put on the list of those that
-// wait to be followed, so that each is followed once.
+// The names that are reached from the roots, past none that is hidden. A name is seen when it is put on
+// the list of those that wait to be followed, so that each is followed once.
 pub(crate) fn walk<S: Source>(
     alloc: Global,
     source: &mut S,
     along: Along,
     roots: &[Name],
+    hidden: &BTreeSet<Name>,
 ) -> Result<BTreeSet<Name>, SourceFault>
-    ensures found { IsTrue (S.state source.old).honest → IfOk result (λ found. (name : List ℕ) → contains name_cmp found name ≡ is_reached (names_along along (S.state source.old).objects) (S.state source.old).objects roots.now name) }
-    ensures there { IfOk result (λ found. (name : List ℕ) → contains name_cmp found name ≡ true → map.contains_key (S.state source.old).objects name ≡ true) }
-    ensures rooted { IfOk result (λ found. (name : List ℕ) → Contains roots.now name → map.contains_key (S.state source.old).objects name ≡ true → contains name_cmp found name ≡ true) }
+    ensures found { IsTrue (S.state source.old).honest → IfOk result (λ found. (name : List ℕ) → contains name_cmp found name ≡ is_reached (names_along along (S.state source.old).objects) (without (S.state source.old).objects (contains name_cmp hidden.now)) roots.now name) }
+    ensures there { IfOk result (λ found. (name : List ℕ) → contains name_cmp found name ≡ true → map.contains_key (without (S.state source.old).objects (contains name_cmp hidden.now)) name ≡ true) }
+    ensures rooted { IfOk result (λ found. (name : List ℕ) → Contains roots.now name → map.contains_key (without (S.state source.old).objects (contains name_cmp hidden.now)) name ≡ true → contains name_cmp found name ≡ true) }
     ensures asked { IsAsked (S.state source.old) (S.state source.new) (fault_in result) }
 {
     let mut seen = BTreeSet::new(alloc);
     let mut waiting = Vec::new(alloc);
-    match note_all(source, roots, &mut seen, &mut waiting) {
-        Ok(()) => {}
-        Err(fault) => return Err(fault),
-    }
+    let Ok(()) = note_open(source, hidden, roots, &mut seen, &mut waiting) else {
+        return Err(SourceFault::Memory);
+    };
     'waiting: while let Some(name) = waiting.pop() {
         let names = match next_names(alloc, source, along, name) {
             Ok(names) => names,
             Err(fault) => return Err(fault),
         };
-        match note_all(source, names.as_slice(), &mut seen, &mut waiting) {
-            Ok(()) => {}
-            Err(fault) => return Err(fault),
-        }
+        let Ok(()) = note_open(source, hidden, names.as_slice(), &mut seen, &mut waiting) else {
+            return Err(SourceFault::Memory);
+        };
     }
     Ok(seen)
 }

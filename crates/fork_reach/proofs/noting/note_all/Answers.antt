@@ -2,17 +2,16 @@ use Rattle.std.proofs.Common.{◌≡◌, ◌+◌, ◌++◌, [], ◌∷◌, take,
 use Rattle.std.specs.BTreeSet.{contains}
 use Rattle.std.proofs.lemmas.List.{take_more}
 use Rattle.git_name.specs.Name.{name_cmp}
-use Rattle.fork_reach.specs.Objects.{measures_of}
 use Rattle.fork_reach.specs.Seeing.{Sees}
 use Rattle.fork_reach.proofs.SeeingLemmas.{sees_both}
 use Rattle.fork_reach.proofs.noting.note_all.Goals as goal
 
 pub loop-name-preserved : goal.loop-name-preserved
 loop-name-preserved g c =
-    let measures = measures_of (g.S.Source.state c.args.source.now).objects in
+    let there = g.N.Names.names c.args.there.now in
     let name = c.name-item.result in
     let names = c.args.names.now in
     let front = take c.loop-name.name-index names in
     let more : take (c.loop-name.name-index + 1) names ≡ front ++ name ∷ [] = take_more names c.loop-name.name-index name (omega arith) ∙ ap (λ n. front ++ n ∷ []) (sym c.name-item.is) in
-    subst (λ ns. Sees measures ns (contains name_cmp c.args.seen.now) c.args.waiting.now.items (contains name_cmp c.note.new.seen) c.note.new.waiting.items) (sym more)
-    (sees_both measures front (name ∷ []) (contains name_cmp c.args.seen.now) c.args.waiting.now.items (contains name_cmp c.loop-name.seen) c.loop-name.waiting.items (contains name_cmp c.note.new.seen) c.note.new.waiting.items c.loop-name.invariant c.in_ok-note.ensures.noted)
+    subst (λ ns. Sees there ns (contains name_cmp c.args.seen.now) c.args.waiting.now.items (contains name_cmp c.note.new.seen) c.note.new.waiting.items) (sym more)
+    (sees_both there front (name ∷ []) (contains name_cmp c.args.seen.now) c.args.waiting.now.items (contains name_cmp c.loop-name.seen) c.loop-name.waiting.items (contains name_cmp c.note.new.seen) c.note.new.waiting.items c.loop-name.invariant c.in_ok-note.ensures)

@@ -2,11 +2,14 @@ use Rattle.std.proofs.Common.{IsTrue, None, vec_len, subst, sym, ◌∙◌, ap}
 use Rattle.std.specs.BTreeSet.{contains}
 use Rattle.git_name.specs.Name.{name_cmp}
 use Rattle.fork_reach.specs.Along.{names_along}
+use Rattle.fork_reach.specs.Hidden.{without}
+use Rattle.fork_reach.specs.Objects.{measures_of}
 use Rattle.fork_reach.specs.Seeing.{Sees}
 use Rattle.fork_reach.proofs.AskedLemmas.{asked_again, not_asked}
-use Rattle.fork_reach.proofs.MeasureLemmas.{measured_there}
+use Rattle.fork_reach.proofs.HiddenLemmas.{measured_without}
 use Rattle.fork_reach.proofs.NameLemmas.{empty_holds_none}
-use Rattle.fork_reach.proofs.WalkLemmas.{walks_begin, none_waits, walks_end, walks_on, walks_there}
+use Rattle.fork_reach.proofs.ReachLemmas.{reached_alike}
+use Rattle.fork_reach.proofs.WalkLemmas.{walks_begin, none_waits, walks_end, walks_on}
 use Rattle.fork_reach.proofs.walk.walk.Goals as goal
 
 pub waiting-init : goal.waiting-init
@@ -14,8 +17,8 @@ waiting-init g c =
     let old = g.S.Source.state c.args.source.now in
     record {
       asked = not_asked old;
-      walks = walks_begin (names_along c.args.along old.objects) old.objects c.args.roots.now old.honest (contains name_cmp c.new-seen.result) c.new-waiting.result.items (contains name_cmp c.note_all.new.seen) c.note_all.new.waiting.items
-          (empty_holds_none c.new-seen.result.keys c.new-seen.ensures.empty) c.new-waiting.ensures.items c.in-Ok.ensures.noted;
+      walks = walks_begin (names_along c.args.along old.objects) (without (measures_of old.objects) (contains name_cmp c.args.hidden.now)) c.args.roots.now old.honest (contains name_cmp c.new-seen.result) c.new-waiting.result.items (contains name_cmp c.note_open.new.seen) c.note_open.new.waiting.items
+          (empty_holds_none c.new-seen.result.keys c.new-seen.ensures.empty) c.new-waiting.ensures.items c.in-Ok.ensures;
     }
 
 pub waiting-preserved : goal.waiting-preserved
@@ -23,6 +26,7 @@ waiting-preserved g c =
     let old = g.S.Source.state c.args.source.now in
     let mid = g.S.Source.state c.waiting.source in
     let next = names_along c.args.along old.objects in
+    let hides = contains name_cmp c.args.hidden.now in
     let before = c.waiting.invariant in
     let told = c.in-Ok-next_names.ensures in
     let asked = asked_again old mid (g.S.Source.state c.next_names.new.source) None before.asked told.asked in
@@ -30,28 +34,30 @@ waiting-preserved g c =
     let rest = c.pop.new.self.items in
     let name = c.in-Some.name in
     let names = c.as_slice.result.now in
-    let now_seen = contains name_cmp c.note_all-in-Some.new.seen in
-    let now_waits = c.note_all-in-Some.new.waiting.items in
+    let now_seen = contains name_cmp c.note_open-in-Some.new.seen in
+    let now_waits = c.note_open-in-Some.new.waiting.items in
     record {
       asked = asked;
-      walks = walks_on next old.objects c.args.roots.now old.honest seen c.waiting.waiting.items rest name names now_seen now_waits c.in-Some.ensures.items before.walks
+      walks = walks_on next (without (measures_of old.objects) hides) c.args.roots.now old.honest seen c.waiting.waiting.items rest name names now_seen now_waits c.in-Some.ensures.items before.walks
           (λ honest. c.as_slice.ensures.value ∙ told.next (subst IsTrue (sym before.asked.honest) honest) ∙ ap (λ all. names_along c.args.along all name) (before.asked.objects honest))
-          (subst (λ measures. Sees measures names seen rest now_seen now_waits) asked.measures c.in-Ok-note_all.ensures.noted);
+          (subst (λ measures. Sees (without measures hides) names seen rest now_seen now_waits) asked.measures c.in-Ok-note_open.ensures);
     }
 
 pub returns-clause-found : goal.returns-clause-found
 returns-clause-found g c = λ honest name.
     let old = g.S.Source.state c.args.source.now in
+    let next = names_along c.args.along old.objects in
+    let hides = contains name_cmp c.args.hidden.now in
     let waits = c.waiting.waiting.items in
-    let told = c.in_default.ensures in
+    let told = c.in_default-pop.ensures in
     let none = none_waits waits c.pop.new.self.items (vec_len c.waiting.waiting) told.items told.rest told.cases.0 in
-    walks_end (names_along c.args.along old.objects) old.objects c.args.roots.now old.honest (contains name_cmp c.waiting.seen) waits none c.waiting.invariant.walks honest name
+    walks_end next (without (measures_of old.objects) hides) c.args.roots.now old.honest (contains name_cmp c.waiting.seen) waits none c.waiting.invariant.walks honest name
+    ∙ reached_alike next (without (measures_of old.objects) hides) (without old.objects hides) c.args.roots.now (measured_without old.objects hides) name
 
 pub returns-clause-there : goal.returns-clause-there
-returns-clause-there g c =
-    let old = g.S.Source.state c.args.source.now in
-    walks_there (names_along c.args.along old.objects) old.objects c.args.roots.now old.honest (contains name_cmp c.waiting.seen) c.waiting.waiting.items c.waiting.invariant.walks
+returns-clause-there g c = λ name is.
+    sym (measured_without (g.S.Source.state c.args.source.now).objects (contains name_cmp c.args.hidden.now) name) ∙ c.waiting.invariant.walks.there name is
 
 pub returns-clause-rooted : goal.returns-clause-rooted
 returns-clause-rooted g c = λ name root there.
-    c.waiting.invariant.walks.begun name root (measured_there (g.S.Source.state c.args.source.now).objects name ∙ there)
+    c.waiting.invariant.walks.begun name root (measured_without (g.S.Source.state c.args.source.now).objects (contains name_cmp c.args.hidden.now) name ∙ there)

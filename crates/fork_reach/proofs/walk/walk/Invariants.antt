@@ -3,6 +3,7 @@ use Rattle.std.specs.BTreeSet.{contains}
 use Rattle.git_name.specs.Name.{name_cmp}
 use Rattle.fork_reach.specs.Along.{names_along}
 use Rattle.fork_reach.specs.Faults.{IsAsked}
+use Rattle.fork_reach.specs.Hidden.{without}
 use Rattle.fork_reach.specs.Objects.{measures_of}
 use Rattle.fork_reach.specs.Seeing.{unseen}
 use Rattle.fork_reach.proofs.WalkLemmas.{Walks}
@@ -14,9 +15,9 @@ invariant-waiting g l =
     let old = g.S.Source.state l.fn.source in
     record {
       asked : IsAsked old (g.S.Source.state l.source) None;
-      walks : Walks (names_along l.along old.objects) old.objects l.roots old.honest (contains name_cmp l.seen) l.waiting.items;
+      walks : Walks (names_along l.along old.objects) (without (measures_of old.objects) (contains name_cmp l.hidden)) l.roots old.honest (contains name_cmp l.seen) l.waiting.items;
     }
 
 -- the objects that are not seen, and the names that wait
 abbrev pub decreases-waiting : goal.decreases-waiting
-decreases-waiting g l = unseen (measures_of (g.S.Source.state l.fn.source).objects) (contains name_cmp l.seen) + length l.waiting.items
+decreases-waiting g l = unseen (without (measures_of (g.S.Source.state l.fn.source).objects) (contains name_cmp l.hidden)) (contains name_cmp l.seen) + length l.waiting.items

@@ -1,0 +1,4 @@
+pub mod BeyondLemmas
+pub mod KeyLemmas
+pub mod PeelLemmas
+pub mod SideLemmas

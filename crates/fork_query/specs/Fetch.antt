@@ -1,0 +1,33 @@
+-- `fetch ITEM..`: the records of the objects that are reached from the wanted ones and not from the excluded ones
+-- (git-pack-objects(1), `--revs`; records in place of a pack, ascending by name, are own).
+use Rattle.std.specs.Prelude.{ℕ, List, [], Option, None, Some, Result, Ok, Err}
+use Rattle.std.specs.List.{flat_map}
+use Rattle.std.specs.FinMap.{get, keys}
+use Rattle.git_name.specs.Object.{Object}
+use Rattle.git_reftx.specs.Transaction.{References}
+use Rattle.push_stream.specs.Record.{record_of}
+use Rattle.fork_reach.specs.Reach.{linked_names}
+use Rattle.fork_reach.specs.Source.{Objects}
+use Rattle.fork_request.specs.declared.refusal.Refusal.{Refusal}
+use Rattle.fork_query.specs.Items.{object_of_item}
+use Rattle.fork_query.specs.Reached.{beyond}
+use Rattle.fork_query.specs.Sides.{Selection, selected}
+
+-- the record of an object, where there is one
+abbrev pub record_or_none : Option Object → List ℕ
+record_or_none None = []
+record_or_none (Some object) = record_of object
+
+abbrev pub record_at : Objects → List ℕ → List ℕ
+record_at objects name = record_or_none (get objects name)
+
+-- the records of what links lead to
+unfoldable pub fetched : Objects → List (List ℕ) → List (List ℕ) → List ℕ
+fetched objects wanted excluded = flat_map (record_at objects) (keys (beyond (linked_names objects) objects wanted excluded))
+
+abbrev pub fetched_of : Objects → Result Selection Refusal → Result (List ℕ) Refusal
+fetched_of objects (Ok selection) = Ok (fetched objects selection.wanted selection.excluded)
+fetched_of objects (Err refusal) = Err refusal
+
+unfoldable pub fetch_told : Objects → References → List (List ℕ) → Result (List ℕ) Refusal
+fetch_told objects references items = fetched_of objects (selected (object_of_item objects references) items)

@@ -1,0 +1,34 @@
+-- `merge-base A B`: the best common ancestors of two commits (git-merge-base(1), `--all`; the order by name is own).
+use Rattle.std.specs.Prelude.{ℕ, ◌&&◌, not, Bool, List, [], ◌∷◌, Result, Ok, Err}
+use Rattle.std.specs.List.{list_any}
+use Rattle.std.specs.Str.{bytes_eq}
+use Rattle.std.specs.FinMap.{keys, retain_keys}
+use Rattle.git_reftx.specs.Transaction.{References}
+use Rattle.fork_reach.specs.Reach.{is_reached, parent_names}
+use Rattle.fork_reach.specs.Source.{Objects}
+use Rattle.fork_request.specs.declared.refusal.Refusal.{Refusal}
+use Rattle.fork_query.specs.Items.{commit_of_item}
+use Rattle.fork_query.specs.Objects.{name_lines}
+
+-- a commit is its own ancestor
+abbrev pub is_ancestor : Objects → List ℕ → List ℕ → Bool
+is_ancestor objects descendant name = is_reached (parent_names objects) objects (descendant ∷ []) name
+
+abbrev pub is_common : Objects → List ℕ → List ℕ → List ℕ → Bool
+is_common objects a b name = is_ancestor objects a name && is_ancestor objects b name
+
+-- another common ancestor has it among its own ancestors
+abbrev pub is_outdone : Objects → List ℕ → List ℕ → List ℕ → Bool
+is_outdone objects a b name = list_any (λ other. is_common objects a b other && not (bytes_eq other name) && is_ancestor objects other name) (keys objects)
+
+-- the common ancestors that none outdoes, ascending by name
+unfoldable pub merge_bases : Objects → List ℕ → List ℕ → List (List ℕ)
+merge_bases objects a b = keys (retain_keys objects (λ name. is_common objects a b name && not (is_outdone objects a b name)))
+
+abbrev pub bases_of : Objects → Result (List ℕ) Refusal → Result (List ℕ) Refusal → Result (List ℕ) Refusal
+bases_of objects (Ok a) (Ok b) = Ok (name_lines (merge_bases objects a b))
+bases_of objects (Ok a) (Err refusal) = Err refusal
+bases_of objects (Err refusal) b = Err refusal
+
+unfoldable pub bases_told : Objects → References → List ℕ → List ℕ → Result (List ℕ) Refusal
+bases_told objects references a b = bases_of objects (commit_of_item objects references a) (commit_of_item objects references b)

@@ -1,0 +1,18 @@
+-- What an answer to a query tells.
+use Rattle.std.specs.Prelude.{◌≡◌, ℕ, List, Option, None, Some, Result, Ok, Err, ⊤}
+use Rattle.fork_reach.specs.declared.source.SourceFault.{SourceFault}
+use Rattle.fork_request.specs.declared.refusal.Refusal.{Refusal}
+use Rattle.fork_query.specs.declared.query_error.QueryError.{QueryError}
+use Rattle.fork_query.specs.declared.query_error.QueryError.TheVariants.{Refused, Failed}
+
+-- it tells what was found, or the refusal; a fault tells nothing
+abbrev pub Tells : {A B : Type 0} → (B → A) → Result A Refusal → Result B QueryError → Type 0
+Tells view found (Ok told) = found ≡ Ok (view told)
+Tells view found (Err (Refused refusal)) = found ≡ Err refusal
+Tells view found (Err (Failed fault)) = ⊤
+
+-- the fault that it tells
+abbrev pub fault_told : {B : Type 0} → Result B QueryError → Option SourceFault
+fault_told (Ok told) = None
+fault_told (Err (Refused refusal)) = None
+fault_told (Err (Failed fault)) = Some fault

@@ -1,0 +1,106 @@
+ghost use Rattle.std.specs.Prelude.{◌≡◌, ◌++◌, IsTrue, IfOk, OnOk};
+ghost use Rattle.std.specs.List.{flat_map};
+ghost use Rattle.git_name.specs.Text.{words_of};
+ghost use Rattle.fork_reach.specs.Faults.{IsAsked, fault_in};
+ghost use Rattle.fork_query.specs.Fetch.{fetch_told, fetched, record_at};
+ghost use Rattle.fork_query.specs.Told.{Tells, fault_told};
+
+use crate::query_error::QueryError;
+use crate::sides::{Sides, select};
+use crate::want::Want;
+use fork_reach::{Source, SourceFault, reach, reach_past};
+use git_name::Name;
+use git_reftx::Refs;
+use push_stream::write_record;
+use std::alloc::Global;
+use std::collections::BTreeSet;
+
+// Adds the record of the object of this name, which is read once.
+fn send<S: Source>(
+    alloc: Global,
+    source: &mut S,
+    name: Name,
+    text: &mut Vec<u8>,
+) -> Result<(), SourceFault>
+    ensures sent { IsTrue (S.state source.old).honest → OnOk result (text.new.items ≡ text.old.items ++ record_at (S.state source.old).objects name) }
+    ensures asked { IsAsked (S.state source.old) (S.state source.new) (fault_in result) }
+{
+    let sealed = match source.read(alloc, name) {
+        Ok(Some(sealed)) => sealed,
+        Ok(None) => return Ok(()),
+        Err(fault) => return Err(fault),
+    };
+    let Ok(record) = write_record(alloc, &sealed) else {
+        return Err(SourceFault::Memory);
+    };
+    match text.extend_from_slice(record.as_slice()) {
+        Ok(()) => Ok(()),
+        Err(_) => Err(SourceFault::Memory),
+    }
+}
+
+// The records of the objects of these names.
+fn send_all<S: Source>(
+    alloc: Global,
+    source: &mut S,
+    names: &BTreeSet<Name>,
+) -> Result<Vec<u8>, SourceFault>
+    ensures sent { IsTrue (S.state source.old).honest → IfOk result (λ text. text.items ≡ flat_map (record_at (S.state source.old).objects) names.now.keys) }
+    ensures asked { IsAsked (S.state source.old) (S.state source.new) (fault_in result) }
+{
+    let mut text = Vec::new(alloc);
+    for name in names {
+        match send(alloc, source, *name, &mut text) {
+            Ok(()) => {}
+            Err(fault) => return Err(fault),
+        }
+    }
+    Ok(text)
+}
+
+#[tactic(auto, unfolding(crate::specs::Fetch::fetched))]
+// The records of what is reached from the wanted names and not from the excluded ones. What the excluded
+// ones reach is walked first, and the walk from the wanted ones stops there.
+fn records<S: Source>(
+    alloc: Global,
+    source: &mut S,
+    sides: &Sides,
+) -> Result<Vec<u8>, SourceFault>
+    ensures sent { IsTrue (S.state source.old).honest → IfOk result (λ text. text.items ≡ fetched (S.state source.old).objects sides.now.wanted.items sides.now.excluded.items) }
+    ensures asked { IsAsked (S.state source.old) (S.state source.new) (fault_in result) }
+{
+    let hidden = match reach(alloc, source, sides.excluded.as_slice()) {
+        Ok(hidden) => hidden,
+        Err(fault) => return Err(fault),
+    };
+    let names = match reach_past(alloc, source, sides.wanted.as_slice(), &hidden) {
+        Ok(names) => names,
+        Err(fault) => return Err(fault),
+    };
+    let _count = names.len();
+    send_all(alloc, source, &names)
+}
+
+#[tactic(auto, unfolding(crate::specs::Fetch::fetch_told))]
+/// The records of the objects to which links lead from the items' objects, but for those to which they lead
+/// from the items that begin with `^`; ascending by name. Each tree, commit and tag is read once for the walk
+/// and once to be sent, a blob only to be sent. The items are words, parted by one SP each.
+pub fn fetch<S: Source>(
+    alloc: Global,
+    source: &mut S,
+    references: &Refs,
+    items: &[u8],
+) -> Result<Vec<u8>, QueryError>
+    ensures told { IsTrue (S.state source.old).honest → Tells (λ text. text.items) (fetch_told (S.state source.old).objects references.now (words_of items.now)) result }
+    // Over any source.
+    ensures asked { IsAsked (S.state source.old) (S.state source.new) (fault_told result) }
+{
+    let sides = match select(alloc, Want::Object, source, references, items) {
+        Ok(sides) => sides,
+        Err(error) => return Err(error),
+    };
+    match records(alloc, source, &sides) {
+        Ok(text) => Ok(text),
+        Err(fault) => Err(QueryError::Failed(fault)),
+    }
+}

@@ -1,0 +1,114 @@
+ghost use Rattle.std.specs.Prelude.{◌≡◌, IsTrue};
+ghost use Rattle.std.specs.FinMap as map;
+ghost use Rattle.git_reftx.specs.Transaction.{is_commit};
+ghost use Rattle.fork_reach.specs.Faults.{IsAsked};
+ghost use Rattle.fork_reach.specs.Source.{kind_in};
+ghost use Rattle.fork_query.specs.Items.{found_commit, named_by, named_item, object_of_item};
+ghost use Rattle.fork_query.specs.Peel.{peeled};
+ghost use Rattle.fork_query.specs.Told.{Tells, fault_told};
+
+use crate::peeling::peel;
+use crate::query_error::QueryError;
+use crate::want::Want;
+use fork_reach::{Source, SourceFault};
+use fork_request::{ByteString, Refusal};
+use git_name::{Kind, Name};
+use git_refname::RefName;
+use git_reftx::Refs;
+use std::alloc::Global;
+
+// The object at which the reference of this name points.
+fn target_of(references: &Refs, item: &[u8]) -> Option<Name>
+    ensures { result ≡ map.get references.now item.now }
+{
+    let _references = references.len();
+    match RefName::read(item) {
+        Ok(name) => references.get(&name),
+        Err(_) => None,
+    }
+}
+
+// The name that the digits write, or else the target of the reference.
+fn named_by(references: &Refs, item: &[u8]) -> Option<Name>
+    ensures { result ≡ named_by references.now item.now }
+{
+    match Name::parse_hex(item) {
+        Some(name) => Some(name),
+        None => target_of(references, item),
+    }
+}
+
+// The name of the item's object, which is there. No object is read.
+fn object_of_item<S: Source>(
+    alloc: Global,
+    source: &S,
+    references: &Refs,
+    item: &[u8],
+) -> Result<Name, QueryError>
+    ensures told { Tells (λ name. name) (object_of_item (S.state source.now).objects references.now item.now) result }
+    ensures asked { IsAsked (S.state source.now) (S.state source.now) (fault_told result) }
+{
+    let Some(name) = named_by(references, item) else {
+        let Ok(word) = item.to_vec(alloc) else {
+            return Err(QueryError::Failed(SourceFault::Memory));
+        };
+        return Err(QueryError::Refused(Refusal::NoRef(ByteString::new(word))));
+    };
+    if source.kind_of(name).is_none() {
+        return Err(QueryError::Refused(Refusal::Missing(name)));
+    }
+    Ok(name)
+}
+
+// Whether the object of this name is a commit. It reads no bytes of it.
+pub(crate) fn is_commit<S: Source>(source: &S, name: Name) -> bool
+    ensures { result ≡ is_commit (kind_in (S.state source.now).objects name) }
+{
+    match source.kind_of(name) {
+        Some(Kind::Commit) => true,
+        _ => false,
+    }
+}
+
+// The name of the commit that this name leads to. Tags are read, and no commit.
+fn commit_at<S: Source>(
+    alloc: Global,
+    source: &mut S,
+    name: Name,
+) -> Result<Name, QueryError>
+    ensures told { IsTrue (S.state source.old).honest → Tells (λ name. name) (found_commit (S.state source.old).objects name (peeled (S.state source.old).objects name)) result }
+    ensures asked { IsAsked (S.state source.old) (S.state source.new) (fault_told result) }
+{
+    let end = match peel(alloc, source, name) {
+        Ok(end) => end,
+        Err(fault) => return Err(QueryError::Failed(fault)),
+    };
+    let Some(end) = end else {
+        return Err(QueryError::Refused(Refusal::NotACommit(name)));
+    };
+    if !is_commit(source, end) {
+        return Err(QueryError::Refused(Refusal::NotACommit(name)));
+    }
+    Ok(end)
+}
+
+// The name of the item's object, or of the commit that it leads to.
+pub(crate) fn named_item<S: Source>(
+    alloc: Global,
+    want: Want,
+    source: &mut S,
+    references: &Refs,
+    item: &[u8],
+) -> Result<Name, QueryError>
+    ensures told { IsTrue (S.state source.old).honest → Tells (λ name. name) (named_item want (S.state source.old).objects references.now item.now) result }
+    ensures asked { IsAsked (S.state source.old) (S.state source.new) (fault_told result) }
+{
+    let name = match object_of_item(alloc, source, references, item) {
+        Ok(name) => name,
+        Err(error) => return Err(error),
+    };
+    match want {
+        Want::Object => Ok(name),
+        Want::Commit => commit_at(alloc, source, name),
+    }
+}

@@ -1,0 +1,32 @@
+ghost use Rattle.std.specs.Prelude.{◌≡◌, IsTrue};
+ghost use Rattle.fork_reach.specs.Faults.{IsAsked};
+ghost use Rattle.fork_query.specs.Objects.{object_told};
+ghost use Rattle.fork_query.specs.Told.{Tells, fault_told};
+
+use crate::query_error::QueryError;
+use fork_reach::{Source, SourceFault};
+use fork_request::Refusal;
+use git_name::Name;
+use push_stream::write_record;
+use std::alloc::Global;
+
+#[tactic(auto, unfolding(crate::specs::Objects::object_told))]
+/// The record of the object of this name, which is read once. It is refused where there is none.
+pub fn cat_file<S: Source>(
+    alloc: Global,
+    source: &mut S,
+    name: Name,
+) -> Result<Vec<u8>, QueryError>
+    ensures told { IsTrue (S.state source.old).honest → Tells (λ text. text.items) (object_told (S.state source.old).objects name) result }
+    // Over any source.
+    ensures asked { IsAsked (S.state source.old) (S.state source.new) (fault_told result) }
+{
+    match source.read(alloc, name) {
+        Ok(Some(sealed)) => match write_record(alloc, &sealed) {
+            Ok(text) => Ok(text),
+            Err(_) => Err(QueryError::Failed(SourceFault::Memory)),
+        },
+        Ok(None) => Err(QueryError::Refused(Refusal::Missing(name))),
+        Err(fault) => Err(QueryError::Failed(fault)),
+    }
+}

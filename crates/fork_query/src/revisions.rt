@@ -1,0 +1,99 @@
+ghost use Rattle.std.specs.Prelude.{◌≡◌, IsTrue, IfOk, map as mapped};
+ghost use Rattle.std.specs.FinMap as map;
+ghost use Rattle.git_name.specs.Text.{words_of};
+ghost use Rattle.fork_reach.specs.Faults.{IsAsked, fault_in};
+ghost use Rattle.fork_query.specs.Dates.{newest_first, noted_date};
+ghost use Rattle.fork_query.specs.Objects.{name_lines};
+ghost use Rattle.fork_query.specs.RevList.{revision_list, revisions_told};
+ghost use Rattle.fork_query.specs.Told.{Tells, fault_told};
+
+use crate::dated::Dated;
+use crate::name_lines::write_name;
+use crate::query_error::QueryError;
+use crate::sides::{Sides, select};
+use crate::want::Want;
+use fork_reach::{History, Source, SourceFault, ancestors, read_history};
+use git_reftx::Refs;
+use std::alloc::{AllocError, Global};
+use std::cmp::Reverse;
+use std::collections::BTreeSet;
+
+// The commits of the history, the newest first.
+fn dates_of(alloc: Global, history: &History) -> Result<BTreeSet<Dated>, AllocError>
+    ensures { IfOk result (λ dates. dates.keys ≡ newest_first (mapped noted_date (map.entries history.now))) }
+{
+    let mut dates = BTreeSet::new(alloc);
+    for (name, noted) in history.iter() {
+        let date = Dated {
+            seconds: Reverse(noted.seconds()),
+            name: *name,
+        };
+        let Ok(_) = dates.insert(date) else {
+            return Err(AllocError);
+        };
+    }
+    Ok(dates)
+}
+
+// Their names, one a line.
+fn lines_of(alloc: Global, dates: &BTreeSet<Dated>) -> Result<Vec<u8>, AllocError>
+    ensures { IfOk result (λ text. text.items ≡ name_lines (mapped (λ date. date.name) dates.now.keys)) }
+{
+    let mut text = Vec::new(alloc);
+    for date in dates {
+        write_name(&mut text, date.name)?;
+    }
+    Ok(text)
+}
+
+#[tactic(auto, unfolding(crate::specs::RevList::revision_list))]
+// The commits that are ancestors of the wanted ones and not of the excluded ones. What the excluded ones
+// reach is walked first, and the walk from the wanted ones stops there.
+fn revisions<S: Source>(
+    alloc: Global,
+    source: &mut S,
+    sides: &Sides,
+) -> Result<Vec<u8>, SourceFault>
+    ensures listed { IsTrue (S.state source.old).honest → IfOk result (λ text. text.items ≡ name_lines (revision_list (S.state source.old).objects sides.now.wanted.items sides.now.excluded.items)) }
+    ensures asked { IsAsked (S.state source.old) (S.state source.new) (fault_in result) }
+{
+    let hidden = match ancestors(alloc, source, sides.excluded.as_slice()) {
+        Ok(hidden) => hidden,
+        Err(fault) => return Err(fault),
+    };
+    let history = match read_history(alloc, source, sides.wanted.as_slice(), &hidden) {
+        Ok(history) => history,
+        Err(fault) => return Err(fault),
+    };
+    let Ok(dates) = dates_of(alloc, &history) else {
+        return Err(SourceFault::Memory);
+    };
+    match lines_of(alloc, &dates) {
+        Ok(text) => Ok(text),
+        Err(_) => Err(SourceFault::Memory),
+    }
+}
+
+#[tactic(auto, unfolding(crate::specs::RevList::revisions_told))]
+/// The ancestors of the items' commits, one a line, but for those of the items that begin with `^`; by the
+/// committer's seconds, the newest first, and of one time by name. A commit is its own ancestor, and is
+/// read once. The items are words, parted by one SP each.
+pub fn rev_list<S: Source>(
+    alloc: Global,
+    source: &mut S,
+    references: &Refs,
+    items: &[u8],
+) -> Result<Vec<u8>, QueryError>
+    ensures told { IsTrue (S.state source.old).honest → Tells (λ text. text.items) (revisions_told (S.state source.old).objects references.now (words_of items.now)) result }
+    // Over any source.
+    ensures asked { IsAsked (S.state source.old) (S.state source.new) (fault_told result) }
+{
+    let sides = match select(alloc, Want::Commit, source, references, items) {
+        Ok(sides) => sides,
+        Err(error) => return Err(error),
+    };
+    match revisions(alloc, source, &sides) {
+        Ok(text) => Ok(text),
+        Err(fault) => Err(QueryError::Failed(fault)),
+    }
+}

@@ -1,0 +1,97 @@
+ghost use Rattle.std.specs.Prelude.{◌≡◌, IsTrue, OnOk};
+ghost use Rattle.git_name.specs.Text.{words_of};
+ghost use Rattle.fork_reach.specs.Faults.{IsAsked};
+ghost use Rattle.fork_query.specs.Items.{named_item};
+ghost use Rattle.fork_query.specs.Sides.{added_item, added_name, bare, is_excluded, selected, selection_of};
+ghost use Rattle.fork_query.specs.Told.{Tells, fault_told};
+
+use crate::items::named_item;
+use crate::query_error::QueryError;
+use crate::want::Want;
+use fork_reach::{Source, SourceFault};
+use git_name::{Name, first_word};
+use git_reftx::Refs;
+use std::alloc::{AllocError, Global};
+
+// The names of items: those that are wanted, and those that are excluded.
+#[derive(Drop)]
+pub(crate) struct Sides {
+    pub(crate) wanted: Vec<Name>,
+    pub(crate) excluded: Vec<Name>,
+}
+
+fn is_excluded(item: &[u8]) -> bool
+    ensures { result ≡ is_excluded item.now }
+{
+    item.starts_with(b"^")
+}
+
+// The item without a `^` before it.
+fn bare(item: &[u8]) -> &[u8]
+    ensures { result.now ≡ bare item.now }
+{
+    if is_excluded(item) { &item[1..] } else { item }
+}
+
+// Puts the name on its side.
+fn put(name: Name, is_excluded: bool, sides: &mut Sides) -> Result<(), AllocError>
+    ensures { OnOk result (selection_of sides.new ≡ added_name (selection_of sides.old) is_excluded name) }
+{
+    if is_excluded {
+        sides.excluded.push(name)?;
+    } else {
+        sides.wanted.push(name)?;
+    }
+    Ok(())
+}
+
+// Puts the item's name on its side.
+fn put_item<S: Source>(
+    alloc: Global,
+    want: Want,
+    source: &mut S,
+    references: &Refs,
+    item: &[u8],
+    sides: &mut Sides,
+) -> Result<(), QueryError>
+    ensures told { IsTrue (S.state source.old).honest → Tells (λ _. selection_of sides.new) (added_item (selection_of sides.old) (is_excluded item.now) (named_item want (S.state source.old).objects references.now (bare item.now))) result }
+    ensures asked { IsAsked (S.state source.old) (S.state source.new) (fault_told result) }
+{
+    let name = match named_item(alloc, want, source, references, bare(item)) {
+        Ok(name) => name,
+        Err(error) => return Err(error),
+    };
+    match put(name, is_excluded(item), sides) {
+        Ok(()) => Ok(()),
+        Err(_) => Err(QueryError::Failed(SourceFault::Memory)),
+    }
+}
+
+// The names of the items, which are words parted by one SP each. The first refused item decides.
+pub(crate) fn select<S: Source>(
+    alloc: Global,
+    want: Want,
+    source: &mut S,
+    references: &Refs,
+    items: &[u8],
+) -> Result<Sides, QueryError>
+    ensures told { IsTrue (S.state source.old).honest → Tells selection_of (selected (named_item want (S.state source.old).objects references.now) (words_of items.now)) result }
+    ensures asked { IsAsked (S.state source.old) (S.state source.new) (fault_told result) }
+{
+    let mut sides = Sides {
+        wanted: Vec::new(alloc),
+        excluded: Vec::new(alloc),
+    };
+    let mut rest = items;
+    'items: while let Some((item, behind)) = first_word(rest) {
+        match put_item(alloc, want, source, references, item, &mut sides) {
+            Ok(()) => {}
+            Err(error) => return Err(error),
+        }
+        rest = behind;
+    }
+    match put_item(alloc, want, source, references, rest, &mut sides) {
+        Ok(()) => Ok(sides),
+        Err(error) => Err(error),
+    }
+}

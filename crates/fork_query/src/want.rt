@@ -1,0 +1,8 @@
+// What the items of a request are to name.
+#[derive(Clone, Copy)]
+pub(crate) enum Want {
+    // Objects of any kind.
+    Object,
+    // Commits; tags are followed.
+    Commit,
+}

@@ -1,0 +1,53 @@
+-- The history of commits: of each commit its parents, and when it was committed (own).
+use Rattle.std.specs.Prelude.{ℕ, List, [], Option, None, Some}
+use Rattle.std.specs.FinMap.{FinMap, get, retain_keys}
+use Rattle.git_name.specs.Maps.{map_values}
+use Rattle.git_name.specs.Name.{name_cmp}
+use Rattle.git_name.specs.declared.kind.Kind.{Kind}
+use Rattle.git_name.specs.declared.kind.Kind.TheVariants.{Blob, Tree, Commit, Tag}
+use Rattle.git_name.specs.Object.{Object}
+use Rattle.git_commit.specs.Commit.{CommitValue}
+use Rattle.git_commit.specs.CommitIn.{commit_in}
+use Rattle.fork_reach.specs.Reach.{parents_in}
+use Rattle.fork_reach.specs.Source.{Objects}
+
+-- the committer's seconds since 1970; none are 0
+abbrev pub seconds_or_zero : Option CommitValue → ℕ
+seconds_or_zero None = 0
+seconds_or_zero (Some commit) = commit.committer.seconds
+
+-- those of the commit that bytes of a kind are, and 0 for any other object
+abbrev pub seconds_in : Kind → List ℕ → ℕ
+seconds_in Blob bytes = 0
+seconds_in Tree bytes = 0
+seconds_in Commit bytes = seconds_or_zero (commit_in bytes)
+seconds_in Tag bytes = 0
+
+-- what a history keeps of an object
+pub record Note : Type 0 where
+  pub parents : List (List ℕ)
+  pub seconds : ℕ
+
+abbrev pub note_of : Object → Note
+note_of object = record { parents = parents_in object.kind object.bytes; seconds = seconds_in object.kind object.bytes }
+
+-- the same where there may be no object
+abbrev pub note_of_found : Option Object → Note
+note_of_found None = record { parents = []; seconds = 0 }
+note_of_found (Some object) = note_of object
+
+-- of the object of a name
+abbrev pub note_at : Objects → List ℕ → Note
+note_at objects name = note_of_found (get objects name)
+
+-- the notes of objects under their names
+abbrev pub Notes : Type 0
+Notes = FinMap name_cmp Note
+
+-- the parents that are noted under a name
+abbrev pub parents_of_noted : Option Note → List (List ℕ)
+parents_of_noted None = []
+parents_of_noted (Some note) = note.parents
+
+abbrev pub noted_parents : Notes → List ℕ → List (List ℕ)
+noted_parents notes name = parents_of_noted (get notes name)

@@ -1,0 +1,75 @@
+ghost use Rattle.std.specs.Prelude.{◌≡◌, [], IfOk};
+ghost use Rattle.git_commit.specs.Whole.{commit_of};
+ghost use Rattle.fork_reach.specs.History.{note_of};
+
+use crate::along::parents_of;
+use git_commit::Commit;
+use git_name::{Kind, Name, Sealed};
+use std::alloc::{AllocError, Global};
+use std::marker::Model;
+
+/// What a history keeps of a commit: its parents in their order, and the committer's seconds since
+/// 1970. Of what is no commit it keeps no parents, and 0.
+#[derive(Debug, Drop)]
+pub struct Noted {
+    parents: Vec<Name>,
+    seconds: u64,
+}
+
+impl Model for Noted {
+    ghost use Rattle.fork_reach.specs.History.{Note};
+
+    ghost Value = { Note };
+
+    ghost view = { λ a. record { parents = a.parents.items; seconds = a.seconds } };
+}
+
+impl Noted {
+    // Of no commit.
+    pub(crate) fn none(alloc: Global) -> Noted
+        ensures { result ≡ record { parents = []; seconds = 0 } }
+    {
+        Noted {
+            parents: Vec::new(alloc),
+            seconds: 0,
+        }
+    }
+
+    // Of a commit.
+    fn of_commit(alloc: Global, commit: &Commit<'_>) -> Result<Noted, AllocError>
+        ensures { IfOk result (λ noted. noted ≡ record { parents = (commit_of commit.now).parents; seconds = (commit_of commit.now).committer.seconds }) }
+    {
+        let parents = parents_of(alloc, commit)?;
+        Ok(Noted {
+            parents,
+            seconds: commit.committer().seconds(),
+        })
+    }
+
+    // Of an object, read once.
+    pub(crate) fn of(alloc: Global, sealed: &Sealed) -> Result<Noted, AllocError>
+        ensures { IfOk result (λ noted. noted ≡ note_of sealed.now) }
+    {
+        if !matches!(sealed.kind(), Kind::Commit) {
+            return Ok(Noted::none(alloc));
+        }
+        match Commit::read(sealed.bytes()) {
+            Ok(commit) => Noted::of_commit(alloc, &commit),
+            Err(_) => Ok(Noted::none(alloc)),
+        }
+    }
+
+    /// The names of the parents, in their order.
+    pub fn parents(&self) -> &[Name]
+        ensures { result.now ≡ self.now.parents }
+    {
+        self.parents.as_slice()
+    }
+
+    /// The committer's seconds since 1970.
+    pub fn seconds(&self) -> u64
+        ensures { result ≡ self.now.seconds }
+    {
+        self.seconds
+    }
+}

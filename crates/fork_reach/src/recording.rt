@@ -1,0 +1,77 @@
+ghost use Rattle.std.specs.Prelude.{◌≡◌, ◌≢◌, Some, IsTrue, IfOk};
+ghost use Rattle.std.specs.Bool.{OnFalse};
+ghost use Rattle.std.specs.BTreeSet.{contains};
+ghost use Rattle.std.specs.FinMap as map;
+ghost use Rattle.git_name.specs.Maps.{map_values};
+ghost use Rattle.git_name.specs.Name.{name_cmp};
+ghost use Rattle.fork_reach.specs.Faults.{IsAsked, fault_in};
+ghost use Rattle.fork_reach.specs.Hidden.{without};
+ghost use Rattle.fork_reach.specs.History.{note_at, note_of};
+ghost use Rattle.fork_reach.specs.Reach.{is_reached, parent_names};
+ghost use Rattle.fork_reach.specs.Source.{kind_in};
+
+use crate::history::History;
+use crate::noted::Noted;
+use crate::noting::note_open;
+use crate::source::{Source, SourceFault};
+use git_name::{Kind, Name};
+use std::alloc::Global;
+use std::collections::BTreeSet;
+
+// Whether the object of this name is a commit. It reads no bytes of it.
+fn is_commit<S: Source>(source: &S, name: Name) -> bool
+    ensures { OnFalse result (kind_in (S.state source.now).objects name ≢ Some Kind.Commit) }
+{
+    match source.kind_of(name) {
+        Some(Kind::Commit) => true,
+        _ => false,
+    }
+}
+
+// What is noted of the object of this name. It is read at the most once, and not at all where it is no
+// commit.
+fn noted<S: Source>(alloc: Global, source: &mut S, name: Name) -> Result<Noted, SourceFault>
+    ensures noted { IsTrue (S.state source.old).honest → IfOk result (λ noted. noted ≡ note_at (S.state source.old).objects name) }
+    ensures asked { IsAsked (S.state source.old) (S.state source.new) (fault_in result) }
+{
+    if !is_commit(source, name) {
+        return Ok(Noted::none(alloc));
+    }
+    match source.read(alloc, name) {
+        Ok(Some(sealed)) => Noted::of(alloc, &sealed).map_err(|_| SourceFault::Memory),
+        Ok(None) => Ok(Noted::none(alloc)),
+        Err(fault) => Err(fault),
+    }
+}
+
+/// The commits that parents lead to from these, past none of the hidden names, and those of these that
+/// the source finds. Each is read once, its time taken with its parents.
+pub fn read_history<S: Source>(
+    alloc: Global,
+    source: &mut S,
+    commits: &[Name],
+    hidden: &BTreeSet<Name>,
+) -> Result<History, SourceFault>
+    ensures found { IsTrue (S.state source.old).honest → IfOk result (λ history. history ≡ map_values note_of (map.retain_keys (S.state source.old).objects (is_reached (parent_names (S.state source.old).objects) (without (S.state source.old).objects (contains name_cmp hidden.now)) commits.now))) }
+    ensures asked { IsAsked (S.state source.old) (S.state source.new) (fault_in result) }
+{
+    let mut history = History::new(alloc);
+    let mut seen = BTreeSet::new(alloc);
+    let mut waiting = Vec::new(alloc);
+    let Ok(()) = note_open(source, hidden, commits, &mut seen, &mut waiting) else {
+        return Err(SourceFault::Memory);
+    };
+    'waiting: while let Some(name) = waiting.pop() {
+        let noted = match noted(alloc, source, name) {
+            Ok(noted) => noted,
+            Err(fault) => return Err(fault),
+        };
+        let Ok(()) = note_open(source, hidden, noted.parents(), &mut seen, &mut waiting) else {
+            return Err(SourceFault::Memory);
+        };
+        let Ok(()) = history.insert(name, noted) else {
+            return Err(SourceFault::Memory);
+        };
+    }
+    Ok(history)
+}

@@ -2,6 +2,7 @@ pub mod Dates
 pub mod Fetch
 pub mod Items
 pub mod MergeBase
+pub mod NotedBases
 pub mod Objects
 pub mod Peel
 pub mod Reached

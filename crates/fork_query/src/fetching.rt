@@ -61,11 +61,7 @@ fn send_all<S: Source>(
 #[tactic(auto, unfolding(crate::specs::Fetch::fetched))]
 // The records of what is reached from the wanted names and not from the excluded ones. What the excluded
 // ones reach is walked first, and the walk from the wanted ones stops there.
-fn records<S: Source>(
-    alloc: Global,
-    source: &mut S,
-    sides: &Sides,
-) -> Result<Vec<u8>, SourceFault>
+fn records<S: Source>(alloc: Global, source: &mut S, sides: &Sides) -> Result<Vec<u8>, SourceFault>
     ensures sent { IsTrue (S.state source.old).honest → IfOk result (λ text. text.items ≡ fetched (S.state source.old).objects sides.now.wanted.items sides.now.excluded.items) }
     ensures asked { IsAsked (S.state source.old) (S.state source.new) (fault_in result) }
 {

@@ -71,11 +71,7 @@ pub(crate) fn is_commit<S: Source>(source: &S, name: Name) -> bool
 }
 
 // The name of the commit that this name leads to. Tags are read, and no commit.
-fn commit_at<S: Source>(
-    alloc: Global,
-    source: &mut S,
-    name: Name,
-) -> Result<Name, QueryError>
+fn commit_at<S: Source>(alloc: Global, source: &mut S, name: Name) -> Result<Name, QueryError>
     ensures told { IsTrue (S.state source.old).honest → Tells (λ name. name) (found_commit (S.state source.old).objects name (peeled (S.state source.old).objects name)) result }
     ensures asked { IsAsked (S.state source.old) (S.state source.new) (fault_told result) }
 {

@@ -2,6 +2,7 @@
 //! Each answer is its definition, over whatever answers as a `Source`.
 #![tactic(auto)]
 
+mod bases;
 mod dated;
 mod fetching;
 mod items;
@@ -16,6 +17,7 @@ mod sides;
 mod trees;
 mod want;
 
+pub use crate::bases::merge_base;
 pub use crate::fetching::fetch;
 pub use crate::laws::peeled_is_led_to;
 pub use crate::objects::cat_file;

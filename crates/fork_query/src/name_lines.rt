@@ -1,8 +1,9 @@
-ghost use Rattle.std.specs.Prelude.{◌≡◌, ◌++◌, OnOk};
-ghost use Rattle.fork_query.specs.Objects.{name_line};
+ghost use Rattle.std.specs.Prelude.{◌≡◌, ◌++◌, IfOk, OnOk};
+ghost use Rattle.fork_query.specs.Objects.{name_line, name_lines};
 
 use git_name::Name;
-use std::alloc::AllocError;
+use std::alloc::{AllocError, Global};
+use std::collections::BTreeSet;
 
 // Adds the name in digits, and LF.
 pub(crate) fn write_name(text: &mut Vec<u8>, name: Name) -> Result<(), AllocError>
@@ -13,4 +14,15 @@ pub(crate) fn write_name(text: &mut Vec<u8>, name: Name) -> Result<(), AllocErro
     text.extend_from_slice(digits.as_slice())?;
     text.push(b'\n')?;
     Ok(())
+}
+
+// The names, one a line.
+pub(crate) fn write_names(alloc: Global, names: &BTreeSet<Name>) -> Result<Vec<u8>, AllocError>
+    ensures { IfOk result (λ text. text.items ≡ name_lines names.now.keys) }
+{
+    let mut text = Vec::new(alloc);
+    for name in names {
+        write_name(&mut text, *name)?;
+    }
+    Ok(text)
 }

@@ -100,11 +100,7 @@ fn tree_name(name: Name, sealed: &Sealed) -> Name
 }
 
 // The same of the object of this name. Only a commit is read.
-fn read_tree_name<S: Source>(
-    alloc: Global,
-    source: &mut S,
-    name: Name,
-) -> Result<Name, SourceFault>
+fn read_tree_name<S: Source>(alloc: Global, source: &mut S, name: Name) -> Result<Name, SourceFault>
     ensures tree { IsTrue (S.state source.old).honest → IfOk result (λ tree. tree ≡ tree_name_of name (map.get (S.state source.old).objects name)) }
     ensures asked { IsAsked (S.state source.old) (S.state source.new) (fault_in result) }
 {
@@ -169,11 +165,7 @@ fn rows_behind<S: Source>(
 #[tactic(auto, unfolding(crate::specs::Trees::tree_told))]
 /// The entries of a tree, in its order, each in a row with a zero byte behind it. A name of a tag stands
 /// for what the tag leads to, and that of a commit for its tree. Each of them is read once.
-pub fn ls_tree<S: Source>(
-    alloc: Global,
-    source: &mut S,
-    name: Name,
-) -> Result<Vec<u8>, QueryError>
+pub fn ls_tree<S: Source>(alloc: Global, source: &mut S, name: Name) -> Result<Vec<u8>, QueryError>
     ensures told { IsTrue (S.state source.old).honest → Tells (λ text. text.items) (tree_told (S.state source.old).objects name) result }
     // Over any source.
     ensures asked { IsAsked (S.state source.old) (S.state source.new) (fault_told result) }

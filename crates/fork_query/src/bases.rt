@@ -1,0 +1,136 @@
+ghost use Rattle.std.specs.Prelude.{◌≡◌, ◌&&◌, ◌||◌, not, List, ℕ, IsTrue, IfOk, OnOk};
+ghost use Rattle.std.specs.BTreeSet.{contains};
+ghost use Rattle.std.specs.Str.{bytes_eq};
+ghost use Rattle.git_name.specs.Name.{name_cmp};
+ghost use Rattle.fork_reach.specs.Faults.{IsAsked, fault_in};
+ghost use Rattle.fork_reach.specs.History.{noted_parents};
+ghost use Rattle.fork_reach.specs.Reach.{is_among};
+ghost use Rattle.fork_query.specs.MergeBase.{bases_told, merge_bases};
+ghost use Rattle.fork_query.specs.NotedBases.{is_best_noted, is_common_noted, is_other_parent};
+ghost use Rattle.fork_query.specs.Objects.{name_lines};
+ghost use Rattle.fork_query.specs.Told.{Tells, fault_told};
+ghost use Rattle.std.specs.List.{list_any};
+
+use crate::items::named_item;
+use crate::name_lines::write_names;
+use crate::query_error::QueryError;
+use crate::want::Want;
+use fork_reach::{History, Source, SourceFault, read_history};
+use git_name::Name;
+use git_reftx::Refs;
+use std::alloc::{AllocError, Global};
+use std::collections::BTreeSet;
+
+// Keeps the names that the others have too.
+fn keep_both(names: &mut BTreeSet<Name>, others: &BTreeSet<Name>)
+    ensures { (name : List ℕ) → contains name_cmp names.new name ≡ (contains name_cmp others.now name && contains name_cmp names.old name) }
+{
+    names.retain(|name| others.contains(name));
+}
+
+// Takes out the names that the others have.
+fn take_out(names: &mut BTreeSet<Name>, others: &BTreeSet<Name>)
+    ensures { (name : List ℕ) → contains name_cmp names.new name ≡ (not (contains name_cmp others.now name) && contains name_cmp names.old name) }
+{
+    names.retain(|name| !others.contains(name));
+}
+
+// The common ancestors of both.
+fn common(alloc: Global, history: &History, a: Name, b: Name) -> Result<BTreeSet<Name>, AllocError>
+    ensures { IfOk result (λ common. (name : List ℕ) → contains name_cmp common name ≡ is_common_noted history.now a b name) }
+{
+    let mut common = history.ancestors(alloc, &[a])?;
+    let of_b = history.ancestors(alloc, &[b])?;
+    keep_both(&mut common, &of_b);
+    Ok(common)
+}
+
+// Puts the parents of a commit among the names, but for itself.
+fn put_parents(names: &mut BTreeSet<Name>, commit: Name, parents: &[Name]) -> Result<(), AllocError>
+    ensures { OnOk result ((name : List ℕ) → contains name_cmp names.new name ≡ (contains name_cmp names.old name || (not (bytes_eq commit name) && is_among parents.now name))) }
+{
+    for parent in parents {
+        if *parent == commit {
+            continue;
+        }
+        let Ok(_) = names.insert(*parent) else {
+            return Err(AllocError);
+        };
+    }
+    Ok(())
+}
+
+// The names that one of these commits, other than themselves, has as a parent.
+fn outdone(
+    alloc: Global,
+    history: &History,
+    commits: &BTreeSet<Name>,
+) -> Result<BTreeSet<Name>, AllocError>
+    ensures { IfOk result (λ outdone. (name : List ℕ) → contains name_cmp outdone name ≡ list_any (is_other_parent history.now name) commits.now.keys) }
+{
+    let mut outdone = BTreeSet::new(alloc);
+    for commit in commits {
+        put_parents(&mut outdone, *commit, history.parents(*commit))?;
+    }
+    Ok(outdone)
+}
+
+// The common ancestors that no other one has as a parent. As the parents of common ancestors are common,
+// these are the best ones.
+fn best(alloc: Global, history: &History, a: Name, b: Name) -> Result<BTreeSet<Name>, AllocError>
+    ensures { IfOk result (λ best. (name : List ℕ) → contains name_cmp best name ≡ is_best_noted history.now a b name) }
+{
+    let mut best = common(alloc, history, a, b)?;
+    let outdone = outdone(alloc, history, &best)?;
+    take_out(&mut best, &outdone);
+    Ok(best)
+}
+
+#[tactic(auto, unfolding(crate::specs::MergeBase::merge_bases))]
+// The best common ancestors, one a line.
+fn bases<S: Source>(alloc: Global, source: &mut S, a: Name, b: Name) -> Result<Vec<u8>, SourceFault>
+    ensures listed { IsTrue (S.state source.old).honest → IfOk result (λ text. text.items ≡ name_lines (merge_bases (S.state source.old).objects a b)) }
+    ensures asked { IsAsked (S.state source.old) (S.state source.new) (fault_in result) }
+{
+    let none = BTreeSet::new(alloc);
+    let history = match read_history(alloc, source, &[a, b], &none) {
+        Ok(history) => history,
+        Err(fault) => return Err(fault),
+    };
+    let Ok(best) = best(alloc, &history, a, b) else {
+        return Err(SourceFault::Memory);
+    };
+    let _count = best.len();
+    match write_names(alloc, &best) {
+        Ok(text) => Ok(text),
+        Err(_) => Err(SourceFault::Memory),
+    }
+}
+
+#[tactic(auto, unfolding(crate::specs::MergeBase::bases_told))]
+/// The best common ancestors of two commits, one a line, ascending by name: those that no other common
+/// ancestor has among its own. Each commit is read once. A `^` is part of an item.
+pub fn merge_base<S: Source>(
+    alloc: Global,
+    source: &mut S,
+    references: &Refs,
+    a: &[u8],
+    b: &[u8],
+) -> Result<Vec<u8>, QueryError>
+    ensures told { IsTrue (S.state source.old).honest → Tells (λ text. text.items) (bases_told (S.state source.old).objects references.now a.now b.now) result }
+    // Over any source.
+    ensures asked { IsAsked (S.state source.old) (S.state source.new) (fault_told result) }
+{
+    let a = match named_item(alloc, Want::Commit, source, references, a) {
+        Ok(name) => name,
+        Err(error) => return Err(error),
+    };
+    let b = match named_item(alloc, Want::Commit, source, references, b) {
+        Ok(name) => name,
+        Err(error) => return Err(error),
+    };
+    match bases(alloc, source, a, b) {
+        Ok(text) => Ok(text),
+        Err(fault) => Err(QueryError::Failed(fault)),
+    }
+}

@@ -1,4 +1,5 @@
 pub mod AskingLemmas
+pub mod Examples
 pub mod ItemLemmas
 pub mod NameLemmas
 pub mod PartLemmas

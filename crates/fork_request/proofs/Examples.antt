@@ -1,0 +1,25 @@
+-- Lines that are written out, as the definitions compute them.
+use Rattle.std.proofs.Common.{◌≡◌, [], ◌∷◌, codes, refl}
+use Rattle.git_name.specs.Text.{words_of}
+use Rattle.fork_request.specs.Asked.{AsksBases, AsksRevisions, Fetches, NoRequest, asked_words}
+
+pub items_are_asked : asked_words (words_of (codes "rev-list r a ^b")) [] ≡ AsksRevisions (codes "r") (codes "a" ∷ codes "^b" ∷ [])
+items_are_asked = refl
+
+pub two_carets_are_an_item : asked_words (words_of (codes "fetch r ^^")) [] ≡ Fetches (codes "r") (codes "^^" ∷ [])
+two_carets_are_an_item = refl
+
+pub a_caret_alone_is_bad : asked_words (words_of (codes "rev-list r a ^")) [] ≡ NoRequest
+a_caret_alone_is_bad = refl
+
+pub an_item_is_wanted : asked_words (words_of (codes "fetch r")) [] ≡ NoRequest
+an_item_is_wanted = refl
+
+pub a_caret_is_part_of_an_item : asked_words (words_of (codes "merge-base r ^ ^a")) [] ≡ AsksBases (codes "r") (codes "^") (codes "^a")
+a_caret_is_part_of_an_item = refl
+
+pub three_items_are_bad : asked_words (words_of (codes "merge-base r a b c")) [] ≡ NoRequest
+three_items_are_bad = refl
+
+pub a_body_is_bad : asked_words (words_of (codes "fetch r a")) (codes "x") ≡ NoRequest
+a_body_is_bad = refl

@@ -2,6 +2,7 @@ pub mod AddingLemmas
 pub mod FaultLemmas
 pub mod HandleLemmas
 pub mod OwnLemmas
+pub mod QueryLemmas
 pub mod ReadLemmas
 pub mod RowLemmas
 pub mod SafeLemmas

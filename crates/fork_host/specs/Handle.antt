@@ -1,6 +1,11 @@
 -- The handle of one tenant's own part of the vault, as requests use it.
-use Rattle.std.specs.Prelude.{◌≡◌, ℕ}
-use Rattle.fork_reach.specs.Source.{Objects}
+use Rattle.std.specs.Prelude.{◌≡◌, ℕ, List}
+use Rattle.std.specs.Borrow.{Bor}
+use Rattle.std.specs.FinMap.{FinMap}
+use Rattle.git_name.specs.Name.{name_cmp}
+use Rattle.fork_reach.specs.Objects.{Measures}
+use Rattle.fork_reach.specs.Source.{Objects, SourceState}
+use Rattle.fork_ledger.specs.Tenants.{Tenants, shape_of}
 use Rattle.fork_model.specs.View.{View}
 use Rattle.fork_host.specs.declared.own.Own.{Own}
 use Rattle.fork_host.specs.Own.{IsOwn, IsReady, both_in, visible_in}
@@ -16,6 +21,20 @@ both_by own = both_in own.vault.now own.tenant.now
 -- the view of the tenant, of this account
 abbrev pub shown_by : Account → Own → View
 shown_by account own = shown account own.vault.now own.tenant.now
+
+-- what it stands on that stays over any store: the vault that it lends, the tenant, and the shape of all private maps
+abbrev pub Base : Type 0
+Base = (ℕ × Bor (List ℕ)) × FinMap name_cmp (Measures × Measures)
+
+-- what it shows as a source: the objects that the tenant sees
+abbrev pub own_state : Own → SourceState Base Tenants
+own_state own = record {
+  objects = visible_by own;
+  honest = own.vault.now.honest;
+  failures = 0;
+  base = ((own.vault.ghost_name, own.tenant), shape_of own.vault.now.tenants);
+  rest = own.vault.now.tenants;
+}
 
 -- the tenant's part is ready for a request under this limit
 abbrev pub Ready : Own → ℕ → Type 0

@@ -16,6 +16,8 @@ use Rattle.fork_ledger.specs.declared.fault.VaultFault.TheVariants as ledger
 use Rattle.fork_reach.specs.Objects.{measures_of}
 use Rattle.fork_reach.specs.Source.{Objects}
 use Rattle.fork_ledger.specs.Tenants.{VaultState}
+use Rattle.fork_query.specs.declared.query_error.QueryError.{QueryError}
+use Rattle.fork_query.specs.declared.query_error.QueryError.TheVariants as query
 use Rattle.fork_model.specs.View.{View, Repositories}
 use Rattle.fork_host.specs.Own.{Changes, Settles}
 use Rattle.fork_host.specs.Safe.{IsFaultOver}
@@ -31,6 +33,12 @@ abbrev pub fault_told : SourceFault → HostFault
 fault_told source.Store = Store
 fault_told source.Damaged = Damaged
 fault_told source.Memory = Memory
+
+-- how a reply tells a query's answer
+abbrev pub query_told : {B : Type 0} → (B → List ℕ) → Result B QueryError → Reply
+query_told view (Ok text) = Done (view text)
+query_told view (Err (query.Refused refusal)) = Refused refusal
+query_told view (Err (query.Failed fault)) = Failed (fault_told fault)
 
 -- objects are kept, or want of memory leaves all of them
 pub data IsKept (kept old : Objects) (reply : Reply) (new : Objects) : Type 0 where

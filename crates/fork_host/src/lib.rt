@@ -8,6 +8,7 @@ mod accounts;
 mod add_error;
 mod both;
 mod host;
+mod items;
 mod own;
 mod pruning;
 mod replies;

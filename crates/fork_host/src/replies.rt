@@ -2,9 +2,10 @@
 ghost use Rattle.std.specs.Prelude.{◌≡◌, ◌⊎◌, [], ◌++◌, codes, decimal};
 ghost use Rattle.fork_request.specs.declared.refusal.Refusal.TheVariants.{BadName};
 ghost use Rattle.fork_model.specs.Answer.{command_refusal, push_refusal, stream_refusal, transaction_refusal};
-ghost use Rattle.fork_host.specs.Rows.{fault_told};
+ghost use Rattle.fork_host.specs.Rows.{fault_told, query_told};
 
 use fork_push::PushRefusal;
+use fork_query::QueryError;
 use fork_reach::SourceFault;
 use fork_request::{ByteString, HostFault, Refusal, Reply};
 use git_reftx::{CommandFault, TxRefusal};
@@ -101,5 +102,16 @@ pub(crate) fn host_fault(fault: SourceFault) -> HostFault
         SourceFault::Store => HostFault::Store,
         SourceFault::Damaged => HostFault::Damaged,
         SourceFault::Memory => HostFault::Memory,
+    }
+}
+
+// What a query answers.
+pub(crate) fn told(found: Result<Vec<u8>, QueryError>) -> Reply
+    ensures { result ≡ query_told (λ text. text.items) found }
+{
+    match found {
+        Ok(text) => Reply::Done(ByteString::new(text)),
+        Err(QueryError::Refused(refusal)) => Reply::Refused(refusal),
+        Err(QueryError::Failed(fault)) => Reply::Failed(host_fault(fault)),
     }
 }

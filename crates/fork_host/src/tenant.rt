@@ -9,6 +9,7 @@ ghost use Rattle.fork_host.specs.Shown.{shown};
 
 mod objects;
 mod pushes;
+mod queries;
 mod references;
 mod repositories;
 
@@ -69,7 +70,11 @@ impl Tenant {
             Request::PartDrop => self.part_drop(alloc),
             Request::UpdateRefs(word, body) => self.update_refs(alloc, own, word, body),
             Request::CatFile(name) => self.cat_file(alloc, own, Name::new(name)),
+            Request::LsTree(name) => self.ls_tree(alloc, own, Name::new(name)),
+            Request::RevList(word, items) => self.rev_list(alloc, own, word, items),
+            Request::MergeBase(word, a, b) => self.merge_base(alloc, own, word, a, b),
             Request::ForEachRef(word, prefix) => self.for_each_ref(alloc, own, word, prefix),
+            Request::Fetch(word, items) => self.fetch(alloc, own, word, items),
             Request::Quota => self.quota(alloc, own),
             Request::Prune => self.prune(alloc, own),
             Request::Bad => Reply::Refused(Refusal::BadRequest),

@@ -18,24 +18,14 @@ impl Known for Own<'_> {
 }
 
 impl Source for Own<'_> {
-    ghost use Rattle.std.specs.Prelude.{ℕ, List};
-    ghost use Rattle.std.specs.Borrow.{Bor};
-    ghost use Rattle.std.specs.FinMap.{FinMap};
-    ghost use Rattle.git_name.specs.Name.{name_cmp};
-    ghost use Rattle.fork_reach.specs.Objects.{Measures};
-    ghost use Rattle.fork_ledger.specs.Tenants.{Tenants, private_of, shape_of};
+    ghost use Rattle.fork_ledger.specs.Tenants.{Tenants};
+    ghost use Rattle.fork_host.specs.Handle.{Base, own_state};
 
-    ghost Base = { (ℕ × Bor (List ℕ)) × FinMap name_cmp (Measures × Measures) };
+    ghost Base = { Base };
 
     ghost Rest = { Tenants };
 
-    ghost state = { λ own. record {
-      objects = (private_of own.vault.now.tenants own.tenant.now).visible;
-      honest = own.vault.now.honest;
-      failures = 0;
-      base = ((own.vault.ghost_name, own.tenant), shape_of own.vault.now.tenants);
-      rest = own.vault.now.tenants;
-    } };
+    ghost state = { own_state };
 
     fn kind_of(&self, name: Name) -> Option<Kind> {
         self.kind_seen(name)

@@ -14,7 +14,6 @@ use Rattle.git_reftx.specs.declared.fault.TxRefusal.{TxRefusal}
 use Rattle.git_reftx.specs.Reading.{commands_of}
 use Rattle.git_reftx.specs.Transaction.{References, is_commit, least_upper, transacted}
 use Rattle.push_stream.specs.declared.fault.StreamFault.{StreamFault}
-use Rattle.push_stream.specs.Record.{record_of}
 use Rattle.push_stream.specs.Stream.{AreObjects, finished, sent_in, stream_of}
 use Rattle.push_stream.specs.Upload.{UploadValue, continued}
 use Rattle.push_stream.proofs.ObjectLemmas.{continued_right, stream_right}
@@ -25,15 +24,20 @@ use Rattle.fork_reach.specs.Objects.{use_of, with_objects}
 use Rattle.fork_reach.specs.Reach.{is_reached, linked_names}
 use Rattle.fork_reach.proofs.ReachLemmas.{next_reached, root_reached}
 use Rattle.fork_reach.specs.Source.{Objects, kind_in}
+use Rattle.fork_query.specs.Fetch.{fetch_told}
+use Rattle.fork_query.specs.MergeBase.{bases_told}
+use Rattle.fork_query.specs.Objects.{object_told}
 use Rattle.fork_query.specs.References.{listing}
-use Rattle.fork_request.specs.Asked.{Ask, Inits, Drops, Forks, Pushes, SendsPart, EndsParts, DropsParts, Updates, AsksObject, AsksReferences, AsksUse, Prunes, NoRequest}
+use Rattle.fork_query.specs.RevList.{revisions_told}
+use Rattle.fork_query.specs.Trees.{tree_told}
+use Rattle.fork_request.specs.Asked.{Ask, Inits, Drops, Forks, Pushes, SendsPart, EndsParts, DropsParts, Updates, AsksObject, AsksTree, AsksRevisions, AsksBases, AsksReferences, Fetches, AsksUse, Prunes, NoRequest}
 use Rattle.fork_request.specs.Names.{IsRepositoryName, is_plain_name}
 use Rattle.fork_request.proofs.NameLemmas.{plain_name}
 use Rattle.fork_request.specs.declared.refusal.Refusal.{Refusal}
-use Rattle.fork_request.specs.declared.refusal.Refusal.TheVariants.{BadName, BadRequest, Missing, NoRepository, NoUpload, RepositoryExists, StagedTooLong, TooMany, UploadOpen}
+use Rattle.fork_request.specs.declared.refusal.Refusal.TheVariants.{BadName, BadRequest, NoRepository, NoUpload, RepositoryExists, StagedTooLong, TooMany, UploadOpen}
 use Rattle.fork_request.specs.declared.reply.Reply.{Reply}
 use Rattle.fork_request.specs.declared.reply.Reply.TheVariants.{Done, Refused}
-use Rattle.fork_model.specs.Answer.{Held, answer, left_by, without_upload, init_answer, drop_answer, fork_answer, push_answer, part_answer, part_end_answer, part_drop_answer, update_answer, cat_file_answer, references_answer, quota_answer, prune_answer, pruned, targets_of, named_repository, new_repository, dropped, copied, push_into, pushed, taken, open_upload, upload_into, end_in, ended, update_in, carried_out, with_references, told_object, told_references, transaction_refusal, command_refusal, push_refusal}
+use Rattle.fork_model.specs.Answer.{Held, answer, left_by, without_upload, init_answer, drop_answer, fork_answer, push_answer, part_answer, part_end_answer, part_drop_answer, update_answer, cat_file_answer, ls_tree_answer, rev_list_answer, merge_base_answer, fetch_answer, references_answer, quota_answer, prune_answer, pruned, targets_of, named_repository, new_repository, dropped, copied, push_into, pushed, taken, open_upload, upload_into, end_in, ended, update_in, carried_out, with_references, told, told_over, told_references, transaction_refusal, command_refusal, push_refusal}
 use Rattle.fork_model.specs.Sound.{AreReferences, IsOrderly, IsRight}
 use Rattle.fork_model.specs.View.{View, Repositories}
 use Rattle.fork_reach.proofs.KeptObjects.{at_key, kept_all, named_all, tied_names}
@@ -301,9 +305,18 @@ update_row : (view : View) (word body : List ℕ) (o : Option References) → ge
 update_row view word body None there right = refuses view (NoRepository word)
 update_row view word body (Some old) there right = carried_row view word old (commands_of body) there right
 
-object_row : (view : View) (name : List ℕ) (o : Option Object) → IsRow view (told_object name o, view)
-object_row view name None = refuses view (Missing name)
-object_row view name (Some object) = Does (record_of object) refl (λ was. was) (λ was. was)
+-- a row that tells what was found, and leaves the view
+told_row : (view : View) (found : Result (List ℕ) Refusal) → IsRow view (told found, view)
+told_row view (Ok text) = Does text refl (λ was. was) (λ was. was)
+told_row view (Err refusal) = refuses view refusal
+
+over_row : (view : View) (word : List ℕ) (query : References → Result (List ℕ) Refusal) (o : Option References) → IsRow view (told_over word query o, view)
+over_row view word query None = refuses view (NoRepository word)
+over_row view word query (Some references) = told_row view (query references)
+
+few_row : (view : View) (many : Bool) (reply : Reply) → IsRow view (reply, view) → IsRow view (cond many (Refused TooMany) reply, view)
+few_row view true reply row = refuses view TooMany
+few_row view false reply row = row
 
 listing_row : (view : View) (word : List ℕ) (prefix : Option (List ℕ)) (o : Option References) → IsRow view (told_references view word prefix o, view)
 listing_row view word prefix None = refuses view (NoRepository word)
@@ -346,7 +359,7 @@ right_pruned view right =
 
 -- each answer is such a row
 pub answer_row : (view : View) (ask : Ask) → GoesTo view (left_by view ask) (answer view ask)
-unfolding answer init_answer drop_answer fork_answer push_answer part_end_answer update_answer cat_file_answer references_answer quota_answer prune_answer
+unfolding answer init_answer drop_answer fork_answer push_answer part_end_answer update_answer cat_file_answer ls_tree_answer rev_list_answer merge_base_answer fetch_answer references_answer quota_answer prune_answer
 answer_row view (Inits word) = named_row view word (new_repository view word empty) (λ right. new_row view word empty right (λ _. none_right view.objects))
 answer_row view (Drops word) = named_row view word (dropped view word) (λ _. dropped_row view word)
 answer_row view (Forks source copy) =
@@ -359,7 +372,13 @@ answer_row view (EndsParts word) =
     (named_row view word (end_in view word (get view.repositories word)) (λ right. end_row view word (get view.repositories word) refl right))
 answer_row view DropsParts = dropped_upload_row view
 answer_row view (Updates word body) = named_row view word (update_in view word body (get view.repositories word)) (λ right. update_row view word body (get view.repositories word) refl right)
-answer_row view (AsksObject name) = object_row view name (get view.objects name)
+answer_row view (AsksObject name) = told_row view (object_told view.objects name)
+answer_row view (AsksTree name) = told_row view (tree_told view.objects name)
+answer_row view (AsksRevisions word items) =
+    named_row view word _ (λ _. few_row view (nat_lt 64 (length items)) _ (over_row view word (λ references. revisions_told view.objects references items) (get view.repositories word)))
+answer_row view (AsksBases word first second) = named_row view word _ (λ _. over_row view word (λ references. bases_told view.objects references first second) (get view.repositories word))
+answer_row view (Fetches word items) =
+    named_row view word _ (λ _. few_row view (nat_lt 64 (length items)) _ (over_row view word (λ references. fetch_told view.objects references items) (get view.repositories word)))
 answer_row view (AsksReferences word prefix) =
     named_row view word (told_references view word prefix (get view.repositories word), view) (λ _. listing_row view word prefix (get view.repositories word))
 answer_row view AsksUse = Does _ refl (λ was. was) (λ was. was)

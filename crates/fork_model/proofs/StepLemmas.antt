@@ -7,7 +7,7 @@ use Rattle.std.specs.Ordering.{eq_by_cmp, is_eq}
 use Rattle.std.specs.FinMap.{get, get-insert}
 use Rattle.git_name.specs.Name.{name_cmp}
 use Rattle.git_name.proofs.Names.{name_total, name_exact}
-use Rattle.fork_request.specs.Asked.{Ask, Inits, Drops, Forks, Pushes, SendsPart, EndsParts, DropsParts, Updates, AsksObject, AsksReferences, AsksUse, Prunes, NoRequest}
+use Rattle.fork_request.specs.Asked.{Ask, Inits, Drops, Forks, Pushes, SendsPart, EndsParts, DropsParts, Updates, AsksObject, AsksTree, AsksRevisions, AsksBases, AsksReferences, Fetches, AsksUse, Prunes, NoRequest}
 use Rattle.fork_request.specs.Told.{is_done, is_host_fault}
 use Rattle.fork_request.specs.declared.reply.Reply.{Reply}
 use Rattle.fork_request.specs.declared.reply.Reply.TheVariants.{Done, Refused, Failed}
@@ -52,6 +52,10 @@ left_but_upload view (EndsParts repository) = refl
 left_but_upload view DropsParts = refl
 left_but_upload view (Updates repository body) = refl
 left_but_upload view (AsksObject name) = refl
+left_but_upload view (AsksTree name) = refl
+left_but_upload view (AsksRevisions repository items) = refl
+left_but_upload view (AsksBases repository first second) = refl
+left_but_upload view (Fetches repository items) = refl
 left_but_upload view (AsksReferences repository prefix) = refl
 left_but_upload view AsksUse = refl
 left_but_upload view Prunes = refl

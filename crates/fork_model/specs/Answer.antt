@@ -2,7 +2,7 @@
 use Rattle.std.specs.Prelude.{ℕ, ◌+◌, nat_le, nat_lt, List, [], ◌++◌, length, codes, decimal, Option, Some, None, is_some, Result, Ok, Err, if◌then◌else◌}
 use Rattle.fork_request.specs.declared.name.TheConstants.{MAX_REPOSITORY_NAME}
 use Rattle.push_stream.specs.declared.upload.TheConstants.{MAX_UPLOAD}
-use Rattle.fork_model.specs.declared.limits.TheConstants.{MAX_REPOSITORIES}
+use Rattle.fork_model.specs.declared.limits.TheConstants.{MAX_ITEMS, MAX_REPOSITORIES}
 use Rattle.std.specs.List.{flat_map}
 use Rattle.std.specs.FinMap.{get, insert, remove, contains_key, len, empty, retain_keys, values}
 use Rattle.git_name.specs.Object.{Object}
@@ -16,7 +16,6 @@ use Rattle.git_reftx.specs.Transaction.{References, transacted}
 use Rattle.push_stream.specs.declared.fault.StreamFault.{StreamFault}
 use Rattle.push_stream.specs.declared.fault.StreamFault.TheVariants as stream
 use Rattle.push_stream.specs.Brief.{brief_of}
-use Rattle.push_stream.specs.Record.{record_of}
 use Rattle.push_stream.specs.Stream.{finished, stream_of}
 use Rattle.push_stream.specs.Upload.{UploadValue, continued, upload_of}
 use Rattle.fork_push.specs.declared.refusal.PushRefusal.{PushRefusal}
@@ -25,8 +24,13 @@ use Rattle.fork_push.specs.Push.{judged}
 use Rattle.fork_reach.specs.Objects.{use_of, with_objects}
 use Rattle.fork_reach.specs.Reach.{is_reached, linked_names}
 use Rattle.fork_reach.specs.Source.{Objects, kind_in}
+use Rattle.fork_query.specs.Fetch.{fetch_told}
+use Rattle.fork_query.specs.MergeBase.{bases_told}
+use Rattle.fork_query.specs.Objects.{object_told}
 use Rattle.fork_query.specs.References.{listing}
-use Rattle.fork_request.specs.Asked.{Ask, Inits, Drops, Forks, Pushes, SendsPart, EndsParts, DropsParts, Updates, AsksObject, AsksReferences, AsksUse, Prunes, NoRequest}
+use Rattle.fork_query.specs.RevList.{revisions_told}
+use Rattle.fork_query.specs.Trees.{tree_told}
+use Rattle.fork_request.specs.Asked.{Ask, Inits, Drops, Forks, Pushes, SendsPart, EndsParts, DropsParts, Updates, AsksObject, AsksTree, AsksRevisions, AsksBases, AsksReferences, Fetches, AsksUse, Prunes, NoRequest}
 use Rattle.fork_request.specs.Names.{is_plain_name}
 use Rattle.fork_request.specs.declared.refusal.Refusal.{Refusal}
 use Rattle.fork_request.specs.declared.refusal.Refusal.TheVariants.{BadRequest, BadName, RepositoryExists, NoRepository, BadRef, RepeatedRef, Stale, RefConflict, NotACommit, Missing, WrongType, OverQuota, TooMany, Syntax, WrongName, BadObject, Truncated, TooLarge, StagedTooLong, NoUpload, UploadOpen}
@@ -179,13 +183,42 @@ update_in view repository body (Some references) = carried_out view repository r
 unfoldable pub update_answer : View → List ℕ → List ℕ → Reply × View
 update_answer view word body = named_repository view word (update_in view word body (get view.repositories word))
 
--- `cat-file NAME`: the record of the object
-abbrev pub told_object : List ℕ → Option Object → Reply
-told_object name None = Refused (Missing name)
-told_object name (Some object) = Done (record_of object)
+-- how a reply tells what was found
+abbrev pub told : Result (List ℕ) Refusal → Reply
+told (Ok text) = Done text
+told (Err refusal) = Refused refusal
 
+-- `cat-file NAME`: the record of the object
 unfoldable pub cat_file_answer : View → List ℕ → Reply × View
-cat_file_answer view name = (told_object name (get view.objects name), view)
+cat_file_answer view name = (told (object_told view.objects name), view)
+
+-- `ls-tree NAME`: the entries of the tree that the name leads to
+unfoldable pub ls_tree_answer : View → List ℕ → Reply × View
+ls_tree_answer view name = (told (tree_told view.objects name), view)
+
+-- what is asked over the references of a repository that is there
+abbrev pub told_over : List ℕ → (References → Result (List ℕ) Refusal) → Option References → Reply
+told_over repository query None = Refused (NoRepository repository)
+told_over repository query (Some references) = told (query references)
+
+-- items, of which there are not too many
+abbrev pub few_items : List (List ℕ) → Reply → Reply
+few_items items reply = if nat_lt MAX_ITEMS (length items) then Refused TooMany else reply
+
+-- `rev-list REPO ITEM..`: the ancestors of the wanted commits that are none of the excluded ones, the newest first
+unfoldable pub rev_list_answer : View → List ℕ → List (List ℕ) → Reply × View
+rev_list_answer view word items =
+    named_repository view word (few_items items (told_over word (λ references. revisions_told view.objects references items) (get view.repositories word)), view)
+
+-- `merge-base REPO A B`: the best common ancestors
+unfoldable pub merge_base_answer : View → List ℕ → List ℕ → List ℕ → Reply × View
+merge_base_answer view word first second =
+    named_repository view word (told_over word (λ references. bases_told view.objects references first second) (get view.repositories word), view)
+
+-- `fetch REPO ITEM..`: the records of what the wanted objects reach and the excluded ones do not
+unfoldable pub fetch_answer : View → List ℕ → List (List ℕ) → Reply × View
+fetch_answer view word items =
+    named_repository view word (few_items items (told_over word (λ references. fetch_told view.objects references items) (get view.repositories word)), view)
 
 -- `for-each-ref REPO [PREFIX]`: the references, ascending by name
 abbrev pub told_references : View → List ℕ → Option (List ℕ) → Option References → Reply
@@ -221,7 +254,11 @@ answer view (EndsParts repository) = part_end_answer view repository
 answer view DropsParts = part_drop_answer view
 answer view (Updates repository body) = update_answer view repository body
 answer view (AsksObject name) = cat_file_answer view name
+answer view (AsksTree name) = ls_tree_answer view name
+answer view (AsksRevisions repository items) = rev_list_answer view repository items
+answer view (AsksBases repository first second) = merge_base_answer view repository first second
 answer view (AsksReferences repository prefix) = references_answer view repository prefix
+answer view (Fetches repository items) = fetch_answer view repository items
 answer view AsksUse = quota_answer view
 answer view Prunes = prune_answer view
 answer view NoRequest = (Refused BadRequest, view)

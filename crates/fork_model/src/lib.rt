@@ -12,7 +12,7 @@ ghost use Rattle.fork_request.specs.declared.reply.Reply.{Reply};
 ghost use Rattle.fork_model.specs.View.{View};
 ghost use Rattle.fork_model.specs.World.{World, Event, Explains, IsUnfaulted, Agree, own, told, alone};
 
-pub use crate::limits::{MAX_REPOSITORIES, MAX_TENANTS};
+pub use crate::limits::{MAX_ITEMS, MAX_REPOSITORIES, MAX_TENANTS};
 
 /// What a tenant is told, and its view afterwards, are those of a private host that holds this
 /// tenant alone, whatever requests of others stand between, where no host fault answered it.

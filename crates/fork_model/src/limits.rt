@@ -3,3 +3,6 @@ pub const MAX_TENANTS: usize = 64;
 
 /// The most repositories of a tenant (own).
 pub const MAX_REPOSITORIES: usize = 256;
+
+/// The most items of a query (own).
+pub const MAX_ITEMS: usize = 64;

@@ -7,6 +7,7 @@ mod isolation;
 mod objects;
 mod prunes;
 mod pushes;
+mod queries;
 mod quotas;
 mod references;
 mod runs;

@@ -1,6 +1,6 @@
-// Rows about the objects that a tenant sees.
+// Rows about all objects that a tenant sees.
 ghost use Rattle.std.specs.Prelude.{IsTrue};
-ghost use Rattle.fork_model.specs.Answer.{cat_file_answer, prune_answer, quota_answer};
+ghost use Rattle.fork_model.specs.Answer.{prune_answer, quota_answer};
 ghost use Rattle.fork_host.specs.Handle.{Ready, Uses, shown_by};
 ghost use Rattle.fork_host.specs.Rows.{Gives};
 ghost use Rattle.fork_host.specs.Safe.{IsSafe};
@@ -8,33 +8,12 @@ ghost use Rattle.fork_host.specs.Shown.{shown};
 
 use crate::own::Own;
 use crate::pruning::keep_reached;
-use crate::replies::{host_fault, told_use};
+use crate::replies::told_use;
 use crate::tenant::Tenant;
-use crate::vault_fault::source_fault;
-use fork_request::{ByteString, HostFault, Refusal, Reply};
-use git_name::Name;
-use push_stream::write_record;
+use fork_request::{HostFault, Reply};
 use std::alloc::Global;
 
 impl Tenant {
-    #[tactic(auto, unfolding(fork_model::specs::Answer::cat_file_answer))]
-    // The record of an object.
-    pub(crate) fn cat_file(&self, alloc: Global, own: &mut Own<'_>, name: Name) -> Reply
-        requires ready { Ready own.old self.now.limit }
-        ensures row { IsTrue own.old.vault.now.honest → Gives (cat_file_answer (shown_by self.now own.old) name) (shown_by self.now own.old) result (shown self.now own.new.vault.now own.old.tenant.now) }
-        ensures safe { IsSafe own.old.vault.now.honest (shown_by self.now own.old) result (shown self.now own.new.vault.now own.old.tenant.now) }
-        ensures own { Uses own.old own.new }
-    {
-        match own.get(alloc, name) {
-            Ok(Some(sealed)) => match write_record(alloc, &sealed) {
-                Ok(text) => Reply::Done(ByteString::new(text)),
-                Err(_) => Reply::Failed(HostFault::Memory),
-            },
-            Ok(None) => Reply::Refused(Refusal::Missing(name)),
-            Err(fault) => Reply::Failed(host_fault(source_fault(fault))),
-        }
-    }
-
     #[tactic(auto, unfolding(fork_model::specs::Answer::quota_answer))]
     // What the objects that are seen use, and the limit.
     pub(crate) fn quota(&self, alloc: Global, own: &Own<'_>) -> Reply

@@ -310,3 +310,30 @@ fn a_prune_leaves_the_upload_of_another_tenant(rt: HostRuntime) -> Result<(), Fa
     assert!(rt; each_hears_the_same(&rt, "300", TURNS)?);
     Ok(())
 }
+
+#[test]
+fn queries_tell_nothing_of_what_others_hold(rt: HostRuntime) -> Result<(), Fail> {
+    const TURNS: &[(&str, &str, &str)] = &[
+        ("alice", "init r\n", "ok\n"),
+        ("bob", "init r\n", "ok\n"),
+        ("alice", "push r\ncreate refs/heads/x $d\n\n$T$A$D", "ok\n"),
+        ("bob", "push r\ncreate refs/heads/main $a\n\n$T$A", "ok\n"),
+        ("bob", "ls-tree $d\n", "no missing $d\n"),
+        ("bob", "rev-list r $d\n", "no missing $d\n"),
+        ("bob", "rev-list r $a ^$d\n", "no missing $d\n"),
+        ("bob", "rev-list r refs/heads/x\n", "no no-ref refs/heads/x\n"),
+        ("bob", "merge-base r $a $d\n", "no missing $d\n"),
+        ("bob", "merge-base r refs/heads/x $a\n", "no no-ref refs/heads/x\n"),
+        ("bob", "fetch r $d\n", "no missing $d\n"),
+        ("bob", "fetch r $a ^$d\n", "no missing $d\n"),
+        ("bob", "fetch r refs/heads/main\n", "ok\n$T$A"),
+        ("bob", "push r\n\n$U", "no missing $e\n"),
+        ("alice", "push r\n\n$E", "ok\n"),
+        ("bob", "push r\n\n$U", "no missing $e\n"),
+        ("bob", "merge-base r $a $a\n", "ok\n$a\n"),
+        ("alice", "merge-base r $a $d\n", "ok\n$a\n"),
+        ("alice", "rev-list r refs/heads/x\n", "ok\n$d\n$a\n"),
+    ];
+    assert!(rt; each_hears_the_same(&rt, "1000", TURNS)?);
+    Ok(())
+}

@@ -62,6 +62,28 @@ const Y: &[u8] = b"8a2adfb91065d9e72cb3ba9651046ab438975b8757d620acb840465717b39
 
 const Z: &[u8] = b"3ea8d8ebaf79de6ba12c03ead84c43b3f7db6b1f243dc31e54294e8788ee9855 tag 1\nx\n";
 
+// A child of A, with the tree T.
+const I: &[u8] =
+    b"c5ea0732c666e6520420bb93b863652297e542787fa1afdc425a6f4beb0eb0d8 commit 198\ntree 6ef19b41225c5369f1c104d45d8d85efa9b057b53b14b4b9b939dd74decc5321\nparent e8a978f76d5cd058c4e0a87ee726a0a64c3226607247a98dd98a3bff21bec8a0\nauthor A <a@x> 200 +0000\ncommitter A <a@x> 200 +0000\n\nx\n\n";
+// Another child of A, with the tree T.
+const M: &[u8] =
+    b"f707ee92fe4d1e98f56b0b1ee115703075530be43dd11ffd7710c24ed6f0c75d commit 198\ntree 6ef19b41225c5369f1c104d45d8d85efa9b057b53b14b4b9b939dd74decc5321\nparent e8a978f76d5cd058c4e0a87ee726a0a64c3226607247a98dd98a3bff21bec8a0\nauthor A <a@x> 200 +0000\ncommitter A <a@x> 200 +0000\n\ny\n\n";
+// A merge of I and M, in this order.
+const O: &[u8] =
+    b"0ccc2cfe18fabe5caf5cd3d120192f1efb0c0df5bc17d7d144ecef4960a5a38d commit 270\ntree 6ef19b41225c5369f1c104d45d8d85efa9b057b53b14b4b9b939dd74decc5321\nparent c5ea0732c666e6520420bb93b863652297e542787fa1afdc425a6f4beb0eb0d8\nparent f707ee92fe4d1e98f56b0b1ee115703075530be43dd11ffd7710c24ed6f0c75d\nauthor A <a@x> 300 +0000\ncommitter A <a@x> 300 +0000\n\np\n\n";
+// A merge of M and I, in this order.
+const Q: &[u8] =
+    b"0a4fe8c5b5acbb10c8b3d86ce2774f73bca2da297d543674ef8f00e457d491a7 commit 270\ntree 6ef19b41225c5369f1c104d45d8d85efa9b057b53b14b4b9b939dd74decc5321\nparent f707ee92fe4d1e98f56b0b1ee115703075530be43dd11ffd7710c24ed6f0c75d\nparent c5ea0732c666e6520420bb93b863652297e542787fa1afdc425a6f4beb0eb0d8\nauthor A <a@x> 300 +0000\ncommitter A <a@x> 300 +0000\n\nq\n\n";
+// A commit without parents, with the tree T.
+const R: &[u8] =
+    b"862df9423deffb933c60b5d0e6a70a47369b556177f829d98079a5dca211d71b commit 130\ntree 6ef19b41225c5369f1c104d45d8d85efa9b057b53b14b4b9b939dd74decc5321\nauthor A <a@x> 100 +0000\ncommitter A <a@x> 100 +0000\n\nother\n\n";
+// A tag of the merge O.
+const S: &[u8] =
+    b"35e34fe4a55e026ade92c6f71a586d8318852724fa73e6af07e397a3b64a51ad tag 90\nobject 0ccc2cfe18fabe5caf5cd3d120192f1efb0c0df5bc17d7d144ecef4960a5a38d\ntype commit\ntag v\n\n";
+// A tree of a file E, the tree T and a file E.
+const V: &[u8] =
+    b"c331b76588c4a05436a5c3d528a2fcb1ba895d1dbfffe84e925bd97fdbe5f770 tree 125\n100644 a.b\x00G:\x0fL;\xe8\xa96\x81\xa2g\xe3\xb1\xe9\xa7\xdc\xda\x11\x85Co\xe1A\xf7t\x91 \xa3\x03r\x18\x1340000 a\x00n\xf1\x9bA\x22\x5cSi\xf1\xc1\x04\xd4]\x8d\x85\xef\xa9\xb0W\xb5;\x14\xb4\xb9\xb99\xddt\xde\xccS!100644 a0\x00G:\x0fL;\xe8\xa96\x81\xa2g\xe3\xb1\xe9\xa7\xdc\xda\x11\x85Co\xe1A\xf7t\x91 \xa3\x03r\x18\x13\n";
+
 // A body of 279 bytes in three pieces.
 const PIECES: [&[u8]; 3] = [
     b"\n6ef19b41225c5369f1c104d45d8d85efa9b057b53b14b4b9b939dd74decc5321 tree 0\n\nebf19fdd8350b77fa7dc28d348",
@@ -80,13 +102,20 @@ fn record(letter: u8) -> &'static [u8] {
         b'F' => F,
         b'G' => G,
         b'H' => H,
+        b'I' => I,
         b'J' => J,
         b'K' => K,
         b'L' => L,
+        b'M' => M,
         b'N' => N,
+        b'O' => O,
         b'P' => P,
+        b'Q' => Q,
+        b'R' => R,
+        b'S' => S,
         b'T' => T,
         b'U' => U,
+        b'V' => V,
         b'W' => W,
         b'X' => X,
         b'Y' => Y,

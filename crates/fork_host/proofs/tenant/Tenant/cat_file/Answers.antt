@@ -1,29 +1,17 @@
-use Rattle.std.proofs.Common.{◌≡◌, ap, subst, sym, ◌∙◌}
-use Rattle.fork_host.specs.Rows.{fault_read, fault_told}
-use Rattle.fork_host.specs.Safe.{IsFaultOver}
-use Rattle.fork_host.proofs.SafeLemmas.{read_safe, read_uses}
+use Rattle.fork_model.specs.Answer.{cat_file_answer}
+use Rattle.fork_query.specs.Objects.{object_told}
+use Rattle.fork_query.specs.Told.{fault_told}
+use Rattle.fork_host.specs.Handle.{visible_by}
+use Rattle.fork_host.proofs.QueryLemmas.{asked_uses, query_gives, query_safe}
 use Rattle.fork_host.proofs.tenant.Tenant.cat_file.Goals as goal
 
-pub returns-in-Ok-clause-safe : goal.returns-in-Ok-clause-safe
-returns-in-Ok-clause-safe c = read_safe c.args.own.now.vault.now.honest c.args.self.now c.args.own.now c.get.new.self _ c.get.ensures.shape tt
-
-pub returns-in-Ok-clause-own : goal.returns-in-Ok-clause-own
-returns-in-Ok-clause-own c = read_uses c.args.own.now c.get.new.self c.requires.ready.quiet c.get.ensures.shape c.get.ensures.kept c.get.ensures.honest c.get.ensures.same
-
-pub returns-in-Ok-Some-clause-safe : goal.returns-in-Ok-Some-clause-safe
-returns-in-Ok-Some-clause-safe c = read_safe c.args.own.now.vault.now.honest c.args.self.now c.args.own.now c.get.new.self _ c.get.ensures.shape tt
-
-pub returns-in-Ok-Some-clause-own : goal.returns-in-Ok-Some-clause-own
-returns-in-Ok-Some-clause-own c = read_uses c.args.own.now c.get.new.self c.requires.ready.quiet c.get.ensures.shape c.get.ensures.kept c.get.ensures.honest c.get.ensures.same
-
-pub returns-in-Ok-None-clause-safe : goal.returns-in-Ok-None-clause-safe
-returns-in-Ok-None-clause-safe c = read_safe c.args.own.now.vault.now.honest c.args.self.now c.args.own.now c.get.new.self _ c.get.ensures.shape tt
-
-pub returns-in-Ok-None-clause-own : goal.returns-in-Ok-None-clause-own
-returns-in-Ok-None-clause-own c = read_uses c.args.own.now c.get.new.self c.requires.ready.quiet c.get.ensures.shape c.get.ensures.kept c.get.ensures.honest c.get.ensures.same
+pub returns-clause-row : goal.returns-clause-row
+unfolding cat_file_answer
+returns-clause-row c honest =
+    query_gives (λ text. text.items) c.args.self.now c.args.own.now c.cat_file.new.source (object_told (visible_by c.args.own.now) c.args.name) c.cat_file.result c.told.result honest (c.cat_file.ensures.told honest) c.cat_file.ensures.asked c.told.ensures
 
 pub returns-clause-safe : goal.returns-clause-safe
-returns-clause-safe c = read_safe c.args.own.now.vault.now.honest c.args.self.now c.args.own.now c.get.new.self _ c.get.ensures.shape (subst (λ f. IsFaultOver c.args.own.now.vault.now.honest f) (sym (c.host_fault.ensures ∙ ap fault_told c.source_fault.ensures ∙ ap (λ f. fault_told (fault_read f)) c.in-Err.ensures.faults)) tt)
+returns-clause-safe c = query_safe (λ text. text.items) c.args.self.now c.args.own.now c.cat_file.new.source c.cat_file.result c.told.result c.cat_file.ensures.asked c.told.ensures
 
 pub returns-clause-own : goal.returns-clause-own
-returns-clause-own c = read_uses c.args.own.now c.get.new.self c.requires.ready.quiet c.get.ensures.shape c.get.ensures.kept c.get.ensures.honest c.get.ensures.same
+returns-clause-own c = asked_uses c.args.own.now c.cat_file.new.source (fault_told c.cat_file.result) c.requires.ready.quiet c.cat_file.ensures.asked

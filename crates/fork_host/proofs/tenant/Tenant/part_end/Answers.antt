@@ -1,9 +1,8 @@
-use Rattle.std.proofs.Common.{subst, sym}
+use Rattle.std.proofs.Common.{rules, subst, sym}
 use Rattle.fork_host.specs.Handle.{shown_by}
 use Rattle.fork_host.specs.Safe.{IsSafe}
 use Rattle.fork_host.specs.Shown.{Account, shown}
 use Rattle.fork_host.proofs.SafeLemmas.{safe_ended}
-use Rattle.fork_host.proofs.tenant.Tenant.part_end.Goals.{in-Some-1, in-None-1}
 use Rattle.fork_host.proofs.tenant.Tenant.part_end.Goals as goal
 
 pub returns-then-not-matches-clause-safe : goal.returns-then-not-matches-clause-safe
@@ -12,5 +11,5 @@ returns-then-not-matches-clause-safe c =
     let old = shown_by c.args.self.now c.args.own.now in
     let vault = c.end_upload-reply.new.own.vault.now in
     let tenant = c.args.own.now.tenant.now in
-    safe_ended honest old _ c.match-self.self vault tenant c.end_upload-reply.result (elim c.match-self.branch [ in-Some-1 w ↦ w.self-is | in-None-1 w ↦ w.self-is ])
+    safe_ended honest old _ c.match-self.self vault tenant c.end_upload-reply.result (search rules)
     (subst (λ (a : Account). IsSafe honest old c.end_upload-reply.result (shown a vault tenant)) (sym c.self.view_is) c.end_upload-reply.ensures.safe)

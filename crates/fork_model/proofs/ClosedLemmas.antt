@@ -35,7 +35,7 @@ each_weaker P Q [] weaker all = tt
 each_weaker P Q (x ∷ xs) weaker all = (weaker x all.0, each_weaker P Q xs weaker all.1)
 
 -- an object that is found beside one that came was there before, or stands under the name of that one
-of_one : (objects : Objects) (more : Object) (name : List ℕ) (object : Object) → get (with_object objects more) name ≡ Some object
+pub of_one : (objects : Objects) (more : Object) (name : List ℕ) (object : Object) → get (with_object objects more) name ≡ Some object
     → (get objects name ≡ Some object) ⊎ ((object_name more ≡ name) × (more ≡ object))
 of_one objects more name object = by (contains_key objects (object_name more))
   where

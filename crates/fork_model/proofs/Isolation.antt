@@ -34,7 +34,7 @@ abbrev pub IsPrivate : {View Ask Reply : Type 0} (answer : View → Ask → Repl
 IsPrivate answer unknown o asks replies last = (replies ≡ (seen answer unknown o asks).0) × (last ≡ (seen answer unknown o asks).1)
 
 module _ {Tenant View Ask HostAsk Reply : Type 0} (cmp : Tenant → Tenant → Ordering) (total : IsTotalOrder cmp) (answer : View → Ask → Reply × View) (unknown : Reply) (is_fault : Reply → Bool) (HostSays : HostAsk → Reply → Type 0) where
-  tied : (w : FinMap cmp View) (t u : Tenant) → eq_by_cmp cmp t u ≡ true → get w t ≡ get w u
+  pub tied : (w : FinMap cmp View) (t u : Tenant) → eq_by_cmp cmp t u ≡ true → get w t ≡ get w u
   tied w t u same = sym (get_tied total w t u (is_equal _ same))
 
   -- what a step without a host fault tells its own tenant, and leaves it
@@ -46,13 +46,13 @@ module _ {Tenant View Ask HostAsk Reply : Type 0} (cmp : Tenant → Tenant → O
   own_step old new t u ask reply same fine (Faulted bad stays) = let no : ⊥ = cc in absurd no
 
   -- a step of another tenant leaves the view, also one with a host fault
-  other_step : (old new : FinMap cmp View) (t u : Tenant) (ask : Ask) (reply : Reply) → eq_by_cmp cmp t u ≡ false → TenantStep cmp answer unknown is_fault old u ask reply new → get new t ≡ get old t
+  pub other_step : (old new : FinMap cmp View) (t u : Tenant) (ask : Ask) (reply : Reply) → eq_by_cmp cmp t u ≡ false → TenantStep cmp answer unknown is_fault old u ask reply new → get new t ≡ get old t
   other_step old new t u ask reply other (Answered view here told set) =
       ap (λ w. get w t) set ∙ (get-insert total old u _ t ∙ ap (λ b. cond b (Some (answer view ask).1) (get old t)) other)
   other_step old new t u ask reply other (Unknown none told stays) = ap (λ w. get w t) stays
   other_step old new t u ask reply other (Faulted bad stays) = ap (λ w. get w t) stays
 
-  own_request : (old new : FinMap cmp View) (ask : HostAsk) (reply : Reply) → OwnStep is_fault HostSays old ask reply new → new ≡ old
+  pub own_request : (old new : FinMap cmp View) (ask : HostAsk) (reply : Reply) → OwnStep is_fault HostSays old ask reply new → new ≡ old
   own_request old new ask reply (HostAnswered says stays) = stays
   own_request old new ask reply (HostFaulted bad stays) = stays
 

@@ -42,10 +42,10 @@ pub right_kept : (objects : Objects) (kept : List ℕ → Bool) → AreRight obj
 right_kept objects kept right name object is = right name object (found_kept objects kept name object is).1
 
 -- in a list
-here : {A : Type 0} (x : A) (xs : List A) → Contains (x ∷ xs) x
+pub here : {A : Type 0} (x : A) (xs : List A) → Contains (x ∷ xs) x
 here x xs = (0, omega arith, refl)
 
-there : {A : Type 0} (x y : A) (xs : List A) → Contains xs y → Contains (x ∷ xs) y
+pub there : {A : Type 0} (x y : A) (xs : List A) → Contains xs y → Contains (x ∷ xs) y
 there x y xs (k, few, is) = (suc k, omega arith, is)
 
 in_front : {A : Type 0} (x : A) (xs ys : List A) → Contains xs x → Contains (xs ++ ys) x

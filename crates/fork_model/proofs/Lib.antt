@@ -4,9 +4,11 @@ pub mod Hosts
 pub mod Isolation
 pub mod KeptLemmas
 pub mod MissingLemmas
+pub mod ProvenanceLemmas
 pub mod PushLemmas
 pub mod Refusals
 pub mod Rows
+pub mod SentLemmas
 pub mod SoundLemmas
 pub mod SoundWorlds
 pub mod StepLemmas

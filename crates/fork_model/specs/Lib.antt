@@ -1,4 +1,5 @@
 pub mod Answer
+pub mod Provenance
 pub mod Runs
 pub mod Sound
 pub mod View

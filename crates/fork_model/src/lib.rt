@@ -5,6 +5,7 @@
 #![tactic(auto)]
 
 mod limits;
+mod provenance;
 
 ghost use Rattle.std.specs.Prelude.{◌≡◌, ℕ, List, Some, false};
 ghost use Rattle.std.specs.FinMap.{get};
@@ -13,6 +14,7 @@ ghost use Rattle.fork_model.specs.View.{View};
 ghost use Rattle.fork_model.specs.World.{World, Event, Explains, IsUnfaulted, Agree, own, told, alone};
 
 pub use crate::limits::{MAX_ITEMS, MAX_REPOSITORIES, MAX_TENANTS};
+pub use crate::provenance::{what_is_seen_was_seen_or_sent, what_runs_show_was_seen_or_sent};
 
 /// What a tenant is told, and its view afterwards, are those of a private host that holds this
 /// tenant alone, whatever requests of others stand between, where no host fault answered it.

@@ -1,0 +1,189 @@
+-- What a tenant sees, it saw before or sent itself: answer by answer.
+use Rattle.std.proofs.Common.{◌≡◌, ℕ, ◌+◌, Bool, true, false, cond, List, [], ◌∷◌, Option, Some, None, Result, Ok, Err, refl, sym, ap, ◌∙◌, arith, is_some, inl, inr, ◌⊎◌, length}
+use Rattle.std.specs.Prelude.{nat_le, nat_lt}
+use Rattle.std.specs.FinMap.{get, insert, remove, contains_key, len, empty}
+use Rattle.git_name.specs.Object.{Object, object_name}
+use Rattle.git_reftx.specs.declared.command.Command.{Command}
+use Rattle.git_reftx.specs.declared.fault.CommandFault.{CommandFault}
+use Rattle.git_reftx.specs.declared.fault.TxRefusal.{TxRefusal}
+use Rattle.git_reftx.specs.Reading.{commands_of}
+use Rattle.git_reftx.specs.Transaction.{References, transacted}
+use Rattle.push_stream.specs.Brief.{brief_of}
+use Rattle.push_stream.specs.Stream.{Stream, Flows, Breaks, finished, sent_in, stream_of}
+use Rattle.push_stream.specs.Upload.{UploadValue}
+use Rattle.fork_push.specs.declared.refusal.PushRefusal.{PushRefusal}
+use Rattle.fork_push.specs.Push.{judged}
+use Rattle.fork_reach.specs.Objects.{with_object, with_objects}
+use Rattle.fork_reach.specs.Reach.{is_reached, linked_names}
+use Rattle.fork_reach.specs.Source.{Objects, kind_in}
+use Rattle.fork_request.specs.Asked.{Ask, Inits, Drops, Forks, Pushes, SendsPart, EndsParts, DropsParts, Updates, AsksObject, AsksTree, AsksRevisions, AsksBases, AsksReferences, Fetches, AsksUse, Prunes, NoRequest}
+use Rattle.fork_request.specs.Names.{is_plain_name}
+use Rattle.fork_request.specs.declared.refusal.Refusal.TheVariants.{BadName, NoRepository, NoUpload, RepositoryExists, StagedTooLong, TooMany, UploadOpen}
+use Rattle.fork_request.specs.declared.reply.Reply.{Reply}
+use Rattle.fork_request.specs.declared.reply.Reply.TheVariants.{Done, Refused}
+use Rattle.fork_model.specs.Answer.{answer, both, without_upload, init_answer, drop_answer, fork_answer, push_answer, part_answer, part_end_answer, part_drop_answer, update_answer, cat_file_answer, ls_tree_answer, rev_list_answer, merge_base_answer, fetch_answer, references_answer, quota_answer, prune_answer, targets_of, named_repository, new_repository, dropped, copied, push_into, pushed, taken, open_upload, upload_into, end_in, ended, update_in, carried_out, with_references, transaction_refusal, command_refusal, push_refusal}
+use Rattle.fork_model.specs.Provenance.{IsAmong, IsFrom, Seen, Pushed, Uploaded, IsUploadFrom, Stays, Ends, GoesOn}
+use Rattle.fork_model.specs.View.{View}
+use Rattle.fork_model.proofs.ClosedLemmas.{of_one}
+use Rattle.fork_model.proofs.KeptLemmas.{found_kept, there}
+
+-- what is found beside objects that came was there before, or is one of them
+pub among_both : (objects : Objects) (sent : List Object) (name : List ℕ) (object : Object) → get (with_objects objects sent) name ≡ Some object
+    → (get objects name ≡ Some object) ⊎ IsAmong sent name object
+among_both objects [] name object is = inl is
+among_both objects (more ∷ sent) name object is =
+    elim (among_both (with_object objects more) sent name object is) [
+      | inl before ↦ elim (of_one objects more name object before) [
+        | inl was ↦ inl was
+        | inr came ↦ inr (record { sent = (0, omega arith, came.1); named = ap object_name (sym came.1) ∙ came.0 })
+      ]
+      | inr later ↦ inr (record { sent = there more object sent later.sent; named = later.named })
+    ]
+
+-- the same of a stream at its end
+pub among_held : (view : View) (s : Stream) (name : List ℕ) (object : Object) → get (both view (finished s)) name ≡ Some object
+    → (get view.objects name ≡ Some object) ⊎ IsAmong (sent_in s) name object
+among_held view (Flows commands objects true []) name object is = among_both view.objects objects name object is
+among_held view (Flows commands objects true (b ∷ rest)) name object is = inl is
+among_held view (Flows commands objects false rest) name object is = inl is
+among_held view (Breaks fault) name object is = inl is
+
+-- a row that leaves the objects and the upload
+record IsQuiet (view : View) (row : Reply × View) : Type 0 where
+  objects : row.1.objects ≡ view.objects
+  upload : row.1.upload ≡ view.upload
+
+quiet : (view : View) (reply : Reply) → IsQuiet view (reply, view)
+quiet view reply = record { objects = refl; upload = refl }
+
+-- a row of which all that is seen behind it is known to come from somewhere
+record IsKnown (view : View) (ask : Ask) (row : Reply × View) : Type 0 where
+  objects : (name : List ℕ) (object : Object) → get row.1.objects name ≡ Some object → IsFrom view ask name object
+  upload : IsUploadFrom view ask row.1.upload
+
+known : (view : View) (ask : Ask) (row : Reply × View) → IsQuiet view row → IsKnown view ask row
+known view ask row is = record {
+  objects = λ name object found. Seen (ap (λ objects. get objects name) (sym is.objects) ∙ found);
+  upload = Stays is.upload;
+}
+
+-- what holds of both branches holds of the test
+either : (P : Reply × View → Type 0) (b : Bool) (x y : Reply × View) → P x → P y → P (cond b x y)
+either P true x y left right = left
+either P false x y left right = right
+
+named_row : (P : Reply × View → Type 0) (view : View) (word : List ℕ) (row : Reply × View) → P (Refused (BadName word), view) → P row → P (named_repository view word row)
+named_row P view word row refused done = either P (is_plain_name 64 word) row (Refused (BadName word), view) done refused
+
+new_row : (view : View) (word : List ℕ) (references : References) → IsQuiet view (new_repository view word references)
+new_row view word references =
+    either (IsQuiet view) (contains_key view.repositories word) (Refused (RepositoryExists word), view) _ (quiet view (Refused (RepositoryExists word)))
+    (either (IsQuiet view) (nat_le 256 (len view.repositories)) (Refused TooMany, view) (Done [], record view { repositories = insert view.repositories word references }) (quiet view (Refused TooMany)) (record { objects = refl; upload = refl }))
+
+dropped_row : (view : View) (word : List ℕ) → IsQuiet view (dropped view word)
+dropped_row view word =
+    either (IsQuiet view) (contains_key view.repositories word) (Done [], record view { repositories = remove view.repositories word }) (Refused (NoRepository word), view)
+    (record { objects = refl; upload = refl }) (quiet view (Refused (NoRepository word)))
+
+copied_row : (view : View) (source copy : List ℕ) (o : Option References) → IsQuiet view (copied view source copy o)
+copied_row view source copy None = quiet view (Refused (NoRepository source))
+copied_row view source copy (Some references) = new_row view copy references
+
+with_references_row : (view : View) (word : List ℕ) (value : Result References TxRefusal) → IsQuiet view (with_references view word value)
+with_references_row view word (Ok new) = record { objects = refl; upload = refl }
+with_references_row view word (Err refusal) = quiet view (Refused (transaction_refusal refusal))
+
+carried_row : (view : View) (word : List ℕ) (old : References) (value : Result (List Command) CommandFault) → IsQuiet view (carried_out view word old value)
+carried_row view word old (Ok commands) = with_references_row view word (transacted old commands (kind_in view.objects))
+carried_row view word old (Err fault) = quiet view (Refused (command_refusal fault))
+
+update_row : (view : View) (word body : List ℕ) (o : Option References) → IsQuiet view (update_in view word body o)
+update_row view word body None = quiet view (Refused (NoRepository word))
+update_row view word body (Some old) = carried_row view word old (commands_of body)
+
+-- a push of a stream: what is seen behind it was seen, or stands in the stream
+taken_row : (view : View) (ask : Ask) (word : List ℕ) (objects : Objects) (value : Result References PushRefusal)
+    → ((name : List ℕ) (object : Object) → get objects name ≡ Some object → IsFrom view ask name object) → IsKnown view ask (taken view word objects value)
+taken_row view ask word objects (Ok new) all = record { objects = all; upload = Stays refl }
+taken_row view ask word objects (Err refusal) all = known view ask _ (quiet view (Refused (push_refusal refusal)))
+
+pushed_row : (view : View) (ask : Ask) (word : List ℕ) (old : References) (s : Stream)
+    → ((name : List ℕ) (object : Object) → IsAmong (sent_in s) name object → IsFrom view ask name object) → IsKnown view ask (pushed view word old (finished s))
+pushed_row view ask word old s sent =
+    taken_row view ask word (both view (finished s)) (judged (both view (finished s)) old view.limit (brief_of (finished s))) (λ name object found.
+    elim (among_held view s name object found) [
+      | inl was ↦ Seen was
+      | inr came ↦ sent name object came
+    ])
+
+into_row : (view : View) (ask : Ask) (word body : List ℕ) (o : Option References)
+    → ((name : List ℕ) (object : Object) → IsAmong (sent_in (stream_of body)) name object → IsFrom view ask name object) → IsKnown view ask (push_into view word body o)
+into_row view ask word body None sent = known view ask _ (quiet view (Refused (NoRepository word)))
+into_row view ask word body (Some old) sent =
+    either (IsKnown view ask) (is_some view.upload) (Refused UploadOpen, view) (pushed view word old (finished (stream_of body)))
+    (known view ask _ (quiet view (Refused UploadOpen))) (pushed_row view ask word old (stream_of body) sent)
+
+upload_row : (view : View) (ask : Ask) (word : List ℕ) (old : References) (o : Option UploadValue) → view.upload ≡ o
+    → ((upload : UploadValue) → view.upload ≡ Some upload → (name : List ℕ) (object : Object) → IsAmong (sent_in upload.stream) name object → IsFrom view ask name object)
+    → IsKnown view ask (upload_into view word old o)
+upload_row view ask word old None is sent = known view ask _ (quiet view (Refused NoUpload))
+upload_row view ask word old (Some upload) is sent = pushed_row view ask word old upload.stream (sent upload is)
+
+end_row : (view : View) (ask : Ask) (word : List ℕ) (o : Option References)
+    → ((upload : UploadValue) → view.upload ≡ Some upload → (name : List ℕ) (object : Object) → IsAmong (sent_in upload.stream) name object → IsFrom view ask name object)
+    → IsKnown view ask (end_in view word o)
+end_row view ask word None sent = known view ask _ (quiet view (Refused (NoRepository word)))
+end_row view ask word (Some old) sent = upload_row view ask word old view.upload refl sent
+
+-- a row that ends the upload whatever it answers
+ended_row : (view : View) (ask : Ask) (row : Reply × View) → IsKnown view ask row → IsKnown view ask (ended row)
+ended_row view ask row is = record { objects = is.objects; upload = Ends refl }
+
+part_row : (view : View) (body : List ℕ) → IsKnown view (SendsPart body) (part_answer view body)
+unfolding part_answer
+part_row view body =
+    either (IsKnown view (SendsPart body)) (nat_lt 33554432 ((open_upload view.upload).count + length body)) (Refused StagedTooLong, view) _
+    (known view (SendsPart body) _ (quiet view (Refused StagedTooLong)))
+    (record { objects = λ name object found. Seen found; upload = GoesOn body refl refl })
+
+part_drop_row : (view : View) → IsKnown view DropsParts (part_drop_answer view)
+unfolding part_drop_answer
+part_drop_row view =
+    either (IsKnown view DropsParts) (is_some view.upload) (Done [], without_upload view) (Refused NoUpload, view)
+    (record { objects = λ name object found. Seen found; upload = Ends refl }) (known view DropsParts _ (quiet view (Refused NoUpload)))
+
+-- each answer is such a row
+known_row : (view : View) (ask : Ask) → IsKnown view ask (answer view ask)
+unfolding answer init_answer drop_answer fork_answer push_answer part_end_answer update_answer cat_file_answer ls_tree_answer rev_list_answer merge_base_answer fetch_answer references_answer quota_answer prune_answer
+known_row view (Inits word) = known view (Inits word) _ (named_row (IsQuiet view) view word _ (quiet view (Refused (BadName word))) (new_row view word empty))
+known_row view (Drops word) = known view (Drops word) _ (named_row (IsQuiet view) view word _ (quiet view (Refused (BadName word))) (dropped_row view word))
+known_row view (Forks source copy) =
+    known view (Forks source copy) _ (named_row (IsQuiet view) view source _ (quiet view (Refused (BadName source)))
+    (named_row (IsQuiet view) view copy _ (quiet view (Refused (BadName copy))) (copied_row view source copy (get view.repositories source))))
+known_row view (Pushes word body) =
+    named_row (IsKnown view (Pushes word body)) view word _ (known view (Pushes word body) _ (quiet view (Refused (BadName word))))
+    (into_row view (Pushes word body) word body (get view.repositories word) (λ name object came. Pushed word body refl came))
+known_row view (SendsPart body) = part_row view body
+known_row view (EndsParts word) =
+    ended_row view (EndsParts word) _ (named_row (IsKnown view (EndsParts word)) view word _ (known view (EndsParts word) _ (quiet view (Refused (BadName word))))
+    (end_row view (EndsParts word) word (get view.repositories word) (λ upload is name object came. Uploaded word upload refl is came)))
+known_row view DropsParts = part_drop_row view
+known_row view (Updates word body) = known view (Updates word body) _ (named_row (IsQuiet view) view word _ (quiet view (Refused (BadName word))) (update_row view word body (get view.repositories word)))
+known_row view (AsksObject name) = known view (AsksObject name) _ (quiet view _)
+known_row view (AsksTree name) = known view (AsksTree name) _ (quiet view _)
+known_row view (AsksRevisions word items) = known view (AsksRevisions word items) _ (named_row (IsQuiet view) view word _ (quiet view (Refused (BadName word))) (quiet view _))
+known_row view (AsksBases word first second) = known view (AsksBases word first second) _ (named_row (IsQuiet view) view word _ (quiet view (Refused (BadName word))) (quiet view _))
+known_row view (Fetches word items) = known view (Fetches word items) _ (named_row (IsQuiet view) view word _ (quiet view (Refused (BadName word))) (quiet view _))
+known_row view (AsksReferences word prefix) = known view (AsksReferences word prefix) _ (named_row (IsQuiet view) view word _ (quiet view (Refused (BadName word))) (quiet view _))
+known_row view AsksUse = known view AsksUse _ (quiet view _)
+known_row view Prunes = record {
+  objects = λ name object found. Seen (found_kept view.objects (is_reached (linked_names view.objects) view.objects (targets_of view.repositories)) name object found).1;
+  upload = Stays refl;
+}
+known_row view NoRequest = known view NoRequest _ (quiet view _)
+
+pub object_from : (view : View) (ask : Ask) (name : List ℕ) (object : Object) → get (answer view ask).1.objects name ≡ Some object → IsFrom view ask name object
+object_from view ask name object found = (known_row view ask).objects name object found
+
+pub upload_from : (view : View) (ask : Ask) → IsUploadFrom view ask (answer view ask).1.upload
+upload_from view ask = (known_row view ask).upload

@@ -1,4 +1,4 @@
-use Rattle.std.proofs.Common.{◌≡◌, ◌+◌, false, true, ap, sym, subst, length, ◌∙◌}
+use Rattle.std.proofs.Common.{◌≡◌, ◌+◌, false, ap, sym, length, ◌∙◌}
 use Rattle.std.specs.BTreeMap.{is_at}
 use Rattle.std.specs.BTreeSet.{contains}
 use Rattle.std.specs.List.{list_any}
@@ -6,7 +6,6 @@ use Rattle.std.specs.FinMap as map
 use Rattle.git_name.specs.Name.{name_cmp}
 use Rattle.git_name.specs.Object.{object_name}
 use Rattle.fork_reach.specs.Objects.{use_of, use_of_object}
-use Rattle.fork_ledger.specs.Staged.{awaiting}
 use Rattle.fork_ledger.specs.Used.{capped}
 use Rattle.fork_ledger.proofs.CappedLemmas.{capped_more}
 use Rattle.fork_ledger.proofs.CountedLemmas.{counted_again, counted_alike, counted_new, not_again, seen_same_names}

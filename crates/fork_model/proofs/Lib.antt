@@ -1,4 +1,5 @@
 pub mod ClosedLemmas
+pub mod FetchedLemmas
 pub mod HostLemmas
 pub mod Hosts
 pub mod Isolation
@@ -12,5 +13,7 @@ pub mod SentLemmas
 pub mod SoundLemmas
 pub mod SoundWorlds
 pub mod StepLemmas
+pub mod TakenLemmas
 pub mod TransactionLemmas
+pub mod TransferLemmas
 pub mod Worlds

@@ -79,7 +79,7 @@ target_among repositories word references reference target there_is points =
     (found_value word references (entries repositories) (sym (get-entries repositories word) ∙ there_is))
     (found_value reference target (entries references) (sym (get-entries references reference) ∙ points))
 
-kind_there : (o : Option Object) (kind : _) → option_map (λ object. object.kind) o ≡ Some kind → is_some o ≡ true
+pub kind_there : (o : Option Object) (kind : _) → option_map (λ object. object.kind) o ≡ Some kind → is_some o ≡ true
 kind_there None kind is = absurd (cc)
 kind_there (Some object) kind is = refl
 

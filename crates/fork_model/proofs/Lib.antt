@@ -1,10 +1,12 @@
 pub mod ClosedLemmas
+pub mod FetchLemmas
 pub mod FetchedLemmas
 pub mod HostLemmas
 pub mod Hosts
 pub mod Isolation
 pub mod KeptLemmas
 pub mod MissingLemmas
+pub mod PrerequisiteLemmas
 pub mod ProvenanceLemmas
 pub mod PushLemmas
 pub mod Refusals

@@ -14,7 +14,7 @@ use Rattle.fork_reach.specs.Source.{Objects}
 use Rattle.fork_reach.proofs.KeptObjects.{kept_all}
 use Rattle.fork_reach.proofs.ReachLemmas.{reached_there}
 use Rattle.fork_model.specs.Sound.{IsRight}
-use Rattle.fork_model.specs.Transfer.{HasPrerequisites, fetched_objects, received}
+use Rattle.fork_model.specs.Transfer.{AreAlike, HasPrerequisites, fetched_objects, received}
 use Rattle.fork_model.specs.View.{View}
 use Rattle.fork_model.proofs.FetchedLemmas.{each_value}
 use Rattle.fork_model.proofs.KeptLemmas.{found_value, stays_at}
@@ -23,7 +23,7 @@ use Rattle.fork_model.proofs.ProvenanceLemmas.{among_both}
 some_same : {X : Type 0} (a b : X) → Some a ≡ Some b → a ≡ b
 some_same a b is = cc
 
-none_there : {X : Type 0} (o : Option X) → o ≡ None → is_some o ≡ true → ⊥
+pub none_there : {X : Type 0} (o : Option X) → o ≡ None → is_some o ≡ true → ⊥
 none_there o is there = (let no : false ≡ true = ap is_some (sym is) ∙ there in cc)
 
 -- an object that comes is there under its name
@@ -45,7 +45,7 @@ came objects (more ∷ sent) object (suc k, few, is) = came (with_object objects
 
 -- what is found under a name of the sender is the sender's object, where the receiver's are the same
 found_alike : (receiver sender : Objects) (sent : List Object)
-    → ((name : List ℕ) (object other : Object) → get sender name ≡ Some object → get receiver name ≡ Some other → object ≡ other)
+    → AreAlike sender receiver
     → AllByRecursion (λ object. get sender (object_name object) ≡ Some object) sent
     → (name : List ℕ) (object other : Object) → get sender name ≡ Some object → get (with_objects receiver sent) name ≡ Some other → other ≡ object
 found_alike receiver sender sent same theirs name object other here found =
@@ -60,7 +60,7 @@ found_alike receiver sender sent same theirs name object other here found =
     each_of (first ∷ sent) all other (suc k, few, is) = each_of sent all.1 other (k, omega arith, is)
 
 some_found : (receiver sender : Objects) (sent : List Object)
-    → ((name : List ℕ) (object other : Object) → get sender name ≡ Some object → get receiver name ≡ Some other → object ≡ other)
+    → AreAlike sender receiver
     → AllByRecursion (λ object. get sender (object_name object) ≡ Some object) sent
     → (name : List ℕ) → contains_key sender name ≡ true → contains_key (with_objects receiver sent) name ≡ true → get (with_objects receiver sent) name ≡ get sender name
 some_found receiver sender sent same theirs name there arrived = by (get sender name) (get (with_objects receiver sent) name) refl refl

@@ -30,7 +30,7 @@ rest_of P [] ys all = all
 rest_of P (x ∷ xs) ys all = rest_of P xs ys all.1
 
 -- a weaker fact holds of all too
-each_weaker : {A : Type 0} (P Q : A → Type 0) (xs : List A) → ((x : A) → P x → Q x) → AllByRecursion P xs → AllByRecursion Q xs
+pub each_weaker : {A : Type 0} (P Q : A → Type 0) (xs : List A) → ((x : A) → P x → Q x) → AllByRecursion P xs → AllByRecursion Q xs
 each_weaker P Q [] weaker all = tt
 each_weaker P Q (x ∷ xs) weaker all = (weaker x all.0, each_weaker P Q xs weaker all.1)
 

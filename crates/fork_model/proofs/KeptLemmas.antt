@@ -58,7 +58,7 @@ behind x [] ys at = at
 behind x (y ∷ xs) ys at = there y x (xs ++ ys) (behind x xs ys at)
 
 -- what is found is among the values
-found_value : {X : Type 0} (q : List ℕ) (x : X) (es : List (List ℕ × X)) → find name_cmp q es ≡ Some x → Contains (map (λ e. e.1) es) x
+pub found_value : {X : Type 0} (q : List ℕ) (x : X) (es : List (List ℕ × X)) → find name_cmp q es ≡ Some x → Contains (map (λ e. e.1) es) x
 found_value q x [] is = absurd (cc)
 found_value q x (e ∷ es) is = by (eq_by_cmp name_cmp q e.0) is (found_value q x es)
   where
@@ -79,19 +79,19 @@ target_among repositories word references reference target there_is points =
     (found_value word references (entries repositories) (sym (get-entries repositories word) ∙ there_is))
     (found_value reference target (entries references) (sym (get-entries references reference) ∙ points))
 
-kind_there : (o : Option Object) (kind : _) → option_map (λ object. object.kind) o ≡ Some kind → is_some o ≡ true
+pub kind_there : (o : Option Object) (kind : _) → option_map (λ object. object.kind) o ≡ Some kind → is_some o ≡ true
 kind_there None kind is = absurd (cc)
 kind_there (Some object) kind is = refl
 
--- links that are met stay met where what they name is kept
-met_kept : (objects : Objects) (kept : List ℕ → Bool) (links : List Link)
-    → ((name : List ℕ) → Contains (map (λ link. link.name) links) name → contains_key objects name ≡ true → kept name ≡ true)
-    → AllByRecursion (IsMet objects) links → AllByRecursion (IsMet (retain_keys objects kept)) links
-met_kept objects kept [] leads all = tt
-met_kept objects kept (link ∷ links) leads all =
-    let stays = stays_at objects kept link.name (leads link.name (here link.name (map (λ l. l.name) links)) (kind_there (get objects link.name) link.kind all.0)) in (
-      ap (λ o. option_map (λ object. object.kind) o) stays ∙ all.0,
-      met_kept objects kept links (λ name at. leads name (there link.name name (map (λ l. l.name) links) at)) all.1,
+-- links that are met stay met where what they name is found as before
+pub met_alike : (objects others : Objects) (links : List Link)
+    → ((name : List ℕ) → Contains (map (λ link. link.name) links) name → contains_key objects name ≡ true → get others name ≡ get objects name)
+    → AllByRecursion (IsMet objects) links → AllByRecursion (IsMet others) links
+met_alike objects others [] alike all = tt
+met_alike objects others (link ∷ links) alike all =
+    let same = alike link.name (here link.name (map (λ l. l.name) links)) (kind_there (get objects link.name) link.kind all.0) in (
+      ap (λ o. option_map (λ object. object.kind) o) same ∙ all.0,
+      met_alike objects others links (λ name at. alike name (there link.name name (map (λ l. l.name) links) at)) all.1,
     )
 
 -- objects stay closed where links lead from what is kept to what is kept
@@ -100,8 +100,8 @@ pub closed_kept : (objects : Objects) (kept : List ℕ → Bool)
     → IsClosed objects → IsClosed (retain_keys objects kept)
 closed_kept objects kept leads closed name object is =
     let found = found_kept objects kept name object is in
-    met_kept objects kept (links_in object.kind object.bytes)
-    (λ other at is_there. leads name other found.0 (subst (λ o. Contains (map (λ link. link.name) (links_of_found o)) other) (sym found.1) at) is_there)
+    met_alike objects (retain_keys objects kept) (links_in object.kind object.bytes)
+    (λ other at is_there. stays_at objects kept other (leads name other found.0 (subst (λ o. Contains (map (λ link. link.name) (links_of_found o)) other) (sym found.1) at) is_there))
     (closed name object found.1)
 
 -- references stay right where their targets are kept

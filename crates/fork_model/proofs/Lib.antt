@@ -1,9 +1,12 @@
 pub mod ClosedLemmas
+pub mod FetchLemmas
+pub mod FetchedLemmas
 pub mod HostLemmas
 pub mod Hosts
 pub mod Isolation
 pub mod KeptLemmas
 pub mod MissingLemmas
+pub mod PrerequisiteLemmas
 pub mod ProvenanceLemmas
 pub mod PushLemmas
 pub mod Refusals
@@ -12,5 +15,7 @@ pub mod SentLemmas
 pub mod SoundLemmas
 pub mod SoundWorlds
 pub mod StepLemmas
+pub mod TakenLemmas
 pub mod TransactionLemmas
+pub mod TransferLemmas
 pub mod Worlds

@@ -2,5 +2,6 @@ pub mod Answer
 pub mod Provenance
 pub mod Runs
 pub mod Sound
+pub mod Transfer
 pub mod View
 pub mod World

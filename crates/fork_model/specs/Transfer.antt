@@ -1,0 +1,41 @@
+-- What goes from one view into another by `fetch` and `push` (own).
+use Rattle.std.specs.Prelude.{◌≡◌, ℕ, ◌≤◌, nat_lt, true, List, [], Some, length, if◌then◌else◌}
+use Rattle.std.specs.FinMap.{get, insert, contains_key, values}
+use Rattle.git_name.specs.Object.{Object}
+use Rattle.git_reftx.specs.Transaction.{References}
+use Rattle.push_stream.specs.declared.record.TheConstants.{MAX_CONTENT}
+use Rattle.fork_query.specs.Reached.{beyond}
+use Rattle.fork_reach.specs.Objects.{use_of, with_objects}
+use Rattle.fork_reach.specs.Reach.{is_reached, linked_names}
+use Rattle.fork_reach.specs.Source.{Objects}
+use Rattle.fork_request.specs.declared.refusal.Refusal.TheVariants.{OverQuota}
+use Rattle.fork_request.specs.declared.reply.Reply.{Reply}
+use Rattle.fork_request.specs.declared.reply.Reply.TheVariants.{Done, Refused}
+use Rattle.fork_model.specs.View.{View}
+
+-- no object is longer than a stream takes
+abbrev pub AreSendable : Objects → Type 0
+AreSendable objects = (name : List ℕ) (object : Object) → get objects name ≡ Some object → length object.bytes ≤ MAX_CONTENT
+
+-- the objects that a fetch gives, ascending by name
+abbrev pub fetched_objects : Objects → List (List ℕ) → List (List ℕ) → List Object
+fetched_objects objects wanted excluded = values (beyond (linked_names objects) objects wanted excluded)
+
+-- under a name that both hold stands one object: names are hashes, so no two of one name are known
+abbrev pub AreAlike : Objects → Objects → Type 0
+AreAlike sender receiver = (name : List ℕ) (object other : Object) → get sender name ≡ Some object → get receiver name ≡ Some other → object ≡ other
+
+-- the receiver holds what the excluded names reach, and holds it as the sender does
+pub record HasPrerequisites (receiver sender : Objects) (excluded : List (List ℕ)) : Type 0 where
+  pub reached : (name : List ℕ) → is_reached (linked_names sender) sender excluded name ≡ true → contains_key receiver name ≡ true
+  pub same : AreAlike sender receiver
+
+-- the receiver's objects and those that it fetched
+abbrev pub received : Objects → Objects → List (List ℕ) → List (List ℕ) → Objects
+received receiver sender wanted excluded = with_objects receiver (fetched_objects sender wanted excluded)
+
+-- the answer to a push without commands of which the limit alone is in question
+abbrev pub within_quota : View → List ℕ → References → Objects → Reply × View
+within_quota view repository references objects =
+    if nat_lt view.limit (use_of objects) then (Refused OverQuota, view)
+    else (Done [], record view { repositories = insert view.repositories repository references; objects = objects })

@@ -89,11 +89,11 @@ pub reached_beyond : {X : Type 0} (next : List ℕ → List (List ℕ)) (objects
 reached_beyond next objects hidden wants haves is name =
     same_tests (is_reached next (without objects hidden) wants name) (is_reached next objects wants name && not (is_reached next objects haves name))
     (λ reached.
-        let there = and_parts (contains_key objects name) _ (sym (there_without objects hidden name) ∙ reached_there next (without objects hidden) wants name reached) in
-        and_from _ _ (led_to_reached next objects wants name (reached_where next (without objects hidden) objects wants (λ n there. (and_parts (contains_key objects n) _ (sym (there_without objects hidden n) ∙ there)).0) name (reached_led_to next (without objects hidden) wants name reached)))
-        (ap not (sym (is name)) ∙ there.1))
+    let there = and_parts (contains_key objects name) _ (sym (there_without objects hidden name) ∙ reached_there next (without objects hidden) wants name reached) in
+    and_from _ _ (led_to_reached next objects wants name (reached_where next (without objects hidden) objects wants (λ n there. (and_parts (contains_key objects n) _ (sym (there_without objects hidden n) ∙ there)).0) name (reached_led_to next (without objects hidden) wants name reached)))
+    (ap not (sym (is name)) ∙ there.1))
     (λ both.
-        let parts = and_parts (is_reached next objects wants name) _ both in
-        led_to_reached next (without objects hidden) wants name
-        (reached_open next objects hidden wants (λ from n hides linked there. is n ∙ next_reached next objects haves from n (sym (is from) ∙ hides) linked there) name (reached_led_to next objects wants name parts.0)
-        (not-true _ (ap not (is name) ∙ parts.1))))
+    let parts = and_parts (is_reached next objects wants name) _ both in
+    led_to_reached next (without objects hidden) wants name
+    (reached_open next objects hidden wants (λ from n hides linked there. is n ∙ next_reached next objects haves from n (sym (is from) ∙ hides) linked there) name (reached_led_to next objects wants name parts.0)
+    (not-true _ (ap not (is name) ∙ parts.1))))

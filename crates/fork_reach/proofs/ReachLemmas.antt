@@ -1,6 +1,6 @@
 -- What a walk reaches: the test and the relation say the same.
-use Rattle.std.proofs.Common.{◌≡◌, ℕ, zero, suc, ◌&&◌, ◌||◌, Bool, true, false, List, refl, sym, ap, subst, ◌∙◌, inl, inr}
-use Rattle.std.specs.List.{Contains, list_any}
+use Rattle.std.proofs.Common.{◌≡◌, ℕ, zero, suc, ◌&&◌, ◌||◌, Bool, true, false, List, refl, sym, subst, ◌∙◌, inl, inr}
+use Rattle.std.specs.List.{Contains}
 use Rattle.std.specs.FinMap.{FinMap, contains_key, keys, len}
 use Rattle.std.proofs.lemmas.Bool.{and_parts, and_from, or_cases}
 use Rattle.std.proofs.lemmas.List.Folds.{Any-from_list_any}

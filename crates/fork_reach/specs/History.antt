@@ -1,7 +1,6 @@
 -- The history of commits: of each commit its parents, and when it was committed (own).
 use Rattle.std.specs.Prelude.{ℕ, List, [], Option, None, Some}
-use Rattle.std.specs.FinMap.{FinMap, get, retain_keys}
-use Rattle.git_name.specs.Maps.{map_values}
+use Rattle.std.specs.FinMap.{FinMap, get}
 use Rattle.git_name.specs.Name.{name_cmp}
 use Rattle.git_name.specs.declared.kind.Kind.{Kind}
 use Rattle.git_name.specs.declared.kind.Kind.TheVariants.{Blob, Tree, Commit, Tag}

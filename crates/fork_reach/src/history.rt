@@ -99,11 +99,7 @@ impl History {
 
     /// The names of those of these commits that parents lead to from the given ones, and of the given
     /// ones themselves. It reads no object.
-    pub fn ancestors(
-        &self,
-        alloc: Global,
-        commits: &[Name],
-    ) -> Result<BTreeSet<Name>, AllocError>
+    pub fn ancestors(&self, alloc: Global, commits: &[Name]) -> Result<BTreeSet<Name>, AllocError>
         ensures { IfOk result (λ found. (name : List ℕ) → contains name_cmp found name ≡ is_reached (noted_parents self.now) self.now commits.now name) }
     {
         let mut seen = BTreeSet::new(alloc);

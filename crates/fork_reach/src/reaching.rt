@@ -58,5 +58,11 @@ pub fn ancestors<S: Source>(
     ensures rooted { IfOk result (λ found. (name : List ℕ) → Contains commits.now name → map.contains_key (S.state source.old).objects name ≡ true → contains name_cmp found name ≡ true) }
     ensures asked { IsAsked (S.state source.old) (S.state source.new) (fault_in result) }
 {
-    walk(alloc, source, Along::Parents, commits, &BTreeSet::new(alloc))
+    walk(
+        alloc,
+        source,
+        Along::Parents,
+        commits,
+        &BTreeSet::new(alloc),
+    )
 }

@@ -1,4 +1,4 @@
-use crate::{SourceFault, ancestors, reach, reached_is_led_to};
+use crate::{SourceFault, ancestors, reach, reach_past, reached_is_led_to, read_history};
 use git_name::{Kind, Name, Sealed, seal};
 use std::alloc::{AllocError, Global};
 use std::collections::BTreeSet;
@@ -190,6 +190,68 @@ fn parents_lead_to_commits_alone(rt: HostRuntime) -> Result<(), Fail> {
         let told = by_parents(rt.alloc(), letters, wanted)?;
         assert_eq!(rt; told, (true, reads), "{letters:?}");
     }
+    Ok(())
+}
+
+// What links lead to from the roots, past none of the hidden ones, and how many objects were read.
+fn past_hidden(
+    alloc: Global,
+    letters: &[u8],
+    hidden: &[u8],
+    wanted: &[u8],
+) -> Result<(bool, u64), Fail> {
+    let mut kept = Kept::new(alloc, 0);
+    let names = filled(alloc, &mut kept)?;
+    let from = roots(alloc, &names, letters)?;
+    let mut away = BTreeSet::new(alloc);
+    for letter in hidden {
+        away.insert(named(&names, *letter))?;
+    }
+    let found = reach_past(alloc, &mut kept, from.as_slice(), &away).or(Err("reach_past"))?;
+    Ok((has_letters(&found, &names, wanted), kept.reads))
+}
+
+#[test]
+fn a_walk_stops_at_what_is_hidden(rt: HostRuntime) -> Result<(), Fail> {
+    // The roots, what is hidden, what is reached, and how many of it are no blobs.
+    let rows: [(&[u8], &[u8], &[u8], u64); 5] = [
+        (b"g", b"", b"gctbopu", 5),
+        (b"g", b"c", b"g", 1),
+        (b"c", b"p", b"ctbo", 2),
+        (b"c", b"pb", b"cto", 2),
+        (b"cz", b"c", b"z", 0),
+    ];
+    for (letters, hidden, wanted, reads) in rows {
+        let told = past_hidden(rt.alloc(), letters, hidden, wanted)?;
+        assert_eq!(rt; told, (true, reads), "{letters:?} {hidden:?}");
+    }
+    Ok(())
+}
+
+#[test]
+fn a_history_keeps_parents_and_times(rt: HostRuntime) -> Result<(), Fail> {
+    let alloc = rt.alloc();
+    let mut kept = Kept::new(alloc, 0);
+    let names = filled(alloc, &mut kept)?;
+    let none = BTreeSet::new(alloc);
+    let roots = [names.commit, names.tree, names.absent];
+    let history = read_history(alloc, &mut kept, &roots, &none).or(Err("read_history"))?;
+    assert_eq!(rt; kept.reads, 2);
+    assert!(rt; history.contains(names.commit));
+    assert!(rt; history.contains(names.parent));
+    assert!(rt; history.contains(names.tree));
+    assert!(rt; !history.contains(names.absent));
+    assert_eq!(rt; history.parents(names.commit), [names.parent].as_slice());
+    assert_eq!(rt; history.parents(names.parent).len(), 0);
+    let mut count = 0u64;
+    for (_, noted) in history.iter() {
+        count = count.saturating_add(1);
+        assert_eq!(rt; noted.seconds(), 0);
+    }
+    assert_eq!(rt; count, 3);
+    let found = history.ancestors(alloc, &[names.parent])?;
+    assert_eq!(rt; found.len(), 1);
+    assert!(rt; found.contains(&names.parent));
     Ok(())
 }
 

@@ -1,4 +1,4 @@
-use Rattle.std.proofs.Common.{IsTrue, None, vec_len, subst, sym, ◌∙◌, ap, true}
+use Rattle.std.proofs.Common.{IsTrue, None, vec_len, subst, sym, ◌∙◌, ap}
 use Rattle.std.specs.BTreeSet.{contains}
 use Rattle.std.specs.FinMap.{contains_key}
 use Rattle.std.proofs.lemmas.Bool.{and_parts}
@@ -71,5 +71,5 @@ returns-clause-found g c = λ honest.
     let before = c.waiting.invariant in
     keeps_end old.objects old.honest seen (is_reached next (without old.objects hides) c.args.commits.now) waits c.waiting.history none before.keeps honest
     (λ name. walks_end next there c.args.commits.now old.honest seen waits none before.walks honest name
-        ∙ reached_alike next there (without old.objects hides) c.args.commits.now (measured_without old.objects hides) name)
+    ∙ reached_alike next there (without old.objects hides) c.args.commits.now (measured_without old.objects hides) name)
     (λ name is. (and_parts (contains_key old.objects name) _ (sym (there_without old.objects hides name) ∙ sym (measured_without old.objects hides name) ∙ before.walks.there name is)).0)

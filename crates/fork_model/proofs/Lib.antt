@@ -11,6 +11,7 @@ pub mod ProvenanceLemmas
 pub mod PushLemmas
 pub mod Refusals
 pub mod Rows
+pub mod SendableLemmas
 pub mod SentLemmas
 pub mod SoundLemmas
 pub mod SoundWorlds
@@ -18,4 +19,5 @@ pub mod StepLemmas
 pub mod TakenLemmas
 pub mod TransactionLemmas
 pub mod TransferLemmas
+pub mod WithinLemmas
 pub mod Worlds

@@ -1,4 +1,5 @@
 pub mod ClosedLemmas
+pub mod Examples
 pub mod FetchLemmas
 pub mod FetchedLemmas
 pub mod HostLemmas

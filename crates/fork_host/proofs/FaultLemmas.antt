@@ -1,5 +1,5 @@
 -- Which host faults came along a run, as it goes on by one step.
-use Rattle.std.proofs.Common.{◌≡◌, ◌++◌, ◌∷◌, [], ℕ, List, refl, sym, subst}
+use Rattle.std.proofs.Common.{◌++◌, ◌∷◌, [], List, refl, subst}
 use Rattle.fork_request.specs.declared.reply.Reply.{Reply}
 use Rattle.fork_model.specs.World.{Event}
 use Rattle.fork_host.specs.Faults.{FaultsAlong, FaultsWithin}

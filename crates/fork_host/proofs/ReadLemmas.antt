@@ -1,5 +1,5 @@
 -- What a source tells of what a read of the vault gave.
-use Rattle.std.proofs.Common.{◌≡◌, ◌≢◌, ℕ, Option, Some, Result, Ok, Err, refl, sym, subst, ap, ◌∙◌}
+use Rattle.std.proofs.Common.{◌≡◌, ◌≢◌, Option, Some, Result, Ok, Err, refl, sym, subst, ap, ◌∙◌}
 use Rattle.std.specs.Prelude.{IfErr, IfOk}
 use Rattle.git_name.specs.Object.{Object}
 use Rattle.fork_reach.specs.declared.source.SourceFault.{SourceFault}

@@ -1,5 +1,5 @@
 -- What a tenant answers is its part in a step of the world.
-use Rattle.std.proofs.Common.{◌≡◌, false, refl, sym, ap, subst, ◌∙◌}
+use Rattle.std.proofs.Common.{ap}
 use Rattle.fork_request.specs.Asked.{Ask}
 use Rattle.fork_request.specs.Told.{is_host_fault}
 use Rattle.fork_request.specs.declared.reply.Reply.{Reply}

@@ -1,13 +1,12 @@
 -- What names, kinds and lengths decide of an answer.
-use Rattle.std.proofs.Common.{◌≡◌, ℕ, ◌≤◌, Bool, true, false, IsTrue, List, Option, None, Some, Ok, refl, sym, ap, subst, ◌∙◌}
+use Rattle.std.proofs.Common.{◌≡◌, ℕ, ◌≤◌, Bool, true, false, IsTrue, List, Option, None, Some, refl, sym, ap, subst, ◌∙◌}
 use Rattle.std.specs.FinMap.{contains_key, empty, get, insert, retain_keys}
 use Rattle.std.specs.Prelude.{Contains}
 use Rattle.git_name.specs.Object.{Object}
-use Rattle.git_reftx.specs.declared.command.Command.{Command}
 use Rattle.git_reftx.specs.Transaction.{References, is_commit, transacted}
 use Rattle.push_stream.specs.Upload.{UploadValue}
-use Rattle.fork_reach.specs.Objects.{Measures, measures_of, use_of, with_objects}
-use Rattle.fork_reach.specs.Source.{Objects, kind_in}
+use Rattle.fork_reach.specs.Objects.{Measures, measures_of, with_objects}
+use Rattle.fork_reach.specs.Source.{Objects}
 use Rattle.fork_reach.specs.declared.source.SourceFault.{SourceFault}
 use Rattle.fork_reach.specs.declared.source.SourceFault.TheVariants as source
 use Rattle.fork_reach.proofs.MeasureLemmas.{same_kinds, same_there, same_use}
@@ -17,7 +16,7 @@ use Rattle.fork_request.specs.Told.{is_done, is_host_fault}
 use Rattle.fork_request.specs.declared.host_fault.HostFault.TheVariants.{Memory}
 use Rattle.fork_request.specs.declared.reply.Reply.{Reply}
 use Rattle.fork_request.specs.declared.reply.Reply.TheVariants.{Done, Refused, Failed}
-use Rattle.fork_model.specs.Answer.{answer, left_by, targets_of, without_upload}
+use Rattle.fork_model.specs.Answer.{answer, left_by, targets_of}
 use Rattle.fork_model.specs.Sound.{AreReferences, IsOrderly}
 use Rattle.fork_model.specs.View.{View, Repositories}
 use Rattle.fork_model.proofs.KeptLemmas.{target_among}

@@ -1,5 +1,5 @@
 -- What a push that was judged comes to.
-use Rattle.std.proofs.Common.{◌≡◌, ℕ, Bool, IsTrue, List, [], Option, Some, Result, Ok, Err, refl, sym, ap, subst, ◌∙◌}
+use Rattle.std.proofs.Common.{◌≡◌, ℕ, IsTrue, List, [], Option, Some, Result, Ok, Err, refl, sym, ap, subst, ◌∙◌}
 use Rattle.std.specs.FinMap.{get, insert}
 use Rattle.git_name.specs.Object.{Object}
 use Rattle.git_reftx.specs.Transaction.{References}
@@ -7,7 +7,6 @@ use Rattle.push_stream.specs.Upload.{UploadValue}
 use Rattle.fork_reach.specs.Objects.{measures_of, with_objects}
 use Rattle.fork_reach.specs.Source.{Objects}
 use Rattle.fork_ledger.specs.Tenants.{VaultState}
-use Rattle.fork_request.specs.declared.host_fault.HostFault.{HostFault}
 use Rattle.fork_request.specs.declared.host_fault.HostFault.TheVariants.{Memory}
 use Rattle.fork_request.specs.declared.reply.Reply.{Reply}
 use Rattle.fork_request.specs.declared.reply.Reply.TheVariants.{Refused, Failed}
@@ -15,7 +14,7 @@ use Rattle.fork_push.specs.declared.refusal.PushRefusal.{PushRefusal}
 use Rattle.fork_push.specs.Verdict as verdict
 use Rattle.fork_model.specs.Answer.{push_refusal, taken}
 use Rattle.fork_model.specs.View.{View, Repositories}
-use Rattle.fork_host.specs.Own.{Changes, IsOwn, Settles, visible_in}
+use Rattle.fork_host.specs.Own.{IsOwn, visible_in}
 use Rattle.fork_host.specs.Pushed.{view_of}
 use Rattle.fork_host.specs.Rows.{Gives, Given, Wanting, IsTaken, Took, Lacked}
 use Rattle.fork_host.specs.Safe.{IsReplyOver, IsSafe}

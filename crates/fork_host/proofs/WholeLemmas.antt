@@ -1,5 +1,5 @@
 -- States stay whole: where tenants come, and where one is answered.
-use Rattle.std.proofs.Common.{◌≡◌, ◌≢◌, IsTrue, inl, inr, ℕ, ◌+◌, ◌<◌, ◌≤◌, Bool, true, false, cond, List, Option, None, Some, refl, sym, ap, subst, ◌∙◌, is_some}
+use Rattle.std.proofs.Common.{◌≡◌, ◌≢◌, inl, inr, ℕ, ◌+◌, ◌<◌, ◌≤◌, Bool, true, false, cond, List, Option, None, Some, refl, sym, ap, subst, ◌∙◌, is_some}
 use Rattle.std.specs.Option.{option_map, unwrap_or}
 use Rattle.std.specs.Cmp.{eq_by_cmp_equiv}
 use Rattle.std.specs.Ordering.{eq_by_cmp}
@@ -17,7 +17,7 @@ use Rattle.fork_ledger.specs.Store.{LeavesStore}
 use Rattle.fork_ledger.specs.Tenants.{VaultState, private_of, with_tenant}
 use Rattle.fork_reach.specs.Objects.{Measures, measures_of}
 use Rattle.fork_ledger.proofs.BothLemmas.{none_of}
-use Rattle.fork_ledger.proofs.TenantLemmas.{private_new, private_none, there_new, there_others}
+use Rattle.fork_ledger.proofs.TenantLemmas.{private_new, there_new, there_others}
 use Rattle.fork_model.specs.Answer.{answer}
 use Rattle.fork_model.specs.Runs.{Asks, Unknown}
 use Rattle.fork_request.specs.Names.{IsTenantName}

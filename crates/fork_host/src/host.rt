@@ -1,7 +1,9 @@
-ghost use Rattle.std.specs.Prelude.{◌≡◌, ◌≢◌, All, IfOk, IfErr, OnOk, OnErr, List, ℕ, Some, None, false};
+ghost use Rattle.std.specs.Prelude.{◌≡◌, ◌≢◌, ◌⊎◌, IfOk, IfErr, OnOk, OnErr, List, ℕ, Some, None, false};
 ghost use Rattle.std.specs.FinMap as map;
 ghost use Rattle.fork_request.specs.Asked.{ask_of};
 ghost use Rattle.fork_request.specs.Told.{is_done};
+ghost use Rattle.git_name.specs.Object.{Object};
+ghost use Rattle.fork_model.specs.Provenance.{WasSent};
 ghost use Rattle.fork_model.specs.Runs.{Asks, HostAsks};
 ghost use Rattle.fork_model.specs.Sound.{IsOrderlyWorld, IsRightWorld};
 ghost use Rattle.fork_model.specs.View.{View};
@@ -17,7 +19,7 @@ use crate::accounts::Accounts;
 use crate::add_error::AddError;
 use crate::step::HostStep;
 use fork_ledger::Vault;
-use fork_model::{MAX_TENANTS, a_run_is_private};
+use fork_model::{MAX_TENANTS, a_run_is_private, what_runs_show_was_seen_or_sent};
 use fork_request::{HostRequest, MAX_LIMIT, Refusal, Reply, Request, TenantName};
 use std::alloc::{AllocError, Global};
 use std::marker::Model;
@@ -168,6 +170,11 @@ impl Host {
             → map.get (world_of self.old) tenant ≡ Some view
             → IsUnfaulted tenant (events_of steps.now) replies.items
             → map.get (world_of self.new) tenant ≡ Some (alone view (own tenant (events_of steps.now))).1) }
+
+        // What a tenant sees at the end, it saw at the start, or sent itself.
+        ensures provenance { Trusted self.old → IfOk result (λ replies. (tenant : List ℕ) (view last : View) (name : List ℕ) (object : Object)
+            → map.get (world_of self.old) tenant ≡ Some view → map.get (world_of self.new) tenant ≡ Some last → map.get last.objects name ≡ Some object
+            → (map.get view.objects name ≡ Some object) ⊎ WasSent view (own tenant (events_of steps.now)) name object) }
     {
         let _accounts = &self.accounts;
         let Ok(mut replies) = Vec::with_capacity(alloc, steps.len()) else {
@@ -178,6 +185,7 @@ impl Host {
             replies.push_reserved(reply);
         }
         a_run_is_private();
+        what_runs_show_was_seen_or_sent();
         Ok(replies)
     }
 }

@@ -1,10 +1,10 @@
 -- Both sides as one, as an object is staged; and their measures.
-use Rattle.std.proofs.Common.{◌≡◌, ℕ, Bool, true, false, cond, List, Option, None, Some, refl, sym, ap, subst, ◌∙◌, is_some}
+use Rattle.std.proofs.Common.{◌≡◌, ℕ, Bool, true, false, cond, List, Option, None, Some, refl, sym, ap, ◌∙◌, is_some}
 use Rattle.std.specs.Option.{option_map, option_or, unwrap_or}
 use Rattle.std.specs.Ordering.{eq_by_cmp}
 use Rattle.std.specs.FinMap.{contains_key, empty, get, get-empty, get-insert, insert, same_map}
 use Rattle.git_name.specs.declared.kind.Kind.{Kind}
-use Rattle.git_name.specs.Maps.{joined, map_values}
+use Rattle.git_name.specs.Maps.{joined}
 use Rattle.git_name.specs.Name.{name_cmp}
 use Rattle.git_name.specs.Object.{Object, object_name}
 use Rattle.git_name.proofs.MapLemmas.{get_joined, get_map_values, joined_empty}

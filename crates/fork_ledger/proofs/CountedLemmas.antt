@@ -1,5 +1,5 @@
 -- What is counted of a tenant's objects, as names are staged.
-use Rattle.std.proofs.Common.{◌≡◌, ◌+◌, ◌&&◌, ℕ, Bool, true, false, cond, not, List, Option, None, Some, length, refl, sym, ap, subst, ◌∙◌, is_some, inl, inr, ◌⊎◌}
+use Rattle.std.proofs.Common.{◌≡◌, ◌+◌, ◌&&◌, ℕ, Bool, true, false, cond, not, List, Option, Some, refl, sym, ap, subst, ◌∙◌, is_some, inl, inr, ◌⊎◌}
 use Rattle.std.specs.BTreeMap.{is_at}
 use Rattle.std.specs.BTreeSet.{BTreeSet, contains}
 use Rattle.std.specs.Cmp.{eq_by_cmp_equiv}

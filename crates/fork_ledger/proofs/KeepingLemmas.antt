@@ -1,12 +1,12 @@
 -- Of what is seen some names are kept, and what is staged stays.
-use Rattle.std.proofs.Common.{◌≡◌, ◌&&◌, ◌||◌, ℕ, Bool, true, false, cond, not, List, Option, None, Some, is_some, refl, sym, ap, ◌∙◌}
+use Rattle.std.proofs.Common.{◌≡◌, ◌&&◌, ◌||◌, ℕ, Bool, true, false, cond, not, List, Option, None, is_some, refl, sym, ap, ◌∙◌}
 use Rattle.std.specs.BTreeSet.{BTreeSet, contains}
 use Rattle.std.specs.FinMap.{contains_key, get, retain_keys, same_map}
 use Rattle.git_name.specs.Name.{name_cmp}
 use Rattle.git_name.specs.Object.{Object}
 use Rattle.git_name.proofs.Names.{name_total, name_exact}
 use Rattle.fork_reach.specs.Source.{Objects}
-use Rattle.fork_ledger.specs.Staged.{awaiting, is_hidden, seen}
+use Rattle.fork_ledger.specs.Staged.{is_hidden, seen}
 use Rattle.fork_ledger.proofs.SeenLemmas.{get_kept, get_without}
 
 seen_of : (n s g h : Bool) (o : Option Object) → h ≡ (n && g) → cond (not (s && not h)) (cond (n || s) o None) None ≡ cond n (cond (not (s && not g)) o None) None

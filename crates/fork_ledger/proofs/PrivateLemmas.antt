@@ -1,5 +1,5 @@
 -- A tenant's private maps, field by field, and what is known of one name.
-use Rattle.std.proofs.Common.{◌≡◌, ◌&&◌, ℕ, Bool, true, false, cond, not, List, Option, None, Some, refl, sym, ap, ◌∙◌, is_some, length, subst}
+use Rattle.std.proofs.Common.{◌≡◌, ℕ, Bool, true, false, cond, not, List, Option, None, Some, refl, sym, ap, ◌∙◌, is_some, length, subst}
 use Rattle.std.specs.Option.{option_map}
 use Rattle.std.specs.BTreeSet.{BTreeSet, contains}
 use Rattle.std.specs.FinMap.{get, get-empty, contains_key, empty}

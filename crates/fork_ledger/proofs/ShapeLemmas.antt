@@ -2,9 +2,7 @@
 use Rattle.std.proofs.Common.{◌≡◌, ℕ, Bool, true, false, cond, List, Option, None, Some, refl, sym, ap, ◌∙◌, is_some}
 use Rattle.std.specs.Option.{option_map, unwrap_or}
 use Rattle.std.specs.Ordering.{eq_by_cmp}
-use Rattle.std.specs.FinMap.{contains_key, empty, get, get-insert, get-retain_keys, insert, retain_keys, same_map}
-use Rattle.git_name.specs.declared.kind.Kind.{Kind}
-use Rattle.git_name.specs.Maps.{map_values}
+use Rattle.std.specs.FinMap.{contains_key, empty, get, get-retain_keys, insert, retain_keys, same_map}
 use Rattle.git_name.specs.Name.{name_cmp}
 use Rattle.git_name.specs.Object.{Object, object_name}
 use Rattle.git_name.proofs.MapLemmas.{get_map_values, map_values_insert}

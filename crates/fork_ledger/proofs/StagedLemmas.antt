@@ -1,21 +1,18 @@
 -- Objects of staged names: what comes to them, and both sides as one.
-use Rattle.std.proofs.Common.{◌≡◌, ◌&&◌, ◌||◌, ℕ, Bool, true, false, cond, not, List, [], Option, None, Some, is_some, refl, sym, ap, subst, ◌∙◌}
+use Rattle.std.proofs.Common.{◌≡◌, ◌&&◌, ℕ, Bool, true, false, cond, not, List, [], Option, None, Some, refl, sym, ap, ◌∙◌}
 use Rattle.std.specs.List.{list_any}
-use Rattle.std.specs.Option.{option_or, unwrap_or}
+use Rattle.std.specs.Option.{option_or}
 use Rattle.std.specs.BTreeMap.{is_at}
 use Rattle.std.specs.BTreeSet.{BTreeSet, contains}
 use Rattle.std.specs.Cmp.{eq_by_cmp_equiv}
 use Rattle.std.specs.FinMap.{contains_key, empty, get, get-empty, get-insert, insert, retain_keys, same_map}
 use Rattle.std.specs.Ordering.{eq_by_cmp}
-use Rattle.git_name.specs.Maps.{joined}
 use Rattle.git_name.specs.Name.{name_cmp}
 use Rattle.git_name.specs.Object.{Object, object_name}
 use Rattle.git_name.proofs.MapLemmas.{get_joined}
 use Rattle.git_name.proofs.Names.{name_total, name_exact}
-use Rattle.fork_reach.specs.Objects.{with_object}
 use Rattle.fork_reach.specs.Source.{Objects}
 use Rattle.fork_reach.proofs.KeptObjects.{tied_names}
-use Rattle.fork_reach.proofs.UseLemmas.{with_object-new}
 use Rattle.fork_ledger.specs.Private.{Private, both_of, standing, with_staged, with_under}
 use Rattle.fork_ledger.specs.Staged.{awaiting, is_hidden, seen}
 use Rattle.fork_ledger.proofs.SeenLemmas.{get_kept, get_without}

@@ -4,7 +4,6 @@ use Rattle.std.specs.Option.{unwrap_or}
 use Rattle.std.specs.BTreeMap.{is_at}
 use Rattle.std.specs.BTreeSet.{BTreeSet, contains}
 use Rattle.std.specs.Cmp.{eq_by_cmp_equiv}
-use Rattle.std.specs.Ordering.{eq_by_cmp}
 use Rattle.std.specs.FinMap.{contains_key, get, get-insert, insert}
 use Rattle.git_name.specs.Name.{name_cmp}
 use Rattle.git_name.specs.Object.{Object, object_name}
@@ -14,7 +13,7 @@ use Rattle.fork_ledger.specs.Private.{Private, standing, with_staged}
 use Rattle.fork_ledger.specs.Staged.{awaiting, is_hidden, seen}
 use Rattle.fork_ledger.proofs.CountedLemmas.{seen_new}
 use Rattle.fork_ledger.proofs.PrivateLemmas.{same_private}
-use Rattle.fork_ledger.proofs.SeenLemmas.{get_kept, get_without, named_kept, seen_alike}
+use Rattle.fork_ledger.proofs.SeenLemmas.{get_kept, get_without, seen_alike}
 use Rattle.fork_ledger.proofs.StagedLemmas.{IsMore, awaiting_more, hidden_same, shown, staged_again, staged_new}
 
 waits : (b : Bool) (o : Option Object) → b ≡ true → is_some o ≡ true → is_some (cond b o None) ≡ true

@@ -1,8 +1,7 @@
 -- What a call that asks no store leaves of it, and what want of memory tells.
-use Rattle.std.proofs.Common.{◌≡◌, ◌≢◌, Bool, true, ℕ, List, Option, None, Some, Result, Ok, Err, is_some, refl, sym, ap, subst, ◌∙◌}
+use Rattle.std.proofs.Common.{◌≡◌, ◌≢◌, ℕ, List, Option, Some, Result, Ok, Err, is_some, refl, sym, ap, subst}
 use Rattle.std.specs.Prelude.{IfErr, IfOk}
 use Rattle.std.specs.FinMap.{contains_key, get}
-use Rattle.git_name.specs.Name.{name_cmp}
 use Rattle.git_name.specs.Object.{Object}
 use Rattle.fork_reach.specs.Source.{Objects}
 use Rattle.fork_ledger.specs.declared.fault.VaultFault.{VaultFault}

@@ -139,7 +139,7 @@ fn uses_in(
 }
 
 // What an object uses.
-fn size_of(sealed: &Sealed) -> u128
+pub(crate) fn size_of(sealed: &Sealed) -> u128
     ensures { result ≡ use_of_object sealed.now }
 {
     sealed.bytes().len() as u128 + OBJECT_USE as u128

@@ -13,8 +13,7 @@ ghost use Rattle.fork_ledger.specs.Used.{capped};
 use crate::fault::VaultFault;
 use crate::held::Held;
 use crate::hidden::is_hidden;
-use crate::object_map::ObjectMap;
-use fork_reach::OBJECT_USE;
+use crate::object_map::{ObjectMap, size_of};
 use git_name::{Name, Sealed};
 use std::alloc::{AllocError, Global};
 use std::collections::BTreeSet;
@@ -114,7 +113,7 @@ impl Private {
             };
             return Ok(());
         }
-        let size = sealed.bytes().len() as u128 + OBJECT_USE as u128;
+        let size = size_of(&sealed);
         let Ok(()) = stage_new(&mut self.objects, &mut self.staged, sealed) else {
             return Err(AllocError);
         };

@@ -1,7 +1,6 @@
 -- An object that a tenant does not hold is told to be missing.
-use Rattle.std.proofs.Common.{◌≡◌, ℕ, true, false, List, Option, None, Some, refl, sym, ap, ◌∙◌}
+use Rattle.std.proofs.Common.{◌≡◌, ℕ, false, List, None, Some, sym, ap, ◌∙◌}
 use Rattle.std.specs.FinMap.{get}
-use Rattle.git_name.specs.Object.{Object}
 use Rattle.fork_query.specs.Objects.{object_told, record_found}
 use Rattle.fork_request.specs.Asked.{AsksObject}
 use Rattle.fork_request.specs.Told.{is_host_fault}

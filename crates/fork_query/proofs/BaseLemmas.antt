@@ -14,7 +14,7 @@ use Rattle.git_name.specs.Object.{Object}
 use Rattle.git_name.proofs.MapLemmas.{get_map_values}
 use Rattle.git_name.proofs.Names.{name_total}
 use Rattle.fork_reach.specs.History.{Notes, note_of, noted_parents, parents_of_noted}
-use Rattle.fork_reach.specs.Reach.{IsReached, Root, Next, is_among, is_reached, parent_names, parents_of_found}
+use Rattle.fork_reach.specs.Reach.{IsReached, Root, Next, is_reached, parent_names, parents_of_found}
 use Rattle.fork_reach.specs.Source.{Objects}
 use Rattle.fork_reach.proofs.HiddenLemmas.{get_kept}
 use Rattle.fork_reach.proofs.NameLemmas.{Contains-keys, among-Contains, among-from_Contains, any_passes, same_tests}

@@ -13,7 +13,6 @@ use Rattle.fork_reach.specs.History.{Notes, note_of}
 use Rattle.fork_reach.specs.Reach.{is_reached}
 use Rattle.fork_reach.specs.Source.{Objects}
 use Rattle.fork_reach.proofs.HiddenLemmas.{get_kept, reached_beyond, there_kept}
-use Rattle.fork_reach.proofs.NameLemmas.{same_tests}
 use Rattle.fork_reach.proofs.ReachLemmas.{reached_there}
 use Rattle.fork_query.specs.Dates.{dated, noted_date}
 use Rattle.fork_query.specs.Reached.{beyond}

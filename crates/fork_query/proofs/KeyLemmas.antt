@@ -1,5 +1,5 @@
 -- The keys of a finite map, and the names of a set.
-use Rattle.std.proofs.Common.{◌≡◌, ℕ, ◌&&◌, Bool, true, false, List, [], ◌∷◌, map, refl, sym, ◌∙◌}
+use Rattle.std.proofs.Common.{◌≡◌, ℕ, ◌&&◌, Bool, true, false, List, [], ◌∷◌, map, refl, ◌∙◌}
 use Rattle.std.specs.Prelude.{T}
 use Rattle.std.specs.BTreeSet.{BTreeSet, IsOrdered, contains}
 use Rattle.std.specs.declared.cmp.Ordering.{Ordering}

@@ -1,5 +1,6 @@
 pub mod BaseLemmas
 pub mod BeyondLemmas
+pub mod Examples
 pub mod KeyLemmas
 pub mod ParentLemmas
 pub mod PeelLemmas

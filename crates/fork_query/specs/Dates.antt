@@ -1,5 +1,5 @@
 -- Commits by date, as git-rev-list(1) lists them with `--date-order` and no heed of who descends from whom (own).
-use Rattle.std.specs.Prelude.{ℕ, List, [], map, fold}
+use Rattle.std.specs.Prelude.{ℕ, List, [], fold}
 use Rattle.std.specs.BTreeSet.{insert_key}
 use Rattle.std.specs.declared.cmp.Ordering.{Ordering}
 use Rattle.std.specs.declared.cmp.Reverse.{Reverse}

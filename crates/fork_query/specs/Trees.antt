@@ -9,7 +9,6 @@ use Rattle.git_name.specs.Object.{Object}
 use Rattle.git_tree.specs.declared.mode.Mode.{Mode}
 use Rattle.git_tree.specs.declared.mode.Mode.TheVariants.{Tree, File, Executable, Link, Gitlink}
 use Rattle.git_tree.specs.Entry.{Entry}
-use Rattle.git_tree.specs.Mode.{digits}
 use Rattle.git_tree.specs.TreeIn.{tree_in}
 use Rattle.git_commit.specs.Commit.{CommitValue}
 use Rattle.git_commit.specs.CommitIn.{commit_in}

@@ -14,6 +14,8 @@ mod query_error;
 mod references;
 mod revisions;
 mod sides;
+#[cfg(test)]
+mod tests;
 mod trees;
 mod want;
 

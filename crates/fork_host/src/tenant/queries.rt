@@ -91,13 +91,7 @@ impl Tenant {
 
     #[tactic(auto, unfolding(fork_model::specs::Answer::fetch_answer))]
     // The records of what the wanted objects reach and the excluded ones do not.
-    pub(crate) fn fetch(
-        &self,
-        alloc: Global,
-        own: &mut Own<'_>,
-        word: &[u8],
-        items: &[u8],
-    ) -> Reply
+    pub(crate) fn fetch(&self, alloc: Global, own: &mut Own<'_>, word: &[u8], items: &[u8]) -> Reply
         requires ready { Ready own.old self.now.limit }
         ensures row { IsTrue own.old.vault.now.honest → Gives (fetch_answer (shown_by self.now own.old) word.now (words_of items.now)) (shown_by self.now own.old) result (shown self.now own.new.vault.now own.old.tenant.now) }
         ensures safe { IsSafe own.old.vault.now.honest (shown_by self.now own.old) result (shown self.now own.new.vault.now own.old.tenant.now) }

@@ -1,4 +1,4 @@
-use Rattle.std.proofs.Common.{◌≡◌, ◌∙◌, ap, refl, rules, subst, sym, true}
+use Rattle.std.proofs.Common.{◌∙◌, ap, rules, subst, sym}
 use Rattle.std.specs.FinMap as map
 use Rattle.fork_reach.specs.Objects.{with_object, with_objects}
 use Rattle.fork_ledger.specs.Private.{with_staged}

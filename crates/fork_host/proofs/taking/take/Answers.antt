@@ -1,4 +1,4 @@
-use Rattle.std.proofs.Common.{◌≡◌, Ok, refl, sym, true, subst, ap, ◌∙◌, map as map_list, rules}
+use Rattle.std.proofs.Common.{◌≡◌, Ok, refl, sym, true, subst, ap, ◌∙◌, map as map_list}
 use Rattle.std.specs.FinMap.{contains_key, get, insert}
 use Rattle.git_name.specs.Object.{object_name}
 use Rattle.fork_reach.specs.Objects.{with_objects}

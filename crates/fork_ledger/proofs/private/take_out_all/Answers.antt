@@ -1,7 +1,4 @@
-use Rattle.std.proofs.Common.{ap, sym, ◌∙◌}
-use Rattle.std.specs.BTreeSet.{contains}
-use Rattle.git_name.specs.Name.{name_cmp}
-use Rattle.fork_ledger.specs.Staged.{seen}
+use Rattle.std.proofs.Common.{sym, ◌∙◌}
 use Rattle.fork_ledger.proofs.SeenLemmas.{none_left, seen_all, seen_less}
 use Rattle.fork_ledger.proofs.private.take_out_all.Goals as goal
 

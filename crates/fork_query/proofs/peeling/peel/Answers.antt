@@ -1,15 +1,14 @@
-use Rattle.std.proofs.Common.{◌≡◌, ◌≢◌, ℕ, List, IsTrue, None, Some, true, is_some, sym, ap, subst, ◌∙◌, arith, inl, inr}
+use Rattle.std.proofs.Common.{◌≢◌, IsTrue, None, Some, is_some, sym, ap, subst, ◌∙◌, arith, inl, inr}
 use Rattle.std.specs.BTreeSet.{contains}
 use Rattle.git_name.specs.Name.{name_cmp}
 use Rattle.git_name.specs.declared.kind.Kind.TheVariants.{Tag}
 use Rattle.fork_reach.specs.Objects.{measures_of}
 use Rattle.fork_reach.specs.Source.{Objects, kind_in}
 use Rattle.fork_reach.proofs.AlongLemmas.{there_by_kind}
-use Rattle.fork_reach.proofs.AskedLemmas.{asked_again, not_asked}
+use Rattle.fork_reach.proofs.AskedLemmas.{asked_again}
 use Rattle.fork_reach.proofs.MeasureLemmas.{measured_there, same_there}
-use Rattle.fork_reach.proofs.NameLemmas.{empty_holds_none}
 use Rattle.fork_reach.proofs.SeeingLemmas.{found_inserting, unseen_less, was_new, was_seen}
-use Rattle.fork_query.specs.Peel.{peeled, tag_target}
+use Rattle.fork_query.specs.Peel.{tag_target}
 use Rattle.fork_query.proofs.PeelLemmas.{IsNearer, circle_none, nearer_on, nearer_target, no_target, peeled_here, peeled_on}
 use Rattle.fork_query.proofs.peeling.peel.Goals as goal
 

@@ -1,4 +1,4 @@
-use Rattle.std.proofs.Common.{◌≡◌, Some, ap, is_some, refl, sym, ◌∙◌}
+use Rattle.std.proofs.Common.{◌≡◌, ap, is_some, sym, ◌∙◌}
 use Rattle.std.specs.FinMap as map
 use Rattle.fork_ledger.specs.Private.{both_of}
 use Rattle.fork_ledger.specs.Tenants.{private_of}

@@ -45,3 +45,8 @@ all_faults old new steps i replies le ran = rw (take_all i steps le) at ran
 
 pub returns-clause-faults : goal.returns-clause-faults
 returns-clause-faults c = all_faults c.args.self.now c.loop-step.self c.args.steps.now c.loop-step.step-index c.loop-step.replies.items (omega arith) c.loop-step.invariant.faults
+
+pub returns-clause-provenance : goal.returns-clause-provenance
+returns-clause-provenance c trusted tenant view last name object first end seen =
+    c.what_runs_show_was_seen_or_sent.ensures.run tenant (world_of c.args.self.now) (world_of c.loop-step.self) (events_of c.args.steps.now) c.loop-step.replies.items view last name object
+    (all (world_of c.args.self.now) (world_of c.loop-step.self) c.args.steps.now c.loop-step.step-index c.loop-step.replies.items (omega arith) (c.loop-step.invariant.ran trusted)) first end seen

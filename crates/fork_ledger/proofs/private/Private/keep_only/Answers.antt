@@ -1,4 +1,4 @@
-use Rattle.std.proofs.Common.{◌≡◌, ◌||◌, true, ap, sym, subst, ◌∙◌}
+use Rattle.std.proofs.Common.{ap, sym, subst, ◌∙◌}
 use Rattle.std.specs.BTreeSet.{contains}
 use Rattle.std.specs.FinMap as map
 use Rattle.git_name.specs.Name.{name_cmp}
@@ -6,7 +6,7 @@ use Rattle.fork_reach.specs.Objects.{IsNamed}
 use Rattle.fork_ledger.proofs.KeepingLemmas.{again_before, staged_kept, still_there, visible_kept}
 use Rattle.fork_ledger.proofs.PrivateLemmas.{same_private}
 use Rattle.fork_ledger.proofs.SeenLemmas.{named_kept}
-use Rattle.fork_ledger.specs.Staged.{awaiting, is_hidden, seen}
+use Rattle.fork_ledger.specs.Staged.{awaiting, seen}
 use Rattle.fork_ledger.proofs.private.Private.keep_only.Goals as goal
 
 pub invariant_of-self : goal.invariant_of-self

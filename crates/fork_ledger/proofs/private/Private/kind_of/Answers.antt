@@ -1,4 +1,4 @@
-use Rattle.std.proofs.Common.{ap, sym, ◌∙◌, length}
+use Rattle.std.proofs.Common.{ap, sym, length}
 use Rattle.fork_ledger.proofs.PrivateLemmas.{held_none, held_some}
 use Rattle.fork_ledger.proofs.private.Private.kind_of.Goals as goal
 

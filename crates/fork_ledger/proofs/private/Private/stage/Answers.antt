@@ -1,4 +1,4 @@
-use Rattle.std.proofs.Common.{◌≡◌, ◌+◌, false, true, ap, sym, subst, length, ◌∙◌}
+use Rattle.std.proofs.Common.{◌≡◌, ◌+◌, false, ap, sym, ◌∙◌}
 use Rattle.std.specs.BTreeMap.{is_at}
 use Rattle.std.specs.BTreeSet.{contains}
 use Rattle.std.specs.List.{list_any}
@@ -6,7 +6,6 @@ use Rattle.std.specs.FinMap as map
 use Rattle.git_name.specs.Name.{name_cmp}
 use Rattle.git_name.specs.Object.{object_name}
 use Rattle.fork_reach.specs.Objects.{use_of, use_of_object}
-use Rattle.fork_ledger.specs.Staged.{awaiting}
 use Rattle.fork_ledger.specs.Used.{capped}
 use Rattle.fork_ledger.proofs.CappedLemmas.{capped_more}
 use Rattle.fork_ledger.proofs.CountedLemmas.{counted_again, counted_alike, counted_new, not_again, seen_same_names}
@@ -45,7 +44,7 @@ invariant_of-self-2 c =
     let absent : map.contains_key c.self.inside.objects (object_name c.args.sealed) ≡ false = ap (map.contains_key c.self.inside.objects) (sym c.name-name.ensures) ∙ sym c.contains-2.ensures ∙ c.if-contains-2.false in
     counted_new c.self.inside.objects c.stage_new.new.objects c.self.inside.staged c.stage_new.new.staged c.self.inside.again c.self.inside.used c.self.inside.total c.saturating_add-self-inside.result c.args.sealed
     c.in-Ok-stage_new.ensures.staged.0 absent c.in-Ok-stage_new.ensures.objects
-    (c.saturating_add-self-inside.ensures ∙ ap (λ bytes. capped (c.self.inside.total + (length bytes + 64))) c.bytes.ensures
+    (c.saturating_add-self-inside.ensures ∙ ap (λ size. capped (c.self.inside.total + size)) c.size_of-size.ensures
     ∙ capped_more 340282366920938463463374607431768211455 c.self.inside.total (use_of c.self.inside.objects) (use_of_object c.args.sealed) c.self.invariant.both)
     c.self.invariant
 

@@ -3,7 +3,7 @@ use Rattle.std.specs.Prelude.{IfOk}
 use Rattle.std.specs.FinMap as map
 use Rattle.git_name.specs.Name.{name_cmp}
 use Rattle.fork_ledger.specs.Tenants.{private_of}
-use Rattle.fork_ledger.proofs.StoreLemmas.{asks_none, found_there}
+use Rattle.fork_ledger.proofs.StoreLemmas.{found_there}
 use Rattle.fork_ledger.proofs.TenantEntries.{private_found}
 use Rattle.fork_ledger.proofs.vault.Vault.get.Goals as goal
 

@@ -4,7 +4,7 @@ use Rattle.std.specs.FinMap as map
 use Rattle.git_name.specs.Name.{name_cmp}
 use Rattle.git_name.proofs.MapLemmas.{joined_empty}
 use Rattle.git_name.proofs.Names.{name_total, name_exact}
-use Rattle.fork_ledger.specs.Private.{both_of, held_in, held_of, nothing}
+use Rattle.fork_ledger.specs.Private.{held_in, held_of, nothing}
 use Rattle.fork_ledger.proofs.TenantEntries.{private_found}
 use Rattle.fork_ledger.proofs.vault.Vault.kind_of.Goals as goal
 

@@ -1,0 +1,82 @@
+ghost use Rattle.std.specs.Prelude.{◌≡◌};
+ghost use Rattle.std.specs.Option.{option_copied};
+ghost use Rattle.std.specs.FinMap as map;
+ghost use Rattle.git_name.specs.Name.{name_cmp};
+
+use fork_reach::{Source, SourceFault};
+use git_name::{Kind, Name, Sealed};
+use std::alloc::{AllocError, Global};
+use std::collections::BTreeMap;
+
+// Objects in memory, of which each read is counted. The store fails at one of the reads, if it is
+// reached.
+#[derive(Drop)]
+pub(crate) struct Kept {
+    objects: BTreeMap<Name, Sealed>,
+    pub(crate) reads: u64,
+    fails_at: u64,
+    pub(crate) failures: u64,
+}
+
+impl Kept {
+    // The reads are counted from 1.
+    pub(crate) fn new(alloc: Global, fails_at: u64) -> Kept {
+        Kept {
+            objects: BTreeMap::new(alloc),
+            reads: 0,
+            fails_at,
+            failures: 0,
+        }
+    }
+
+    pub(crate) fn put(&mut self, sealed: Sealed) -> Result<Name, AllocError> {
+        let name = sealed.name();
+        self.objects.insert(name, sealed)?;
+        Ok(name)
+    }
+
+    fn find(&self, name: Name) -> Option<&Sealed>
+        ensures { option_copied result ≡ map.get (map.from_entries {R = name_cmp} self.now.objects.entries) name }
+    {
+        self.objects.get(&name)
+    }
+}
+
+impl Source for Kept {
+    ghost use Rattle.std.specs.Prelude.{true, ⊤};
+    ghost use Rattle.std.specs.FinMap as map;
+
+    ghost Base = { ⊤ };
+
+    ghost Rest = { ⊤ };
+
+    ghost state = { λ kept. record { objects = map.from_entries kept.objects.entries; honest = true; failures = kept.failures; base = tt; rest = tt } };
+
+    fn kind_of(&self, name: Name) -> Option<Kind> {
+        match self.find(name) {
+            Some(sealed) => Some(sealed.kind()),
+            None => None,
+        }
+    }
+
+    fn read(&mut self, _alloc: Global, name: Name) -> Result<Option<Sealed>, SourceFault> {
+        self.reads = self.reads.saturating_add(1);
+        if self.reads == self.fails_at {
+            if self.failures < u64::MAX {
+                self.failures += 1;
+            }
+            return Err(SourceFault::Store);
+        }
+        let Some(sealed) = self.find(name) else {
+            return Ok(None);
+        };
+        // `put` keeps each object under its own name, which no clause tells.
+        if sealed.name() != name {
+            return Err(SourceFault::Memory);
+        }
+        match sealed.clone() {
+            Ok(copy) => Ok(Some(copy)),
+            Err(_) => Err(SourceFault::Memory),
+        }
+    }
+}

@@ -1,6 +1,6 @@
 -- Objects that come with links that are met leave right and closed objects.
-use Rattle.std.proofs.Common.{◌≡◌, ◌≢◌, ℕ, Bool, true, false, cond, not, List, [], ◌∷◌, ◌++◌, Option, Some, None, refl, sym, ap, subst, ◌∙◌, is_some, inl, inr, ◌⊎◌}
-use Rattle.std.specs.Prelude.{map}
+use Rattle.std.proofs.Common.{◌≡◌, ◌≢◌, ℕ, zero, suc, arith, Bool, true, false, cond, not, List, [], ◌∷◌, ◌++◌, Option, Some, None, refl, sym, ap, subst, ◌∙◌, is_some, inl, inr, ◌⊎◌}
+use Rattle.std.specs.Prelude.{map, Contains}
 use Rattle.std.specs.List.{AllByRecursion, find}
 use Rattle.std.specs.Option.{option_map}
 use Rattle.std.specs.Ordering.{eq_by_cmp}
@@ -28,6 +28,17 @@ front_of P (x ∷ xs) ys all = (all.0, front_of P xs ys all.1)
 rest_of : {A : Type 0} (P : A → Type 0) (xs ys : List A) → AllByRecursion P (xs ++ ys) → AllByRecursion P ys
 rest_of P [] ys all = all
 rest_of P (x ∷ xs) ys all = rest_of P xs ys all.1
+
+-- and what holds of all of both holds of all
+pub joined : {A : Type 0} (P : A → Type 0) (xs ys : List A) → AllByRecursion P xs → AllByRecursion P ys → AllByRecursion P (xs ++ ys)
+joined P [] ys front rest = rest
+joined P (x ∷ xs) ys front rest = (front.0, joined P xs ys front.1 rest)
+
+-- and of each
+pub each_of : {A : Type 0} (P : A → Type 0) (xs : List A) (x : A) → AllByRecursion P xs → Contains xs x → P x
+each_of P [] x all at = absurd (omega arith)
+each_of P (first ∷ xs) x all (zero, few, is) = subst P is all.0
+each_of P (first ∷ xs) x all (suc k, few, is) = each_of P xs x all.1 (k, omega arith, is)
 
 -- a weaker fact holds of all too
 pub each_weaker : {A : Type 0} (P Q : A → Type 0) (xs : List A) → ((x : A) → P x → Q x) → AllByRecursion P xs → AllByRecursion Q xs

@@ -1,4 +1,5 @@
 pub mod ClosedLemmas
+pub mod Examples
 pub mod FetchLemmas
 pub mod FetchedLemmas
 pub mod HostLemmas
@@ -11,6 +12,7 @@ pub mod ProvenanceLemmas
 pub mod PushLemmas
 pub mod Refusals
 pub mod Rows
+pub mod SendableLemmas
 pub mod SentLemmas
 pub mod SoundLemmas
 pub mod SoundWorlds
@@ -18,4 +20,5 @@ pub mod StepLemmas
 pub mod TakenLemmas
 pub mod TransactionLemmas
 pub mod TransferLemmas
+pub mod WithinLemmas
 pub mod Worlds

@@ -4,6 +4,7 @@ use Rattle.std.specs.Ordering.{eq_by_cmp}
 use Rattle.std.specs.FinMap.{contains_key, get, get-insert, insert, len, len-insert}
 use Rattle.git_name.specs.Name.{name_cmp}
 use Rattle.git_name.proofs.Names.{name_total}
+use Rattle.fork_request.specs.Asked.{Ask}
 use Rattle.fork_request.specs.declared.reply.Reply.{Reply}
 use Rattle.fork_model.specs.Answer.{answer}
 use Rattle.fork_model.specs.Runs.{Asks, HostAsks, Answered, Unknown, Faulted, HostAnswered, HostFaulted}
@@ -46,13 +47,21 @@ orderly_step old new (Asks t ask) reply was (Faulted bad stays) = subst IsOrderl
 orderly_step old new (HostAsks ask) reply was (HostAnswered says stays) = subst IsOrderlyWorld (sym stays) was
 orderly_step old new (HostAsks ask) reply was (HostFaulted bad stays) = subst IsOrderlyWorld (sym stays) was
 
+-- what holds of each view
+abbrev pub EachView : (View → Type 0) → World → Type 0
+EachView P world = (tenant : List ℕ) (view : View) → get world tenant ≡ Some view → P view
+
+-- what each answer keeps, a step keeps
+each_step : (P : View → Type 0) → ((view : View) (ask : Ask) → P view → P (answer view ask).1) → (old new : World) (step : Event) (reply : Reply) → EachView P old → Steps old step reply new → EachView P new
+each_step P keeps old new (Asks t ask) reply was (Answered view here told set) =
+    subst (EachView P) (sym set) (each_still P old t (answer view ask).1 was (keeps view ask (was t view here)))
+each_step P keeps old new (Asks t ask) reply was (Unknown none told stays) = subst (EachView P) (sym stays) was
+each_step P keeps old new (Asks t ask) reply was (Faulted bad stays) = subst (EachView P) (sym stays) was
+each_step P keeps old new (HostAsks ask) reply was (HostAnswered says stays) = subst (EachView P) (sym stays) was
+each_step P keeps old new (HostAsks ask) reply was (HostFaulted bad stays) = subst (EachView P) (sym stays) was
+
 pub right_step : (old new : World) (step : Event) (reply : Reply) → IsRightWorld old → Steps old step reply new → IsRightWorld new
-right_step old new (Asks t ask) reply was (Answered view here told set) =
-    subst IsRightWorld (sym set) (each_still IsRight old t (answer view ask).1 was (right_answer view ask (was t view here)))
-right_step old new (Asks t ask) reply was (Unknown none told stays) = subst IsRightWorld (sym stays) was
-right_step old new (Asks t ask) reply was (Faulted bad stays) = subst IsRightWorld (sym stays) was
-right_step old new (HostAsks ask) reply was (HostAnswered says stays) = subst IsRightWorld (sym stays) was
-right_step old new (HostAsks ask) reply was (HostFaulted bad stays) = subst IsRightWorld (sym stays) was
+right_step = each_step IsRight right_answer
 
 -- what each step keeps, a run keeps
 run_keeps : (P : World → Type 0) → ((old new : World) (step : Event) (reply : Reply) → P old → Steps old step reply new → P new)
@@ -65,5 +74,9 @@ run_keeps P keeps old new (step ∷ steps) (reply ∷ replies) run was = run_kee
 pub orderly_run : (old new : World) (steps : List Event) (replies : List Reply) → Explains old steps replies new → IsOrderlyWorld old → IsOrderlyWorld new
 orderly_run = run_keeps IsOrderlyWorld orderly_step
 
+-- and so does a run
+pub each_run : (P : View → Type 0) → ((view : View) (ask : Ask) → P view → P (answer view ask).1) → (old new : World) (steps : List Event) (replies : List Reply) → Explains old steps replies new → EachView P old → EachView P new
+each_run P keeps = run_keeps (EachView P) (each_step P keeps)
+
 pub right_run : (old new : World) (steps : List Event) (replies : List Reply) → Explains old steps replies new → IsRightWorld old → IsRightWorld new
-right_run = run_keeps IsRightWorld right_step
+right_run = each_run IsRight right_answer

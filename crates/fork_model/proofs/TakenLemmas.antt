@@ -1,5 +1,5 @@
 -- A push without commands of which each link is met is refused by the limit alone; and so is a push of what was fetched.
-use Rattle.std.proofs.Common.{◌≡◌, ℕ, ◌≤◌, ◌++◌, not, Bool, true, false, cond, List, [], ◌∷◌, Option, None, Some, Ok, Err, refl, sym, ap, ap₂, subst, ◌∙◌, arith, map}
+use Rattle.std.proofs.Common.{◌≡◌, ℕ, ◌≤◌, not, Bool, true, false, cond, List, [], ◌∷◌, Option, None, Some, Ok, Err, refl, sym, ap, ap₂, subst, ◌∙◌, arith, map}
 use Rattle.std.specs.Prelude.{Contains, is_none, nat_lt}
 use Rattle.std.specs.List.{AllByRecursion, find}
 use Rattle.std.specs.Option.{option_map, option_or}
@@ -29,6 +29,7 @@ use Rattle.fork_model.specs.Answer.{pushed, taken}
 use Rattle.fork_model.specs.Sound.{AreReferences, IsMet, IsRight}
 use Rattle.fork_model.specs.Transfer.{AreSendable, HasPrerequisites, fetched_objects, received, within_quota}
 use Rattle.fork_model.specs.View.{View}
+use Rattle.fork_model.proofs.ClosedLemmas.{joined}
 use Rattle.fork_model.proofs.FetchedLemmas.{each_value, fetched_flow}
 use Rattle.fork_model.proofs.KeptLemmas.{met_alike}
 use Rattle.fork_model.proofs.TransferLemmas.{arrived}
@@ -73,10 +74,6 @@ unchanged objects old known right =
     ap (λ refusal. Transaction.unless_refused refusal old) (ap₂ option_or (ap Transaction.conflict right.apart) (not_many (len old) right.few))
 
 -- links of several objects
-joined : {A : Type 0} (P : A → Type 0) (xs ys : List A) → AllByRecursion P xs → AllByRecursion P ys → AllByRecursion P (xs ++ ys)
-joined P [] ys front rest = rest
-joined P (x ∷ xs) ys front rest = (front.0, joined P xs ys front.1 rest)
-
 all_under : (objects : Objects) (names : List (List ℕ)) → AllByRecursion (λ name. AllByRecursion (IsMet objects) (links_of_found (get objects name))) names → AllByRecursion (IsMet objects) (links_under objects names)
 all_under objects [] met = tt
 all_under objects (name ∷ names) met = joined (IsMet objects) (links_of_found (get objects name)) (links_under objects names) met.0 (all_under objects names met.1)

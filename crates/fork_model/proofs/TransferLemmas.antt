@@ -1,5 +1,5 @@
 -- What is fetched from one view, a push into another takes, where that holds what was excluded.
-use Rattle.std.proofs.Common.{◌≡◌, ℕ, ◌&&◌, not, zero, suc, Bool, true, false, cond, List, [], ◌∷◌, Option, None, Some, refl, sym, ap, subst, ◌∙◌, arith, is_some, inl, inr}
+use Rattle.std.proofs.Common.{◌≡◌, ℕ, ◌&&◌, not, zero, suc, Bool, true, false, cond, List, [], ◌∷◌, Option, None, Some, refl, sym, ap, ◌∙◌, arith, is_some, inl, inr}
 use Rattle.std.specs.Prelude.{Contains}
 use Rattle.std.specs.List.{AllByRecursion}
 use Rattle.std.specs.Ordering.{is_eq}
@@ -16,6 +16,7 @@ use Rattle.fork_reach.proofs.ReachLemmas.{reached_there}
 use Rattle.fork_model.specs.Sound.{IsRight}
 use Rattle.fork_model.specs.Transfer.{AreAlike, HasPrerequisites, fetched_objects, received}
 use Rattle.fork_model.specs.View.{View}
+use Rattle.fork_model.proofs.ClosedLemmas.{each_of}
 use Rattle.fork_model.proofs.FetchedLemmas.{each_value}
 use Rattle.fork_model.proofs.KeptLemmas.{found_value, stays_at}
 use Rattle.fork_model.proofs.ProvenanceLemmas.{among_both}
@@ -51,13 +52,8 @@ found_alike : (receiver sender : Objects) (sent : List Object)
 found_alike receiver sender sent same theirs name object other here found =
     elim (among_both receiver sent name other found) [
       | inl was ↦ sym (same name object other here was)
-      | inr among ↦ some_same other object (sym (each_of sent theirs other among.sent) ∙ ap (get sender) among.named ∙ here)
+      | inr among ↦ some_same other object (sym (each_of (λ o. get sender (object_name o) ≡ Some o) sent other theirs among.sent) ∙ ap (get sender) among.named ∙ here)
     ]
-  where
-    each_of : (sent : List Object) → AllByRecursion (λ object. get sender (object_name object) ≡ Some object) sent → (other : Object) → Contains sent other → get sender (object_name other) ≡ Some other
-    each_of [] all other at = absurd (omega arith)
-    each_of (first ∷ sent) all other (zero, few, is) = subst (λ (o : Object). get sender (object_name o) ≡ Some o) is all.0
-    each_of (first ∷ sent) all other (suc k, few, is) = each_of sent all.1 other (k, omega arith, is)
 
 some_found : (receiver sender : Objects) (sent : List Object)
     → AreAlike sender receiver

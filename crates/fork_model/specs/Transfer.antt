@@ -4,6 +4,9 @@ use Rattle.std.specs.FinMap.{get, insert, contains_key, values}
 use Rattle.git_name.specs.Object.{Object}
 use Rattle.git_reftx.specs.Transaction.{References}
 use Rattle.push_stream.specs.declared.record.TheConstants.{MAX_CONTENT}
+use Rattle.push_stream.specs.Spelling.{AreWithin}
+use Rattle.push_stream.specs.Stream.{sent_in}
+use Rattle.push_stream.specs.Upload.{UploadValue}
 use Rattle.fork_query.specs.Reached.{beyond}
 use Rattle.fork_reach.specs.Objects.{use_of, with_objects}
 use Rattle.fork_reach.specs.Reach.{is_reached, linked_names}
@@ -12,10 +15,20 @@ use Rattle.fork_request.specs.declared.refusal.Refusal.TheVariants.{OverQuota}
 use Rattle.fork_request.specs.declared.reply.Reply.{Reply}
 use Rattle.fork_request.specs.declared.reply.Reply.TheVariants.{Done, Refused}
 use Rattle.fork_model.specs.View.{View}
+use Rattle.fork_model.specs.World.{World}
 
 -- no object is longer than a stream takes
 abbrev pub AreSendable : Objects → Type 0
 AreSendable objects = (name : List ℕ) (object : Object) → get objects name ≡ Some object → length object.bytes ≤ MAX_CONTENT
+
+-- a view whose objects can be sent, those of the open upload too
+pub record IsSendable (view : View) : Type 0 where
+  pub objects : AreSendable view.objects
+  pub upload : (upload : UploadValue) → view.upload ≡ Some upload → AreWithin (sent_in upload.stream)
+
+-- each view is such
+abbrev pub IsSendableWorld : World → Type 0
+IsSendableWorld world = (tenant : List ℕ) (view : View) → get world tenant ≡ Some view → IsSendable view
 
 -- the objects that a fetch gives, ascending by name
 abbrev pub fetched_objects : Objects → List (List ℕ) → List (List ℕ) → List Object

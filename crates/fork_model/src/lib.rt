@@ -17,8 +17,8 @@ ghost use Rattle.fork_model.specs.World.{World, Event, Explains, IsUnfaulted, Ag
 pub use crate::limits::{MAX_ITEMS, MAX_REPOSITORIES, MAX_TENANTS};
 pub use crate::provenance::{what_is_seen_was_seen_or_sent, what_runs_show_was_seen_or_sent};
 pub use crate::transfer::{
-    excluded_objects_are_enough, what_is_fetched_can_be_pushed, what_is_fetched_is_a_stream,
-    what_is_fetched_is_enough, what_is_fetched_is_taken,
+    answers_keep_views_sendable, excluded_objects_are_enough, what_is_fetched_can_be_pushed,
+    what_is_fetched_is_a_stream, what_is_fetched_is_enough, what_is_fetched_is_taken,
 };
 
 /// What a tenant is told, and its view afterwards, are those of a private host that holds this

@@ -11,12 +11,14 @@ ghost use Rattle.fork_query.specs.Sides.{Selection, selected};
 ghost use Rattle.fork_reach.specs.Objects.{use_of};
 ghost use Rattle.fork_reach.specs.Reach.{is_reached, linked_names};
 ghost use Rattle.fork_reach.specs.Source.{Objects};
-ghost use Rattle.fork_request.specs.Asked.{Fetches, Pushes};
+ghost use Rattle.fork_request.specs.Asked.{Ask, Fetches, Pushes};
+ghost use Rattle.fork_request.specs.declared.reply.Reply.{Reply};
 ghost use Rattle.fork_request.specs.declared.reply.Reply.TheVariants.{Done};
 ghost use Rattle.fork_model.specs.Answer.{answer, pushed};
 ghost use Rattle.fork_model.specs.Sound.{AreReferences, IsClosed, IsOrderly, IsRight};
-ghost use Rattle.fork_model.specs.Transfer.{AreAlike, AreSendable, HasPrerequisites, fetched_objects, received, within_quota};
+ghost use Rattle.fork_model.specs.Transfer.{AreAlike, AreSendable, HasPrerequisites, IsSendable, IsSendableWorld, fetched_objects, received, within_quota};
 ghost use Rattle.fork_model.specs.View.{View};
+ghost use Rattle.fork_model.specs.World.{World, Event, Explains};
 
 /// What is fetched is, behind an empty line, a whole stream without commands, of the objects that
 /// the wanted names reach and the excluded ones do not, where no object is longer than a stream takes.
@@ -63,4 +65,11 @@ pub fn excluded_objects_are_enough()
     ensures { (receiver sender : Objects) (excluded : List (List ℕ)) → IsClosed receiver → AreAlike sender receiver
         → ((name : List ℕ) → Contains excluded name → contains_key sender name ≡ true → contains_key receiver name ≡ true)
         → HasPrerequisites receiver sender excluded }
+{}
+
+/// Answers keep a view's objects such that they can be sent, and runs each view's: no object of a
+/// host that began without any is longer than a stream takes.
+pub fn answers_keep_views_sendable()
+    ensures view { (view : View) (ask : Ask) → IsSendable view → IsSendable (answer view ask).1 }
+    ensures world { (old new : World) (steps : List Event) (replies : List Reply) → Explains old steps replies new → IsSendableWorld old → IsSendableWorld new }
 {}

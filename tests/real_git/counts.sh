@@ -29,6 +29,11 @@ run_session() {
     add_up < <("$here/session" "$1" "$work/turns" "${tenants[@]}" || true)
 }
 
+# Sends all histories to the program.
+run_history() {
+    add_up < <("$here/real_git/history/check" "$1" || true)
+}
+
 report() {
     echo "$passed passed, $failed failed"
     reported=yes

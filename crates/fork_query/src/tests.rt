@@ -1,4 +1,5 @@
 use crate::{QueryError, cat_file, fetch, ls_tree, merge_base, peeled_is_led_to, rev_list};
+use fork_reach::SourceFault;
 use fork_request::Refusal;
 use git_name::{Kind, Name, Sealed, seal};
 use git_reftx::{Change, Command, Demand, Known, RefWord, Refs};
@@ -173,11 +174,12 @@ fn lines(
     Ok(text)
 }
 
-// What an error says.
-fn word_of(error: &QueryError) -> &'static str {
+// What an error says. Want of memory ends the test.
+fn word_of(error: &QueryError) -> Result<&'static str, Fail> {
     match error {
-        QueryError::Refused(refusal) => refusal_word(refusal),
-        QueryError::Failed(_) => "failed",
+        QueryError::Refused(refusal) => Ok(refusal_word(refusal)),
+        QueryError::Failed(SourceFault::Memory) => Err("memory")?,
+        QueryError::Failed(_) => Ok("failed"),
     }
 }
 
@@ -191,16 +193,19 @@ fn refusal_word(refusal: &Refusal) -> &'static str {
     }
 }
 
-fn is_told(answer: &Result<Vec<u8>, QueryError>, text: &[u8]) -> bool {
+fn is_told(answer: &Result<Vec<u8>, QueryError>, text: &[u8]) -> Result<bool, Fail> {
     match answer {
-        Ok(told) => told.as_slice() == text,
-        Err(_) => false,
+        Ok(told) => Ok(told.as_slice() == text),
+        Err(error) => {
+            let _word = word_of(error)?;
+            Ok(false)
+        }
     }
 }
 
-fn refused(answer: &Result<Vec<u8>, QueryError>) -> &'static str {
+fn refused(answer: &Result<Vec<u8>, QueryError>) -> Result<&'static str, Fail> {
     match answer {
-        Ok(_) => "told",
+        Ok(_) => Ok("told"),
         Err(error) => word_of(error),
     }
 }
@@ -217,7 +222,7 @@ fn revisions(
     let items = spelled(alloc, &names, items)?;
     let answer = rev_list(alloc, &mut kept, &Refs::new(alloc), items.as_slice());
     let wanted = lines(alloc, &names, letters, by_name)?;
-    Ok((is_told(&answer, wanted.as_slice()), kept.reads))
+    Ok((is_told(&answer, wanted.as_slice())?, kept.reads))
 }
 
 #[test]
@@ -256,7 +261,7 @@ fn bases(alloc: Global, a: u8, b: u8, letters: &[u8]) -> Result<(bool, u64), Fai
         second.as_slice(),
     );
     let wanted = lines(alloc, &names, letters, true)?;
-    Ok((is_told(&answer, wanted.as_slice()), kept.reads))
+    Ok((is_told(&answer, wanted.as_slice())?, kept.reads))
 }
 
 #[test]
@@ -301,7 +306,7 @@ fn fetched(alloc: Global, items: &[u8], letters: &[u8]) -> Result<(bool, u64), F
     let answer = fetch(alloc, &mut kept, &references, items.as_slice());
     let reads = kept.reads;
     let wanted = records(alloc, &mut kept, &names, letters)?;
-    Ok((is_told(&answer, wanted.as_slice()), reads))
+    Ok((is_told(&answer, wanted.as_slice())?, reads))
 }
 
 #[test]
@@ -342,13 +347,13 @@ fn listed(alloc: Global, letter: u8) -> Result<&'static str, Fail> {
     let names = filled(alloc, &mut kept)?;
     let answer = ls_tree(alloc, &mut kept, named(&names, letter));
     let rows = rows_of_left(alloc, &names)?;
-    if is_told(&answer, rows.as_slice()) {
+    if is_told(&answer, rows.as_slice())? {
         return Ok("left");
     }
-    if is_told(&answer, b"") {
+    if is_told(&answer, b"")? {
         return Ok("empty");
     }
-    Ok(refused(&answer))
+    refused(&answer)
 }
 
 #[test]
@@ -408,7 +413,7 @@ fn judged(alloc: Global, target: u8, items: &[u8]) -> Result<(&'static str, &'st
     let items = spelled(alloc, &names, items)?;
     let listed = rev_list(alloc, &mut kept, &references, items.as_slice());
     let sent = fetch(alloc, &mut kept, &references, items.as_slice());
-    Ok((refused(&listed), refused(&sent)))
+    Ok((refused(&listed)?, refused(&sent)?))
 }
 
 #[test]
@@ -441,9 +446,11 @@ fn an_object_is_told_as_its_record(rt: HostRuntime) -> Result<(), Fail> {
     let answer = cat_file(alloc, &mut kept, names.blob);
     let blob = seal(Kind::Blob, b"x".to_vec(alloc)?);
     let record = write_record(alloc, &blob)?;
-    assert!(rt; is_told(&answer, record.as_slice()));
+    let is_record = is_told(&answer, record.as_slice())?;
+    assert!(rt; is_record);
     let answer = cat_file(alloc, &mut kept, absent());
-    assert_eq!(rt; refused(&answer), "missing");
+    let word = refused(&answer)?;
+    assert_eq!(rt; word, "missing");
     Ok(())
 }
 
@@ -454,7 +461,7 @@ fn with_failure(alloc: Global, fails_at: u64) -> Result<(&'static str, u64), Fai
     let items = spelled(alloc, &names, b"l ^f")?;
     let references = Refs::new(alloc);
     let answer = fetch(alloc, &mut kept, &references, items.as_slice());
-    Ok((refused(&answer), kept.failures))
+    Ok((refused(&answer)?, kept.failures))
 }
 
 #[test]

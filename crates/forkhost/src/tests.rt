@@ -2,25 +2,15 @@
 
 mod command_line;
 mod examples;
-mod frames;
 mod isolation;
-mod objects;
-mod prunes;
-mod pushes;
 mod queries;
-mod quotas;
-mod references;
 mod runs;
 mod turns;
-mod uploads;
 mod wire;
 
 use crate::program::program;
 use std::alloc::Global;
 use std::test::Fail;
-
-/// The name of the empty blob, as `git hash-object` prints it in a SHA-256 repository.
-const E: &str = "473a0f4c3be8a93681a267e3b1e9a7dcda1185436fe141f7749120a303721813";
 
 /// What the program answered: its status, what it wrote and what it told of faults.
 #[derive(Drop)]

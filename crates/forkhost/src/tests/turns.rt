@@ -1,9 +1,8 @@
 //! Turns: who asks, a payload and its reply, as short texts.
 //!
-//! `$c` stands for the name of the object C, and `$C` for its record; `$1`, `$2` and `$3` are the bytes 0
-//! to 100, 100 to 200 and 200 to 279 of a body that has no command and the records T and C. Names and
-//! records are those of Git 2.39.5 in a repository of the SHA-256 format, by `git hash-object -w --literally`
-//! and `git cat-file --batch`.
+//! `$c` stands for the name of the object C, and `$C` for its record. Names and records are those of
+//! Git 2.39.5 in a repository of the SHA-256 format, by `git hash-object -w --literally` and
+//! `git cat-file --batch`.
 
 use super::ran;
 use std::alloc::Global;
@@ -35,18 +34,12 @@ const H: &[u8] =
 // No tree: a mode that begins with a zero.
 const J: &[u8] =
     b"d0ce2c27c7c60fafc075611084a2ea0fad0711e9459bdd287ca5f237e0a5fb4f tree 41\n040000 a\x00n\xf1\x9bA\x22\x5cSi\xf1\xc1\x04\xd4]\x8d\x85\xef\xa9\xb0W\xb5;\x14\xb4\xb9\xb99\xddt\xde\xccS!\n";
-// A commit with the tree E, which is a blob.
-const K: &[u8] =
-    b"85007abe8b0669d4700cb79c085670e400f41646ce1325e0e8e81ae71699cd9b commit 128\ntree 473a0f4c3be8a93681a267e3b1e9a7dcda1185436fe141f7749120a303721813\nauthor Ada <a@x> 1 +0000\ncommitter Ada <a@x> 1 +0000\n\none\n\n";
 // A tree with a gitlink, of the name of 64 digits 1.
 const L: &[u8] =
     b"82fa27fffe30a5591d333e558efc0e149aec737a5d0360a6a9d51dd74f79b88d tree 41\n160000 m\x00\x11\x11\x11\x11\x11\x11\x11\x11\x11\x11\x11\x11\x11\x11\x11\x11\x11\x11\x11\x11\x11\x11\x11\x11\x11\x11\x11\x11\x11\x11\x11\x11\n";
 // A commit with the tree F and the parent C.
 const N: &[u8] =
     b"86fae1d6f9818f5dea3089218e1184a052130a510efa07d82be5c3c1b824d360 commit 200\ntree 5f6f307bcc469c02acba4f7da42d8d4defdda8209777fe732956f1e2fa0db3ff\nparent ebf19fdd8350b77fa7dc28d348756e6e44686800e9a932ed072db05f9b2b538f\nauthor Ada <a@x> 1 +0000\ncommitter Ada <a@x> 1 +0000\n\ntwo\n\n";
-// A commit with the tree T and the parent G, which is a tag.
-const P: &[u8] =
-    b"8fce61cb29720edea59c7ed2944833795541f3905e720d682d5baf774ed0b9a3 commit 200\ntree 6ef19b41225c5369f1c104d45d8d85efa9b057b53b14b4b9b939dd74decc5321\nparent cd3ee7283d46398b327f75f2c8f768d611bb79af2973d6f112943a0efe4a1e23\nauthor Ada <a@x> 1 +0000\ncommitter Ada <a@x> 1 +0000\n\none\n\n";
 // The empty tree.
 const T: &[u8] = b"6ef19b41225c5369f1c104d45d8d85efa9b057b53b14b4b9b939dd74decc5321 tree 0\n\n";
 // A tag of the commit E, which is a blob.
@@ -55,13 +48,6 @@ const U: &[u8] =
 // A tree with a tree, E, which is a blob.
 const W: &[u8] =
     b"9b66a68f0d7f07a81b1750044c8a8f3c549e317c3b1bc41be016b6d25ca4f02e tree 40\n40000 d\x00G:\x0fL;\xe8\xa96\x81\xa2g\xe3\xb1\xe9\xa7\xdc\xda\x11\x85Co\xe1A\xf7t\x91 \xa3\x03r\x18\x13\n";
-// The byte `x`, which is no tree, no commit and no tag.
-const X: &[u8] = b"dad1a6e9b7544226097292e20f93fad75c5bf8a4bd6f1ed27b76ff2cf67013b1 tree 1\nx\n";
-
-const Y: &[u8] = b"8a2adfb91065d9e72cb3ba9651046ab438975b8757d620acb840465717b39299 commit 1\nx\n";
-
-const Z: &[u8] = b"3ea8d8ebaf79de6ba12c03ead84c43b3f7db6b1f243dc31e54294e8788ee9855 tag 1\nx\n";
-
 // A child of A, with the tree T.
 const I: &[u8] =
     b"c5ea0732c666e6520420bb93b863652297e542787fa1afdc425a6f4beb0eb0d8 commit 198\ntree 6ef19b41225c5369f1c104d45d8d85efa9b057b53b14b4b9b939dd74decc5321\nparent e8a978f76d5cd058c4e0a87ee726a0a64c3226607247a98dd98a3bff21bec8a0\nauthor A <a@x> 200 +0000\ncommitter A <a@x> 200 +0000\n\nx\n\n";
@@ -84,13 +70,6 @@ const S: &[u8] =
 const V: &[u8] =
     b"c331b76588c4a05436a5c3d528a2fcb1ba895d1dbfffe84e925bd97fdbe5f770 tree 125\n100644 a.b\x00G:\x0fL;\xe8\xa96\x81\xa2g\xe3\xb1\xe9\xa7\xdc\xda\x11\x85Co\xe1A\xf7t\x91 \xa3\x03r\x18\x1340000 a\x00n\xf1\x9bA\x22\x5cSi\xf1\xc1\x04\xd4]\x8d\x85\xef\xa9\xb0W\xb5;\x14\xb4\xb9\xb99\xddt\xde\xccS!100644 a0\x00G:\x0fL;\xe8\xa96\x81\xa2g\xe3\xb1\xe9\xa7\xdc\xda\x11\x85Co\xe1A\xf7t\x91 \xa3\x03r\x18\x13\n";
 
-// A body of 279 bytes in three pieces.
-const PIECES: [&[u8]; 3] = [
-    b"\n6ef19b41225c5369f1c104d45d8d85efa9b057b53b14b4b9b939dd74decc5321 tree 0\n\nebf19fdd8350b77fa7dc28d348",
-    b"756e6e44686800e9a932ed072db05f9b2b538f commit 128\ntree 6ef19b41225c5369f1c104d45d8d85efa9b057b53b14b",
-    b"4b9b939dd74decc5321\nauthor Ada <a@x> 1 +0000\ncommitter Ada <a@x> 1 +0000\n\none\n\n",
-];
-
 // The record that a capital stands for.
 fn record(letter: u8) -> &'static [u8] {
     match letter {
@@ -104,12 +83,10 @@ fn record(letter: u8) -> &'static [u8] {
         b'H' => H,
         b'I' => I,
         b'J' => J,
-        b'K' => K,
         b'L' => L,
         b'M' => M,
         b'N' => N,
         b'O' => O,
-        b'P' => P,
         b'Q' => Q,
         b'R' => R,
         b'S' => S,
@@ -117,19 +94,13 @@ fn record(letter: u8) -> &'static [u8] {
         b'U' => U,
         b'V' => V,
         b'W' => W,
-        b'X' => X,
-        b'Y' => Y,
-        b'Z' => Z,
         _ => b"",
     }
 }
 
-// What a letter or digit behind `$` stands for.
+// What a letter behind `$` stands for.
 fn meant(letter: u8) -> &'static [u8] {
     match letter {
-        b'1' => PIECES[0],
-        b'2' => PIECES[1],
-        b'3' => PIECES[2],
         _ if letter.is_ascii_lowercase() => {
             let whole = record(letter.to_ascii_uppercase());
             whole.get(..64).unwrap_or(b"")
@@ -138,8 +109,8 @@ fn meant(letter: u8) -> &'static [u8] {
     }
 }
 
-/// The bytes that a short text stands for.
-pub fn filled(alloc: Global, text: &str) -> Result<Vec<u8>, Fail> {
+// The bytes that a short text stands for.
+fn filled(alloc: Global, text: &str) -> Result<Vec<u8>, Fail> {
     let mut bytes = Vec::new(alloc);
     let mut is_marked = false;
     for byte in text.as_bytes() {

@@ -50,48 +50,6 @@ fn ends(alloc: Global) -> Result<Vec<(usize, usize)>, Fail> {
     Ok(ends)
 }
 
-// How many bytes of replies answer the frames that are whole before this cut, and whether it stands behind one.
-fn whole_before(ends: &[(usize, usize)], cut: usize) -> (usize, bool) {
-    let mut told = 0;
-    let mut is_whole = false;
-    for (end, reply_end) in ends {
-        if *end <= cut {
-            told = *reply_end;
-            is_whole = *end == cut;
-        }
-    }
-    (told, is_whole)
-}
-
-// Whether a session over this input writes these replies, and a bad frame's line where the input is not whole.
-fn ends_so(alloc: Global, input: &[u8], replies: &[u8], is_whole: bool) -> Result<bool, Fail> {
-    let mut host = host_of_two(alloc)?;
-    let mut reader = input;
-    let mut written = Vec::new(alloc);
-    let ended = serve(&mut host, alloc, &mut reader, &mut written);
-    let mut wanted = Vec::new(alloc);
-    wanted.extend_from_slice(replies)?;
-    if is_whole {
-        return Ok(ended == Ok(Ended::Clean) && written.as_slice() == wanted.as_slice());
-    }
-    wanted.extend_from_slice(b"! bad-frame\n")?;
-    Ok(ended == Ok(Ended::BadFrame) && written.as_slice() == wanted.as_slice())
-}
-
-#[test]
-fn a_cut_frame_ends_the_session(rt: HostRuntime) -> Result<(), Fail> {
-    let alloc = rt.alloc();
-    let (input, output) = streams(alloc, TURNS.as_slice())?;
-    let ends = ends(alloc)?;
-    for cut in 0..input.len() {
-        let front = input.as_bytes().get(..cut).ok_or("short")?;
-        let (told, is_whole) = whole_before(ends.as_slice(), cut);
-        let replies = output.as_bytes().get(..told).ok_or("short")?;
-        assert!(rt; ends_so(alloc, front, replies, is_whole)?, "{cut}");
-    }
-    Ok(())
-}
-
 // A peer that waits for its reply: a read fails where bytes were written and not flushed.
 #[derive(Drop)]
 struct Peer<'a> {

@@ -13,9 +13,15 @@ fn a_signed_commit_is_written_as_git_names_it(rt: HostRuntime) -> Result<(), Fai
     let author = Ident::new(b"A U Thor ", b"a@x.org", 1_700_000_000, Sign::Plus, b"0130")
         .ok()
         .ok_or("an ident")?;
-    let committer = Ident::new(b"C O Mitter ", b"c@x.org", 1_700_000_001, Sign::Minus, b"0500")
-        .ok()
-        .ok_or("an ident")?;
+    let committer = Ident::new(
+        b"C O Mitter ",
+        b"c@x.org",
+        1_700_000_001,
+        Sign::Minus,
+        b"0500",
+    )
+    .ok()
+    .ok_or("an ident")?;
     let more = [
         b"".as_slice(),
         b"abc".as_slice(),
@@ -28,7 +34,15 @@ fn a_signed_commit_is_written_as_git_names_it(rt: HostRuntime) -> Result<(), Fai
     );
     let header = header.ok().ok_or("a header")?;
     let message = Some(b"signed\n".as_slice());
-    let made = write(rt.alloc(), &tree, &[], author, committer, &[header], message)?;
+    let made = write(
+        rt.alloc(),
+        &tree,
+        &[],
+        author,
+        committer,
+        &[header],
+        message,
+    )?;
     assert!(rt; Name::parse_hex(SIGNED) == Some(name_of(Kind::Commit, made.as_slice())));
     Ok(())
 }

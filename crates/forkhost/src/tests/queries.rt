@@ -41,8 +41,14 @@ fn revisions_are_listed_the_newest_first(rt: HostRuntime) -> Result<(), Fail> {
         ("rev-list r ^$o\n", "ok\n"),
         ("rev-list r refs/tags/v\n", "ok\n$o\n$i\n$m\n$a\n"),
         ("rev-list r refs/tags/v ^refs/tags/v\n", "ok\n"),
-        ("rev-list r refs/heads/none\n", "no no-ref refs/heads/none\n"),
-        ("rev-list r ^refs/heads/none\n", "no no-ref refs/heads/none\n"),
+        (
+            "rev-list r refs/heads/none\n",
+            "no no-ref refs/heads/none\n",
+        ),
+        (
+            "rev-list r ^refs/heads/none\n",
+            "no no-ref refs/heads/none\n",
+        ),
         ("rev-list r ^^x\n", "no no-ref ^x\n"),
         ("rev-list r $o ^$t\n", "no not-a-commit $t\n"),
         ("rev-list r $e x\n", "no missing $e\n"),
@@ -56,7 +62,8 @@ fn revisions_are_listed_the_newest_first(rt: HostRuntime) -> Result<(), Fail> {
 }
 
 // 64 items, each of them refs/heads/main.
-const MANY: &str = " refs/heads/main refs/heads/main refs/heads/main refs/heads/main refs/heads/main refs/heads/main refs/heads/main refs/heads/main refs/heads/main refs/heads/main refs/heads/main refs/heads/main refs/heads/main refs/heads/main refs/heads/main refs/heads/main";
+const MANY: &str =
+    " refs/heads/main refs/heads/main refs/heads/main refs/heads/main refs/heads/main refs/heads/main refs/heads/main refs/heads/main refs/heads/main refs/heads/main refs/heads/main refs/heads/main refs/heads/main refs/heads/main refs/heads/main refs/heads/main";
 
 #[test]
 fn a_query_has_sixty_four_items_at_most(rt: HostRuntime) -> Result<(), Fail> {

@@ -12,6 +12,3 @@ mod table;
 pub use crate::command::{Command, command_of};
 pub use crate::error::CommandError;
 pub use crate::grant::Grant;
-
-#[cfg(test)]
-mod tests;

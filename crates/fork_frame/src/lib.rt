@@ -21,6 +21,3 @@ pub use crate::law::{same_bytes_are_same_replies, same_bytes_are_same_requests};
 pub use crate::line::Line;
 pub use crate::reader::read_some;
 pub use crate::reply::{send_bad_frame, send_bytes, send_reply};
-
-#[cfg(test)]
-mod tests;

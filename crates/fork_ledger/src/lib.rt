@@ -7,8 +7,6 @@ mod held;
 mod hidden;
 mod object_map;
 mod private;
-#[cfg(test)]
-mod tests;
 mod vault;
 
 pub use crate::fault::VaultFault;

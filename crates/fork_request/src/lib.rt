@@ -13,8 +13,6 @@ mod plain_word;
 mod refusal;
 mod reply;
 mod request;
-#[cfg(test)]
-mod tests;
 mod words;
 
 pub use crate::byte_string::ByteString;

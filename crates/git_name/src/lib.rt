@@ -9,8 +9,6 @@ mod name;
 mod number;
 mod order;
 mod sealed;
-#[cfg(test)]
-mod tests;
 mod text;
 
 pub use crate::kind::Kind;

@@ -23,6 +23,3 @@ pub use crate::linking::links;
 pub use crate::object::{Object, ObjectFault};
 pub use crate::tag::Tag;
 pub use crate::walk::Links;
-
-#[cfg(test)]
-mod tests;

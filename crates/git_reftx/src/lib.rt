@@ -17,8 +17,6 @@ mod ref_map;
 mod ref_word;
 mod refs;
 mod repeated;
-#[cfg(test)]
-mod tests;
 mod transact;
 
 pub use crate::command::{Change, Command, Demand};

@@ -9,8 +9,6 @@ mod brief;
 mod fault;
 mod laws;
 mod record;
-#[cfg(test)]
-mod tests;
 mod upload;
 mod write;
 

@@ -70,6 +70,13 @@ const S: &[u8] =
 const V: &[u8] =
     b"c331b76588c4a05436a5c3d528a2fcb1ba895d1dbfffe84e925bd97fdbe5f770 tree 125\n100644 a.b\x00G:\x0fL;\xe8\xa96\x81\xa2g\xe3\xb1\xe9\xa7\xdc\xda\x11\x85Co\xe1A\xf7t\x91 \xa3\x03r\x18\x1340000 a\x00n\xf1\x9bA\x22\x5cSi\xf1\xc1\x04\xd4]\x8d\x85\xef\xa9\xb0W\xb5;\x14\xb4\xb9\xb99\xddt\xde\xccS!100644 a0\x00G:\x0fL;\xe8\xa96\x81\xa2g\xe3\xb1\xe9\xa7\xdc\xda\x11\x85Co\xe1A\xf7t\x91 \xa3\x03r\x18\x13\n";
 
+// A body of 279 bytes in three pieces.
+const PIECES: [&[u8]; 3] = [
+    b"\n6ef19b41225c5369f1c104d45d8d85efa9b057b53b14b4b9b939dd74decc5321 tree 0\n\nebf19fdd8350b77fa7dc28d348",
+    b"756e6e44686800e9a932ed072db05f9b2b538f commit 128\ntree 6ef19b41225c5369f1c104d45d8d85efa9b057b53b14b",
+    b"4b9b939dd74decc5321\nauthor Ada <a@x> 1 +0000\ncommitter Ada <a@x> 1 +0000\n\none\n\n",
+];
+
 // The record that a capital stands for.
 fn record(letter: u8) -> &'static [u8] {
     match letter {
@@ -101,6 +108,9 @@ fn record(letter: u8) -> &'static [u8] {
 // What a letter behind `$` stands for.
 fn meant(letter: u8) -> &'static [u8] {
     match letter {
+        b'1' => PIECES[0],
+        b'2' => PIECES[1],
+        b'3' => PIECES[2],
         _ if letter.is_ascii_lowercase() => {
             let whole = record(letter.to_ascii_uppercase());
             whole.get(..64).unwrap_or(b"")

@@ -1,5 +1,5 @@
 -- What was taken of a known input.
-use Rattle.std.proofs.Common.{◌≡◌, ℕ, ◌<◌, ◌+◌, List, [], ◌++◌, Option, Some, None, IfSome, sym, ap, ◌∙◌, length, length-append, append-nil, arith}
+use Rattle.std.proofs.Common.{◌≡◌, ℕ, ◌<◌, ◌+◌, List, ◌++◌, Option, Some, None, IfSome, sym, ap, ◌∙◌, length, length-append, append-nil, arith}
 use Rattle.std.specs.Io.KnownBytes.{Consumes, IsAtEnd}
 
 -- all of it, where nothing is left

@@ -100,7 +100,7 @@ pub record StandsAt (met : List (List ℕ)) (name upper : List ℕ) : Type 0 whe
   pub is : take place name ≡ upper
   pub inside : In upper met
 
-stands_at : (met : List (List ℕ)) (name upper : List ℕ) → In upper met → stands_above upper name ≡ true → StandsAt met name upper
+pub stands_at : (met : List (List ℕ)) (name upper : List ℕ) → In upper met → stands_above upper name ≡ true → StandsAt met name upper
 stands_at met name upper inside above =
     let parts = above_true upper name above in
     let sized : length name ≡ length upper + length (47 ∷ parts.0) = ap (λ (l : List ℕ). length l) parts.1 ∙ length-append upper (47 ∷ parts.0) in

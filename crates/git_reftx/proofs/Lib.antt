@@ -3,6 +3,7 @@ pub mod FrontLemmas
 pub mod MapLemmas
 pub mod MemberLemmas
 pub mod OrderLemmas
+pub mod PushLemmas
 pub mod ReadingLemmas
 pub mod RefusalLemmas
 pub mod TxLemmas

@@ -15,7 +15,7 @@ pub whichever : {T E P Q : Type 0} (G : Type 0) (r : Result T E) → OnOk r P �
 whichever G (Ok x) p q f g = f p
 whichever G (Err e) p q f g = g q
 
-same_name : (q k : List ℕ) → eq_by_cmp name_cmp q k ≡ true → q ≡ k
+pub same_name : (q k : List ℕ) → eq_by_cmp name_cmp q k ≡ true → q ≡ k
 same_name q k tie = name_exact q k ((Equal-is (name_cmp q k)).0 tie)
 
 pub named_empty : AreNamed (map.empty)

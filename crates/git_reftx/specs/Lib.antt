@@ -3,6 +3,7 @@ pub mod Fronts
 pub mod Judging
 pub mod Known
 pub mod Line
+pub mod Push
 pub mod Reading
 pub mod Shown
 pub mod Sound

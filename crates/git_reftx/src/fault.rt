@@ -51,3 +51,16 @@ pub enum ApplyError {
     /// There is no memory for it.
     Memory,
 }
+
+/// Why a reference was not put behind the others.
+#[derive(Clone, Copy, Debug, PartialEq, Eq, Error)]
+pub enum PushRefError {
+    #[error("the name does not stand behind the others")]
+    OutOfOrder,
+    #[error("a name of the others stands above this one")]
+    RefConflict,
+    #[error("there are 4,096 references")]
+    TooMany,
+    #[error("no memory")]
+    Memory,
+}

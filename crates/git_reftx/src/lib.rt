@@ -3,6 +3,7 @@
 //! Each demand is judged on the references before; a refusal leaves them as they were.
 #![tactic(auto)]
 
+mod above;
 mod carrying;
 mod command;
 mod command_line;
@@ -20,7 +21,7 @@ mod repeated;
 mod transact;
 
 pub use crate::command::{Change, Command, Demand};
-pub use crate::fault::{ApplyError, CommandFault, ReadError, TxRefusal};
+pub use crate::fault::{ApplyError, CommandFault, PushRefError, ReadError, TxRefusal};
 pub use crate::known::Known;
 pub use crate::line::{Line, first_line};
 pub use crate::reading::{MAX_COMMANDS, first_command, read_commands};

@@ -1,13 +1,15 @@
-ghost use Rattle.std.specs.Prelude.{◌≡◌, OnOk, OnErr, IfOk, None, Some};
+ghost use Rattle.std.specs.Prelude.{◌≡◌, ◌↔◌, All, IsTrue, OnOk, OnErr, IfOk, None, Some};
 ghost use Rattle.std.specs.FinMap as map;
 ghost use Rattle.std.specs.BTreeMap.{IsUnchanged, Updates};
 ghost use Rattle.std.specs.List.Sorted.{IsStrictlySortedBy};
 ghost use Rattle.git_name.specs.Name.{name_cmp};
+ghost use Rattle.git_reftx.specs.Fronts.{Before};
 ghost use Rattle.git_reftx.specs.Sound.{AreNamed};
 
 use git_name::Name;
 use git_refname::RefName;
 use std::alloc::{AllocError, Global};
+use std::cmp::Ordering;
 use std::collections::BTreeMap;
 use std::collections::btree_map::Iter;
 use std::marker::Model;
@@ -65,6 +67,22 @@ impl RefMap {
         ensures ordered { IsStrictlySortedBy name_cmp (map.keys self.now) }
     {
         self.references.iter()
+    }
+
+    // Whether the name stands behind all others.
+    pub(crate) fn is_behind(&self, name: &RefName) -> bool
+        ensures { IsTrue result ↔ All (λ other. Before other name.now) (map.keys self.now) }
+    {
+        // Counting tells that the names are in order.
+        let references = &self.references;
+        let _count = references.len();
+        let Some((last, _)) = references.last_key_value() else {
+            return true;
+        };
+        let Ordering::Less = last.cmp(name) else {
+            return false;
+        };
+        true
     }
 
     // Points a reference at an object.

@@ -1,16 +1,18 @@
-ghost use Rattle.std.specs.Prelude.{◌≡◌, ◌==◌, Ok, OnOk, OnErr, IfOk, IfErr};
+ghost use Rattle.std.specs.Prelude.{◌≡◌, ◌==◌, ◌++◌, ◌∷◌, [], Ok, OnOk, OnErr, IfOk, IfErr};
 ghost use Rattle.std.specs.FinMap as map;
 ghost use Rattle.std.specs.List.Sorted.{IsStrictlySortedBy};
 ghost use Rattle.git_name.specs.Name.{name_cmp};
 ghost use Rattle.git_reftx.specs.Judging.{TellsTransacted};
+ghost use Rattle.git_reftx.specs.Push.{TellsPush};
 ghost use Rattle.git_reftx.specs.Sound.{AreSound};
 ghost use Rattle.git_reftx.specs.Transaction.{transacted};
 
+use crate::above::has_above;
 use crate::command::Command;
-use crate::fault::ApplyError;
+use crate::fault::{ApplyError, PushRefError};
 use crate::known::Known;
 use crate::ref_map::RefMap;
-use crate::transact::transact;
+use crate::transact::{MAX_REFERENCES, transact};
 use git_name::Name;
 use git_refname::RefName;
 use std::alloc::{AllocError, Global};
@@ -85,6 +87,29 @@ impl Refs {
     {
         let map = self.map.copy()?;
         Ok(Refs { map })
+    }
+
+    /// Puts a reference behind the others: its name stands behind theirs, and none of them above it. An
+    /// `Err` leaves the references as they were. It takes a look at the map for each `/` of the name.
+    pub fn push(&mut self, name: RefName, target: Name) -> Result<(), PushRefError>
+        ensures ok { OnOk result (map.entries self.new ≡ map.entries self.old ++ (name, target) ∷ []) }
+        ensures err { OnErr result (self.new ≡ self.old) }
+        ensures cause { IfErr result (TellsPush self.old name) }
+    {
+        let _name = name.as_bytes();
+        if !self.map.is_behind(&name) {
+            return Err(PushRefError::OutOfOrder);
+        }
+        if has_above(&self.map, &name) {
+            return Err(PushRefError::RefConflict);
+        }
+        if self.map.len() >= MAX_REFERENCES {
+            return Err(PushRefError::TooMany);
+        }
+        let Ok(()) = self.map.insert(name, target) else {
+            return Err(PushRefError::Memory);
+        };
+        Ok(())
     }
 
     /// Carries out all commands of a transaction, or none: an `Err` leaves the references as they were.

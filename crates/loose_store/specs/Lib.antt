@@ -1,0 +1,5 @@
+pub mod Failures
+pub mod Files
+pub mod Fuse
+pub mod Place
+pub mod Stored

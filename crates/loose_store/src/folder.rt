@@ -1,0 +1,166 @@
+ghost use Rattle.std.specs.Prelude.{◌≡◌, false};
+ghost use Rattle.std.specs.FinMap as map;
+ghost use Rattle.loose_store.specs.Failures.{Counts};
+
+use crate::device::{PART, found, read_whole, settle, told};
+use crate::failures::counted;
+use crate::files::{FileFault, LooseFiles};
+use crate::listing::list_all;
+use crate::place::{home_of, inside, path_of};
+use git_name::Name;
+use std::alloc::Global;
+use std::fs::{File, OpenOptions};
+use std::rt::Files;
+use std::{fs, io};
+
+/// Files in a folder of the file system: under `objects/`, two digits, `/`, 62 digits. An object's
+/// file is whole or not there, whenever the process is killed. It is not synced, so after a loss of
+/// power it may be lost or damaged. What a device holds is known to no contract, so this store claims
+/// no honesty: of its clauses the count of failures alone says something.
+#[derive(Drop)]
+pub struct Folder<R> {
+    rt: R,
+    path: String,
+    lock: File,
+    failures: u64,
+}
+
+// Takes the lock of a folder, which ends with the file that is answered. The file `lock` itself
+// stays, and says nothing.
+fn locked<R: Files<File = File>>(rt: &R, alloc: Global, folder: &str) -> io::Result<File> {
+    let path = inside(alloc, folder, "lock")?;
+    let lock = OpenOptions::new()
+        .write(true)
+        .create(true)
+        .open(rt, path.as_str())?;
+    lock.try_lock()?;
+    Ok(lock)
+}
+
+fn sweep_one(rt: &impl Files, alloc: Global, folder: &str) -> io::Result<()> {
+    let part = inside(alloc, folder, PART)?;
+    found(fs::remove_file(rt, part.as_str()))?;
+    Ok(())
+}
+
+// Removes what a killed process was writing.
+fn sweep(rt: &impl Files, alloc: Global, folder: &str) -> io::Result<()> {
+    sweep_one(rt, alloc, folder)?;
+    for first in 0..=u8::MAX {
+        let first = [first];
+        let home = home_of(alloc, folder, first.as_slice())?;
+        sweep_one(rt, alloc, home.as_str())?;
+    }
+    Ok(())
+}
+
+fn opened<R: Files<File = File>>(rt: &R, alloc: Global, folder: &str) -> io::Result<File> {
+    let objects = inside(alloc, folder, "objects")?;
+    fs::create_dir_all(rt, objects.as_str())?;
+    let lock = locked(rt, alloc, folder)?;
+    sweep(rt, alloc, folder)?;
+    Ok(lock)
+}
+
+impl<R: Files<File = File> + Drop> Folder<R> {
+    /// Opens the folder of this path, which is made with its parents where it is not there. While it
+    /// is open no other process can open it: for that it is a fault of the device. A process that is
+    /// killed lets go of it; what it was writing is removed here.
+    pub fn open(rt: R, alloc: Global, path: &str) -> Result<Folder<R>, FileFault> {
+        let text = String::from_str(alloc, path)?;
+        let lock = told(opened(&rt, alloc, path))?;
+        Ok(Folder {
+            rt,
+            path: text,
+            lock,
+            failures: 0,
+        })
+    }
+}
+
+fn read_at(
+    rt: &impl Files,
+    alloc: Global,
+    folder: &str,
+    name: Name,
+) -> io::Result<Option<Vec<u8>>> {
+    let path = path_of(alloc, folder, name)?;
+    found(read_whole(rt, alloc, path.as_str()))
+}
+
+// A part lies beside its file, so that the file system gives it its name in one step.
+fn write_in(
+    rt: &impl Files,
+    alloc: Global,
+    home: &str,
+    path: &str,
+    bytes: &[u8],
+) -> io::Result<()> {
+    let part = inside(alloc, home, PART)?;
+    let written = fs::write(rt, part.as_str(), bytes);
+    settle(rt, written, part.as_str(), path)
+}
+
+fn write_at(
+    rt: &impl Files,
+    alloc: Global,
+    folder: &str,
+    name: Name,
+    bytes: &[u8],
+) -> io::Result<()> {
+    let home = home_of(alloc, folder, &name.as_bytes()[..1])?;
+    let path = path_of(alloc, folder, name)?;
+    if found(write_in(rt, alloc, home.as_str(), path.as_str(), bytes))?.is_some() {
+        return Ok(());
+    }
+    fs::create_dir(rt, home.as_str())?;
+    write_in(rt, alloc, home.as_str(), path.as_str(), bytes)
+}
+
+fn remove_at(rt: &impl Files, alloc: Global, folder: &str, name: Name) -> io::Result<()> {
+    let path = path_of(alloc, folder, name)?;
+    found(fs::remove_file(rt, path.as_str()))?;
+    Ok(())
+}
+
+// The answer of the file system as the store's, and the count after it.
+fn answered<T: Drop>(failures: &mut u64, answer: io::Result<T>) -> Result<T, FileFault>
+    ensures { Counts failures.old failures.new result }
+{
+    if *failures == u64::MAX {
+        return Err(FileFault::Device);
+    }
+    counted(failures, told(answer))
+}
+
+impl<R: Files + AllocGlobal + Clone + Drop> LooseFiles for Folder<R> {
+    ghost contents = { λ _. map.empty };
+
+    ghost honest = { λ _. false };
+
+    ghost failures = { λ folder. folder.failures };
+
+    fn get(&mut self, alloc: Global, name: Name) -> Result<Option<Vec<u8>>, FileFault> {
+        let answer = read_at(&self.rt, alloc, self.path.as_str(), name);
+        answered(&mut self.failures, answer)
+    }
+
+    fn put(&mut self, alloc: Global, name: Name, bytes: &[u8]) -> Result<(), FileFault> {
+        let answer = write_at(&self.rt, alloc, self.path.as_str(), name, bytes);
+        answered(&mut self.failures, answer)
+    }
+
+    fn remove(&mut self, alloc: Global, name: Name) -> Result<(), FileFault> {
+        let answer = remove_at(&self.rt, alloc, self.path.as_str(), name);
+        answered(&mut self.failures, answer)
+    }
+
+    fn names(&mut self, alloc: Global) -> Result<Vec<Name>, FileFault> {
+        let answer = list_all(&self.rt, alloc, self.path.as_str());
+        answered(&mut self.failures, answer)
+    }
+
+    fn failures(&self) -> u64 {
+        self.failures
+    }
+}

@@ -1,0 +1,28 @@
+//! Files of objects by their names, in memory or in a folder, and the state file beside them.
+//! A checked read gives an object only where a whole file of it stands under its name, and a store
+//! tells a failure of its device exactly where it counts one more.
+#![tactic(auto)]
+
+mod checked;
+mod device;
+mod failures;
+mod files;
+mod folder;
+mod fused;
+mod laws;
+mod listing;
+mod memory;
+mod place;
+mod state_file;
+mod stored;
+#[cfg(test)]
+mod tests;
+
+pub use crate::checked::{StoreFault, read_checked};
+pub use crate::files::{FileFault, LooseFiles};
+pub use crate::folder::Folder;
+pub use crate::fused::{Call, Fuse, Fused};
+pub use crate::laws::one_object;
+pub use crate::memory::Memory;
+pub use crate::state_file::{read_state, write_state};
+pub use crate::stored::{content_of, file_of};

@@ -1,0 +1,107 @@
+ghost use Rattle.std.specs.Prelude.{◌≡◌, true, OnOk, OnErr, IfOk, Some, None};
+ghost use Rattle.std.specs.BTreeMap.{IsOrdered, IsUnchanged, Updates, keys};
+ghost use Rattle.std.specs.FinMap as map;
+ghost use Rattle.git_name.specs.Name.{name_cmp};
+
+use crate::files::{FileFault, LooseFiles};
+use git_name::Name;
+use std::alloc::{AllocError, Global};
+use std::collections::BTreeMap;
+use std::marker::Model;
+
+/// Files in memory.
+#[derive(Debug, Drop)]
+pub struct Memory {
+    files: BTreeMap<Name, Vec<u8>>,
+}
+
+impl Model for Memory {
+    ghost use Rattle.std.specs.Coded.{coded_list, coded_ℕ};
+    ghost use Rattle.std.specs.FinMap as map;
+    ghost use Rattle.loose_store.specs.Files.{Files};
+    ghost use Rattle.git_name.specs.Maps.{mapped};
+
+    ghost Value = { Files };
+
+    ghost coded = { map.code (coded_list coded_ℕ) (coded_list coded_ℕ) };
+
+    ghost view = { λ a. map.from_entries (mapped (λ bytes. bytes.items) a.files.entries) };
+}
+
+fn insert_into(
+    files: &mut BTreeMap<Name, Vec<u8>>,
+    name: Name,
+    bytes: Vec<u8>,
+) -> Result<(), AllocError>
+    ensures ok { OnOk result (Updates name_cmp files.old files.new name (Some bytes)) }
+    ensures err { OnErr result (IsUnchanged files.old files.new) }
+{
+    files.insert(name, bytes)?;
+    Ok(())
+}
+
+fn remove_from(files: &mut BTreeMap<Name, Vec<u8>>, name: Name)
+    ensures { Updates name_cmp files.old files.new name None }
+{
+    files.remove(&name);
+}
+
+fn names_in(alloc: Global, files: &BTreeMap<Name, Vec<u8>>) -> Result<Vec<Name>, AllocError>
+    ensures names { IfOk result (λ names. names.items ≡ keys files.now) }
+    ensures ordered { IfOk result (λ _. IsOrdered name_cmp files.now) }
+{
+    files.keys().copied().collect(alloc)
+}
+
+impl Memory {
+    /// No files.
+    pub fn new(alloc: Global) -> Memory
+        ensures { result ≡ map.empty }
+    {
+        Memory {
+            files: BTreeMap::new(alloc),
+        }
+    }
+
+    /// Puts these bytes under a name, so that a test can damage a file.
+    pub fn set(&mut self, alloc: Global, name: Name, bytes: &[u8]) -> Result<(), AllocError>
+        ensures ok { OnOk result (self.new ≡ map.insert self.old name bytes.now) }
+        ensures err { OnErr result (self.new ≡ self.old) }
+    {
+        let copy = bytes.to_vec(alloc)?;
+        insert_into(&mut self.files, name, copy)?;
+        Ok(())
+    }
+}
+
+impl LooseFiles for Memory {
+    ghost contents = { λ files. files };
+
+    ghost honest = { λ _. true };
+
+    ghost failures = { λ _. 0 };
+
+    fn get(&mut self, alloc: Global, name: Name) -> Result<Option<Vec<u8>>, FileFault> {
+        let Some(bytes) = self.files.get(&name) else {
+            return Ok(None);
+        };
+        Ok(Some(bytes.to_vec(alloc)?))
+    }
+
+    fn put(&mut self, alloc: Global, name: Name, bytes: &[u8]) -> Result<(), FileFault> {
+        Ok(self.set(alloc, name, bytes)?)
+    }
+
+    fn remove(&mut self, _alloc: Global, name: Name) -> Result<(), FileFault> {
+        remove_from(&mut self.files, name);
+        Ok(())
+    }
+
+    fn names(&mut self, alloc: Global) -> Result<Vec<Name>, FileFault> {
+        Ok(names_in(alloc, &self.files)?)
+    }
+
+    fn failures(&self) -> u64 {
+        0
+    }
+}

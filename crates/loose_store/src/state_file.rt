@@ -1,0 +1,51 @@
+use crate::device::{PART, found, read_whole, settle, told};
+use crate::files::FileFault;
+use crate::place::inside;
+use std::alloc::Global;
+use std::fs::OpenFile;
+use std::io::Write;
+use std::rt::Files;
+use std::{fs, io};
+
+// The state of a host, in its folder.
+const STATE: &str = "state";
+
+fn read_in(rt: &impl Files, alloc: Global, folder: &str) -> io::Result<Option<Vec<u8>>> {
+    let path = inside(alloc, folder, STATE)?;
+    found(read_whole(rt, alloc, path.as_str()))
+}
+
+fn write_synced(rt: &impl Files, path: &str, bytes: &[u8]) -> io::Result<()> {
+    let mut file = fs::create(rt, path)?;
+    file.write_all(bytes)?;
+    file.sync_all()
+}
+
+fn write_in(rt: &impl Files, alloc: Global, folder: &str, bytes: &[u8]) -> io::Result<()> {
+    let path = inside(alloc, folder, STATE)?;
+    let part = inside(alloc, folder, PART)?;
+    let written = write_synced(rt, part.as_str(), bytes);
+    settle(rt, written, part.as_str(), path.as_str())?;
+    fs::open(rt, folder)?.sync_all()
+}
+
+/// The text of the file `state` of the folder of this path, and none where it is not there.
+pub fn read_state(
+    rt: &impl Files,
+    alloc: Global,
+    path: &str,
+) -> Result<Option<Vec<u8>>, FileFault> {
+    told(read_in(rt, alloc, path))
+}
+
+/// Writes the file `state` of the folder of this path, in the place of one that is there. After an
+/// `Err`, a kill or a loss of power in its middle the old text stands there or the new one, whole;
+/// after `Ok` the new one. The folder must be there, and open in this process alone (`Folder::open`).
+pub fn write_state(
+    rt: &impl Files,
+    alloc: Global,
+    path: &str,
+    bytes: &[u8],
+) -> Result<(), FileFault> {
+    told(write_in(rt, alloc, path, bytes))
+}

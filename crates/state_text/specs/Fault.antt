@@ -1,0 +1,40 @@
+-- The first wrong line of a text that is no state text (own).
+use Rattle.std.specs.Prelude.{◌≡◌, ◌≢◌, ℕ, ◌+◌, All, List, [], ◌∷◌, ◌++◌, ◌⊎◌, length}
+use Rattle.std.specs.List.{AllByRecursion, flat_map}
+use Rattle.state_text.specs.States.{States}
+use Rattle.state_text.specs.Text.{IsStateText, ended}
+
+-- some state text begins with these bytes
+pub record Begins (text : List ℕ) : Type 0 where
+  pub states : States
+  pub whole : List ℕ
+  pub rest : List ℕ
+  pub right : IsStateText states whole
+  pub parts : whole ≡ text ++ rest
+
+-- bytes without LF
+abbrev pub IsLine : List ℕ → Type 0
+IsLine line = All (λ byte. byte ≢ 10) line
+
+-- a whole line stands next, and with it the text begins no state text
+pub record IsRefused (front rest : List ℕ) : Type 0 where
+  pub line : List ℕ
+  pub behind : List ℕ
+  pub is_line : IsLine line
+  pub parts : rest ≡ line ++ 10 ∷ behind
+  pub begins : ¬ Begins (front ++ ended line)
+
+-- no whole line stands next, and the text isn't at its end
+pub record IsCut (front rest : List ℕ) : Type 0 where
+  pub is_line : IsLine rest
+  pub more : (states : States) → IsStateText states front → rest ≢ []
+
+-- with the lines before this one the text begins a state text, and here it goes wrong
+pub record IsWrongLine (text : List ℕ) (number : ℕ) : Type 0 where
+  pub before : List (List ℕ)
+  pub rest : List ℕ
+  pub are_lines : AllByRecursion IsLine before
+  pub parts : text ≡ flat_map ended before ++ rest
+  pub number_is : number ≡ length before + 1
+  pub begins : Begins (flat_map ended before)
+  pub wrong : IsRefused (flat_map ended before) rest ⊎ IsCut (flat_map ended before) rest

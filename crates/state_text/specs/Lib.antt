@@ -1,0 +1,5 @@
+pub mod Adding
+pub mod Fault
+pub mod Kept
+pub mod States
+pub mod Text

@@ -1,0 +1,22 @@
+use thiserror::Error;
+
+/// Why something was not put behind the others.
+#[derive(Clone, Copy, Debug, PartialEq, Eq, Error)]
+pub enum AddError {
+    #[error("the name does not stand behind the others")]
+    OutOfOrder,
+    #[error("there are as many as there may be")]
+    TooMany,
+    #[error("no memory")]
+    Memory,
+}
+
+/// Why no states were read.
+#[derive(Clone, Copy, Debug, PartialEq, Eq, Error)]
+pub enum StateFault {
+    /// The text is no state text; this is its first wrong line. The first line has the number 1.
+    #[error("line {0} is wrong")]
+    Line(u64),
+    #[error("no memory")]
+    Memory,
+}

@@ -1,0 +1,140 @@
+ghost use Rattle.std.specs.Prelude.{◌≡◌, ◌++◌, OnOk, IfOk, codes, map};
+ghost use Rattle.std.specs.FinMap.{entries};
+ghost use Rattle.std.specs.List.{flat_map};
+ghost use Rattle.hex.specs.Hex.{encode_lower};
+ghost use Rattle.git_refname.specs.Namespace.{expanded};
+ghost use Rattle.state_text.specs.Text.{ended, reference_line, repository_lines, seen_line, state_text, tenant_line, tenant_lines};
+
+use crate::states::States;
+use crate::tenant_state::TenantState;
+use fork_request::{RepositoryName, TenantName};
+use git_name::Name;
+use git_refname::{RefName, expand};
+use git_reftx::Refs;
+use itoa::Buffer;
+use std::alloc::{AllocError, Global};
+
+// Writes the digits of a name.
+fn put_name(out: &mut Vec<u8>, name: &Name) -> Result<(), AllocError>
+    ensures { OnOk result (out.new.items ≡ out.old.items ++ encode_lower name.now) }
+{
+    let mut digits = [0; 64];
+    name.write_hex(&mut digits);
+    out.extend_from_slice(&digits)?;
+    Ok(())
+}
+
+// Writes the line of a tenant.
+fn put_tenant_line(out: &mut Vec<u8>, name: &TenantName, limit: u64) -> Result<(), AllocError>
+    ensures { OnOk result (out.new.items ≡ out.old.items ++ ended (tenant_line name.now limit)) }
+{
+    let mut digits = Buffer::new();
+    out.extend_from_slice(b"tenant ")?;
+    out.extend_from_slice(name.as_bytes())?;
+    out.extend_from_slice(b" ")?;
+    out.extend_from_slice(digits.format(limit).as_bytes())?;
+    out.extend_from_slice(b"\n")?;
+    Ok(())
+}
+
+// Writes the line of a reference, of which the expanded namespace is given.
+fn put_reference(
+    out: &mut Vec<u8>,
+    prefix: &[u8],
+    name: &RefName,
+    target: &Name,
+) -> Result<(), AllocError>
+    ensures { OnOk result (out.new.items ≡ out.old.items ++ ended (codes "ref " ++ encode_lower target.now ++ codes " " ++ prefix.now ++ name.now)) }
+{
+    out.extend_from_slice(b"ref ")?;
+    put_name(out, target)?;
+    out.extend_from_slice(b" ")?;
+    out.extend_from_slice(prefix)?;
+    out.extend_from_slice(name.as_bytes())?;
+    out.extend_from_slice(b"\n")?;
+    Ok(())
+}
+
+// Writes a line for each reference.
+fn put_references(out: &mut Vec<u8>, prefix: &[u8], references: &Refs) -> Result<(), AllocError>
+    ensures { OnOk result (out.new.items ≡ out.old.items ++ flat_map ended (map (λ reference. codes "ref " ++ encode_lower reference.1 ++ codes " " ++ prefix.now ++ reference.0) (entries references.now))) }
+{
+    for (name, target) in references.iter() {
+        put_reference(out, prefix, name, target)?;
+    }
+    Ok(())
+}
+
+// Writes the lines of a repository.
+fn put_repository(
+    alloc: Global,
+    out: &mut Vec<u8>,
+    tenant: &TenantName,
+    name: &RepositoryName,
+    references: &Refs,
+) -> Result<(), AllocError>
+    ensures { OnOk result (out.new.items ≡ out.old.items ++ flat_map ended (repository_lines tenant.now (name.now, references.now))) }
+{
+    let prefix = expand(alloc, tenant.as_bytes(), name.as_bytes())?;
+    out.extend_from_slice(b"repo ")?;
+    out.extend_from_slice(name.as_bytes())?;
+    out.extend_from_slice(b"\n")?;
+    put_references(out, prefix.as_slice(), references)
+}
+
+// Writes the lines of each repository.
+fn put_repositories(
+    alloc: Global,
+    out: &mut Vec<u8>,
+    tenant: &TenantName,
+    repositories: &[(RepositoryName, Refs)],
+) -> Result<(), AllocError>
+    ensures { OnOk result (out.new.items ≡ out.old.items ++ flat_map ended (flat_map (repository_lines tenant.now) repositories.now)) }
+{
+    for (name, references) in repositories {
+        put_repository(alloc, out, tenant, name, references)?;
+    }
+    Ok(())
+}
+
+// Writes a line for each name.
+fn put_seen(out: &mut Vec<u8>, names: &[Name]) -> Result<(), AllocError>
+    ensures { OnOk result (out.new.items ≡ out.old.items ++ flat_map ended (map seen_line names.now)) }
+{
+    for name in names {
+        out.extend_from_slice(b"see ")?;
+        put_name(out, name)?;
+        out.extend_from_slice(b"\n")?;
+    }
+    Ok(())
+}
+
+// Writes the lines of a tenant.
+fn put_tenant(alloc: Global, out: &mut Vec<u8>, tenant: &TenantState) -> Result<(), AllocError>
+    ensures { OnOk result (out.new.items ≡ out.old.items ++ flat_map ended (tenant_lines tenant.now)) }
+{
+    put_tenant_line(out, tenant.name(), tenant.limit())?;
+    put_repositories(alloc, out, tenant.name(), tenant.repositories())?;
+    put_seen(out, tenant.seen())
+}
+
+// Writes the lines of each tenant.
+fn put_tenants(alloc: Global, out: &mut Vec<u8>, tenants: &[TenantState]) -> Result<(), AllocError>
+    ensures { OnOk result (out.new.items ≡ out.old.items ++ flat_map ended (flat_map tenant_lines tenants.now)) }
+{
+    for tenant in tenants {
+        put_tenant(alloc, out, tenant)?;
+    }
+    Ok(())
+}
+
+/// The text of the states, in time linear in it.
+pub fn write(alloc: Global, states: &States) -> Result<Vec<u8>, AllocError>
+    ensures { IfOk result (λ text. text.items ≡ state_text states.now) }
+{
+    let mut out = Vec::new(alloc);
+    out.extend_from_slice(b"forkhost state 1\n")?;
+    put_tenants(alloc, &mut out, states.as_slice())?;
+    out.extend_from_slice(b"end\n")?;
+    Ok(out)
+}

@@ -22,22 +22,24 @@ pub(crate) fn told<T: Drop>(answer: io::Result<T>) -> Result<T, FileFault>
     }
 }
 
-/// The answer, and none where the file or its folder is not there.
+/// The answer, and none where the file is not there, or its folder is none.
 pub(crate) fn found<T: Drop>(answer: io::Result<T>) -> io::Result<Option<T>>
     ensures { IfOk answer (λ value. result ≡ Ok (Some value)) }
 {
     match answer {
         Ok(value) => Ok(Some(value)),
-        Err(error) if error.kind() == ErrorKind::NotFound => Ok(None),
-        Err(error) => Err(error),
+        Err(error) => match error.kind() {
+            ErrorKind::NotFound | ErrorKind::NotADirectory => Ok(None),
+            _ => Err(error),
+        },
     }
 }
 
-/// All bytes of a file.
+/// All bytes of a file. There is room for one more, so that its end is read with no growth.
 pub(crate) fn read_whole(rt: &impl Files, alloc: Global, path: &str) -> io::Result<Vec<u8>> {
     let mut file = fs::open(rt, path)?;
     let length = file.metadata()?.len();
-    let mut bytes = Vec::with_capacity(alloc, length as usize)?;
+    let mut bytes = Vec::with_capacity(alloc, (length as usize).saturating_add(1))?;
     file.read_to_end(&mut bytes)?;
     Ok(bytes)
 }

@@ -10,6 +10,7 @@ use crate::place::{home_of, inside, path_of};
 use git_name::Name;
 use std::alloc::Global;
 use std::fs::{File, OpenOptions};
+use std::io::ErrorKind;
 use std::rt::Files;
 use std::{fs, io};
 
@@ -54,7 +55,11 @@ fn sweep(rt: &impl Files, alloc: Global, folder: &str) -> io::Result<()> {
     Ok(())
 }
 
-fn opened<R: Files<File = File>>(rt: &R, alloc: Global, folder: &str) -> io::Result<File> {
+// Makes a folder where it is not there, and takes it for this process.
+fn taken<R: Files<File = File>>(rt: &R, alloc: Global, folder: &str) -> io::Result<File> {
+    if folder.is_empty() {
+        return Err(io::Error::from(ErrorKind::NotFound));
+    }
     let objects = inside(alloc, folder, "objects")?;
     fs::create_dir_all(rt, objects.as_str())?;
     let lock = locked(rt, alloc, folder)?;
@@ -68,7 +73,7 @@ impl<R: Files<File = File> + Drop> Folder<R> {
     /// killed lets go of it; what it was writing is removed here.
     pub fn open(rt: R, alloc: Global, path: &str) -> Result<Folder<R>, FileFault> {
         let text = String::from_str(alloc, path)?;
-        let lock = told(opened(&rt, alloc, path))?;
+        let lock = told(taken(&rt, alloc, path))?;
         Ok(Folder {
             rt,
             path: text,

@@ -68,7 +68,12 @@ fn a_folder_keeps_files_and_passes_over_others(rt: HostRuntime) -> Result<(), Fa
     let deep = format!(in alloc; "{path}/above/folder")?;
     let mut files = Folder::open(&rt, alloc, deep.as_str())?;
     keeps_files(&rt, alloc, &mut files)?;
-    for other in ["objects/readme", "objects/2c/readme", "objects/2c/part"] {
+    for other in [
+        "objects/readme",
+        "objects/00",
+        "objects/2c/readme",
+        "objects/2c/part",
+    ] {
         let text = format!(in alloc; "{deep}/{other}")?;
         fs::write(&rt, text.as_str(), other)?;
     }

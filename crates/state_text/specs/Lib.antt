@@ -2,4 +2,5 @@ pub mod Adding
 pub mod Fault
 pub mod Kept
 pub mod States
+pub mod Taking
 pub mod Text

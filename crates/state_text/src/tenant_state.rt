@@ -151,10 +151,10 @@ fn repository_follows(repositories: &[(RepositoryName, Refs)], name: &Repository
     requires { Ascend (map (λ repository. repository.0) repositories.now) }
     ensures { IsTrue result ↔ AreBefore (map (λ repository. repository.0) repositories.now) name.now }
 {
-    let Some((last, _)) = repositories.last() else {
+    let Some(last) = repositories.last() else {
         return true;
     };
-    let Ordering::Less = last.cmp(name) else {
+    let Ordering::Less = last.0.cmp(name) else {
         return false;
     };
     true

@@ -79,7 +79,8 @@ fn put_repository(
     out.extend_from_slice(b"repo ")?;
     out.extend_from_slice(name.as_bytes())?;
     out.extend_from_slice(b"\n")?;
-    put_references(out, prefix.as_slice(), references)
+    put_references(out, prefix.as_slice(), references)?;
+    Ok(())
 }
 
 // Writes the lines of each repository.

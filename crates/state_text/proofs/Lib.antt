@@ -1,0 +1,3 @@
+pub mod BehindLemmas
+pub mod StateLemmas
+pub mod WritingLemmas

@@ -1,0 +1,72 @@
+-- States with one thing more behind the others, or less.
+use Rattle.std.proofs.Common.{◌≡◌, ℕ, ◌<◌, ◌≤◌, List, [], ◌∷◌, ◌++◌, refl, sym, ap, subst, ◌∙◌, length, map, arith}
+use Rattle.std.specs.List.{AllByRecursion}
+use Rattle.git_name.specs.Name.{IsName}
+use Rattle.git_reftx.specs.Transaction.{References}
+use Rattle.fork_request.specs.Names.{IsTenantName}
+use Rattle.fork_request.specs.declared.limit.TheConstants.{MAX_LIMIT}
+use Rattle.fork_model.specs.declared.limits.TheConstants.{MAX_REPOSITORIES, MAX_TENANTS}
+use Rattle.state_text.specs.Adding.{AreBefore, fresh, with_repository, with_seen}
+use Rattle.state_text.specs.States.{Ascend, IsRepository, IsStates, IsTenantState, States, TenantState}
+use Rattle.state_text.proofs.BehindLemmas.{ascend_behind, ascend_front, ascend_none, before_last, each_behind, each_front, each_last, length_behind, map_behind}
+
+pub no_states : IsStates []
+no_states = record { few = omega arith; ordered = ascend_none; each = tt }
+
+pub fresh_right : (name : List ℕ) (limit : ℕ) → IsTenantName name → limit ≤ MAX_LIMIT → IsTenantState (fresh name limit)
+fresh_right name limit named within = record { named = named; limit = within; few = omega arith; ordered = ascend_none; repositories = tt; seen_ordered = ascend_none; seen = tt }
+
+-- a tenant with a repository more
+pub repository_more : (tenant : TenantState) (name : List ℕ) (references : References) → IsTenantState tenant → IsRepository (name, references) → AreBefore (map (λ r. r.0) tenant.repositories) name
+    → length tenant.repositories < MAX_REPOSITORIES → IsTenantState (with_repository tenant name references)
+repository_more tenant name references right new before room = record {
+  named = right.named;
+  limit = right.limit;
+  few = (let long = length_behind tenant.repositories (name, references) in omega (arith, long));
+  ordered = subst Ascend (sym (map_behind (λ r. r.0) tenant.repositories (name, references))) (ascend_behind (map (λ r. r.0) tenant.repositories) name right.ordered before);
+  repositories = each_behind IsRepository tenant.repositories (name, references) right.repositories new;
+  seen_ordered = right.seen_ordered;
+  seen = right.seen;
+}
+
+-- a tenant that sees an object more
+pub seen_more : (tenant : TenantState) (name : List ℕ) → IsTenantState tenant → IsName name → AreBefore tenant.seen name → IsTenantState (with_seen tenant name)
+seen_more tenant name right named before = record {
+  named = right.named;
+  limit = right.limit;
+  few = right.few;
+  ordered = right.ordered;
+  repositories = right.repositories;
+  seen_ordered = ascend_behind tenant.seen name right.seen_ordered before;
+  seen = each_behind IsName tenant.seen name right.seen named;
+}
+
+-- states with a tenant more
+pub tenant_more : (states : States) (tenant : TenantState) → IsStates states → IsTenantState tenant → AreBefore (map (λ t. t.name) states) tenant.name → length states < MAX_TENANTS → IsStates (states ++ tenant ∷ [])
+tenant_more states tenant right new before room = record {
+  few = (let long = length_behind states tenant in omega (arith, long));
+  ordered = subst Ascend (sym (map_behind (λ t. t.name) states tenant)) (ascend_behind (map (λ t. t.name) states) tenant.name right.ordered before);
+  each = each_behind IsTenantState states tenant right.each new;
+}
+
+-- the last one is right
+pub last_right : (states : States) (tenant : TenantState) → IsStates (states ++ tenant ∷ []) → IsTenantState tenant
+last_right states tenant right = each_last IsTenantState states tenant right.each
+
+-- the others stand before it
+pub tenants_before : (states : States) (tenant : TenantState) → IsStates (states ++ tenant ∷ []) → AreBefore (map (λ t. t.name) states) tenant.name
+tenants_before states tenant right = before_last (map (λ t. t.name) states) tenant.name (subst Ascend (map_behind (λ t. t.name) states tenant) right.ordered)
+
+-- states without the last one
+pub tenant_less : (states : States) (tenant : TenantState) → IsStates (states ++ tenant ∷ []) → IsStates states
+tenant_less states tenant right = record {
+  few = (let long = length_behind states tenant in let few = right.few in omega (arith, long, few));
+  ordered = ascend_front (map (λ t. t.name) states) tenant.name (subst Ascend (map_behind (λ t. t.name) states tenant) right.ordered);
+  each = each_front IsTenantState states tenant right.each;
+}
+
+-- states whose last one changes under its name
+pub tenant_changed : (states : States) (old new : TenantState) → IsStates (states ++ old ∷ []) → IsTenantState new → old.name ≡ new.name → IsStates (states ++ new ∷ [])
+tenant_changed states old new right is same =
+    let room : length states < MAX_TENANTS = (let long = length_behind states old in let few = right.few in omega (arith, long, few)) in
+    tenant_more states new (tenant_less states old right) is (subst (AreBefore (map (λ t. t.name) states)) same (tenants_before states old right)) room

@@ -1,0 +1,8 @@
+use Rattle.std.proofs.Common.{◌≡◌, ◌++◌, map, take}
+use Rattle.std.specs.List.{flat_map}
+use Rattle.state_text.specs.Text.{ended, seen_line}
+use Rattle.state_text.proofs.writing.put_seen.Given as goal
+
+-- the lines of the names so far are written
+abbrev pub invariant-loop-name : goal.invariant-loop-name
+invariant-loop-name l = l.out.items ≡ l.fn.out.items ++ flat_map ended (map seen_line (take l.name-index l.names))

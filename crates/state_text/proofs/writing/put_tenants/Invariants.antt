@@ -1,0 +1,8 @@
+use Rattle.std.proofs.Common.{◌≡◌, ◌++◌, take}
+use Rattle.std.specs.List.{flat_map}
+use Rattle.state_text.specs.Text.{ended, tenant_lines}
+use Rattle.state_text.proofs.writing.put_tenants.Given as goal
+
+-- the lines of the tenants so far are written
+abbrev pub invariant-loop-tenant : goal.invariant-loop-tenant
+invariant-loop-tenant l = l.out.items ≡ l.fn.out.items ++ flat_map ended (flat_map tenant_lines (take l.tenant-index l.tenants))

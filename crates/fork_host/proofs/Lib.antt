@@ -1,7 +1,9 @@
 pub mod AddingLemmas
+pub mod BoundLemmas
 pub mod FaultLemmas
 pub mod HandleLemmas
 pub mod OwnLemmas
+pub mod PushLemmas
 pub mod QueryLemmas
 pub mod ReadLemmas
 pub mod RowLemmas

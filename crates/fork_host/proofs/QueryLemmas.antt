@@ -1,11 +1,10 @@
 -- Queries, which leave what a tenant sees.
-use Rattle.std.proofs.Common.{◌≡◌, ℕ, Bool, true, false, cond, IsTrue, inl, inr, List, length, Option, Some, Result, Ok, Err, refl, sym, ap, subst, ◌∙◌, arith}
+use Rattle.std.proofs.Common.{◌≡◌, ℕ, true, false, cond, IsTrue, inl, List, [], length, Option, Some, Result, Ok, Err, refl, sym, ap, subst, ◌∙◌}
 use Rattle.std.specs.Prelude.{nat_lt}
 use Rattle.std.specs.FinMap.{empty}
 use Rattle.git_reftx.specs.Transaction.{References}
 use Rattle.fork_reach.specs.declared.source.SourceFault.{SourceFault}
-use Rattle.fork_reach.specs.declared.source.SourceFault.TheVariants as source
-use Rattle.fork_reach.specs.Faults.{CountsFault, IsAsked}
+use Rattle.fork_reach.specs.Faults.{IsAsked}
 use Rattle.fork_ledger.specs.Tenants.{private_of}
 use Rattle.fork_query.specs.declared.query_error.QueryError.{QueryError}
 use Rattle.fork_query.specs.declared.query_error.QueryError.TheVariants as query
@@ -13,51 +12,51 @@ use Rattle.fork_query.specs.Told.{Tells, fault_told as fault_of}
 use Rattle.fork_request.specs.declared.refusal.Refusal.{Refusal}
 use Rattle.fork_request.specs.declared.refusal.Refusal.TheVariants.{BadName, TooMany}
 use Rattle.fork_request.specs.declared.reply.Reply.{Reply}
-use Rattle.fork_request.specs.declared.reply.Reply.TheVariants.{Refused, Failed}
+use Rattle.fork_request.specs.declared.reply.Reply.TheVariants.{Refused}
 use Rattle.fork_request.specs.Names.{is_plain_name}
 use Rattle.fork_model.specs.Answer.{few_items, named_repository, told, told_over}
 use Rattle.fork_model.specs.View.{View}
 use Rattle.fork_host.specs.declared.own.Own.{Own}
-use Rattle.fork_host.specs.Handle.{Uses, own_state, shown_by}
+use Rattle.fork_host.specs.Bounds.{IsBounded, IsRead}
+use Rattle.fork_host.specs.Handle.{Rest, Uses, own_state, shown_by}
 use Rattle.fork_host.specs.Own.{staged_in}
-use Rattle.fork_host.specs.Rows.{Gives, Given, Wanting, fault_told, query_told}
-use Rattle.fork_host.specs.Safe.{IsFaultOver, IsReplyOver, IsSafe}
+use Rattle.fork_host.specs.Rows.{Yields, Yielded, Faulted, fault_told, query_told}
+use Rattle.fork_host.specs.Safe.{IsSafe}
 use Rattle.fork_host.specs.Shown.{Account, seen_by, shown}
-use Rattle.fork_host.proofs.SafeLemmas.{memory_over, read_safe, read_uses}
+use Rattle.fork_host.proofs.BoundLemmas.{bounded_gains, bounded_read, gains_read}
+use Rattle.fork_host.proofs.SafeLemmas.{read_safe, read_uses}
 
 -- a source that is asked is a handle that was used
-pub asked_uses : (old new : Own) (fault : Option SourceFault) → staged_in old.vault.now old.tenant.now ≡ empty → IsAsked (own_state old) (own_state new) fault → Uses old new
+pub asked_uses : {S : Type 0} (old new : Own S) (fault : Option SourceFault) → staged_in old.vault.now old.tenant.now ≡ empty → IsAsked (own_state old) (own_state new) fault → Uses old new
 asked_uses old new fault quiet asked =
-    read_uses old new quiet (ap (λ base. base.1) asked.base) asked.rest asked.honest (record { vault = ap (λ base. base.0.0) asked.base; tenant = ap (λ base. base.0.1) asked.base })
+    read_uses old new quiet (ap (λ base. base.1) asked.base) (λ h. ap (λ rest. rest.0) (asked.rest h)) asked.honest (record { vault = ap (λ base. base.0.0) asked.base; tenant = ap (λ base. base.0.1) asked.base })
 
-fault_over : (honest : Bool) (fault : SourceFault) → CountsFault 0 0 (Some fault) → (IsTrue honest → Some fault ≡ Some source.Damaged → ⊥) → IsFaultOver honest (fault_told fault)
-fault_over honest source.Memory counted undamaged = tt
-fault_over honest source.Damaged counted undamaged = λ trusted. undamaged trusted refl
-fault_over honest source.Store (inl up) undamaged = (let never : ⊥ = omega (arith, up) in absurd never)
-fault_over honest source.Store (inr full) undamaged = (let never : ⊥ = omega (arith, full) in absurd never)
+-- and a vault that was read
+pub asked_read : {S : Type 0} (old new : Own S) (fault : Option SourceFault) → IsAsked (own_state old) (own_state new) fault → IsRead old.vault.now new.vault.now fault
+asked_read old new fault asked = record { honest = asked.honest; counted = asked.counted; files = λ h. ap (λ rest. rest.1) (asked.rest h); undamaged = asked.undamaged }
 
-reply_over : {B : Type 0} (view : B → List ℕ) (old new : Own) (found : Result B QueryError) → IsAsked (own_state old) (own_state new) (fault_of found) → IsReplyOver old.vault.now.honest (query_told view found)
-reply_over view old new (Ok text) asked = tt
-reply_over view old new (Err (query.Refused refusal)) asked = tt
-reply_over view old new (Err (query.Failed fault)) asked = fault_over old.vault.now.honest fault asked.counted asked.undamaged
+bounded_told : {S B : Type 0} (view : B → List ℕ) (old new : Own S) (found : Result B QueryError) → IsRead old.vault.now new.vault.now (fault_of found) → IsBounded [] old.vault.now new.vault.now (query_told view found)
+bounded_told view old new (Ok text) read = bounded_gains [] old.vault.now new.vault.now _ (gains_read [] old.vault.now new.vault.now read) (inl refl)
+bounded_told view old new (Err (query.Refused refusal)) read = bounded_gains [] old.vault.now new.vault.now _ (gains_read [] old.vault.now new.vault.now read) (inl refl)
+bounded_told view old new (Err (query.Failed fault)) read = bounded_read [] old.vault.now new.vault.now fault read
 
 -- over any store
-pub query_safe : {B : Type 0} (view : B → List ℕ) (account : Account) (old new : Own) (found : Result B QueryError) (reply : Reply) → IsAsked (own_state old) (own_state new) (fault_of found) → reply ≡ query_told view found
-    → IsSafe old.vault.now.honest (shown_by account old) reply (shown account new.vault.now old.tenant.now)
+pub query_safe : {S B : Type 0} (view : B → List ℕ) (account : Account) (old new : Own S) (found : Result B QueryError) (reply : Reply) → IsAsked (own_state old) (own_state new) (fault_of found) → reply ≡ query_told view found
+    → IsSafe (IsBounded [] old.vault.now new.vault.now) (shown_by account old) reply (shown account new.vault.now old.tenant.now)
 query_safe view account old new found reply asked is =
-    read_safe old.vault.now.honest account old new reply (ap (λ base. base.1) asked.base) (subst (IsReplyOver old.vault.now.honest) (sym is) (reply_over view old new found asked))
+    read_safe (IsBounded [] old.vault.now new.vault.now) account old new reply (ap (λ base. base.1) asked.base)
+    (subst (IsBounded [] old.vault.now new.vault.now) (sym is) (bounded_told view old new found (asked_read old new (fault_of found) asked)))
 
 -- over an honest one
-stays : (account : Account) (old new : Own) (fault : Option SourceFault) → IsTrue old.vault.now.honest → IsAsked (own_state old) (own_state new) fault → shown account new.vault.now old.tenant.now ≡ shown_by account old
-stays account old new fault honest asked = ap (λ tenants. seen_by account (private_of tenants old.tenant.now).visible) (asked.rest honest)
+stays : {S : Type 0} (account : Account) (old new : Own S) (fault : Option SourceFault) → IsTrue old.vault.now.honest → IsAsked (own_state old) (own_state new) fault → shown account new.vault.now old.tenant.now ≡ shown_by account old
+stays account old new fault honest asked = ap (λ (rest : Rest). seen_by account (private_of rest.0 old.tenant.now).visible) (asked.rest honest)
 
-pub query_gives : {B : Type 0} (view : B → List ℕ) (account : Account) (old new : Own) (model : Result (List ℕ) Refusal) (found : Result B QueryError) (reply : Reply) → IsTrue old.vault.now.honest → Tells view model found
+pub query_gives : {S B : Type 0} (view : B → List ℕ) (account : Account) (old new : Own S) (model : Result (List ℕ) Refusal) (found : Result B QueryError) (reply : Reply) → IsTrue old.vault.now.honest → Tells view model found
     → IsAsked (own_state old) (own_state new) (fault_of found) → reply ≡ query_told view found
-    → Gives (told model, shown_by account old) (shown_by account old) reply (shown account new.vault.now old.tenant.now)
-query_gives view account old new model (Ok text) reply honest tells asked is = Given (is ∙ sym (ap told tells)) (stays account old new _ honest asked)
-query_gives view account old new model (Err (query.Refused refusal)) reply honest tells asked is = Given (is ∙ sym (ap told tells)) (stays account old new _ honest asked)
-query_gives view account old new model (Err (query.Failed fault)) reply honest tells asked is =
-    Wanting (is ∙ ap (λ f. Failed f) (memory_over old.vault.now.honest fault honest (fault_over old.vault.now.honest fault asked.counted asked.undamaged))) (stays account old new _ honest asked)
+    → Yields (told model, shown_by account old) (shown_by account old) reply (shown account new.vault.now old.tenant.now)
+query_gives view account old new model (Ok text) reply honest tells asked is = Yielded (is ∙ sym (ap told tells)) (stays account old new _ honest asked)
+query_gives view account old new model (Err (query.Refused refusal)) reply honest tells asked is = Yielded (is ∙ sym (ap told tells)) (stays account old new _ honest asked)
+query_gives view account old new model (Err (query.Failed fault)) reply honest tells asked is = Faulted (fault_told fault) is (stays account old new _ honest asked)
 
 -- a row about a repository that is there, and about few items
 pub named_is : (view : View) (word : List ℕ) (row : Reply × View) → is_plain_name 64 word ≡ true → named_repository view word row ≡ row

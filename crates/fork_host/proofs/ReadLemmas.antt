@@ -1,13 +1,14 @@
 -- What a source tells of what a read of the vault gave.
-use Rattle.std.proofs.Common.{◌≡◌, ◌≢◌, Option, Some, Result, Ok, Err, refl, sym, subst, ap, ◌∙◌}
+use Rattle.std.proofs.Common.{◌≡◌, ◌≢◌, ℕ, Option, Some, Result, Ok, Err, refl, sym, subst, ap, ◌∙◌}
 use Rattle.std.specs.Prelude.{IfErr, IfOk}
 use Rattle.git_name.specs.Object.{Object}
 use Rattle.fork_reach.specs.declared.source.SourceFault.{SourceFault}
 use Rattle.fork_reach.specs.declared.source.SourceFault.TheVariants.{Damaged}
 use Rattle.fork_reach.specs.Faults.{CountsFault, fault_in}
 use Rattle.fork_ledger.specs.declared.fault.VaultFault.{VaultFault}
-use Rattle.fork_ledger.specs.declared.fault.VaultFault.TheVariants.{Memory}
-use Rattle.fork_host.specs.Rows.{fault_read, read_told}
+use Rattle.fork_ledger.specs.declared.fault.VaultFault.TheVariants as vault
+use Rattle.fork_ledger.specs.Store as ledger
+use Rattle.fork_host.specs.Rows.{read_told}
 
 abbrev Found : Type 0
 Found = Result (Option Object) VaultFault
@@ -20,17 +21,24 @@ pub if_told : (P Q : Option Object → Type 0) → ((found : Option Object) → 
 if_told P Q weaker (Ok found) t is holds = subst (λ t'. IfOk t' Q) (sym is) (weaker found holds)
 if_told P Q weaker (Err fault) t is holds = subst (λ t'. IfOk t' Q) (sym is) tt
 
-counts : (r : Found) → IfErr r (λ fault. fault ≡ Memory) → CountsFault 0 0 (fault_in (read_told r))
-counts (Ok found) is = refl
-counts (Err fault) is = subst (λ f. CountsFault 0 0 (Some (fault_read f))) (sym is) refl
+counts : (r : Found) (before now : ℕ) → ledger.CountsFault before now (ledger.fault_in r) → CountsFault before now (fault_in (read_told r))
+counts (Ok found) before now is = is
+counts (Err vault.Store) before now is = is
+counts (Err vault.Damaged) before now is = is
+counts (Err vault.Memory) before now is = is
+counts (Err vault.Collision) before now is = is
 
--- want of memory is counted as no failure, and is no damage
-pub told_counts : (r : Found) (t : Told) → t ≡ read_told r → IfErr r (λ fault. fault ≡ Memory) → CountsFault 0 0 (fault_in t)
-told_counts r t is memory = subst (λ t'. CountsFault 0 0 (fault_in t')) (sym is) (counts r memory)
+-- a failure is counted alike
+pub told_counts : (r : Found) (t : Told) (before now : ℕ) → t ≡ read_told r → ledger.CountsFault before now (ledger.fault_in r) → CountsFault before now (fault_in t)
+told_counts r t before now is counted = subst (λ t'. CountsFault before now (fault_in t')) (sym is) (counts r before now counted)
 
-undamaged : (r : Found) → IfErr r (λ fault. fault ≡ Memory) → fault_in (read_told r) ≢ Some Damaged
-undamaged (Ok found) is damaged = (let differs : ⊥ = cc in differs)
-undamaged (Err fault) is damaged = (let same = ap (λ f. Some (fault_read f)) is in let differs : ⊥ = cc (sym same ∙ damaged) in differs)
+undamaged : (r : Found) → IfErr r (λ fault. fault ≢ vault.Collision) → ledger.fault_in r ≢ Some vault.Damaged → fault_in (read_told r) ≢ Some Damaged
+undamaged (Ok found) apart whole damaged = (let differs : ⊥ = cc in differs)
+undamaged (Err vault.Store) apart whole damaged = (let differs : ⊥ = cc in differs)
+undamaged (Err vault.Damaged) apart whole damaged = whole refl
+undamaged (Err vault.Memory) apart whole damaged = (let differs : ⊥ = cc in differs)
+undamaged (Err vault.Collision) apart whole damaged = apart refl
 
-pub told_undamaged : (r : Found) (t : Told) → t ≡ read_told r → IfErr r (λ fault. fault ≡ Memory) → fault_in t ≢ Some Damaged
-told_undamaged r t is memory damaged = undamaged r memory (ap fault_in (sym is) ∙ damaged)
+-- what is whole is told as no damage
+pub told_undamaged : (r : Found) (t : Told) → t ≡ read_told r → IfErr r (λ fault. fault ≢ vault.Collision) → ledger.fault_in r ≢ Some vault.Damaged → fault_in t ≢ Some Damaged
+told_undamaged r t is apart whole damaged = undamaged r apart whole (ap fault_in (sym is) ∙ damaged)

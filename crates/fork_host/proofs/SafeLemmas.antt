@@ -1,5 +1,5 @@
 -- What names, kinds and lengths decide of an answer.
-use Rattle.std.proofs.Common.{◌≡◌, ℕ, ◌≤◌, Bool, true, false, IsTrue, List, Option, None, Some, refl, sym, ap, subst, ◌∙◌}
+use Rattle.std.proofs.Common.{◌≡◌, ℕ, ◌≤◌, Bool, true, IsTrue, List, Option, None, Some, refl, sym, ap, subst, ◌∙◌}
 use Rattle.std.specs.FinMap.{contains_key, empty, get, insert, retain_keys}
 use Rattle.std.specs.Prelude.{Contains}
 use Rattle.git_name.specs.Object.{Object}
@@ -7,30 +7,27 @@ use Rattle.git_reftx.specs.Transaction.{References, is_commit, transacted}
 use Rattle.push_stream.specs.Upload.{UploadValue}
 use Rattle.fork_reach.specs.Objects.{Measures, measures_of, with_objects}
 use Rattle.fork_reach.specs.Source.{Objects}
-use Rattle.fork_reach.specs.declared.source.SourceFault.{SourceFault}
-use Rattle.fork_reach.specs.declared.source.SourceFault.TheVariants as source
 use Rattle.fork_reach.proofs.MeasureLemmas.{same_kinds, same_there, same_use}
 use Rattle.fork_push.specs.Verdict as verdict
 use Rattle.fork_request.specs.Asked.{Ask}
-use Rattle.fork_request.specs.Told.{is_done, is_host_fault}
-use Rattle.fork_request.specs.declared.host_fault.HostFault.TheVariants.{Memory}
+use Rattle.fork_request.specs.Told.{is_done}
 use Rattle.fork_request.specs.declared.reply.Reply.{Reply}
-use Rattle.fork_request.specs.declared.reply.Reply.TheVariants.{Done, Refused, Failed}
+use Rattle.fork_request.specs.declared.reply.Reply.TheVariants.{Done}
 use Rattle.fork_model.specs.Answer.{answer, left_by, targets_of}
 use Rattle.fork_model.specs.Sound.{AreReferences, IsOrderly}
 use Rattle.fork_model.specs.View.{View, Repositories}
 use Rattle.fork_model.proofs.KeptLemmas.{target_among}
 use Rattle.fork_model.proofs.Rows.{orderly_kept, orderly_pushed, orderly_without}
 use Rattle.fork_model.proofs.SoundLemmas.{orderly_answer}
-use Rattle.fork_model.proofs.StepLemmas.{answer_tells, left_but_upload, undone}
+use Rattle.fork_model.proofs.StepLemmas.{left_but_upload, undone}
 use Rattle.fork_ledger.specs.Tenants.{VaultState, shape_of as vault_shape}
 use Rattle.fork_ledger.proofs.BothLemmas.{same_measures}
 use Rattle.fork_host.specs.declared.own.Own.{Own}
 use Rattle.fork_host.specs.Handle.{IsSame, Uses, shown_by}
 use Rattle.fork_host.specs.Own.{staged_in, visible_in}
 use Rattle.fork_host.specs.Pushed.{view_of}
-use Rattle.fork_host.specs.Rows.{Gives, Given, Wanting, IsPruned, Pruned, Unpruned, fault_told}
-use Rattle.fork_host.specs.Safe.{IsFaultOver, IsReplyOver, IsSafe}
+use Rattle.fork_host.specs.Rows.{Gives, Given, Wanting, IsPruned, Pruned, Unpruned}
+use Rattle.fork_host.specs.Safe.{IsSafe}
 use Rattle.fork_host.specs.Shape.{shape_of}
 use Rattle.fork_host.specs.Shown.{Account, shown}
 use Rattle.fork_host.proofs.OwnLemmas.{own_read}
@@ -67,40 +64,35 @@ pub shape_measured : (repositories : Repositories) (seen objects : Objects) (upl
 shape_measured repositories seen objects upload other limit same = λ i. record { repositories = repositories; objects = same i; limit = limit }
 
 -- an answer that leaves the repositories and what is seen, over any store as far as its measures go
-pub safe_left : (honest : Bool) (repositories now : Repositories) (seen objects : Objects) (upload : Option UploadValue) (limit : ℕ) (reply : Reply) → now ≡ repositories → measures_of objects ≡ measures_of seen
-    → IsReplyOver honest reply → IsSafe honest (view_of repositories seen upload limit) reply (view_of now objects upload limit)
-safe_left honest repositories now seen objects upload limit reply stays same faults =
-    subst (λ r. IsSafe honest (view_of repositories seen upload limit) reply (view_of r objects upload limit)) (sym stays) (record {
+pub safe_left : (Within : Reply → Type 0) (repositories now : Repositories) (seen objects : Objects) (upload : Option UploadValue) (limit : ℕ) (reply : Reply) → now ≡ repositories → measures_of objects ≡ measures_of seen
+    → Within reply → IsSafe Within (view_of repositories seen upload limit) reply (view_of now objects upload limit)
+safe_left Within repositories now seen objects upload limit reply stays same faults =
+    subst (λ r. IsSafe Within (view_of repositories seen upload limit) reply (view_of r objects upload limit)) (sym stays) (record {
       orderly = orderly_measured repositories seen objects upload limit same;
       kept = λ _. shape_measured repositories seen objects upload upload limit same;
       faults = faults;
     })
 
 -- the upload goes
-pub safe_ended : (honest : Bool) (old : View) (account ended : Account) (vault : VaultState) (tenant : List ℕ) (reply : Reply) → ended ≡ record { repositories = account.repositories; upload = None; limit = account.limit }
-    → IsSafe honest old reply (shown account vault tenant) → IsSafe honest old reply (shown ended vault tenant)
-safe_ended honest old account ended vault tenant reply is safe = subst (λ (a : Account). IsSafe honest old reply (shown a vault tenant)) (sym is) (record {
+pub safe_ended : (Within : Reply → Type 0) (old : View) (account ended : Account) (vault : VaultState) (tenant : List ℕ) (reply : Reply) → ended ≡ record { repositories = account.repositories; upload = None; limit = account.limit }
+    → IsSafe Within old reply (shown account vault tenant) → IsSafe Within old reply (shown ended vault tenant)
+safe_ended Within old account ended vault tenant reply is safe = subst (λ (a : Account). IsSafe Within old reply (shown a vault tenant)) (sym is) (record {
   orderly = λ before. orderly_without (shown account vault tenant) (safe.orderly before);
   kept = safe.kept;
   faults = safe.faults;
 })
 
-no_fault : (honest : Bool) (reply : Reply) → is_host_fault reply ≡ false → IsReplyOver honest reply
-no_fault honest (Done text) is = tt
-no_fault honest (Refused refusal) is = tt
-no_fault honest (Failed fault) is = absurd (cc)
-
 -- an answer of the model is safe, and so is want of memory
-pub safe_gives : (honest : Bool) (view new : View) (ask : Ask) (reply : Reply) → Gives (answer view ask) view reply new → IsSafe honest view reply new
-safe_gives honest view new ask reply (Given told is) = record {
+pub safe_gives : (Within : Reply → Type 0) (view new : View) (ask : Ask) (reply : Reply) → Within reply → Gives (answer view ask) view reply new → IsSafe Within view reply new
+safe_gives Within view new ask reply within (Given told is) = record {
   orderly = λ before. subst IsOrderly (sym is) (orderly_answer view ask before);
   kept = λ not_done. ap shape_of (is ∙ undone view ask reply told not_done) ∙ shape_but_upload (left_by view ask) view (left_but_upload view ask);
-  faults = no_fault honest reply (ap is_host_fault told ∙ answer_tells view ask);
+  faults = within;
 }
-safe_gives honest view new ask reply (Wanting wanting stays) = record {
+safe_gives Within view new ask reply within (Wanting wanting stays) = record {
   orderly = λ before. subst IsOrderly (sym stays) before;
   kept = λ _. ap shape_of stays;
-  faults = subst (IsReplyOver honest) (sym wanting) tt;
+  faults = within;
 }
 
 -- what is kept of a view has all that its references name
@@ -108,17 +100,16 @@ targets_stay : (repositories : Repositories) (seen : Objects) (kept : List ℕ �
     → (word : List ℕ) (references : References) (reference target : List ℕ) → get repositories word ≡ Some references → get references reference ≡ Some target → contains_key seen target ≡ true → kept target ≡ true
 targets_stay repositories seen kept rooted word references reference target here points there = rooted target (target_among repositories word references reference target here points) there
 
-pub safe_pruned : (honest : Bool) (repositories : Repositories) (seen objects : Objects) (upload : Option UploadValue) (limit : ℕ) (reply : Reply) → IsPruned honest (targets_of repositories) seen reply objects
-    → IsSafe honest (view_of repositories seen upload limit) reply (view_of repositories objects upload limit)
-safe_pruned honest repositories seen objects upload limit reply (Pruned kept done same rooted) = record {
+pub safe_pruned : (Within : Reply → Type 0) (repositories : Repositories) (seen objects : Objects) (upload : Option UploadValue) (limit : ℕ) (reply : Reply) → Within reply → IsPruned (targets_of repositories) seen reply objects
+    → IsSafe Within (view_of repositories seen upload limit) reply (view_of repositories objects upload limit)
+safe_pruned Within repositories seen objects upload limit reply within (Pruned kept done same rooted) = record {
   orderly = λ before.
       orderly_measured repositories (retain_keys seen kept) objects upload limit same
       (orderly_kept (view_of repositories seen upload limit) kept (targets_stay repositories seen kept rooted) before);
   kept = λ not_done. (let differs : ⊥ = cc (ap is_done done) in absurd differs);
-  faults = subst (IsReplyOver honest) (sym done) tt;
+  faults = within;
 }
-safe_pruned honest repositories seen objects upload limit reply (Unpruned fault failed within same) =
-    safe_left honest repositories repositories seen objects upload limit reply refl same (subst (IsReplyOver honest) (sym failed) within)
+safe_pruned Within repositories seen objects upload limit reply within (Unpruned fault failed same) = safe_left Within repositories repositories seen objects upload limit reply refl same within
 
 -- what was accepted over objects, is accepted over others of the same measures
 accepted_measured : (objects others : Objects) (old : References) (limit : ℕ) (new : References) → measures_of objects ≡ measures_of others → verdict.IsOrderly objects old limit new → verdict.IsOrderly others old limit new
@@ -129,32 +120,30 @@ accepted_measured objects others old limit new same accepted = record {
 }
 
 -- a push that was accepted and is done
-pub safe_taken : (honest : Bool) (repositories now : Repositories) (seen both objects : Objects) (sent : List Object) (upload : Option UploadValue) (limit : ℕ) (name : List ℕ) (old new : References) (reply : Reply) (text : List ℕ)
-    → reply ≡ Done text → get repositories name ≡ Some old → now ≡ insert repositories name new → measures_of both ≡ measures_of (with_objects seen sent) → measures_of objects ≡ measures_of (with_objects seen sent)
-    → verdict.IsOrderly both old limit new → IsSafe honest (view_of repositories seen upload limit) reply (view_of now objects upload limit)
-safe_taken honest repositories now seen both objects sent upload limit name old new reply text done here set same measured accepted =
+pub safe_taken : (Within : Reply → Type 0) (repositories now : Repositories) (seen both objects : Objects) (sent : List Object) (upload : Option UploadValue) (limit : ℕ) (name : List ℕ) (old new : References) (reply : Reply) (text : List ℕ)
+    → Within reply → reply ≡ Done text → get repositories name ≡ Some old → now ≡ insert repositories name new → measures_of both ≡ measures_of (with_objects seen sent) → measures_of objects ≡ measures_of (with_objects seen sent)
+    → verdict.IsOrderly both old limit new → IsSafe Within (view_of repositories seen upload limit) reply (view_of now objects upload limit)
+safe_taken Within repositories now seen both objects sent upload limit name old new reply text within done here set same measured accepted =
     let carried = accepted_measured both (with_objects seen sent) old limit new same accepted in
-    subst (λ r. IsSafe honest (view_of repositories seen upload limit) reply (view_of r objects upload limit)) (sym set) (record {
+    subst (λ r. IsSafe Within (view_of repositories seen upload limit) reply (view_of r objects upload limit)) (sym set) (record {
       orderly = λ before.
           orderly_measured (insert repositories name new) (with_objects seen sent) objects upload limit measured
           (orderly_pushed (view_of repositories seen upload limit) name old new carried.commands sent here (before.repositories name old here) carried.carried carried.within before);
       kept = λ not_done. (let differs : ⊥ = cc (ap is_done done) in absurd differs);
-      faults = subst (IsReplyOver honest) (sym done) tt;
+      faults = within;
     })
 
--- over an honest store the fault of a source is want of memory
-pub memory_over : (honest : Bool) (fault : SourceFault) → IsTrue honest → IsFaultOver honest (fault_told fault) → fault_told fault ≡ Memory
-memory_over honest source.Memory trusted over = refl
-memory_over honest source.Damaged trusted over = absurd (over trusted)
-memory_over honest source.Store trusted over = absurd over
-
 -- a vault that is read alone: the handle was used, and the answer is safe
-pub read_uses : (old new : Own) → staged_in old.vault.now old.tenant.now ≡ empty → vault_shape new.vault.now.tenants ≡ vault_shape old.vault.now.tenants → (IsTrue old.vault.now.honest → new.vault.now.tenants ≡ old.vault.now.tenants)
+pub read_uses : {S : Type 0} (old new : Own S) → staged_in old.vault.now old.tenant.now ≡ empty → vault_shape new.vault.now.tenants ≡ vault_shape old.vault.now.tenants → (IsTrue old.vault.now.honest → new.vault.now.tenants ≡ old.vault.now.tenants)
     → new.vault.now.honest ≡ old.vault.now.honest → IsSame old new → Uses old new
 read_uses old new quiet shape kept honest same = record { same = same; own = own_read old.vault.now new.vault.now old.tenant.now quiet shape kept honest }
 
-pub read_safe : (honest : Bool) (account : Account) (old new : Own) (reply : Reply) → vault_shape new.vault.now.tenants ≡ vault_shape old.vault.now.tenants → IsReplyOver honest reply
-    → IsSafe honest (shown_by account old) reply (shown account new.vault.now old.tenant.now)
-read_safe honest account old new reply shape faults =
-    safe_left honest account.repositories account.repositories (visible_in old.vault.now old.tenant.now) (visible_in new.vault.now old.tenant.now) account.upload account.limit reply refl
+pub read_safe : {S : Type 0} (Within : Reply → Type 0) (account : Account) (old new : Own S) (reply : Reply) → vault_shape new.vault.now.tenants ≡ vault_shape old.vault.now.tenants → Within reply
+    → IsSafe Within (shown_by account old) reply (shown account new.vault.now old.tenant.now)
+read_safe Within account old new reply shape faults =
+    safe_left Within account.repositories account.repositories (visible_in old.vault.now old.tenant.now) (visible_in new.vault.now old.tenant.now) account.upload account.limit reply refl
     (ap (λ (p : Measures × Measures). p.0) (same_measures old.vault.now.tenants new.vault.now.tenants old.tenant.now shape)) faults
+
+-- an answer that leaves the view
+pub safe_still : (Within : Reply → Type 0) (view : View) (reply : Reply) → Within reply → IsSafe Within view reply view
+safe_still Within view reply within = record { orderly = λ before. before; kept = λ _. refl; faults = within }

@@ -28,8 +28,9 @@ use Rattle.fork_model.proofs.SoundWorlds.{right_step}
 use Rattle.fork_model.proofs.Worlds.{answered}
 use Rattle.fork_host.specs.Adding.{new_account, new_view}
 use Rattle.fork_host.specs.Own.{IsOwn, IsReady, staged_in, visible_in}
-use Rattle.fork_host.specs.Rows.{Gives}
+use Rattle.fork_host.specs.Rows.{Yields}
 use Rattle.fork_host.specs.Safe.{IsSafe}
+use Rattle.fork_host.specs.Sent.{sent_by, sent_in_world, sent_of}
 use Rattle.fork_host.specs.Shape.{SameShape, shape_of}
 use Rattle.fork_host.specs.Shown.{Account, Accounts, HostState, IsWhole, Trusted, shown, state_of, uploaded, world_of}
 use Rattle.fork_host.proofs.AddingLemmas.{orderly_more, orderly_none, right_more, right_none}
@@ -104,7 +105,7 @@ whole_more old new t limit of_tenant whole absent few low added placed honest = 
 
 -- where neither the accounts nor the vault changes, the state is the same
 pub same_state : (accounts after : Accounts) (old new : VaultState) → after ≡ accounts → new.tenants ≡ old.tenants → LeavesStore old new → state_of after new ≡ state_of accounts old
-same_state accounts after old new same placed leaves = λ i. state_of (same i) (record { tenants = placed i; honest = leaves.honest i; failures = leaves.failures i })
+same_state accounts after old new same placed leaves = λ i. state_of (same i) (record { tenants = placed i; files = leaves.files i; honest = leaves.honest i; failures = leaves.failures i })
 
 -- a tenant that is there is ready
 pub ready : (state : HostState) (t : List ℕ) (account : Account) → IsWhole state → get state.accounts t ≡ Some account → IsReady state.vault t account.limit
@@ -118,7 +119,7 @@ ready state t account whole here =
 
 -- it is answered from its account and its own part of the vault, which alone change
 pub answered_step : (old new : HostState) (t : List ℕ) (ask : Ask) (account after : Account) (reply : Reply) → get old.accounts t ≡ Some account → new.accounts ≡ insert old.accounts t after
-    → Gives (answer (shown account old.vault t) ask) (shown account old.vault t) reply (shown after new.vault t) → IsOwn t old.vault new.vault → Trusted old → Steps (world_of old) (Asks t ask) reply (world_of new)
+    → Yields (answer (shown account old.vault t) ask) (shown account old.vault t) reply (shown after new.vault t) → IsOwn t old.vault new.vault → Trusted old → Steps (world_of old) (Asks t ask) reply (world_of new)
 answered_step old new t ask account after reply here set gives own trusted =
     answered name_cmp name_total name_exact answer (Refused UnknownTenant) is_host_fault HostSays (world_of old) (world_of new) t ask (shown account old.vault t) reply (shown after new.vault t)
     (get_world old t ∙ ap (option_map (λ a. shown a old.vault t)) here) (answers_of (shown account old.vault t) (shown after new.vault t) ask reply gives)
@@ -209,9 +210,9 @@ all_stay old new t account after here set own same q = by (eq_by_cmp name_cmp q 
     by false apart = others_shape old new t q after set own apart
 
 -- and the state stays whole
-pub whole_after : (old new : HostState) (t : List ℕ) (ask : Ask) (account after : Account) (reply : Reply) → IsWhole old → get old.accounts t ≡ Some account → new.accounts ≡ insert old.accounts t after
-    → (Trusted old → Steps (world_of old) (Asks t ask) reply (world_of new)) → IsSafe old.vault.honest (shown account old.vault t) reply (shown after new.vault t) → IsOwn t old.vault new.vault → IsWhole new
-whole_after old new t ask account after reply whole here set step safe own = record {
+pub whole_after : (Within : Reply → Type 0) (old new : HostState) (t : List ℕ) (ask : Ask) (account after : Account) (reply : Reply) → IsWhole old → get old.accounts t ≡ Some account → new.accounts ≡ insert old.accounts t after
+    → (Trusted old → Steps (world_of old) (Asks t ask) reply (world_of new)) → IsSafe Within (shown account old.vault t) reply (shown after new.vault t) → IsOwn t old.vault new.vault → IsWhole new
+whole_after Within old new t ask account after reply whole here set step safe own = record {
   orderly = orderly_after old new t account after whole.orderly here set own safe.orderly;
   right = λ trusted. (let before = sym own.honest ∙ trusted in right_step (world_of old) (world_of new) (Asks t ask) reply (whole.right before) (step before));
   there = λ q. own.there q ∙ whole.there q ∙ sym (known_still old new t q account after here set);
@@ -223,3 +224,7 @@ whole_after old new t ask account after reply whole here set step safe own = rec
     rests q other false apart is =
         none_of (staged_in new.vault q)
         (ap (λ (p : Measures × Measures). p.1) (own.shape q (λ same. distinct t q same apart)) ∙ ap measures_of (whole.staged q other (sym (at_other old new t q after set apart) ∙ is)))
+
+-- what a tenant that is there sends
+pub sent_here : (state : HostState) (t : List ℕ) (ask : Ask) (account : Account) → get state.accounts t ≡ Some account → sent_in_world (world_of state) t ask ≡ sent_by (shown account state.vault t) ask
+sent_here state t ask account here = ap (λ o. sent_of o ask) (get_world state t ∙ ap (option_map (λ a. shown a state.vault t)) here)

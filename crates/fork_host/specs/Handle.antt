@@ -3,6 +3,7 @@ use Rattle.std.specs.Prelude.{◌≡◌, ℕ, List}
 use Rattle.std.specs.Borrow.{Bor}
 use Rattle.std.specs.FinMap.{FinMap}
 use Rattle.git_name.specs.Name.{name_cmp}
+use Rattle.loose_store.specs.Files.{Files}
 use Rattle.fork_reach.specs.Objects.{Measures}
 use Rattle.fork_reach.specs.Source.{Objects, SourceState}
 use Rattle.fork_ledger.specs.Tenants.{Tenants, shape_of}
@@ -12,40 +13,44 @@ use Rattle.fork_host.specs.Own.{IsOwn, IsReady, both_in, visible_in}
 use Rattle.fork_host.specs.Shown.{Account, shown}
 
 -- what the tenant sees through it, and what it sees and has staged
-abbrev pub visible_by : Own → Objects
+abbrev pub visible_by : {S : Type 0} → Own S → Objects
 visible_by own = visible_in own.vault.now own.tenant.now
 
-abbrev pub both_by : Own → Objects
+abbrev pub both_by : {S : Type 0} → Own S → Objects
 both_by own = both_in own.vault.now own.tenant.now
 
 -- the view of the tenant, of this account
-abbrev pub shown_by : Account → Own → View
+abbrev pub shown_by : {S : Type 0} → Account → Own S → View
 shown_by account own = shown account own.vault.now own.tenant.now
 
 -- what it stands on that stays over any store: the vault that it lends, the tenant, and the shape of all private maps
 abbrev pub Base : Type 0
 Base = (ℕ × Bor (List ℕ)) × FinMap name_cmp (Measures × Measures)
 
+-- and over an honest store: all private maps, and the files of the store
+abbrev pub Rest : Type 0
+Rest = Tenants × Files
+
 -- what it shows as a source: the objects that the tenant sees
-abbrev pub own_state : Own → SourceState Base Tenants
+abbrev pub own_state : {S : Type 0} → Own S → SourceState Base Rest
 own_state own = record {
   objects = visible_by own;
   honest = own.vault.now.honest;
-  failures = 0;
+  failures = own.vault.now.failures;
   base = ((own.vault.ghost_name, own.tenant), shape_of own.vault.now.tenants);
-  rest = own.vault.now.tenants;
+  rest = (own.vault.now.tenants, own.vault.now.files);
 }
 
 -- the tenant's part is ready for a request under this limit
-abbrev pub Ready : Own → ℕ → Type 0
+abbrev pub Ready : {S : Type 0} → Own S → ℕ → Type 0
 Ready own limit = IsReady own.vault.now own.tenant.now limit
 
 -- it lends the same vault still, for the same tenant
-pub record IsSame (old new : Own) : Type 0 where
+pub record IsSame {S : Type 0} (old new : Own S) : Type 0 where
   pub vault : new.vault.ghost_name ≡ old.vault.ghost_name
   pub tenant : new.tenant ≡ old.tenant
 
 -- it was used for a request: of the vault the tenant's part alone changed
-pub record Uses (old new : Own) : Type 0 where
+pub record Uses {S : Type 0} (old new : Own S) : Type 0 where
   pub same : IsSame old new
   pub own : IsOwn old.tenant.now old.vault.now new.vault.now

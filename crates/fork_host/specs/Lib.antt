@@ -1,4 +1,5 @@
 pub mod Adding
+pub mod Bounds
 pub mod Faults
 pub mod Given
 pub mod Handle
@@ -6,5 +7,6 @@ pub mod Own
 pub mod Pushed
 pub mod Rows
 pub mod Safe
+pub mod Sent
 pub mod Shape
 pub mod Shown

@@ -1,5 +1,6 @@
 -- What a push is given: the parts of a view, and what a stream holds.
-use Rattle.std.specs.Prelude.{◌≡◌, ℕ, Option, Result, Ok, Err, ⊤}
+use Rattle.std.specs.Prelude.{◌≡◌, ℕ, List, Option, Result, Ok, Err, ⊤}
+use Rattle.git_name.specs.Object.{Object}
 use Rattle.fork_reach.specs.Source.{Objects}
 use Rattle.push_stream.specs.declared.body.Body.{Body}
 use Rattle.push_stream.specs.declared.fault.BodyError.{BodyError}
@@ -11,6 +12,11 @@ use Rattle.fork_model.specs.View.{View, Repositories}
 -- a view of these parts
 abbrev pub view_of : Repositories → Objects → Option UploadValue → ℕ → View
 view_of repositories objects upload limit = record { repositories = repositories; objects = objects; upload = upload; limit = limit }
+
+-- what the bytes of a stream gave, are these objects
+abbrev pub Sends : List Object → Result Body BodyError → Type 0
+Sends sent (Ok body) = body.objects.items ≡ sent
+Sends sent (Err error) = ⊤
 
 -- what the bytes of a stream gave is what the stream holds; want of memory tells nothing
 abbrev pub TellsHeld : Held → Result Body BodyError → Type 0

@@ -1,10 +1,10 @@
--- What a row of the answer comes to: the row itself, or want of memory.
-use Rattle.std.specs.Prelude.{◌≡◌, ℕ, ◌+◌, Bool, true, false, nat_lt, List, [], length, Contains, Option, Result, Ok, Err}
+-- What a row of the answer comes to: the row itself, or a host fault: want of memory alone, where it does not ask the store.
+use Rattle.std.specs.Prelude.{◌≡◌, ℕ, ◌+◌, Bool, IsTrue, true, false, nat_lt, List, [], length, Contains, Option, Result, Ok, Err}
 use Rattle.std.specs.FinMap.{contains_key, retain_keys}
 use Rattle.push_stream.specs.declared.upload.TheConstants.{MAX_UPLOAD}
 use Rattle.git_name.specs.Object.{Object}
 use Rattle.fork_request.specs.declared.host_fault.HostFault.{HostFault}
-use Rattle.fork_request.specs.declared.host_fault.HostFault.TheVariants.{Memory, Store, Damaged}
+use Rattle.fork_request.specs.declared.host_fault.HostFault.TheVariants.{Memory, Store, Damaged, Collision}
 use Rattle.fork_request.specs.declared.refusal.Refusal.TheVariants.{StagedTooLong}
 use Rattle.fork_request.specs.declared.reply.Reply.{Reply}
 use Rattle.fork_request.specs.declared.reply.Reply.TheVariants.{Done, Refused, Failed}
@@ -20,7 +20,6 @@ use Rattle.fork_query.specs.declared.query_error.QueryError.{QueryError}
 use Rattle.fork_query.specs.declared.query_error.QueryError.TheVariants as query
 use Rattle.fork_model.specs.View.{View, Repositories}
 use Rattle.fork_host.specs.Own.{Changes, Settles}
-use Rattle.fork_host.specs.Safe.{IsFaultOver}
 
 pub data Gives (row : Reply × View) (old : View) (reply : Reply) (new : View) : Type 0 where
   -- the row's reply and view
@@ -28,11 +27,31 @@ pub data Gives (row : Reply × View) (old : View) (reply : Reply) (new : View) :
   -- want of memory, which leaves the view
   Wanting : reply ≡ Failed Memory → new ≡ old → Gives row old reply new
 
+-- the same of a row that asks the store
+pub data Yields (row : Reply × View) (old : View) (reply : Reply) (new : View) : Type 0 where
+  -- the row's reply and view
+  Yielded : reply ≡ row.0 → new ≡ row.1 → Yields row old reply new
+  -- want of memory, which leaves the view
+  Lacking : reply ≡ Failed Memory → new ≡ old → Yields row old reply new
+  -- a host fault, which leaves it too
+  Faulted : (fault : HostFault) → reply ≡ Failed fault → new ≡ old → Yields row old reply new
+
+-- the same over a store of this honesty
+pub record YieldsOver (honest : Bool) (row : Reply × View) (old : View) (reply : Reply) (new : View) : Type 0 where
+  pub yields : IsTrue honest → Yields row old reply new
+
 -- how a reply tells a fault of the store
 abbrev pub fault_told : SourceFault → HostFault
 fault_told source.Store = Store
 fault_told source.Damaged = Damaged
 fault_told source.Memory = Memory
+
+-- how a reply tells a fault of the vault
+abbrev pub vault_told : VaultFault → HostFault
+vault_told ledger.Store = Store
+vault_told ledger.Damaged = Damaged
+vault_told ledger.Memory = Memory
+vault_told ledger.Collision = Collision
 
 -- how a reply tells a query's answer
 abbrev pub query_told : {B : Type 0} → (B → List ℕ) → Result B QueryError → Reply
@@ -40,16 +59,16 @@ query_told view (Ok text) = Done (view text)
 query_told view (Err (query.Refused refusal)) = Refused refusal
 query_told view (Err (query.Failed fault)) = Failed (fault_told fault)
 
--- objects are kept, or want of memory leaves all of them
+-- objects are kept, or a host fault leaves all of them
 pub data IsKept (kept old : Objects) (reply : Reply) (new : Objects) : Type 0 where
   Kept : reply ≡ Done [] → new ≡ kept → IsKept kept old reply new
-  Unkept : reply ≡ Failed Memory → new ≡ old → IsKept kept old reply new
+  Unkept : (fault : HostFault) → reply ≡ Failed fault → new ≡ old → IsKept kept old reply new
 
 -- the same over any store, as far as names, kinds and lengths go: among those that are kept are the roots
-pub data IsPruned (honest : Bool) (roots : List (List ℕ)) (old : Objects) (reply : Reply) (new : Objects) : Type 0 where
+pub data IsPruned (roots : List (List ℕ)) (old : Objects) (reply : Reply) (new : Objects) : Type 0 where
   Pruned : (kept : List ℕ → Bool) → reply ≡ Done [] → measures_of new ≡ measures_of (retain_keys old kept)
-      → ((name : List ℕ) → Contains roots name → contains_key old name ≡ true → kept name ≡ true) → IsPruned honest roots old reply new
-  Unpruned : (fault : HostFault) → reply ≡ Failed fault → IsFaultOver honest fault → measures_of new ≡ measures_of old → IsPruned honest roots old reply new
+      → ((name : List ℕ) → Contains roots name → contains_key old name ≡ true → kept name ≡ true) → IsPruned roots old reply new
+  Unpruned : (fault : HostFault) → reply ≡ Failed fault → measures_of new ≡ measures_of old → IsPruned roots old reply new
 
 -- references are taken and what is staged is seen, or want of memory leaves both
 pub data IsTaken (before after : Repositories) (own : List ℕ) (seen both : Objects) (old : VaultState) (reply : Reply) (now : Repositories) (new : VaultState) : Type 0 where

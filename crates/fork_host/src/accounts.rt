@@ -7,10 +7,12 @@ ghost use Rattle.fork_request.specs.Told.{is_done};
 ghost use Rattle.fork_model.specs.Runs.{Asks};
 ghost use Rattle.fork_model.specs.World.{Steps};
 ghost use Rattle.fork_host.specs.Adding.{new_account};
+ghost use Rattle.fork_host.specs.Bounds.{IsBounded};
 ghost use Rattle.fork_model.specs.Answer.{answer};
 ghost use Rattle.fork_host.specs.Own.{IsOwn, IsReady};
-ghost use Rattle.fork_host.specs.Rows.{Gives};
-ghost use Rattle.fork_host.specs.Safe.{IsReplyOver, IsSafe};
+ghost use Rattle.fork_host.specs.Rows.{YieldsOver};
+ghost use Rattle.fork_host.specs.Safe.{IsSafe};
+ghost use Rattle.fork_host.specs.Sent.{sent_by, sent_in_world};
 ghost use Rattle.fork_host.specs.Shape.{SameShape};
 ghost use Rattle.fork_host.specs.Shown.{IsWhole, Trusted, shown, state_of, world_of};
 
@@ -18,6 +20,7 @@ use crate::own::Own;
 use crate::tenant::Tenant;
 use fork_ledger::Vault;
 use fork_request::{Refusal, Reply, Request, TenantName};
+use loose_store::LooseFiles;
 use std::alloc::{AllocError, Global};
 use std::collections::BTreeMap;
 use std::marker::Model;
@@ -85,10 +88,10 @@ impl Accounts {
     }
 
     // Answers a tenant's request from its account and its own part of the vault.
-    pub(crate) fn answer(
+    pub(crate) fn answer<S: LooseFiles>(
         &mut self,
         alloc: Global,
-        vault: &mut Vault,
+        vault: &mut Vault<S>,
         name: &TenantName,
         request: Request<'_>,
     ) -> Reply
@@ -100,7 +103,7 @@ impl Accounts {
         // Over any store.
         ensures kept { is_done result ≡ false → (tenant : List ℕ) → SameShape tenant (world_of (state_of self.old vault.old)) (world_of (state_of self.new vault.new)) }
         ensures others { (tenant : List ℕ) → tenant ≢ name.now → SameShape tenant (world_of (state_of self.old vault.old)) (world_of (state_of self.new vault.new)) }
-        ensures faults { IsReplyOver vault.old.honest result }
+        ensures faults { IsBounded (sent_in_world (world_of (state_of self.old vault.old)) name.now (ask_of request.entry)) vault.old vault.new result }
     {
         let Some(tenant) = self.tenants.get_mut(name) else {
             return Reply::Refused(Refusal::UnknownTenant);
@@ -110,16 +113,16 @@ impl Accounts {
 }
 
 // Answers a request from a tenant's account and its own part of the vault.
-fn answer_from(
+fn answer_from<S: LooseFiles>(
     alloc: Global,
     tenant: &mut Tenant,
-    vault: &mut Vault,
+    vault: &mut Vault<S>,
     name: &TenantName,
     request: Request<'_>,
 ) -> Reply
     requires ready { IsReady vault.old name.now tenant.old.limit }
-    ensures row { IsTrue vault.old.honest → Gives (answer (shown tenant.old vault.old name.now) (ask_of request.entry)) (shown tenant.old vault.old name.now) result (shown tenant.new vault.new name.now) }
-    ensures safe { IsSafe vault.old.honest (shown tenant.old vault.old name.now) result (shown tenant.new vault.new name.now) }
+    ensures row { YieldsOver vault.old.honest (answer (shown tenant.old vault.old name.now) (ask_of request.entry)) (shown tenant.old vault.old name.now) result (shown tenant.new vault.new name.now) }
+    ensures safe { IsSafe (IsBounded (sent_by (shown tenant.old vault.old name.now) (ask_of request.entry)) vault.old vault.new) (shown tenant.old vault.old name.now) result (shown tenant.new vault.new name.now) }
     ensures own { IsOwn name.now vault.old vault.new }
 {
     let mut own = Own::new(vault, name);

@@ -4,34 +4,36 @@ use fork_push::Sides;
 use fork_reach::{Source, SourceFault};
 use fork_request::TenantName;
 use git_name::{Kind, Name, Sealed};
+use loose_store::LooseFiles;
 use std::alloc::Global;
 
 // What a tenant sees and what it has staged, as both sides of a push.
 #[derive(Drop)]
-pub(crate) struct Both<'a> {
-    pub(crate) vault: &'a mut Vault,
+pub(crate) struct Both<'a, S: LooseFiles> {
+    pub(crate) vault: &'a mut Vault<S>,
     pub(crate) tenant: &'a TenantName,
 }
 
-impl Source for Both<'_> {
+impl<S: LooseFiles> Source for Both<'_, S> {
     ghost use Rattle.std.specs.Prelude.{ℕ, List};
     ghost use Rattle.std.specs.Borrow.{Bor};
     ghost use Rattle.std.specs.FinMap.{FinMap};
     ghost use Rattle.git_name.specs.Name.{name_cmp};
     ghost use Rattle.fork_reach.specs.Objects.{Measures};
     ghost use Rattle.fork_ledger.specs.Private.{both_of};
-    ghost use Rattle.fork_ledger.specs.Tenants.{Tenants, private_of, shape_of};
+    ghost use Rattle.fork_ledger.specs.Tenants.{private_of, shape_of};
+    ghost use Rattle.fork_host.specs.Handle.{Rest};
 
     ghost Base = { (ℕ × Bor (List ℕ)) × FinMap name_cmp (Measures × Measures) };
 
-    ghost Rest = { Tenants };
+    ghost Rest = { Rest };
 
     ghost state = { λ both. record {
       objects = both_of (private_of both.vault.now.tenants both.tenant.now);
       honest = both.vault.now.honest;
-      failures = 0;
+      failures = both.vault.now.failures;
       base = ((both.vault.ghost_name, both.tenant), shape_of both.vault.now.tenants);
-      rest = both.vault.now.tenants;
+      rest = (both.vault.now.tenants, both.vault.now.files);
     } };
 
     fn kind_of(&self, name: Name) -> Option<Kind> {
@@ -52,7 +54,7 @@ impl Source for Both<'_> {
     }
 }
 
-impl Sides for Both<'_> {
+impl<S: LooseFiles> Sides for Both<'_, S> {
     fn is_within(&self, limit: u64) -> bool {
         self.vault.is_within(self.tenant, limit)
     }

@@ -1,4 +1,4 @@
-ghost use Rattle.std.specs.Prelude.{◌≡◌, ◌≢◌, ◌⊎◌, IfOk, IfErr, OnOk, OnErr, List, ℕ, Some, None, false};
+ghost use Rattle.std.specs.Prelude.{◌≡◌, ◌≢◌, ◌⊎◌, IsTrue, IfOk, IfErr, OnOk, OnErr, List, ℕ, Some, None, false};
 ghost use Rattle.std.specs.FinMap as map;
 ghost use Rattle.fork_request.specs.Asked.{ask_of};
 ghost use Rattle.fork_request.specs.Told.{is_done};
@@ -8,7 +8,7 @@ ghost use Rattle.fork_model.specs.Runs.{Asks, HostAsks};
 ghost use Rattle.fork_model.specs.Sound.{IsOrderlyWorld, IsRightWorld};
 ghost use Rattle.fork_model.specs.View.{View};
 ghost use Rattle.fork_model.specs.World.{Steps, Explains, IsUnfaulted, alone, own, told};
-ghost use Rattle.fork_ledger.specs.Store.{LeavesStore};
+ghost use Rattle.fork_ledger.specs.Store.{IsOver, LeavesStore};
 ghost use Rattle.fork_ledger.specs.Tenants.{with_tenant};
 ghost use Rattle.fork_host.specs.Adding.{new_account, new_view, refusal_to_add};
 ghost use Rattle.fork_host.specs.Faults.{FaultsAlong, FaultsWithin};
@@ -17,10 +17,12 @@ ghost use Rattle.fork_host.specs.Shown.{Trusted, world_of};
 
 use crate::accounts::Accounts;
 use crate::add_error::AddError;
+use crate::open_error::OpenError;
 use crate::step::HostStep;
-use fork_ledger::Vault;
+use fork_ledger::{Vault, VaultFault};
 use fork_model::{MAX_TENANTS, a_run_is_private, what_runs_show_was_seen_or_sent};
 use fork_request::{HostRequest, MAX_LIMIT, Refusal, Reply, Request, TenantName};
+use loose_store::LooseFiles;
 use std::alloc::{AllocError, Global};
 use std::marker::Model;
 use thiserror::Error;
@@ -32,12 +34,12 @@ pub struct NoMemory;
 
 /// A host of at most `MAX_TENANTS` tenants.
 #[derive(Drop)]
-pub struct Host {
+pub struct Host<S: LooseFiles> {
     accounts: Accounts,
-    vault: Vault,
+    vault: Vault<S>,
 }
 
-impl Model for Host {
+impl<S: LooseFiles> Model for Host<S> {
     ghost use Rattle.fork_host.specs.Shown.{HostState, IsWhole, host_code, state_of};
 
     ghost Value = { HostState };
@@ -49,16 +51,30 @@ impl Model for Host {
     ghost invariant = { λ a. IsWhole (state_of a.accounts a.vault) };
 }
 
-impl Host {
-    /// A host without tenants.
-    pub fn new(alloc: Global) -> Host
-        ensures empty { world_of result ≡ map.empty }
-        ensures trusted { Trusted result }
+impl<S: LooseFiles + Drop> Host<S> {
+    /// A host without tenants, over this store.
+    pub fn new(alloc: Global, files: S) -> Result<Host<S>, OpenError>
+        ensures empty { IfOk result (λ host. world_of host ≡ map.empty) }
+        ensures trusted { IfOk result (λ host. IsTrue (S.honest files) → Trusted host) }
+        ensures store { IfOk result (λ host. IsOver (S.contents files) (S.honest files) (S.failures files) host.vault) }
     {
-        Host {
-            accounts: Accounts::new(alloc),
-            vault: Vault::new(alloc),
+        match Vault::open(alloc, files) {
+            Ok(vault) => Ok(Host {
+                accounts: Accounts::new(alloc),
+                vault,
+            }),
+            Err(VaultFault::Memory) => Err(OpenError::Memory),
+            Err(_) => Err(OpenError::Store),
         }
+    }
+}
+
+impl<S: LooseFiles> Host<S> {
+    /// The store.
+    pub fn close(self) -> S
+        ensures { IsOver (S.contents result) (S.honest result) (S.failures result) self.vault }
+    {
+        self.vault.close()
     }
 
     /// How many tenants there are. What a host shows is in order, and right where its store is trusted.
@@ -192,10 +208,10 @@ impl Host {
 
 // Adds an account that is not there, and its place in the vault. Where there is no memory, nothing
 // was added.
-fn open_account(
+fn open_account<S: LooseFiles>(
     alloc: Global,
     accounts: &mut Accounts,
-    vault: &mut Vault,
+    vault: &mut Vault<S>,
     name: TenantName,
     limit: u64,
 ) -> Result<(), AllocError>

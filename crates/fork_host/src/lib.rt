@@ -9,6 +9,7 @@ mod add_error;
 mod both;
 mod host;
 mod items;
+mod open_error;
 mod own;
 mod pruning;
 mod replies;
@@ -23,4 +24,5 @@ mod visible;
 
 pub use crate::add_error::AddError;
 pub use crate::host::{Host, NoMemory};
+pub use crate::open_error::OpenError;
 pub use crate::step::HostStep;

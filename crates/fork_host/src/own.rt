@@ -1,21 +1,21 @@
-ghost use Rattle.std.specs.Prelude.{◌≡◌, IsTrue, OnOk, OnErr, IfOk, IfErr, IfSome, is_some, nat_le};
+ghost use Rattle.std.specs.Prelude.{◌≡◌, ◌≢◌, IsTrue, OnOk, OnErr, IfOk, IfErr, IfSome, is_some, nat_le};
 ghost use Rattle.std.specs.FinMap as map;
 ghost use Rattle.std.specs.BTreeSet.{contains};
 ghost use Rattle.git_name.specs.Name.{name_cmp};
 ghost use Rattle.git_name.specs.Object.{object_name};
 ghost use Rattle.git_reftx.specs.Transaction.{References};
 ghost use Rattle.push_stream.specs.Brief.{brief_shown};
+ghost use Rattle.fork_reach.specs.Faults.{fault_in as source_fault_in};
 ghost use Rattle.fork_reach.specs.Objects.{use_of};
 ghost use Rattle.fork_reach.specs.Reach.{is_reached, linked_names};
 ghost use Rattle.fork_reach.specs.Source.{kind_in};
 ghost use Rattle.fork_ledger.specs.Private.{with_discarded, with_kept, with_published, with_staged};
-ghost use Rattle.fork_ledger.specs.Store.{AsksStore, LeavesStore, fault_in};
+ghost use Rattle.fork_ledger.specs.Store.{AsksStore, LeavesStore, Meets, StoresAlone, fault_in};
 ghost use Rattle.fork_ledger.specs.Tenants.{at_tenant, shape_of};
 ghost use Rattle.fork_ledger.specs.Used.{capped};
 ghost use Rattle.fork_push.specs.Push.{judged};
 ghost use Rattle.fork_push.specs.Verdict.{IfAccepted, IsOrderly, TellsJudged, fault_of_verdict};
-ghost use Rattle.fork_host.specs.Rows.{fault_told};
-ghost use Rattle.fork_host.specs.Safe.{IsFaultOver};
+ghost use Rattle.fork_host.specs.Bounds.{IsRead};
 ghost use Rattle.std.specs.Prelude.{ℕ, List, Contains, true};
 
 use crate::both::Both;
@@ -25,6 +25,7 @@ use fork_reach::{SourceFault, reach};
 use fork_request::TenantName;
 use git_name::{Kind, Name, Sealed};
 use git_reftx::Refs;
+use loose_store::LooseFiles;
 use push_stream::{Brief, StreamFault};
 use std::alloc::Global;
 use std::collections::BTreeSet;
@@ -32,14 +33,14 @@ use std::collections::BTreeSet;
 // One tenant's own part of the vault. It is made once for a request, from the vault and the tenant that
 // asks, and is all of the vault that a row of the answer is given.
 #[derive(Drop)]
-pub(crate) struct Own<'a> {
-    vault: &'a mut Vault,
+pub(crate) struct Own<'a, S: LooseFiles> {
+    vault: &'a mut Vault<S>,
     tenant: &'a TenantName,
 }
 
-impl<'a> Own<'a> {
+impl<'a, S: LooseFiles> Own<'a, S> {
     // The part of this tenant.
-    pub(crate) fn new(vault: &'a mut Vault, tenant: &'a TenantName) -> Own<'a>
+    pub(crate) fn new(vault: &'a mut Vault<S>, tenant: &'a TenantName) -> Own<'a, S>
         ensures vault { result.vault ≡ vault.entry }
         ensures tenant { result.tenant ≡ tenant.entry }
     {
@@ -59,11 +60,12 @@ impl<'a> Own<'a> {
     pub(crate) fn get(&mut self, alloc: Global, name: Name) -> Result<Option<Sealed>, VaultFault>
         ensures found { IsTrue self.old.vault.now.honest → IfOk result (λ found. found ≡ map.get (visible_by self.old) name) }
         ensures kept { IsTrue self.old.vault.now.honest → self.new.vault.now.tenants ≡ self.old.vault.now.tenants }
+        ensures files { IsTrue self.old.vault.now.honest → self.new.vault.now.files ≡ self.old.vault.now.files }
         ensures there { IfOk result (λ found. is_some found ≡ map.contains_key (visible_by self.old) name) }
         ensures named { IfOk result (λ found. IfSome found (λ object. object_name object ≡ name)) }
         ensures shape { shape_of self.new.vault.now.tenants ≡ shape_of self.old.vault.now.tenants }
-        ensures honest { self.new.vault.now.honest ≡ self.old.vault.now.honest }
-        ensures faults { IfErr result (λ fault. fault ≡ VaultFault.Memory) }
+        ensures store { AsksStore self.old.vault.now self.new.vault.now (fault_in result) }
+        ensures apart { IfErr result (λ fault. fault ≢ VaultFault.Collision) }
         ensures same { IsSame self.old self.new }
     {
         self.vault.get(alloc, self.tenant, name)
@@ -73,11 +75,14 @@ impl<'a> Own<'a> {
     pub(crate) fn stage(&mut self, alloc: Global, sealed: Sealed) -> Result<(), VaultFault>
         ensures ok { IsTrue self.old.vault.now.honest → OnOk result (self.new.vault.now.tenants ≡ at_tenant self.old.vault.now.tenants self.old.tenant.now (with_staged sealed)) }
         ensures err { IsTrue self.old.vault.now.honest → OnErr result (self.new.vault.now.tenants ≡ self.old.vault.now.tenants) }
+        ensures stored { IsTrue self.old.vault.now.honest → OnOk result (StoresAlone sealed self.old.vault.now.files self.new.vault.now.files) }
+        ensures collision { IsTrue self.old.vault.now.honest → IfErr result (λ fault. fault ≡ VaultFault.Collision → Meets sealed self.old.vault.now.files) }
+        ensures still { IsTrue self.old.vault.now.honest → IfErr result (λ fault. fault ≡ VaultFault.Collision → self.new.vault.now.files ≡ self.old.vault.now.files) }
 
         // Over any store.
         ensures shape { OnOk result (shape_of self.new.vault.now.tenants ≡ shape_of (at_tenant self.old.vault.now.tenants self.old.tenant.now (with_staged sealed))) }
         ensures kept { OnErr result (shape_of self.new.vault.now.tenants ≡ shape_of self.old.vault.now.tenants) }
-        ensures honest { self.new.vault.now.honest ≡ self.old.vault.now.honest }
+        ensures store { AsksStore self.old.vault.now self.new.vault.now (fault_in result) }
         ensures same { IsSame self.old self.new }
     {
         self.vault.stage(alloc, self.tenant, sealed)
@@ -86,7 +91,7 @@ impl<'a> Own<'a> {
     // What is staged is seen.
     pub(crate) fn publish(&mut self)
         ensures tenants { self.new.vault.now.tenants ≡ at_tenant self.old.vault.now.tenants self.old.tenant.now with_published }
-        ensures honest { self.new.vault.now.honest ≡ self.old.vault.now.honest }
+        ensures store { LeavesStore self.old.vault.now self.new.vault.now }
         ensures same { IsSame self.old self.new }
     {
         self.vault.publish(self.tenant);
@@ -95,7 +100,7 @@ impl<'a> Own<'a> {
     // What is staged goes.
     pub(crate) fn discard(&mut self)
         ensures tenants { self.new.vault.now.tenants ≡ at_tenant self.old.vault.now.tenants self.old.tenant.now with_discarded }
-        ensures honest { self.new.vault.now.honest ≡ self.old.vault.now.honest }
+        ensures store { LeavesStore self.old.vault.now self.new.vault.now }
         ensures same { IsSame self.old self.new }
     {
         self.vault.discard(self.tenant);
@@ -104,7 +109,7 @@ impl<'a> Own<'a> {
     // Of what the tenant sees, the objects of these names stay.
     pub(crate) fn keep_only(&mut self, names: &BTreeSet<Name>)
         ensures tenants { self.new.vault.now.tenants ≡ at_tenant self.old.vault.now.tenants self.old.tenant.now (with_kept (λ name. contains name_cmp names.now name)) }
-        ensures honest { self.new.vault.now.honest ≡ self.old.vault.now.honest }
+        ensures store { LeavesStore self.old.vault.now self.new.vault.now }
         ensures same { IsSame self.old self.new }
     {
         self.vault.keep_only(self.tenant, names);
@@ -129,8 +134,7 @@ impl<'a> Own<'a> {
         // Over any store.
         ensures rooted { IfOk result (λ found. (name : List ℕ) → Contains roots.now name → map.contains_key (visible_by self.old) name ≡ true → contains name_cmp found name ≡ true) }
         ensures shape { shape_of self.new.vault.now.tenants ≡ shape_of self.old.vault.now.tenants }
-        ensures honest { self.new.vault.now.honest ≡ self.old.vault.now.honest }
-        ensures faults { IfErr result (λ fault. IsFaultOver self.old.vault.now.honest (fault_told fault)) }
+        ensures read { IsRead self.old.vault.now self.new.vault.now (source_fault_in result) }
         ensures same { IsSame self.old self.new }
     {
         reach(alloc, self, roots)
@@ -151,8 +155,7 @@ impl<'a> Own<'a> {
         // Over any store.
         ensures accepted { IfAccepted result (IsOrderly (both_by self.old) references.now limit) }
         ensures shape { shape_of self.new.vault.now.tenants ≡ shape_of self.old.vault.now.tenants }
-        ensures honest { self.new.vault.now.honest ≡ self.old.vault.now.honest }
-        ensures faults { IfSome (fault_of_verdict result) (λ fault. IsFaultOver self.old.vault.now.honest (fault_told fault)) }
+        ensures read { IsRead self.old.vault.now self.new.vault.now (fault_of_verdict result) }
         ensures same { IsSame self.old self.new }
     {
         let mut both = Both {

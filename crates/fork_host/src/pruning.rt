@@ -1,6 +1,7 @@
-ghost use Rattle.std.specs.Prelude.{◌≡◌, IsTrue, true};
+ghost use Rattle.std.specs.Prelude.{◌≡◌, [], IsTrue, true};
 ghost use Rattle.std.specs.FinMap as map;
 ghost use Rattle.fork_reach.specs.Reach.{is_reached, linked_names};
+ghost use Rattle.fork_host.specs.Bounds.{IsBounded};
 ghost use Rattle.fork_host.specs.Handle.{Uses, visible_by};
 ghost use Rattle.fork_host.specs.Own.{staged_in, visible_in};
 ghost use Rattle.fork_host.specs.Rows.{IsKept, IsPruned};
@@ -9,15 +10,21 @@ use crate::own::Own;
 use crate::replies::{done, host_fault};
 use fork_request::Reply;
 use git_name::Name;
+use loose_store::LooseFiles;
 use std::alloc::Global;
 
 // Keeps of what a tenant sees what these names reach.
-pub(crate) fn keep_reached(alloc: Global, own: &mut Own<'_>, roots: &[Name]) -> Reply
+pub(crate) fn keep_reached<S: LooseFiles>(
+    alloc: Global,
+    own: &mut Own<'_, S>,
+    roots: &[Name],
+) -> Reply
     requires there { map.contains_key own.old.vault.now.tenants own.old.tenant.now ≡ true }
     requires quiet { staged_in own.old.vault.now own.old.tenant.now ≡ map.empty }
     ensures kept { IsTrue own.old.vault.now.honest → IsKept (map.retain_keys (visible_by own.old) (is_reached (linked_names (visible_by own.old)) (visible_by own.old) roots.now)) (visible_by own.old) result (visible_in own.new.vault.now own.old.tenant.now) }
     // Over any store.
-    ensures pruned { IsPruned own.old.vault.now.honest roots.now (visible_by own.old) result (visible_in own.new.vault.now own.old.tenant.now) }
+    ensures pruned { IsPruned roots.now (visible_by own.old) result (visible_in own.new.vault.now own.old.tenant.now) }
+    ensures bounds { IsBounded [] own.old.vault.now own.new.vault.now result }
     ensures own { Uses own.old own.new }
 {
     match own.reached(alloc, roots) {

@@ -2,8 +2,9 @@
 ghost use Rattle.std.specs.Prelude.{◌≡◌, ◌⊎◌, [], ◌++◌, codes, decimal};
 ghost use Rattle.fork_request.specs.declared.refusal.Refusal.TheVariants.{BadName};
 ghost use Rattle.fork_model.specs.Answer.{command_refusal, push_refusal, stream_refusal, transaction_refusal};
-ghost use Rattle.fork_host.specs.Rows.{fault_told, query_told};
+ghost use Rattle.fork_host.specs.Rows.{fault_told, query_told, vault_told};
 
+use fork_ledger::VaultFault;
 use fork_push::PushRefusal;
 use fork_query::QueryError;
 use fork_reach::SourceFault;
@@ -102,6 +103,18 @@ pub(crate) fn host_fault(fault: SourceFault) -> HostFault
         SourceFault::Store => HostFault::Store,
         SourceFault::Damaged => HostFault::Damaged,
         SourceFault::Memory => HostFault::Memory,
+    }
+}
+
+// How a reply tells a fault of the vault.
+pub(crate) fn vault_fault(fault: VaultFault) -> HostFault
+    ensures { result ≡ vault_told fault }
+{
+    match fault {
+        VaultFault::Store => HostFault::Store,
+        VaultFault::Damaged => HostFault::Damaged,
+        VaultFault::Memory => HostFault::Memory,
+        VaultFault::Collision => HostFault::Collision,
     }
 }
 

@@ -2,9 +2,11 @@ ghost use Rattle.std.specs.Prelude.{◌≡◌, IsTrue};
 ghost use Rattle.fork_request.specs.Asked.{ask_of};
 ghost use Rattle.fork_model.specs.Answer.{answer};
 ghost use Rattle.fork_host.specs.Adding.{new_account};
+ghost use Rattle.fork_host.specs.Bounds.{IsBounded};
 ghost use Rattle.fork_host.specs.Handle.{Ready, Uses, shown_by};
-ghost use Rattle.fork_host.specs.Rows.{Gives};
+ghost use Rattle.fork_host.specs.Rows.{YieldsOver};
 ghost use Rattle.fork_host.specs.Safe.{IsSafe};
+ghost use Rattle.fork_host.specs.Sent.{sent_by};
 ghost use Rattle.fork_host.specs.Shown.{shown};
 
 mod objects;
@@ -17,6 +19,7 @@ use crate::own::Own;
 use crate::repositories::Repositories;
 use fork_request::{Refusal, Reply, Request};
 use git_name::Name;
+use loose_store::LooseFiles;
 use push_stream::Upload;
 use std::alloc::Global;
 use std::marker::Model;
@@ -54,10 +57,15 @@ impl Tenant {
     #[tactic(auto, unfolding(fork_model::specs::Answer::answer))]
     // Answers a request from the tenant's account and its own part of the vault: a row of the answer a
     // method, each in the file of its subject.
-    pub(crate) fn answer(&mut self, alloc: Global, own: &mut Own<'_>, request: Request<'_>) -> Reply
+    pub(crate) fn answer<S: LooseFiles>(
+        &mut self,
+        alloc: Global,
+        own: &mut Own<'_, S>,
+        request: Request<'_>,
+    ) -> Reply
         requires ready { Ready own.old self.old.limit }
-        ensures row { IsTrue own.old.vault.now.honest → Gives (answer (shown_by self.old own.old) (ask_of request.entry)) (shown_by self.old own.old) result (shown self.new own.new.vault.now own.old.tenant.now) }
-        ensures safe { IsSafe own.old.vault.now.honest (shown_by self.old own.old) result (shown self.new own.new.vault.now own.old.tenant.now) }
+        ensures row { YieldsOver own.old.vault.now.honest (answer (shown_by self.old own.old) (ask_of request.entry)) (shown_by self.old own.old) result (shown self.new own.new.vault.now own.old.tenant.now) }
+        ensures safe { IsSafe (IsBounded (sent_by (shown_by self.old own.old) (ask_of request.entry)) own.old.vault.now own.new.vault.now) (shown_by self.old own.old) result (shown self.new own.new.vault.now own.old.tenant.now) }
         ensures own { Uses own.old own.new }
     {
         match request {

@@ -3,10 +3,11 @@ use crate::vault_fault::told;
 use fork_reach::{Source, SourceFault};
 use git_name::{Kind, Name, Sealed};
 use git_reftx::Known;
+use loose_store::LooseFiles;
 use std::alloc::Global;
 
 // A tenant's own part of the vault, as what the tenant sees.
-impl Known for Own<'_> {
+impl<S: LooseFiles> Known for Own<'_, S> {
     ghost use Rattle.fork_reach.specs.Source.{kind_in};
     ghost use Rattle.fork_ledger.specs.Tenants.{private_of};
 
@@ -17,13 +18,12 @@ impl Known for Own<'_> {
     }
 }
 
-impl Source for Own<'_> {
-    ghost use Rattle.fork_ledger.specs.Tenants.{Tenants};
-    ghost use Rattle.fork_host.specs.Handle.{Base, own_state};
+impl<S: LooseFiles> Source for Own<'_, S> {
+    ghost use Rattle.fork_host.specs.Handle.{Base, Rest, own_state};
 
     ghost Base = { Base };
 
-    ghost Rest = { Tenants };
+    ghost Rest = { Rest };
 
     ghost state = { own_state };
 

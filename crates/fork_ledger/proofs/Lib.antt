@@ -9,6 +9,8 @@ pub mod ShapeLemmas
 pub mod StagedLemmas
 pub mod StagingLemmas
 pub mod StoreLemmas
+pub mod StoredLemmas
+pub mod TakenLemmas
 pub mod TenantEntries
 pub mod TenantLemmas
 pub mod UpdateLemmas

@@ -1,6 +1,7 @@
 -- What a call that asks no store leaves of it, and what want of memory tells.
 use Rattle.std.proofs.Common.{◌≡◌, ◌≢◌, ℕ, List, Option, Some, Result, Ok, Err, is_some, refl, sym, ap, subst}
 use Rattle.std.specs.Prelude.{IfErr, IfOk}
+use Rattle.std.specs.Option.{unwrap_or}
 use Rattle.std.specs.FinMap.{contains_key, get}
 use Rattle.git_name.specs.Object.{Object}
 use Rattle.fork_reach.specs.Source.{Objects}
@@ -29,3 +30,11 @@ asks_none old new r honest failures is = record {
 pub found_there : (objects : Objects) (name : List ℕ) (r : Result (Option Object) VaultFault) → IfOk r (λ found. found ≡ get objects name) → IfOk r (λ found. is_some found ≡ contains_key objects name)
 found_there objects name (Ok found) is = ap is_some is
 found_there objects name (Err fault) is = tt
+
+-- a fault that is no damage
+pub undamaged_in : {A : Type 0} (r : Result A VaultFault) → IfErr r (λ fault. fault ≢ Damaged) → fault_in r ≢ Some Damaged
+undamaged_in (Ok a) is damaged = (let differs : ⊥ = cc in differs)
+undamaged_in (Err fault) is damaged = is (some_same damaged)
+  where
+    some_same : Some fault ≡ Some Damaged → fault ≡ Damaged
+    some_same same = ap (λ o. unwrap_or o fault) same

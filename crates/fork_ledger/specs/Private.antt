@@ -1,5 +1,5 @@
 -- One tenant's private maps (own): the objects that it sees, and those that it has staged. An object may be both.
-use Rattle.std.specs.Prelude.{ℕ, Bool, List, Option, None, Some, length, option_map, refl, if◌then◌else◌}
+use Rattle.std.specs.Prelude.{◌≡◌, ℕ, Bool, ◌||◌, List, Option, None, Some, length, option_map, refl, if◌then◌else◌}
 use Rattle.std.specs.Option.{unwrap_or}
 use Rattle.std.specs.Coded.{Coded, code_by, coded×, coded_ℕ, coded_list}
 use Rattle.std.specs.FinMap.{get, empty, insert, contains_key, retain_keys, code}
@@ -47,6 +47,17 @@ with_discarded own = record { visible = own.visible; staged = empty }
 -- with those visible objects alone whose names pass; what is staged stays
 abbrev pub with_kept : (List ℕ → Bool) → Private → Private
 with_kept names own = record { visible = retain_keys own.visible names; staged = own.staged }
+
+-- whether the tenant has an object of this name
+abbrev pub is_held_by : Private → List ℕ → Bool
+is_held_by own name = contains_key own.visible name || contains_key own.staged name
+
+-- the tenant has this object under this name
+pub data Holds (own : Private) (name : List ℕ) (object : Object) : Type 0 where
+  -- it sees it
+  Sees : get own.visible name ≡ Some object → Holds own name object
+  -- it has staged it
+  Awaits : get own.staged name ≡ Some object → Holds own name object
 
 -- what is known of an object without its bytes
 abbrev pub held_of : Object → Bool → Bool → Held

@@ -1,14 +1,45 @@
--- What a call leaves of the store, and which faults may come (own).
-use Rattle.std.specs.Prelude.{◌≡◌, ◌≢◌, ℕ, IsTrue, Option, None, Some, Result, Ok, Err}
+-- The store under a vault (own): what stands on it of what tenants hold, what a call leaves of it, and which faults may come.
+use Rattle.std.specs.Prelude.{◌≡◌, ◌≢◌, ◌⊎◌, ℕ, Bool, true, false, List, IsTrue, Option, None, Some, Result, Ok, Err}
+use Rattle.git_name.specs.Object.{Object, object_name}
 use Rattle.fork_reach.specs.Faults.{Rises}
+use Rattle.loose_store.specs.Files.{Files}
+use Rattle.loose_store.specs.Stored.{Whole}
 use Rattle.fork_ledger.specs.declared.fault.VaultFault.{VaultFault}
 use Rattle.fork_ledger.specs.declared.fault.VaultFault.TheVariants.{Store, Damaged, Memory, Collision}
-use Rattle.fork_ledger.specs.Tenants.{VaultState}
+use Rattle.fork_ledger.specs.Private.{Holds, is_held_by}
+use Rattle.fork_ledger.specs.Tenants.{Tenants, VaultState, private_of}
+
+-- each object that a tenant sees or has staged stands whole on the store
+abbrev pub IsStored : Tenants → Files → Type 0
+IsStored tenants files = (tenant name : List ℕ) (object : Object) → Holds (private_of tenants tenant) name object → Whole files name object
+
+-- some tenant has an object of this name
+abbrev pub IsTaken : Tenants → List ℕ → Type 0
+IsTaken tenants name = (tenant : List ℕ) × (is_held_by (private_of tenants tenant) name ≡ true)
+
+-- no tenant has one
+abbrev pub IsFree : Tenants → List ℕ → Type 0
+IsFree tenants name = (tenant : List ℕ) → is_held_by (private_of tenants tenant) name ≡ false
+
+-- the vault is over a store of these contents, of this honesty and so many failures
+pub record IsOver (contents : Files) (trusted : Bool) (count : ℕ) (vault : VaultState) : Type 0 where
+  pub files : IsTrue trusted → vault.files ≡ contents
+  pub honest : vault.honest ≡ trusted
+  pub failures : vault.failures ≡ count
 
 -- the store is not asked
 pub record LeavesStore (old new : VaultState) : Type 0 where
+  pub files : new.files ≡ old.files
   pub honest : new.honest ≡ old.honest
   pub failures : new.failures ≡ old.failures
+
+-- no other object than this one came to stand whole on the store
+abbrev pub StoresAlone : Object → Files → Files → Type 0
+StoresAlone object old new = (name : List ℕ) (other : Object) → Whole new name other → Whole old name other ⊎ (other ≡ object)
+
+-- another object of the same name stands whole on the store
+abbrev pub Meets : Object → Files → Type 0
+Meets object files = (other : Object) × Whole files (object_name object) other × (other ≢ object)
 
 -- the fault of a result
 abbrev pub fault_in : {A : Type 0} → Result A VaultFault → Option VaultFault

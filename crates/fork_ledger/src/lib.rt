@@ -2,11 +2,14 @@
 //! A call for one tenant reads and changes no other's, and a call that fails changes none.
 #![tactic(auto)]
 
+mod arrival;
 mod fault;
 mod held;
 mod hidden;
 mod object_map;
 mod private;
+mod private_maps;
+mod staging;
 mod vault;
 
 pub use crate::fault::VaultFault;

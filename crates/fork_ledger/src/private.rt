@@ -6,7 +6,7 @@ ghost use Rattle.git_name.specs.Name.{name_cmp};
 ghost use Rattle.git_name.specs.Object.{object_name};
 ghost use Rattle.fork_reach.specs.Objects.{use_of};
 ghost use Rattle.fork_reach.specs.Source.{kind_in};
-ghost use Rattle.fork_ledger.specs.Private.{both_of, held_in, kind_seen, nothing, with_discarded, with_kept, with_published, with_staged};
+ghost use Rattle.fork_ledger.specs.Private.{both_of, held_in, is_held_by, kind_seen, nothing, with_discarded, with_kept, with_published, with_staged};
 ghost use Rattle.fork_ledger.specs.Staged.{seen};
 ghost use Rattle.fork_ledger.specs.Used.{capped};
 
@@ -96,6 +96,13 @@ impl Private {
             visible: !is_hidden(&self.staged, &self.again, &name),
             staged: self.staged.contains(&name),
         })
+    }
+
+    // Whether the tenant has an object of this name.
+    pub(crate) fn holds(&self, name: Name) -> bool
+        ensures { result ≡ is_held_by self.now name }
+    {
+        self.objects.contains(name)
     }
 
     // Stages an object, unless there is one of its name staged. One that is seen is noted alone.

@@ -9,7 +9,7 @@ use Rattle.fork_request.specs.declared.refusal.Refusal.TheVariants.{UnknownTenan
 use Rattle.fork_request.specs.declared.reply.Reply.{Reply}
 use Rattle.fork_request.specs.declared.reply.Reply.TheVariants.{Refused}
 use Rattle.fork_model.specs.Answer.{answer}
-use Rattle.fork_model.specs.World.{Agree, HostSays, IsUnfaulted, own, told}
+use Rattle.fork_model.specs.World.{Agree, HostSays, IsUnfaulted, own}
 use Rattle.fork_model.proofs.Isolation.{runs_agree}
 use Rattle.fork_host.specs.Shown.{HostState, Trusted, world_of}
 use Rattle.fork_frame.specs.declared.asker.Asker.{Asker}

@@ -1,6 +1,6 @@
 -- A session goes on by one frame, and ends.
 use Rattle.std.specs.Prelude.{IfSome}
-use Rattle.std.proofs.Common.{◌≡◌, Option, Some, None, inl, inr, refl, ℕ, List, [], ◌∷◌, ◌++◌, sym, ap, ◌∙◌, subst}
+use Rattle.std.proofs.Common.{◌≡◌, Option, Some, None, inr, refl, ℕ, List, [], ◌∷◌, ◌++◌, sym, ap, ◌∙◌, subst}
 use Rattle.std.proofs.lemmas.Grind.{flat_map-append}
 use Rattle.std.proofs.lemmas.List.{append-nil, map-append}
 use Rattle.std.proofs.KnownBytes.{Consumes-trans, Appends-kept, Appends-trans}
@@ -20,11 +20,10 @@ use Rattle.fork_host.specs.Shown.{HostState, Trusted, world_of}
 use Rattle.fork_host.proofs.FaultLemmas.{faults_more}
 use Rattle.fork_frame.specs.declared.frame.Frame.{Frame}
 use Rattle.fork_frame.specs.Frame.{AreFrames, IsFrame, frame_bytes}
-use Rattle.fork_frame.specs.Next.{BeginsFrame}
 use Rattle.fork_frame.specs.Reply.{reply_frame}
 use Rattle.fork_frame.proofs.StreamLemmas.{frames_more}
 use Rattle.fork_wire.specs.declared.fault.SessionFault.{SessionFault}
-use Rattle.fork_wire.specs.declared.fault.SessionFault.TheVariants.{Read, Write, Memory}
+use Rattle.fork_wire.specs.declared.fault.SessionFault.TheVariants.{Read, Memory}
 use Rattle.fork_wire.specs.Sessions.{BeginsWith, IsAnswered, IsPrivateRun, IsStopped, IsTelling, event_of, events_of, frames_of}
 
 -- what came so far was answered by what went out so far

@@ -13,14 +13,15 @@ use fork_frame::{Asker, Ended, Frame, Next, next_frame, send_bad_frame, send_rep
 use fork_host::Host;
 use fork_model::a_run_is_private;
 use fork_request::{HostRequest, Reply, Request};
+use loose_store::LooseFiles;
 use std::alloc::Global;
 use std::io::{Read, Write};
 
 /// Serves one session. One frame is in memory at a time, and each reply is out, and flushed, before
 /// the next frame is waited for. After a fault the host stands where the requests answered so far
 /// leave it. Reading fails also once 2^64 - 1 frames were served.
-pub fn serve<R: Read, W: Write>(
-    host: &mut Host,
+pub fn serve<S: LooseFiles, R: Read, W: Write>(
+    host: &mut Host<S>,
     alloc: Global,
     reader: &mut R,
     writer: &mut W,
@@ -52,7 +53,7 @@ pub fn serve<R: Read, W: Write>(
 }
 
 // Answers a request as it came.
-fn answer(host: &mut Host, alloc: Global, frame: Frame) -> Reply
+fn answer<S: LooseFiles>(host: &mut Host<S>, alloc: Global, frame: Frame) -> Reply
     ensures explained { Trusted host.old → Steps (world_of host.old) (event_of frame) result (world_of host.new) }
     ensures trusted { Trusted host.old → Trusted host.new }
     ensures orderly { IsOrderlyWorld (world_of host.new) }

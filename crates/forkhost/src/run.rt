@@ -10,11 +10,12 @@ use fork_frame::Ended;
 use fork_host::{AddError, Host};
 use fork_request::TenantName;
 use fork_wire::serve;
+use loose_store::{LooseFiles, Memory};
 use std::alloc::Global;
 use std::io::{Read, Write};
 
 // Adds a tenant.
-fn add(host: &mut Host, alloc: Global, grant: Grant) -> Result<(), Fault>
+fn add<S: LooseFiles>(host: &mut Host<S>, alloc: Global, grant: Grant) -> Result<(), Fault>
     ensures ok { OnOk result (world_of host.new ≡ with_tenant (world_of host.old) grant) }
     ensures free { OnOk result (refusal_to_add (world_of host.old) grant.tenant grant.limit ≡ None) }
     ensures err { IfErr result (IsUnadded (world_of host.old) grant) }
@@ -45,7 +46,9 @@ pub fn run<R: Read, W: Write>(
     ensures err { IfErr result (IsUnserved tenants.items (R.remaining reader.old) (R.remaining reader.new)
         (W.contents writer.old) (W.contents writer.new)) }
 {
-    let mut host = Host::new(alloc);
+    let Ok(mut host) = Host::new(alloc, Memory::new(alloc)) else {
+        return Err(Fault::Memory);
+    };
     for grant in tenants {
         match add(&mut host, alloc, grant) {
             Ok(()) => {}

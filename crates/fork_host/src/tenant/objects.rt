@@ -1,8 +1,9 @@
 // Rows about all objects that a tenant sees.
-ghost use Rattle.std.specs.Prelude.{IsTrue};
+ghost use Rattle.std.specs.Prelude.{[], IsTrue};
 ghost use Rattle.fork_model.specs.Answer.{prune_answer, quota_answer};
+ghost use Rattle.fork_host.specs.Bounds.{IsBounded};
 ghost use Rattle.fork_host.specs.Handle.{Ready, Uses, shown_by};
-ghost use Rattle.fork_host.specs.Rows.{Gives};
+ghost use Rattle.fork_host.specs.Rows.{Gives, Yields};
 ghost use Rattle.fork_host.specs.Safe.{IsSafe};
 ghost use Rattle.fork_host.specs.Shown.{shown};
 
@@ -11,12 +12,13 @@ use crate::pruning::keep_reached;
 use crate::replies::told_use;
 use crate::tenant::Tenant;
 use fork_request::{HostFault, Reply};
+use loose_store::LooseFiles;
 use std::alloc::Global;
 
 impl Tenant {
     #[tactic(auto, unfolding(fork_model::specs::Answer::quota_answer))]
     // What the objects that are seen use, and the limit.
-    pub(crate) fn quota(&self, alloc: Global, own: &Own<'_>) -> Reply
+    pub(crate) fn quota<S: LooseFiles>(&self, alloc: Global, own: &Own<'_, S>) -> Reply
         requires ready { Ready own.now self.now.limit }
         ensures { Gives (quota_answer (shown_by self.now own.now)) (shown_by self.now own.now) result (shown_by self.now own.now) }
     {
@@ -25,10 +27,10 @@ impl Tenant {
 
     #[tactic(auto, unfolding(fork_model::specs::Answer::prune_answer))]
     // Objects go that no reference reaches.
-    pub(crate) fn prune(&self, alloc: Global, own: &mut Own<'_>) -> Reply
+    pub(crate) fn prune<S: LooseFiles>(&self, alloc: Global, own: &mut Own<'_, S>) -> Reply
         requires ready { Ready own.old self.now.limit }
-        ensures row { IsTrue own.old.vault.now.honest → Gives (prune_answer (shown_by self.now own.old)) (shown_by self.now own.old) result (shown self.now own.new.vault.now own.old.tenant.now) }
-        ensures safe { IsSafe own.old.vault.now.honest (shown_by self.now own.old) result (shown self.now own.new.vault.now own.old.tenant.now) }
+        ensures row { IsTrue own.old.vault.now.honest → Yields (prune_answer (shown_by self.now own.old)) (shown_by self.now own.old) result (shown self.now own.new.vault.now own.old.tenant.now) }
+        ensures safe { IsSafe (IsBounded [] own.old.vault.now own.new.vault.now) (shown_by self.now own.old) result (shown self.now own.new.vault.now own.old.tenant.now) }
         ensures own { Uses own.old own.new }
     {
         let Ok(targets) = self.repositories.targets(alloc) else {

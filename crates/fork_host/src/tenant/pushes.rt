@@ -1,12 +1,15 @@
 // Rows of pushes, in one body and in parts.
-ghost use Rattle.std.specs.Prelude.{◌≡◌, IsTrue, Some, true};
+ghost use Rattle.std.specs.Prelude.{◌≡◌, IsTrue, List, Some, true};
 ghost use Rattle.std.specs.FinMap as map;
 ghost use Rattle.git_reftx.specs.Transaction.{References};
+ghost use Rattle.git_name.specs.Object.{Object};
+ghost use Rattle.push_stream.specs.Stream.{sent_in, stream_of};
 ghost use Rattle.fork_reach.specs.Source.{Objects};
-ghost use Rattle.fork_model.specs.Answer.{Held, end_in, named_repository, part_answer, part_drop_answer, part_end_answer, push_answer, pushed};
+ghost use Rattle.fork_model.specs.Answer.{Held, end_in, named_repository, open_upload, part_answer, part_drop_answer, part_end_answer, push_answer, pushed};
+ghost use Rattle.fork_host.specs.Bounds.{IsBounded};
 ghost use Rattle.fork_host.specs.Handle.{Ready, Uses, shown_by};
-ghost use Rattle.fork_host.specs.Pushed.{TellsHeld};
-ghost use Rattle.fork_host.specs.Rows.{Gives};
+ghost use Rattle.fork_host.specs.Pushed.{Sends, TellsHeld};
+ghost use Rattle.fork_host.specs.Rows.{Gives, Yields};
 ghost use Rattle.fork_host.specs.Safe.{IsSafe};
 ghost use Rattle.fork_host.specs.Shown.{seen_by, shown};
 
@@ -16,22 +19,23 @@ use crate::taking::take;
 use crate::tenant::Tenant;
 use crate::uploading::feed;
 use fork_request::{HostFault, Refusal, Reply, RepositoryName};
+use loose_store::LooseFiles;
 use push_stream::{Body, BodyError, Upload, read_body};
 use std::alloc::Global;
 
 impl Tenant {
     #[tactic(auto, unfolding(fork_model::specs::Answer::push_answer))]
     // Commands and objects that come in one body.
-    pub(crate) fn push(
+    pub(crate) fn push<S: LooseFiles>(
         &mut self,
         alloc: Global,
-        own: &mut Own<'_>,
+        own: &mut Own<'_, S>,
         word: &[u8],
         body: &[u8],
     ) -> Reply
         requires ready { Ready own.old self.old.limit }
-        ensures row { IsTrue own.old.vault.now.honest → Gives (push_answer (shown_by self.old own.old) word.now body.now) (shown_by self.old own.old) result (shown self.new own.new.vault.now own.old.tenant.now) }
-        ensures safe { IsSafe own.old.vault.now.honest (shown_by self.old own.old) result (shown self.new own.new.vault.now own.old.tenant.now) }
+        ensures row { IsTrue own.old.vault.now.honest → Yields (push_answer (shown_by self.old own.old) word.now body.now) (shown_by self.old own.old) result (shown self.new own.new.vault.now own.old.tenant.now) }
+        ensures safe { IsSafe (IsBounded (sent_in (stream_of body.now)) own.old.vault.now own.new.vault.now) (shown_by self.old own.old) result (shown self.new own.new.vault.now own.old.tenant.now) }
         ensures own { Uses own.old own.new }
     {
         let Some(name) = RepositoryName::read(word) else {
@@ -48,18 +52,18 @@ impl Tenant {
 
     #[tactic(auto, unfolding(fork_push::specs::Push::judged))]
     // What a stream that is at its end holds is judged, and done: all of it or nothing.
-    fn judge(
+    fn judge<S: LooseFiles>(
         &mut self,
         alloc: Global,
-        own: &mut Own<'_>,
+        own: &mut Own<'_, S>,
         name: RepositoryName,
         finished: Result<Body, BodyError>,
     ) -> Reply
         requires ready { Ready own.old self.old.limit }
         requires there { map.contains_key self.old.repositories name ≡ true }
         ensures row { (held : Held) (references : References) → TellsHeld held finished → map.get self.old.repositories name ≡ Some references → IsTrue own.old.vault.now.honest
-            → Gives (pushed (shown_by self.old own.old) name references held) (shown_by self.old own.old) result (shown self.new own.new.vault.now own.old.tenant.now) }
-        ensures safe { IsSafe own.old.vault.now.honest (shown_by self.old own.old) result (shown self.new own.new.vault.now own.old.tenant.now) }
+            → Yields (pushed (shown_by self.old own.old) name references held) (shown_by self.old own.old) result (shown self.new own.new.vault.now own.old.tenant.now) }
+        ensures safe { (sent : List Object) → Sends sent finished → IsSafe (IsBounded sent own.old.vault.now own.new.vault.now) (shown_by self.old own.old) result (shown self.new own.new.vault.now own.old.tenant.now) }
         ensures own { Uses own.old own.new }
     {
         match finished {
@@ -89,10 +93,15 @@ impl Tenant {
 
     #[tactic(auto, unfolding(fork_model::specs::Answer::part_end_answer))]
     // The upload is judged as the body of a push, and goes.
-    pub(crate) fn part_end(&mut self, alloc: Global, own: &mut Own<'_>, word: &[u8]) -> Reply
+    pub(crate) fn part_end<S: LooseFiles>(
+        &mut self,
+        alloc: Global,
+        own: &mut Own<'_, S>,
+        word: &[u8],
+    ) -> Reply
         requires ready { Ready own.old self.old.limit }
-        ensures row { IsTrue own.old.vault.now.honest → Gives (part_end_answer (shown_by self.old own.old) word.now) (shown_by self.old own.old) result (shown self.new own.new.vault.now own.old.tenant.now) }
-        ensures safe { IsSafe own.old.vault.now.honest (shown_by self.old own.old) result (shown self.new own.new.vault.now own.old.tenant.now) }
+        ensures row { IsTrue own.old.vault.now.honest → Yields (part_end_answer (shown_by self.old own.old) word.now) (shown_by self.old own.old) result (shown self.new own.new.vault.now own.old.tenant.now) }
+        ensures safe { IsSafe (IsBounded (sent_in (open_upload self.old.upload).stream) own.old.vault.now own.new.vault.now) (shown_by self.old own.old) result (shown self.new own.new.vault.now own.old.tenant.now) }
         ensures own { Uses own.old own.new }
     {
         let reply = self.end_upload(alloc, own, word);
@@ -103,10 +112,15 @@ impl Tenant {
     }
 
     // The upload is judged as the body of a push, and stays.
-    fn end_upload(&mut self, alloc: Global, own: &mut Own<'_>, word: &[u8]) -> Reply
+    fn end_upload<S: LooseFiles>(
+        &mut self,
+        alloc: Global,
+        own: &mut Own<'_, S>,
+        word: &[u8],
+    ) -> Reply
         requires ready { Ready own.old self.old.limit }
-        ensures row { IsTrue own.old.vault.now.honest → Gives (named_repository (shown_by self.old own.old) word.now (end_in (shown_by self.old own.old) word.now (map.get self.old.repositories word.now))) (shown_by self.old own.old) result (shown self.new own.new.vault.now own.old.tenant.now) }
-        ensures safe { IsSafe own.old.vault.now.honest (shown_by self.old own.old) result (shown self.new own.new.vault.now own.old.tenant.now) }
+        ensures row { IsTrue own.old.vault.now.honest → Yields (named_repository (shown_by self.old own.old) word.now (end_in (shown_by self.old own.old) word.now (map.get self.old.repositories word.now))) (shown_by self.old own.old) result (shown self.new own.new.vault.now own.old.tenant.now) }
+        ensures safe { IsSafe (IsBounded (sent_in (open_upload self.old.upload).stream) own.old.vault.now own.new.vault.now) (shown_by self.old own.old) result (shown self.new own.new.vault.now own.old.tenant.now) }
         ensures own { Uses own.old own.new }
     {
         let Some(name) = RepositoryName::read(word) else {

@@ -13,15 +13,16 @@ use crate::tenant::Tenant;
 use fork_query::for_each_ref;
 use fork_request::{ByteString, HostFault, Refusal, Reply, RepositoryName};
 use git_reftx::{ApplyError, Command, ReadError, read_commands};
+use loose_store::LooseFiles;
 use std::alloc::Global;
 
 impl Tenant {
     #[tactic(auto, unfolding(fork_model::specs::Answer::update_answer))]
     // A transaction of a repository's references.
-    pub(crate) fn update_refs(
+    pub(crate) fn update_refs<S: LooseFiles>(
         &mut self,
         alloc: Global,
-        own: &Own<'_>,
+        own: &Own<'_, S>,
         word: &[u8],
         body: &[u8],
     ) -> Reply
@@ -41,10 +42,10 @@ impl Tenant {
     }
 
     // The commands are carried out in a repository that is there, all or none.
-    fn carry_out(
+    fn carry_out<S: LooseFiles>(
         &mut self,
         alloc: Global,
-        own: &Own<'_>,
+        own: &Own<'_, S>,
         name: &RepositoryName,
         commands: &[Command],
     ) -> Reply
@@ -61,10 +62,10 @@ impl Tenant {
 
     #[tactic(auto, unfolding(fork_model::specs::Answer::references_answer))]
     // The references of a repository.
-    pub(crate) fn for_each_ref(
+    pub(crate) fn for_each_ref<S: LooseFiles>(
         &self,
         alloc: Global,
-        own: &Own<'_>,
+        own: &Own<'_, S>,
         word: &[u8],
         prefix: Option<&[u8]>,
     ) -> Reply

@@ -1,5 +1,6 @@
 use fork_host::{Host, HostStep};
 use fork_request::{HostRequest, Reply, Request, TenantName};
+use loose_store::Memory;
 use std::alloc::Global;
 use std::test::Fail;
 
@@ -17,8 +18,8 @@ fn names(alloc: Global) -> Result<Vec<TenantName>, Fail> {
 }
 
 // A host that has alice.
-fn host_of_alice(alloc: Global) -> Result<Host, Fail> {
-    let mut host = Host::new(alloc);
+fn host_of_alice(alloc: Global) -> Result<Host<Memory>, Fail> {
+    let mut host = Host::new(alloc, Memory::new(alloc))?;
     let added = TenantName::read(b"alice").ok_or("no name")?;
     host.add_tenant(alloc, added, 1000)?;
     Ok(host)

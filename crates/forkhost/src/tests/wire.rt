@@ -3,6 +3,7 @@ use fork_frame::Ended;
 use fork_host::Host;
 use fork_request::TenantName;
 use fork_wire::{SessionFault, serve};
+use loose_store::Memory;
 use std::alloc::Global;
 use std::cell::Cell;
 use std::io;
@@ -29,8 +30,8 @@ const TURNS: [(&str, &str, &str); 5] = [
     ("carol", "init r\n", "no unknown-tenant\n"),
 ];
 
-fn host_of_two(alloc: Global) -> Result<Host, Fail> {
-    let mut host = Host::new(alloc);
+fn host_of_two(alloc: Global) -> Result<Host<Memory>, Fail> {
+    let mut host = Host::new(alloc, Memory::new(alloc))?;
     for name in ["alice", "bob"] {
         let tenant = TenantName::read(name.as_bytes()).ok_or("no name")?;
         host.add_tenant(alloc, tenant, 1000)?;

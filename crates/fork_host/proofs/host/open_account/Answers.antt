@@ -5,7 +5,7 @@ use Rattle.fork_host.proofs.UpdateLemmas.{put_and_taken}
 use Rattle.fork_host.proofs.host.open_account.Goals as goal
 
 pub returns-in_default-add-clause-err : goal.returns-in_default-add-clause-err
-returns-in_default-add-clause-err c =
+returns-in_default-add-clause-err g c =
     let account = new_account c.args.limit in
     c.remove.ensures ∙ ap (λ m. map.remove m c.copy-key.result) c.in-Ok.ensures.ok
     ∙ ap (λ k. map.remove (map.insert c.args.accounts.now c.copy.result account) k) c.copy-key.ensures

@@ -1,4 +1,4 @@
-use Rattle.std.proofs.Common.{rules, subst}
+use Rattle.std.proofs.Common.{refl, rules, subst}
 use Rattle.std.proofs.KnownBytes.{Keeps-refl}
 use Rattle.fork_host.specs.Shown.{world_of}
 use Rattle.forkhost.proofs.RunningLemmas.{Adding, all_added, none_added, not_added, one_added, served, stopped}
@@ -6,8 +6,8 @@ use Rattle.forkhost.proofs.run.run.Goals as goal
 
 pub loop-grant-init : goal.loop-grant-init
 loop-grant-init g c = record {
-  trusted = c.new-host.ensures.trusted;
-  adding = subst (λ rest. Adding c.args.tenants.items rest (world_of c.new-host.result)) (search rules) (none_added c.args.tenants.items (world_of c.new-host.result) c.new-host.ensures.empty);
+  trusted = c.in-Ok.ensures.trusted refl;
+  adding = subst (λ rest. Adding c.args.tenants.items rest (world_of c.in-Ok.host)) (search rules) (none_added c.args.tenants.items (world_of c.in-Ok.host) c.in-Ok.ensures.empty);
 }
 
 pub loop-grant-preserved : goal.loop-grant-preserved
@@ -15,7 +15,7 @@ loop-grant-preserved g c =
     let so_far = subst (λ rest. Adding c.args.tenants.items rest (world_of c.loop-grant.host)) c.in-Some.ensures.steps.0 c.loop-grant.invariant.adding in
     record {
       trusted = c.add.ensures.trusted c.loop-grant.invariant.trusted;
-      adding = one_added _ _ c.in-Some.grant _ _ so_far c.in-Ok.ensures.free c.in-Ok.ensures.ok;
+      adding = one_added _ _ c.in-Some.grant _ _ so_far c.in-Ok-add.ensures.free c.in-Ok-add.ensures.ok;
     }
 
 pub returns-in-Err-clause-err : goal.returns-in-Err-clause-err

@@ -1,4 +1,4 @@
-use Rattle.std.proofs.Common.{Some, rules, ap, sym, subst, ◌∙◌}
+use Rattle.std.proofs.Common.{Some, inl, refl, rules, ap, sym, subst, ◌∙◌}
 use Rattle.std.specs.FinMap as map
 use Rattle.git_name.proofs.Names.{name_total}
 use Rattle.git_name.proofs.TreeMaps.{get_of_entries}
@@ -7,46 +7,49 @@ use Rattle.fork_request.specs.declared.refusal.Refusal.TheVariants.{UnknownTenan
 use Rattle.fork_request.specs.declared.reply.Reply.TheVariants.{Refused}
 use Rattle.fork_model.specs.Runs.{Asks}
 use Rattle.fork_model.specs.World.{Steps}
+use Rattle.fork_host.specs.Bounds.{IsBounded}
+use Rattle.fork_host.specs.Sent.{sent_in_world}
 use Rattle.fork_host.specs.Shown.{state_of, world_of}
 use Rattle.fork_ledger.proofs.UpdateLemmas.{found_in, written_back}
-use Rattle.fork_host.proofs.WholeLemmas.{all_stay, answered_step, others_stay, ready, unknown_step, whole_after}
+use Rattle.fork_host.proofs.BoundLemmas.{bounded_still}
+use Rattle.fork_host.proofs.WholeLemmas.{all_stay, answered_step, others_stay, ready, sent_here, unknown_step, whole_after}
 use Rattle.fork_host.proofs.accounts.Accounts.answer.Goals as goal
 
 pub returns-in_default-clause-explained : goal.returns-in_default-clause-explained
-returns-in_default-clause-explained c trusted =
+returns-in_default-clause-explained g c trusted =
     let none = ap (λ m. map.get m c.args.name.now) (sym c.self.view_is) ∙ get_of_entries name_total c.self.inside.tenants.entries c.args.name.now ∙ sym c.in_default.ensures.value in
     let stays = ap map.from_entries (ap (λ t. t.entries) c.get_mut.follows.holds-at-none) ∙ c.self.view_is in
     subst (λ accounts. Steps (world_of (state_of c.args.self.now c.args.vault.now)) (Asks c.args.name.now (ask_of c.args.request)) (Refused UnknownTenant) (world_of (state_of accounts c.args.vault.now))) (sym stays)
     (unknown_step (state_of c.args.self.now c.args.vault.now) c.args.name.now (ask_of c.args.request) none)
 
 pub answer_from-requires : goal.answer_from-requires
-answer_from-requires c =
+answer_from-requires g c =
     let here = found_in c.args.self.now c.self.inside.tenants.entries c.args.name.now (Some c.in-Some.tenant.now) c.self.view_is c.in-Some.ensures.value in
     record { ready = ready (state_of c.args.self.now c.args.vault.now) c.args.name.now c.in-Some.tenant.now c.requires.whole here }
 
 pub returns-clause-explained : goal.returns-clause-explained
-returns-clause-explained c trusted =
+returns-clause-explained g c trusted =
     let stays = (c.get_mut.follows.holds c.answer_from.new.tenant).3 (search rules) in
     let entries = c.self.inside.tenants.entries in
     let here = found_in c.args.self.now entries c.args.name.now (Some c.in-Some.tenant.now) c.self.view_is c.in-Some.ensures.value in
     let set = written_back c.args.self.now entries (c.get_mut.follows.lender c.answer_from.new.tenant).entries c.args.name.now c.answer_from.new.tenant c.self.view_is stays.0 in
     let old = state_of c.args.self.now c.args.vault.now in
     let new = state_of (map.from_entries (c.get_mut.follows.lender c.answer_from.new.tenant).entries) c.answer_from.new.vault in
-    answered_step old new c.args.name.now (ask_of c.args.request) c.in-Some.tenant.now c.answer_from.new.tenant c.answer_from.result here set (c.answer_from.ensures.row trusted) c.answer_from.ensures.own trusted
+    answered_step old new c.args.name.now (ask_of c.args.request) c.in-Some.tenant.now c.answer_from.new.tenant c.answer_from.result here set (c.answer_from.ensures.row.yields trusted) c.answer_from.ensures.own trusted
 
 pub returns-clause-whole : goal.returns-clause-whole
-returns-clause-whole c =
+returns-clause-whole g c =
     let stays = (c.get_mut.follows.holds c.answer_from.new.tenant).3 (search rules) in
     let entries = c.self.inside.tenants.entries in
     let here = found_in c.args.self.now entries c.args.name.now (Some c.in-Some.tenant.now) c.self.view_is c.in-Some.ensures.value in
     let set = written_back c.args.self.now entries (c.get_mut.follows.lender c.answer_from.new.tenant).entries c.args.name.now c.answer_from.new.tenant c.self.view_is stays.0 in
     let old = state_of c.args.self.now c.args.vault.now in
     let new = state_of (map.from_entries (c.get_mut.follows.lender c.answer_from.new.tenant).entries) c.answer_from.new.vault in
-    whole_after old new c.args.name.now (ask_of c.args.request) c.in-Some.tenant.now c.answer_from.new.tenant c.answer_from.result
-    c.requires.whole here set (returns-clause-explained c) c.answer_from.ensures.safe c.answer_from.ensures.own
+    whole_after _ old new c.args.name.now (ask_of c.args.request) c.in-Some.tenant.now c.answer_from.new.tenant c.answer_from.result
+    c.requires.whole here set (returns-clause-explained g c) c.answer_from.ensures.safe c.answer_from.ensures.own
 
 pub returns-clause-kept : goal.returns-clause-kept
-returns-clause-kept c not_done =
+returns-clause-kept g c not_done =
     let stays = (c.get_mut.follows.holds c.answer_from.new.tenant).3 (search rules) in
     let entries = c.self.inside.tenants.entries in
     let here = found_in c.args.self.now entries c.args.name.now (Some c.in-Some.tenant.now) c.self.view_is c.in-Some.ensures.value in
@@ -56,7 +59,7 @@ returns-clause-kept c not_done =
     all_stay old new c.args.name.now c.in-Some.tenant.now c.answer_from.new.tenant here set c.answer_from.ensures.own (c.answer_from.ensures.safe.kept not_done)
 
 pub returns-clause-others : goal.returns-clause-others
-returns-clause-others c =
+returns-clause-others g c =
     let stays = (c.get_mut.follows.holds c.answer_from.new.tenant).3 (search rules) in
     let entries = c.self.inside.tenants.entries in
     let here = found_in c.args.self.now entries c.args.name.now (Some c.in-Some.tenant.now) c.self.view_is c.in-Some.ensures.value in
@@ -64,3 +67,12 @@ returns-clause-others c =
     let old = state_of c.args.self.now c.args.vault.now in
     let new = state_of (map.from_entries (c.get_mut.follows.lender c.answer_from.new.tenant).entries) c.answer_from.new.vault in
     others_stay old new c.args.name.now c.answer_from.new.tenant set c.answer_from.ensures.own
+
+pub returns-in_default-clause-faults : goal.returns-in_default-clause-faults
+returns-in_default-clause-faults g c = bounded_still (sent_in_world (world_of (state_of c.args.self.now c.args.vault.now)) c.args.name.now (ask_of c.args.request)) c.args.vault.now (Refused UnknownTenant) (inl refl)
+
+pub returns-clause-faults : goal.returns-clause-faults
+returns-clause-faults g c =
+    let here = found_in c.args.self.now c.self.inside.tenants.entries c.args.name.now (Some c.in-Some.tenant.now) c.self.view_is c.in-Some.ensures.value in
+    let old = state_of c.args.self.now c.args.vault.now in
+    subst (λ sent. IsBounded sent c.args.vault.now c.answer_from.new.vault c.answer_from.result) (sym (sent_here old c.args.name.now (ask_of c.args.request) c.in-Some.tenant.now here)) c.answer_from.ensures.safe.faults

@@ -26,7 +26,7 @@ faulted : (old mid new : HostState) (steps : List HostStep) (i : ℕ) (step : Ho
 faulted old mid new steps i step replies more reply lt is grown ran next = rw (taken steps i step lt is, grown) (faults_more old mid new (events_of (take i steps)) replies (event_of step) reply ran next)
 
 pub loop-step-preserved : goal.loop-step-preserved
-loop-step-preserved c = record {
+loop-step-preserved g c = record {
   trusted = λ trusted. c.step-reply.ensures.trusted (c.loop-step.invariant.trusted trusted);
   ran = λ trusted. turn (world_of c.args.self.now) (world_of c.loop-step.self) (world_of c.step-reply.new.self) c.args.steps.now c.loop-step.step-index c.step-item.result c.loop-step.replies.items c.push_reserved.new.self.items c.step-reply.result c.loop-step-test.true c.step-item.is c.push_reserved.ensures.items (c.loop-step.invariant.ran trusted) (c.step-reply.ensures.explained (c.loop-step.invariant.trusted trusted));
   orderly = c.step-reply.ensures.orderly;
@@ -44,9 +44,9 @@ all_faults : (old new : HostState) (steps : List HostStep) (i : ℕ) (replies : 
 all_faults old new steps i replies le ran = rw (take_all i steps le) at ran
 
 pub returns-clause-faults : goal.returns-clause-faults
-returns-clause-faults c = all_faults c.args.self.now c.loop-step.self c.args.steps.now c.loop-step.step-index c.loop-step.replies.items (omega arith) c.loop-step.invariant.faults
+returns-clause-faults g c = all_faults c.args.self.now c.loop-step.self c.args.steps.now c.loop-step.step-index c.loop-step.replies.items (omega arith) c.loop-step.invariant.faults
 
 pub returns-clause-provenance : goal.returns-clause-provenance
-returns-clause-provenance c trusted tenant view last name object first end seen =
+returns-clause-provenance g c trusted tenant view last name object first end seen =
     c.what_runs_show_was_seen_or_sent.ensures.run tenant (world_of c.args.self.now) (world_of c.loop-step.self) (events_of c.args.steps.now) c.loop-step.replies.items view last name object
     (all (world_of c.args.self.now) (world_of c.loop-step.self) c.args.steps.now c.loop-step.step-index c.loop-step.replies.items (omega arith) (c.loop-step.invariant.ran trusted)) first end seen

@@ -8,7 +8,7 @@ use Rattle.fork_host.proofs.host.Host.run.Given as goal
 
 -- the replies so far explain how the host came here, and there is room for the others
 abbrev pub invariant-loop-step : goal.invariant-loop-step
-invariant-loop-step l = record {
+invariant-loop-step g l = record {
   trusted : Trusted l.fn.self → Trusted l.self;
   ran : Trusted l.fn.self → Explains (world_of l.fn.self) (events_of (take l.step-index l.steps)) l.replies.items (world_of l.self);
   orderly : IsOrderlyWorld (world_of l.self);

@@ -5,4 +5,4 @@ use Rattle.fork_host.proofs.WorldLemmas.{len_world}
 use Rattle.fork_host.proofs.host.Host.tenants.Goals as goal
 
 pub returns-clause-value : goal.returns-clause-value
-returns-clause-value c = c.len.ensures ∙ sym (len_world (state_of c.self.inside.accounts c.self.inside.vault)) ∙ ap (λ s. len (world_of s)) c.self.view_is
+returns-clause-value g c = c.len.ensures ∙ sym (len_world (state_of c.self.inside.accounts c.self.inside.vault)) ∙ ap (λ s. len (world_of s)) c.self.view_is

@@ -5,4 +5,4 @@ use Rattle.fork_ledger.proofs.HeldLemmas.{kind_visible}
 use Rattle.fork_host.proofs.own.Own.kind_seen.Goals as goal
 
 pub returns : goal.returns
-returns c = c.seen_kind.ensures ∙ ap kind_seen c.kind_of.ensures ∙ kind_visible (private_of c.args.self.now.vault.now.tenants c.args.self.now.tenant.now) c.args.name
+returns g c = c.seen_kind.ensures ∙ ap kind_seen c.kind_of.ensures ∙ kind_visible (private_of c.args.self.now.vault.now.tenants c.args.self.now.tenant.now) c.args.name

@@ -7,14 +7,14 @@ use Rattle.fork_query.specs.Fetch.{fetch_told}
 use Rattle.fork_model.specs.View.{View}
 use Rattle.fork_query.specs.Told.{fault_told}
 use Rattle.fork_host.specs.Handle.{shown_by, visible_by}
-use Rattle.fork_host.specs.Rows.{Gives}
+use Rattle.fork_host.specs.Rows.{Yields}
 use Rattle.fork_host.specs.Shown.{Account, shown}
 use Rattle.fork_host.proofs.QueryLemmas.{asked_uses, few_is, named_is, over_is, query_gives, query_safe}
 use Rattle.fork_host.proofs.tenant.Tenant.fetch.Goals as goal
 
 pub returns-clause-row : goal.returns-clause-row
 unfolding fetch_answer
-returns-clause-row c honest =
+returns-clause-row g c honest =
     let account = c.args.self.now in
     let first = c.args.own.now in
     let view = shown_by account first in
@@ -22,12 +22,12 @@ returns-clause-row c honest =
     let references = c.in-Some-get.references.now in
     let here = ap (λ (a : Account). map.get a.repositories word) (sym c.self.view_is) ∙ ap (map.get c.self.inside.repositories) (sym c.in-Some.ensures.found.0) ∙ sym c.in-Some-get.ensures in
     let reply = few_is (words_of c.args.items.now) _ (sym c.has_many.ensures ∙ c.if-has_many.false) ∙ over_is word (λ references. fetch_told (visible_by c.args.own.now) references (words_of c.args.items.now)) (map.get account.repositories word) references here in
-    subst (λ (row : Reply × View). Gives row view c.told.result (shown account c.fetch.new.source.vault.now first.tenant.now))
+    subst (λ (row : Reply × View). Yields row view c.told.result (shown account c.fetch.new.source.vault.now first.tenant.now))
     (sym (named_is view word _ (sym c.in-Some.ensures.test) ∙ ap (λ (told : Reply). (told, view)) reply))
     (query_gives (λ text. text.items) account first c.fetch.new.source (fetch_told (visible_by first) references (words_of c.args.items.now)) c.fetch.result c.told.result honest (c.fetch.ensures.told honest) c.fetch.ensures.asked c.told.ensures)
 
 pub returns-clause-safe : goal.returns-clause-safe
-returns-clause-safe c = query_safe (λ text. text.items) c.args.self.now c.args.own.now c.fetch.new.source c.fetch.result c.told.result c.fetch.ensures.asked c.told.ensures
+returns-clause-safe g c = query_safe (λ text. text.items) c.args.self.now c.args.own.now c.fetch.new.source c.fetch.result c.told.result c.fetch.ensures.asked c.told.ensures
 
 pub returns-clause-own : goal.returns-clause-own
-returns-clause-own c = asked_uses c.args.own.now c.fetch.new.source (fault_told c.fetch.result) c.requires.ready.quiet c.fetch.ensures.asked
+returns-clause-own g c = asked_uses c.args.own.now c.fetch.new.source (fault_told c.fetch.result) c.requires.ready.quiet c.fetch.ensures.asked

@@ -7,11 +7,11 @@ use Rattle.fork_host.proofs.tenant.Tenant.ls_tree.Goals as goal
 
 pub returns-clause-row : goal.returns-clause-row
 unfolding ls_tree_answer
-returns-clause-row c honest =
+returns-clause-row g c honest =
     query_gives (λ text. text.items) c.args.self.now c.args.own.now c.ls_tree.new.source (tree_told (visible_by c.args.own.now) c.args.name) c.ls_tree.result c.told.result honest (c.ls_tree.ensures.told honest) c.ls_tree.ensures.asked c.told.ensures
 
 pub returns-clause-safe : goal.returns-clause-safe
-returns-clause-safe c = query_safe (λ text. text.items) c.args.self.now c.args.own.now c.ls_tree.new.source c.ls_tree.result c.told.result c.ls_tree.ensures.asked c.told.ensures
+returns-clause-safe g c = query_safe (λ text. text.items) c.args.self.now c.args.own.now c.ls_tree.new.source c.ls_tree.result c.told.result c.ls_tree.ensures.asked c.told.ensures
 
 pub returns-clause-own : goal.returns-clause-own
-returns-clause-own c = asked_uses c.args.own.now c.ls_tree.new.source (fault_told c.ls_tree.result) c.requires.ready.quiet c.ls_tree.ensures.asked
+returns-clause-own g c = asked_uses c.args.own.now c.ls_tree.new.source (fault_told c.ls_tree.result) c.requires.ready.quiet c.ls_tree.ensures.asked

@@ -6,17 +6,17 @@ use Rattle.fork_host.proofs.ReadLemmas.{told_counts, told_undamaged}
 use Rattle.fork_host.proofs.visible.OwnSource.read.Goals as goal
 
 pub returns-clause-asked : goal.returns-clause-asked
-returns-clause-asked c =
+returns-clause-asked g c =
     let old = c.args.self.now in
     let new = c.get.new.self in
     let told = c.get.ensures in
     record {
       measures = ap (λ r. measures_of (private_of new.vault.now.tenants r.now).visible) told.same.tenant
           ∙ ap (λ p. p.0) (same_measures old.vault.now.tenants new.vault.now.tenants old.tenant.now told.shape);
-      honest = told.honest;
+      honest = told.store.honest;
       base = λ i. ((told.same.vault i, told.same.tenant i), told.shape i);
-      counted = told_counts c.get.result c.told.result c.told.ensures told.faults;
+      counted = told_counts c.get.result c.told.result old.vault.now.failures new.vault.now.failures c.told.ensures told.store.counted;
       objects = λ honest. ap (λ r. (private_of new.vault.now.tenants r.now).visible) told.same.tenant ∙ ap (λ m. (private_of m old.tenant.now).visible) (told.kept honest);
-      rest = told.kept;
-      undamaged = λ honest. told_undamaged c.get.result c.told.result c.told.ensures told.faults;
+      rest = λ honest i. (told.kept honest i, told.files honest i);
+      undamaged = λ honest. told_undamaged c.get.result c.told.result c.told.ensures told.apart (told.store.undamaged honest);
     }

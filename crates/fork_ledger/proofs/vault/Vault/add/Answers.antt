@@ -1,12 +1,11 @@
-use Rattle.std.proofs.Common.{ap}
-use Rattle.fork_ledger.proofs.TenantEntries.{added_is, there_already}
+use Rattle.std.proofs.Common.{sym, subst}
+use Rattle.fork_ledger.specs.Store.{IsStored}
+use Rattle.fork_ledger.proofs.StoredLemmas.{stored_new, whichever}
 use Rattle.fork_ledger.proofs.vault.Vault.add.Goals as goal
 
-pub returns-then-contains_key-clause-ok : goal.returns-then-contains_key-clause-ok
-returns-then-contains_key-clause-ok c =
-    there_already c.args.self.now.tenants c.self.inside.tenants.entries c.args.tenant c.contains_key.result (ap (λ s. s.tenants) c.self.view_is) c.contains_key.ensures c.if-contains_key.true
-
-pub returns-in-Ok-clause-ok : goal.returns-in-Ok-clause-ok
-returns-in-Ok-clause-ok c =
-    added_is c.args.self.now.tenants c.self.inside.tenants.entries c.insert.new.self.entries c.args.tenant c.new.result c.contains_key.result (ap (λ s. s.tenants) c.self.view_is) c.contains_key.ensures c.if-contains_key.false
-    c.in-Ok.ensures.updates.0 c.new.ensures
+pub invariant_of-self : goal.invariant_of-self
+invariant_of-self g c = λ h.
+    let files = g.S.LooseFiles.contents c.self.inside.files in
+    whichever (IsStored c.add.new.self files) c.add.result c.add.ensures.ok c.add.ensures.err
+    (λ added. subst (λ m. IsStored m files) (sym added) (stored_new c.self.inside.maps c.args.tenant files (c.self.invariant h)))
+    (λ same. subst (λ m. IsStored m files) (sym same) (c.self.invariant h))

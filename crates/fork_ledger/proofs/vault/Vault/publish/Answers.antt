@@ -1,13 +1,10 @@
-use Rattle.std.proofs.Common.{ap, rules}
+use Rattle.std.proofs.Common.{sym, subst}
 use Rattle.fork_ledger.specs.Private.{with_published}
-use Rattle.fork_ledger.proofs.TenantEntries.{changed_is, unknown_is}
+use Rattle.fork_ledger.specs.Store.{IsStored}
+use Rattle.fork_ledger.proofs.StoredLemmas.{brings_published, stored_at}
 use Rattle.fork_ledger.proofs.vault.Vault.publish.Goals as goal
 
-pub returns-in_default-clause-tenants : goal.returns-in_default-clause-tenants
-returns-in_default-clause-tenants c =
-    rw c.get_mut.follows.holds-at-none (unknown_is c.args.self.now.tenants c.self.inside.tenants.entries c.args.tenant.now with_published (ap (λ s. s.tenants) c.self.view_is) c.in_default.ensures.value)
-
-pub returns-clause-tenants : goal.returns-clause-tenants
-returns-clause-tenants c =
-    let stays = (c.get_mut.follows.holds c.publish.new.self).3 (search rules) in
-    changed_is c.args.self.now.tenants c.self.inside.tenants.entries (c.get_mut.follows.lender c.publish.new.self).entries c.args.tenant.now c.in-Some.own.now c.publish.new.self with_published (ap (λ s. s.tenants) c.self.view_is) c.in-Some.ensures.value stays.0 c.publish.ensures
+pub invariant_of-self : goal.invariant_of-self
+invariant_of-self g c = λ h.
+    let files = g.S.LooseFiles.contents c.self.inside.files in
+    subst (λ m. IsStored m files) (sym c.publish.ensures) (stored_at c.self.inside.maps c.args.tenant.now files with_published brings_published (c.self.invariant h))

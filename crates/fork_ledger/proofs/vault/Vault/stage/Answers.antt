@@ -1,28 +1,18 @@
-use Rattle.std.proofs.Common.{ap, rules, sym}
-use Rattle.fork_ledger.specs.Private.{with_staged}
-use Rattle.fork_ledger.specs.Tenants.{shape_of}
-use Rattle.fork_ledger.proofs.TenantEntries.{changed_is, same_is, unknown_is}
+use Rattle.std.proofs.Common.{ap, sym, subst, ◌∙◌}
+use Rattle.fork_ledger.specs.Store.{CountsFault, fault_in}
+use Rattle.fork_ledger.proofs.StoreLemmas.{undamaged_in}
 use Rattle.fork_ledger.proofs.vault.Vault.stage.Goals as goal
 
-pub returns-in_default-clause-ok : goal.returns-in_default-clause-ok
-returns-in_default-clause-ok c _ =
-    rw c.get_mut.follows.holds-at-none (unknown_is c.args.self.now.tenants c.self.inside.tenants.entries c.args.tenant.now (with_staged c.args.sealed) (ap (λ s. s.tenants) c.self.view_is) c.in_default.ensures.value)
+pub invariant_of-self : goal.invariant_of-self
+invariant_of-self g c = λ h.
+    let was = sym c.stage_whole.ensures.honest ∙ h in
+    c.stage_whole.ensures.stored was (c.self.invariant was)
 
-pub returns-in_default-stage-clause-err : goal.returns-in_default-stage-clause-err
-returns-in_default-stage-clause-err c _ =
-    let stays = (c.get_mut.follows.holds c.stage.new.self).3 (search rules) in
-    same_is c.args.self.now.tenants c.self.inside.tenants.entries (c.get_mut.follows.lender c.stage.new.self).entries c.args.tenant.now c.in-Some.own.now c.stage.new.self (ap (λ s. s.tenants) c.self.view_is) c.in-Some.ensures.value stays.0 c.in_default-stage.ensures.err
-
-pub returns-clause-ok : goal.returns-clause-ok
-returns-clause-ok c _ =
-    let stays = (c.get_mut.follows.holds c.stage.new.self).3 (search rules) in
-    changed_is c.args.self.now.tenants c.self.inside.tenants.entries (c.get_mut.follows.lender c.stage.new.self).entries c.args.tenant.now c.in-Some.own.now c.stage.new.self (with_staged c.args.sealed) (ap (λ s. s.tenants) c.self.view_is) c.in-Some.ensures.value stays.0 c.in-Ok.ensures.ok
-
-pub returns-in_default-clause-shape : goal.returns-in_default-clause-shape
-returns-in_default-clause-shape c = ap shape_of (returns-in_default-clause-ok c (sym (ap (λ s. s.honest) c.self.view_is)))
-
-pub returns-in_default-stage-clause-kept : goal.returns-in_default-stage-clause-kept
-returns-in_default-stage-clause-kept c = ap shape_of (returns-in_default-stage-clause-err c (sym (ap (λ s. s.honest) c.self.view_is)))
-
-pub returns-clause-shape : goal.returns-clause-shape
-returns-clause-shape c = ap shape_of (returns-clause-ok c (sym (ap (λ s. s.honest) c.self.view_is)))
+pub returns-clause-store : goal.returns-clause-store
+returns-clause-store g c = record {
+  honest = c.stage_whole.ensures.honest ∙ ap (λ s. s.honest) c.self.view_is;
+  counted = subst (λ n. CountsFault n (g.S.LooseFiles.failures c.stage_whole.new.files) (fault_in c.stage_whole.result)) (ap (λ s. s.failures) c.self.view_is) c.stage_whole.ensures.cause;
+  undamaged = λ h.
+      let was = ap (λ s. s.honest) c.self.view_is ∙ h in
+      undamaged_in c.stage_whole.result (c.stage_whole.ensures.undamaged was (c.self.invariant was));
+}

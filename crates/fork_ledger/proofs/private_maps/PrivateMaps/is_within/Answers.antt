@@ -7,14 +7,14 @@ use Rattle.git_name.proofs.Names.{name_total, name_exact}
 use Rattle.fork_ledger.specs.Private.{both_of, nothing}
 use Rattle.fork_ledger.proofs.TenantEntries.{private_found}
 use Rattle.fork_ledger.proofs.CappedLemmas.{nothing_within}
-use Rattle.fork_ledger.proofs.vault.Vault.is_within.Goals as goal
+use Rattle.fork_ledger.proofs.private_maps.PrivateMaps.is_within.Goals as goal
 
 pub returns-in_default : goal.returns-in_default
 returns-in_default c =
-    let own = private_found c.args.self.now.tenants c.self.inside.tenants.entries c.args.tenant.now None (ap (λ s. s.tenants) c.self.view_is) c.in_default.ensures.value in
+    let own = private_found c.args.self.now c.self.inside.tenants.entries c.args.tenant.now None c.self.view_is c.in_default.ensures.value in
     nothing_within c.args.limit _ (ap (λ o. use_of (both_of o)) own ∙ ap use_of (joined_empty name_total name_exact nothing.visible) ∙ use_of-empty)
 
 pub returns : goal.returns
 returns c =
-    let own = private_found c.args.self.now.tenants c.self.inside.tenants.entries c.args.tenant.now (Some c.in-Some.own.now) (ap (λ s. s.tenants) c.self.view_is) c.in-Some.ensures.value in
+    let own = private_found c.args.self.now c.self.inside.tenants.entries c.args.tenant.now (Some c.in-Some.own.now) c.self.view_is c.in-Some.ensures.value in
     c.is_within.ensures ∙ ap (λ o. nat_le (use_of (both_of o)) c.args.limit) (sym own)

@@ -1,0 +1,146 @@
+-- The bounds on host faults, from call to call.
+use Rattle.std.proofs.Common.{◌≡◌, ◌⊎◌, inl, inr, ℕ, false, IsTrue, List, [], ◌∷◌, None, Some, refl, sym, ap, subst, ◌∙◌}
+use Rattle.std.specs.Prelude.{Contains}
+use Rattle.std.proofs.lemmas.List.Elements.{Contains-append_left, Contains-append_right, Contains-push}
+use Rattle.git_name.specs.Object.{Object, object_name}
+use Rattle.loose_store.specs.Files.{Files}
+use Rattle.loose_store.specs.Stored.{Whole}
+use Rattle.fork_reach.specs.declared.source.SourceFault.{SourceFault}
+use Rattle.fork_reach.specs.declared.source.SourceFault.TheVariants as source
+use Rattle.fork_request.specs.Asked.{Ask}
+use Rattle.fork_request.specs.Told.{is_host_fault}
+use Rattle.fork_request.specs.declared.host_fault.HostFault.TheVariants.{Memory, Store, Damaged, Collision}
+use Rattle.fork_request.specs.declared.reply.Reply.{Reply}
+use Rattle.fork_request.specs.declared.reply.Reply.TheVariants.{Done, Refused, Failed}
+use Rattle.fork_ledger.specs.declared.fault.VaultFault.{VaultFault}
+use Rattle.fork_ledger.specs.declared.fault.VaultFault.TheVariants as ledger
+use Rattle.fork_ledger.specs.Store.{AsksStore, LeavesStore, Meets, StoresAlone}
+use Rattle.fork_ledger.specs.Tenants.{VaultState}
+use Rattle.fork_model.specs.Answer.{answer}
+use Rattle.fork_model.specs.View.{View}
+use Rattle.fork_model.proofs.StepLemmas.{answer_tells}
+use Rattle.fork_host.specs.Bounds.{CountsReply, Gains, IsBounded, IsCollision, IsRead, StoresSent}
+use Rattle.fork_host.specs.Rows.{Gives, Given, Wanting, fault_told, vault_told}
+
+same_files : {old new : Files} (sent : List Object) → new ≡ old → StoresSent sent old new
+same_files sent same = λ name object whole. inl (subst (λ files. Whole files name object) same whole)
+
+more_files : {a b c : Files} (sent : List Object) → StoresSent sent a b → StoresSent sent b c → StoresSent sent a c
+more_files {a} {b} {c} sent first then = λ name object whole. by name object (then name object whole)
+  where
+    by : (name : List ℕ) (object : Object) → Whole b name object ⊎ Contains sent object → Whole a name object ⊎ Contains sent object
+    by name object (inl stood) = first name object stood
+    by name object (inr came) = inr came
+
+-- what calls that succeed gain
+pub gains_none : (sent : List Object) (vault : VaultState) → Gains sent vault vault
+gains_none sent vault = record { honest = refl; failures = refl; stored = λ _. same_files sent refl }
+
+pub gains_left : (sent : List Object) (a b : VaultState) → LeavesStore a b → Gains sent a b
+gains_left sent a b left = record { honest = left.honest; failures = left.failures; stored = λ _. same_files sent left.files }
+
+pub gains_read : (sent : List Object) (a b : VaultState) → IsRead a b None → Gains sent a b
+gains_read sent a b read = record { honest = read.honest; failures = read.counted; stored = λ h. same_files sent (read.files h) }
+
+pub gains_then : (sent : List Object) (a b c : VaultState) → Gains sent a b → Gains sent b c → Gains sent a c
+gains_then sent a b c first then = record {
+  honest = then.honest ∙ first.honest;
+  failures = then.failures ∙ first.failures;
+  stored = λ h. more_files sent (first.stored h) (then.stored (first.honest ∙ h));
+}
+
+pub gains_staged : (sent : List Object) (object : Object) (a b : VaultState) → Contains sent object → AsksStore a b None → (IsTrue a.honest → StoresAlone object a.files b.files) → Gains sent a b
+gains_staged sent object a b among asked alone = record {
+  honest = asked.honest;
+  failures = asked.counted;
+  stored = λ h name other whole. by other (alone h name other whole);
+}
+  where
+    by : {P : Type 0} (other : Object) → P ⊎ (other ≡ object) → P ⊎ Contains sent other
+    by other (inl stood) = inl stood
+    by other (inr itself) = inr (subst (Contains sent) (sym itself) among)
+
+-- a reply that is no host fault, or want of memory
+abbrev pub IsQuiet : Reply → Type 0
+IsQuiet reply = (is_host_fault reply ≡ false) ⊎ (reply ≡ Failed Memory)
+
+pub bounded_gains : (sent : List Object) (a b : VaultState) (reply : Reply) → Gains sent a b → IsQuiet reply → IsBounded sent a b reply
+bounded_gains sent a b (Done text) gains quiet = record { counted = gains.failures; undamaged = λ h is. cc; collided = λ h is. absurd (cc); stored = λ h _ _. gains.stored h }
+bounded_gains sent a b (Refused refusal) gains quiet = record { counted = gains.failures; undamaged = λ h is. cc; collided = λ h is. absurd (cc); stored = λ h _ _. gains.stored h }
+bounded_gains sent a b (Failed Memory) gains quiet = record { counted = gains.failures; undamaged = λ h is. cc; collided = λ h is. absurd (cc); stored = λ h _ _. gains.stored h }
+bounded_gains sent a b (Failed Store) gains (inl is) = absurd (cc)
+bounded_gains sent a b (Failed Store) gains (inr is) = absurd (cc)
+bounded_gains sent a b (Failed Damaged) gains (inl is) = absurd (cc)
+bounded_gains sent a b (Failed Damaged) gains (inr is) = absurd (cc)
+bounded_gains sent a b (Failed Collision) gains (inl is) = absurd (cc)
+bounded_gains sent a b (Failed Collision) gains (inr is) = absurd (cc)
+
+pub bounded_still : (sent : List Object) (vault : VaultState) (reply : Reply) → IsQuiet reply → IsBounded sent vault vault reply
+bounded_still sent vault reply quiet = bounded_gains sent vault vault reply (gains_none sent vault) quiet
+
+-- a row that does not ask the store
+pub quiet_row : (view new : View) (ask : Ask) (reply : Reply) → Gives (answer view ask) view reply new → IsQuiet reply
+quiet_row view new ask reply (Given told is) = inl (ap is_host_fault told ∙ answer_tells view ask)
+quiet_row view new ask reply (Wanting wanting stays) = inr wanting
+
+-- what came before the call that was answered so
+pub bounded_after : (sent : List Object) (a b c : VaultState) (reply : Reply) → Gains sent a b → IsBounded sent b c reply → IsBounded sent a c reply
+bounded_after sent a b c reply gains bounded = record {
+  counted = subst (λ n. CountsReply n c.failures reply) gains.failures bounded.counted;
+  undamaged = λ h. bounded.undamaged (gains.honest ∙ h);
+  collided = λ h is. met h (bounded.collided (gains.honest ∙ h) is);
+  stored = λ h no_store no_memory. more_files sent (gains.stored h) (bounded.stored (gains.honest ∙ h) no_store no_memory);
+}
+  where
+    stood : IsTrue a.honest → (name : List ℕ) (other : Object) → Contains sent other ⊎ Whole b.files name other → Contains sent other ⊎ Whole a.files name other
+    stood h name other (inl came) = inl came
+    stood h name other (inr whole) = turn (gains.stored h name other whole)
+      where
+        turn : Whole a.files name other ⊎ Contains sent other → Contains sent other ⊎ Whole a.files name other
+        turn (inl before) = inr before
+        turn (inr came) = inl came
+
+    met : IsTrue a.honest → IsCollision sent b.files → IsCollision sent a.files
+    met h collision = record {
+      object = collision.object;
+      other = collision.other;
+      comes = collision.comes;
+      met = stood h (object_name collision.object) collision.other collision.met;
+      named = collision.named;
+      differ = collision.differ;
+    }
+
+-- and what came behind it
+pub bounded_left : (sent : List Object) (a b c : VaultState) (reply : Reply) → IsBounded sent a b reply → LeavesStore b c → IsBounded sent a c reply
+bounded_left sent a b c reply bounded left = record {
+  counted = subst (λ n. CountsReply a.failures n reply) (sym left.failures) bounded.counted;
+  undamaged = bounded.undamaged;
+  collided = bounded.collided;
+  stored = λ h no_store no_memory. more_files sent (bounded.stored h no_store no_memory) (same_files sent left.files);
+}
+
+-- a read that failed
+pub bounded_read : (sent : List Object) (a b : VaultState) (fault : SourceFault) → IsRead a b (Some fault) → IsBounded sent a b (Failed (fault_told fault))
+bounded_read sent a b source.Store read = record { counted = read.counted; undamaged = λ h is. cc; collided = λ h is. absurd (cc); stored = λ h no_store _. absurd (no_store refl) }
+bounded_read sent a b source.Damaged read = record { counted = read.counted; undamaged = λ h is. read.undamaged h refl; collided = λ h is. absurd (cc); stored = λ h _ _. same_files sent (read.files h) }
+bounded_read sent a b source.Memory read = record { counted = read.counted; undamaged = λ h is. cc; collided = λ h is. absurd (cc); stored = λ h _ _. same_files sent (read.files h) }
+
+-- an object that was not staged
+pub bounded_staged : (sent : List Object) (object : Object) (a b : VaultState) (fault : VaultFault) → Contains sent object → AsksStore a b (Some fault) → (IsTrue a.honest → fault ≡ ledger.Collision → Meets object a.files)
+    → (IsTrue a.honest → fault ≡ ledger.Collision → b.files ≡ a.files) → IsBounded sent a b (Failed (vault_told fault))
+bounded_staged sent object a b ledger.Store among asked meets still = record { counted = asked.counted; undamaged = λ h is. cc; collided = λ h is. absurd (cc); stored = λ h no_store _. absurd (no_store refl) }
+bounded_staged sent object a b ledger.Memory among asked meets still = record { counted = asked.counted; undamaged = λ h is. cc; collided = λ h is. absurd (cc); stored = λ h _ no_memory. absurd (no_memory refl) }
+bounded_staged sent object a b ledger.Damaged among asked meets still = record { counted = asked.counted; undamaged = λ h is. asked.undamaged h refl; collided = λ h is. absurd (cc); stored = λ h _ _. absurd (asked.undamaged h refl) }
+bounded_staged sent object a b ledger.Collision among asked meets still = record {
+  counted = asked.counted;
+  undamaged = λ h is. cc;
+  collided = λ h is. (let met = meets h refl in record { object = object; other = met.0; comes = among; met = inr met.1; named = met.1.named; differ = met.2 });
+  stored = λ h _ _. same_files sent (still h refl);
+}
+
+-- what is left to stage is among what was sent
+pub contains_first : {xs rest : List Object} {object : Object} → xs ≡ object ∷ rest → Contains xs object
+contains_first {xs} {rest} {object} is = subst (λ ys. Contains ys object) (sym is) (Contains-append_left (object ∷ []) rest object (Contains-push [] object))
+
+pub contains_behind : {xs rest : List Object} {object other : Object} → xs ≡ object ∷ rest → Contains rest other → Contains xs other
+contains_behind {xs} {rest} {object} {other} is there = subst (λ ys. Contains ys other) (sym is) (Contains-append_right (object ∷ []) rest other there)

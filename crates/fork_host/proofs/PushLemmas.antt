@@ -1,0 +1,54 @@
+-- Rows of pushes: what a stream holds, and what a row comes to that ends the upload.
+use Rattle.std.proofs.Common.{◌≡◌, ℕ, true, false, cond, List, [], ◌∷◌, Option, Some, Result, Ok, Err, sym, ap, ◌∙◌, is_some}
+use Rattle.std.specs.Prelude.{IfErr, IfOk}
+use Rattle.git_name.specs.Object.{Object}
+use Rattle.git_reftx.specs.Transaction.{References}
+use Rattle.push_stream.specs.declared.body.Body.{Body}
+use Rattle.push_stream.specs.declared.fault.BodyError.{BodyError}
+use Rattle.push_stream.specs.declared.fault.BodyError.TheVariants.{Fault, Memory}
+use Rattle.push_stream.specs.Shown.{TellsFault}
+use Rattle.push_stream.specs.Stream.{Stream, Flows, Breaks, finished, sent_in, stream_of}
+use Rattle.push_stream.specs.Upload.{UploadValue}
+use Rattle.fork_request.specs.Told.{is_host_fault}
+use Rattle.fork_request.specs.declared.refusal.Refusal.TheVariants.{UploadOpen}
+use Rattle.fork_request.specs.declared.reply.Reply.{Reply}
+use Rattle.fork_request.specs.declared.reply.Reply.TheVariants.{Refused}
+use Rattle.fork_model.specs.Answer.{end_in, ended, push_into, pushed, upload_into}
+use Rattle.fork_model.specs.View.{View}
+use Rattle.fork_host.specs.Pushed.{Sends, TellsHeld}
+use Rattle.fork_host.specs.Rows.{Yields, Yielded, Lacking, Faulted}
+
+-- what a stream gave is what it holds, and what was sent
+pub tells_held : (stream : Stream) (r : Result Body BodyError) → IfOk r (λ body. finished stream ≡ Ok (body.commands.items, body.objects.items)) → IfErr r (TellsFault stream) → TellsHeld (finished stream) r
+tells_held stream (Ok body) found exact = found
+tells_held stream (Err (Fault fault)) found exact = exact
+tells_held stream (Err Memory) found exact = tt
+
+finished_sent : (stream : Stream) (body : Body) → finished stream ≡ Ok (body.commands.items, body.objects.items) → body.objects.items ≡ sent_in stream
+finished_sent (Flows commands objects true []) body is = sym (ap second is)
+  where
+    second : {A E : Type 0} → Result (A × List Object) E → List Object
+    second (Ok p) = p.1
+    second (Err e) = body.objects.items
+finished_sent (Flows commands objects true (b ∷ rest)) body is = absurd (cc)
+finished_sent (Flows commands objects false rest) body is = absurd (cc)
+finished_sent (Breaks fault) body is = absurd (cc)
+
+pub sends_held : (stream : Stream) (r : Result Body BodyError) → IfOk r (λ body. finished stream ≡ Ok (body.commands.items, body.objects.items)) → Sends (sent_in stream) r
+sends_held stream (Ok body) found = finished_sent stream body found
+sends_held stream (Err error) found = tt
+
+-- a push into a repository that is there, where no upload is open
+pub push_is : (view : View) (word body : List ℕ) (o : Option References) (references : References) → o ≡ Some references → is_some view.upload ≡ false → push_into view word body o ≡ pushed view word references (finished (stream_of body))
+push_is view word body o references here none =
+    ap (push_into view word body) here ∙ ap (λ b. cond b (Refused UploadOpen, view) (pushed view word references (finished (stream_of body)))) none
+
+-- the end of an upload that is open
+pub end_is : (view : View) (word : List ℕ) (o : Option References) (references : References) (upload : UploadValue) → o ≡ Some references → view.upload ≡ Some upload → end_in view word o ≡ pushed view word references (finished upload.stream)
+end_is view word o references upload here waits = ap (end_in view word) here ∙ ap (upload_into view word references) waits
+
+-- a row that ends the upload is answered with a host fault: the upload stays
+pub ended_failed : (row : Reply × View) (old : View) (reply : Reply) (new : View) → is_host_fault row.0 ≡ false → is_host_fault reply ≡ true → Yields row old reply new → Yields (ended row) old reply new
+ended_failed row old reply new model failed (Yielded told is) = (let differs : ⊥ = cc (sym failed ∙ ap is_host_fault told ∙ model) in absurd differs)
+ended_failed row old reply new model failed (Lacking wanting stays) = Lacking wanting stays
+ended_failed row old reply new model failed (Faulted fault is stays) = Faulted fault is stays

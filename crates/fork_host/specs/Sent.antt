@@ -1,0 +1,39 @@
+-- The objects that a request brings with it, those of the upload that is open among them.
+use Rattle.std.specs.Prelude.{ℕ, List, [], Option, None, Some}
+use Rattle.std.specs.FinMap.{get}
+use Rattle.git_name.specs.Object.{Object}
+use Rattle.push_stream.specs.Stream.{sent_in, stream_of}
+use Rattle.push_stream.specs.Upload.{continued}
+use Rattle.fork_request.specs.Asked.{Ask, Inits, Drops, Forks, Pushes, SendsPart, EndsParts, DropsParts, Updates, AsksObject, AsksTree, AsksRevisions, AsksBases, AsksReferences, Fetches, AsksUse, Prunes, NoRequest}
+use Rattle.fork_model.specs.Answer.{open_upload}
+use Rattle.fork_model.specs.View.{View}
+use Rattle.fork_model.specs.World.{World}
+
+-- a push brings those of its body, a part those of the upload that goes on by it, and the end of an upload those of the upload
+abbrev pub sent_by : View → Ask → List Object
+sent_by view (Inits repository) = []
+sent_by view (Drops repository) = []
+sent_by view (Forks source copy) = []
+sent_by view (Pushes repository body) = sent_in (stream_of body)
+sent_by view (SendsPart body) = sent_in (continued (open_upload view.upload) body).stream
+sent_by view (EndsParts repository) = sent_in (open_upload view.upload).stream
+sent_by view DropsParts = []
+sent_by view (Updates repository body) = []
+sent_by view (AsksObject name) = []
+sent_by view (AsksTree name) = []
+sent_by view (AsksRevisions repository items) = []
+sent_by view (AsksBases repository first second) = []
+sent_by view (AsksReferences repository prefix) = []
+sent_by view (Fetches repository items) = []
+sent_by view AsksUse = []
+sent_by view Prunes = []
+sent_by view NoRequest = []
+
+-- an unknown tenant brings none
+abbrev pub sent_of : Option View → Ask → List Object
+sent_of None ask = []
+sent_of (Some view) ask = sent_by view ask
+
+-- those of a tenant of a world
+abbrev pub sent_in_world : World → List ℕ → Ask → List Object
+sent_in_world world tenant ask = sent_of (get world tenant) ask

@@ -1,0 +1,88 @@
+// Objects that arrive at the store.
+ghost use Rattle.std.specs.Prelude.{◌≡◌, ◌≢◌, true, false, IsTrue, IfErr, OnOk};
+ghost use Rattle.git_name.specs.Object.{Object, object_name};
+ghost use Rattle.loose_store.specs.Files.{SameBut};
+ghost use Rattle.loose_store.specs.Stored.{Whole};
+ghost use Rattle.fork_ledger.specs.Store.{CountsFault, IsTaken, Meets, fault_in};
+
+use crate::fault::VaultFault;
+use crate::private_maps::PrivateMaps;
+use git_name::Sealed;
+use loose_store::{FileFault, LooseFiles, StoreFault, file_of, read_checked};
+use std::alloc::Global;
+
+// How a vault tells a fault of the store.
+pub(crate) fn store_fault(fault: FileFault) -> VaultFault
+    ensures device { fault ≡ FileFault.Device → result ≡ VaultFault.Store }
+    ensures memory { fault ≡ FileFault.Memory → result ≡ VaultFault.Memory }
+{
+    match fault {
+        FileFault::Device => VaultFault::Store,
+        FileFault::Memory => VaultFault::Memory,
+    }
+}
+
+// Sees to it that the file of an object is whole. A whole file is compared and never written over; one
+// that is not whole is written anew, where no tenant holds the name.
+pub(crate) fn arrive<S: LooseFiles>(
+    alloc: Global,
+    files: &mut S,
+    maps: &PrivateMaps,
+    sealed: &Sealed,
+) -> Result<(), VaultFault>
+    ensures whole { IsTrue (S.honest files.old) → OnOk result (Whole (S.contents files.new) (object_name sealed.now) sealed.now) }
+    ensures others { IsTrue (S.honest files.old) → SameBut (object_name sealed.now) (S.contents files.old) (S.contents files.new) }
+    ensures held { IsTrue (S.honest files.old) → IsTaken maps.now (object_name sealed.now) → S.contents files.new ≡ S.contents files.old }
+    ensures damaged { IsTrue (S.honest files.old) → IfErr result (λ fault. fault ≡ VaultFault.Damaged
+        → IsTaken maps.now (object_name sealed.now) × ((object : Object) → Whole (S.contents files.old) (object_name sealed.now) object → ⊥)) }
+    ensures collision { IsTrue (S.honest files.old) → IfErr result (λ fault. fault ≡ VaultFault.Collision → Meets sealed.now (S.contents files.old)) }
+    ensures still { IsTrue (S.honest files.old) → IfErr result (λ fault. fault ≡ VaultFault.Collision → S.contents files.new ≡ S.contents files.old) }
+    ensures honest { S.honest files.new ≡ S.honest files.old }
+    ensures cause { CountsFault (S.failures files.old) (S.failures files.new) (fault_in result) }
+{
+    let name = sealed.name();
+    match read_checked(alloc, files, name) {
+        Ok(Some(found)) => {
+            if is_same(&found, sealed) {
+                Ok(())
+            } else {
+                Err(VaultFault::Collision)
+            }
+        }
+        Ok(None) | Err(StoreFault::Damaged) => {
+            if maps.is_held(name) {
+                Err(VaultFault::Damaged)
+            } else {
+                put_whole(alloc, files, sealed)
+            }
+        }
+        Err(StoreFault::Device) => Err(VaultFault::Store),
+        Err(StoreFault::Memory) => Err(VaultFault::Memory),
+    }
+}
+
+fn is_same(found: &Sealed, sealed: &Sealed) -> bool
+    ensures same { result ≡ true → found.now ≡ sealed.now }
+    ensures apart { result ≡ false → found.now ≢ sealed.now }
+{
+    found.kind() == sealed.kind() && found.bytes() == sealed.bytes()
+}
+
+// Writes the file of an object.
+fn put_whole<S: LooseFiles>(alloc: Global, files: &mut S, sealed: &Sealed) -> Result<(), VaultFault>
+    ensures whole { IsTrue (S.honest files.old) → OnOk result (Whole (S.contents files.new) (object_name sealed.now) sealed.now) }
+    ensures others { IsTrue (S.honest files.old) → SameBut (object_name sealed.now) (S.contents files.old) (S.contents files.new) }
+    ensures honest { S.honest files.new ≡ S.honest files.old }
+    ensures cause { CountsFault (S.failures files.old) (S.failures files.new) (fault_in result) }
+    ensures undamaged { IfErr result (λ fault. fault ≢ VaultFault.Damaged) }
+    ensures apart { IfErr result (λ fault. fault ≢ VaultFault.Collision) }
+{
+    let Ok(file) = file_of(alloc, sealed) else {
+        return Err(VaultFault::Memory);
+    };
+    match files.put(alloc, sealed.name(), file.as_slice()) {
+        Ok(()) => Ok(()),
+        Err(FileFault::Device) => Err(VaultFault::Store),
+        Err(FileFault::Memory) => Err(VaultFault::Memory),
+    }
+}

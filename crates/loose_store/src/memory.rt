@@ -19,13 +19,13 @@ impl Model for Memory {
     ghost use Rattle.std.specs.Coded.{coded_list, coded_ℕ};
     ghost use Rattle.std.specs.FinMap as map;
     ghost use Rattle.loose_store.specs.Files.{Files};
-    ghost use Rattle.git_name.specs.Maps.{mapped};
+    ghost use Rattle.git_name.specs.Maps.{map_values};
 
     ghost Value = { Files };
 
     ghost coded = { map.code (coded_list coded_ℕ) (coded_list coded_ℕ) };
 
-    ghost view = { λ a. map.from_entries (mapped (λ bytes. bytes.items) a.files.entries) };
+    ghost view = { λ a. map_values (λ bytes. bytes.items) (map.from_entries a.files.entries) };
 }
 
 fn insert_into(

@@ -1,5 +1,5 @@
 -- Lists with one more element behind the others.
-use Rattle.std.proofs.Common.{◌≡◌, ℕ, ◌+◌, ◌-◌, ◌<◌, ◌≤◌, All, List, [], ◌∷◌, ◌++◌, ◌⊎◌, inl, inr, ⊎_elim, Option, Some, refl, sym, ap, subst, ◌∙◌, length, get_or, map, length-append, arith}
+use Rattle.std.proofs.Common.{◌≡◌, ℕ, ◌+◌, ◌-◌, ◌≤◌, List, [], ◌∷◌, ◌++◌, ◌⊎◌, inl, inr, ⊎_elim, Some, refl, sym, ap, subst, ◌∙◌, length, get_or, map, length-append, arith}
 use Rattle.std.specs.List.{AllByRecursion, slice_get}
 use Rattle.std.specs.List.Sorted.{IsStrictlySortedBy}
 use Rattle.std.specs.declared.cmp.Ordering.TheVariants.{Less}
@@ -97,3 +97,18 @@ same_behind {A = A} (a ∷ xs) (b ∷ ys) x y is =
 pub map_same : {A : Type 0} (xs : List A) → map (λ x. x) xs ≡ xs
 map_same [] = refl
 map_same (x ∷ xs) = ap (λ l. x ∷ l) (map_same xs)
+
+pub get_or_last : {A : Type 0} (xs : List A) (x d : A) → get_or (xs ++ x ∷ []) (length xs) d ≡ x
+get_or_last [] x d = refl
+get_or_last (y ∷ xs) x d = get_or_last xs x d
+
+-- what `last` gives is the last one
+pub last_is : {A : Type 0} (xs : List A) (x y : A) → slice_get (xs ++ x ∷ []) (length (xs ++ x ∷ []) - 1) ≡ Some y → x ≡ y
+last_is xs x y is =
+    let long = long_behind xs x in
+    let place : length (xs ++ x ∷ []) - 1 ≡ length xs = omega (arith, long) in
+    sym (get_or_last xs x y) ∙ ap (λ n. get_or (xs ++ x ∷ []) n y) (sym place) ∙ get_or_from_slice_get (xs ++ x ∷ []) (length (xs ++ x ∷ []) - 1) y y is
+
+pub nothing_in : {A : Type 0} (xs : List A) → length xs ≤ 0 → xs ≡ []
+nothing_in [] none = refl
+nothing_in (x ∷ xs) none = absurd (omega arith)

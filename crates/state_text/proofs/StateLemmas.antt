@@ -1,7 +1,9 @@
 -- States with one thing more behind the others, or less.
-use Rattle.std.proofs.Common.{◌≡◌, ℕ, ◌<◌, ◌≤◌, List, [], ◌∷◌, ◌++◌, refl, sym, ap, subst, ◌∙◌, length, map, arith}
+use Rattle.std.proofs.Common.{◌≡◌, ℕ, ◌<◌, ◌≤◌, List, [], ◌∷◌, ◌++◌, sym, ap, subst, ◌∙◌, length, map, arith}
 use Rattle.std.specs.List.{AllByRecursion}
 use Rattle.git_name.specs.Name.{IsName}
+use Rattle.std.specs.FinMap.{entries, values}
+use Rattle.git_reftx.specs.Sound.{AreSound}
 use Rattle.git_reftx.specs.Transaction.{References}
 use Rattle.fork_request.specs.Names.{IsTenantName}
 use Rattle.fork_request.specs.declared.limit.TheConstants.{MAX_LIMIT}
@@ -70,3 +72,27 @@ pub tenant_changed : (states : States) (old new : TenantState) → IsStates (sta
 tenant_changed states old new right is same =
     let room : length states < MAX_TENANTS = (let long = length_behind states old in let few = right.few in omega (arith, long, few)) in
     tenant_more states new (tenant_less states old right) is (subst (AreBefore (map (λ t. t.name) states)) same (tenants_before states old right)) room
+
+-- a tenant whose last repository changes under its name
+pub repository_changed : (tenant : TenantState) (front : List (List ℕ × References)) (repository : List ℕ) (old new : References) → IsTenantState tenant → tenant.repositories ≡ front ++ (repository, old) ∷ [] → AreSound new → AllByRecursion IsName (values new)
+    → IsTenantState (record { name = tenant.name; limit = tenant.limit; repositories = front ++ (repository, new) ∷ []; seen = tenant.seen })
+repository_changed tenant front repository old new right is sound targets =
+    let each = subst (AllByRecursion IsRepository) is right.repositories in
+    let long = length_behind front (repository, old) in
+    let longer = length_behind front (repository, new) in
+    let whole : length tenant.repositories ≡ length (front ++ (repository, old) ∷ []) = ap (λ rs. length rs) is in
+    let was : IsRepository (repository, old) = each_last IsRepository front (repository, old) each in
+    record {
+      named = right.named;
+      limit = right.limit;
+      few = (let few = right.few in omega (arith, few, long, longer, whole));
+      ordered = subst Ascend (ap (map (λ r. r.0)) is ∙ map_behind (λ r. r.0) front (repository, old) ∙ sym (map_behind (λ r. r.0) front (repository, new))) right.ordered;
+      repositories = each_behind IsRepository front (repository, new) (each_front IsRepository front (repository, old) each) (record { named = was.named; references = sound; targets = targets });
+      seen_ordered = right.seen_ordered;
+      seen = right.seen;
+    }
+
+-- the values of references with one more
+pub targets_more : (old new : References) (name target : List ℕ) → entries new ≡ entries old ++ (name, target) ∷ [] → AllByRecursion IsName (values old) → IsName target → AllByRecursion IsName (values new)
+targets_more old new name target is each named =
+    subst (AllByRecursion IsName) (sym (ap (map (λ e. e.1)) is ∙ map_behind (λ e. e.1) (entries old) (name, target))) (each_behind IsName (values old) target each named)

@@ -1,5 +1,5 @@
 -- The reader's bookkeeping, which nobody has to believe: what one more line makes of the states that were read so far.
-use Rattle.std.specs.Prelude.{◌≡◌, ℕ, List, [], ◌∷◌, ◌++◌, codes, decimal, ⊤}
+use Rattle.std.specs.Prelude.{◌≡◌, ℕ, ◌+◌, ◌≤◌, List, [], ◌∷◌, ◌++◌, codes, decimal, length, ⊤}
 use Rattle.std.specs.List.{flat_map}
 use Rattle.std.specs.FinMap.{empty, entries}
 use Rattle.hex.specs.Hex.{encode_lower}
@@ -10,8 +10,8 @@ use Rattle.state_text.specs.declared.fault.AddError.TheVariants as add
 use Rattle.state_text.specs.declared.line_fault.LineFault.{LineFault}
 use Rattle.state_text.specs.declared.line_fault.LineFault.TheVariants.{Wrong, Memory}
 use Rattle.state_text.specs.Adding.{fresh, with_repository, with_seen}
-use Rattle.state_text.specs.States.{States, TenantState}
-use Rattle.state_text.specs.Text.{tenant_lines}
+use Rattle.state_text.specs.States.{IsStates, States, TenantState}
+use Rattle.state_text.specs.Text.{ended, tenant_lines}
 
 -- the lines of the states but the last, which is `end`
 abbrev pub open_lines : States → List (List ℕ)
@@ -80,3 +80,10 @@ abbrev pub fault_of : AddError → LineFault
 fault_of add.OutOfOrder = Wrong
 fault_of add.TooMany = Wrong
 fault_of add.Memory = Memory
+
+-- what was read are the lines of these states, so many, and the rest of the text is left
+pub record IsReadSoFar (text : List ℕ) (states : States) (lines : ℕ) (rest : List ℕ) : Type 0 where
+  pub parts : text ≡ flat_map ended (open_lines states) ++ rest
+  pub count : lines ≡ length (open_lines states)
+  pub few : lines + length rest ≤ length text
+  pub right : IsStates states

@@ -5,16 +5,19 @@
 #![tactic(auto)]
 
 mod fault;
-
+mod line_fault;
+mod parts;
+mod reading;
 
 mod states;
+mod taking;
 
 mod tenant_state;
 mod writing;
 
 pub use crate::fault::{AddError, StateFault};
 
-
+pub use crate::reading::read;
 pub use crate::states::States;
 pub use crate::tenant_state::TenantState;
 pub use crate::writing::write;

@@ -7,12 +7,15 @@ ghost use Rattle.fork_request.specs.declared.limit.TheConstants.{MAX_LIMIT};
 ghost use Rattle.fork_model.specs.declared.limits.TheConstants.{MAX_REPOSITORIES};
 ghost use Rattle.state_text.specs.Adding.{TellsAdd, AreBefore, fresh, with_repository, with_seen};
 ghost use Rattle.state_text.specs.States.{Ascend, IsTenantState};
+ghost use Rattle.state_text.specs.Taking.{HasReferenceMore};
 
 use crate::fault::AddError;
+use crate::line_fault::LineFault;
 use fork_model::MAX_REPOSITORIES;
 use fork_request::{MAX_LIMIT, RepositoryName, TenantName};
 use git_name::Name;
-use git_reftx::Refs;
+use git_refname::RefName;
+use git_reftx::{PushRefError, Refs};
 use std::alloc::Global;
 use std::cmp::Ordering;
 use std::marker::Model;
@@ -115,6 +118,38 @@ impl TenantState {
             return Err(AddError::Memory);
         };
         Ok(())
+    }
+
+    // Puts a reference behind the others of the last repository.
+    pub(crate) fn with_reference(self, name: RefName, target: Name) -> Result<TenantState, LineFault>
+        ensures ok { IfOk result (HasReferenceMore self name target) }
+        ensures sound { IfOk result IsTenantState }
+    {
+        let TenantState {
+            name: tenant,
+            limit,
+            mut repositories,
+            seen,
+        } = self;
+        let _target = target.as_bytes();
+        let Some((repository, mut references)) = repositories.pop() else {
+            return Err(LineFault::Wrong);
+        };
+        match references.push(name, target) {
+            Ok(()) => {}
+            Err(PushRefError::Memory) => return Err(LineFault::Memory),
+            Err(_) => return Err(LineFault::Wrong),
+        }
+        let _count = references.len();
+        let Ok(()) = repositories.push((repository, references)) else {
+            return Err(LineFault::Memory);
+        };
+        Ok(TenantState {
+            name: tenant,
+            limit,
+            repositories,
+            seen,
+        })
     }
 
     /// Puts the name of an object that is seen behind the others. An `Err` leaves the state as it was.

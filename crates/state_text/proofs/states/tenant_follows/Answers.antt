@@ -1,5 +1,4 @@
 use Rattle.std.proofs.Common.{refl, sym, ◌∙◌, ap}
-use Rattle.std.specs.Option.{option_copied}
 use Rattle.git_name.specs.Name.{name_cmp}
 use Rattle.state_text.proofs.BehindLemmas.{follows_all}
 use Rattle.state_text.proofs.states.tenant_follows.Goals as goal

@@ -1,4 +1,4 @@
-use Rattle.std.proofs.Common.{refl, sym, ◌∙◌, subst, map}
+use Rattle.std.proofs.Common.{refl, sym, ◌∙◌, subst}
 use Rattle.state_text.specs.Adding.{AreBefore}
 use Rattle.state_text.specs.States.{Ascend}
 use Rattle.state_text.proofs.BehindLemmas.{follows_all, map_same}

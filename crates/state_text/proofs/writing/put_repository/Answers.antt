@@ -1,4 +1,4 @@
-use Rattle.std.proofs.Common.{◌≡◌, ◌++◌, ◌∷◌, [], ◌∙◌, ap}
+use Rattle.std.proofs.Common.{◌++◌, ◌∷◌, [], ◌∙◌, ap}
 use Rattle.git_refname.specs.Namespace.{expanded}
 use Rattle.state_text.proofs.WritingLemmas.{repository_put}
 use Rattle.state_text.proofs.writing.put_repository.Goals as goal

@@ -1,4 +1,4 @@
-use Rattle.std.proofs.Common.{◌≡◌, ◌++◌, ◌∙◌, ap, codes}
+use Rattle.std.proofs.Common.{◌++◌, ◌∙◌, ap, codes}
 use Rattle.std.specs.List.{flat_map}
 use Rattle.state_text.specs.Text.{ended, tenant_lines}
 use Rattle.state_text.proofs.WritingLemmas.{text_put}

@@ -1,4 +1,4 @@
-use Rattle.std.proofs.Common.{◌≡◌, ◌++◌, [], ◌∷◌, List, Option, None, Some, sym, subst}
+use Rattle.std.proofs.Common.{◌≡◌, ◌++◌, Option, None, Some, subst}
 use Rattle.std.specs.Option.{option_to_list}
 use Rattle.state_text.specs.States.{IsStates, States, TenantState}
 use Rattle.state_text.proofs.StateLemmas.{tenant_less}

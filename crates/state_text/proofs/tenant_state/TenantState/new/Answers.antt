@@ -1,4 +1,4 @@
-use Rattle.std.proofs.Common.{sym, subst, ◌≡◌}
+use Rattle.std.proofs.Common.{sym, subst}
 use Rattle.state_text.specs.States.{IsTenantState}
 use Rattle.state_text.proofs.StateLemmas.{fresh_right}
 use Rattle.state_text.proofs.tenant_state.TenantState.new.Goals as goal

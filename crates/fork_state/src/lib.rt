@@ -1,0 +1,12 @@
+//! The state of a host: saved as a text, and loaded again over a store.
+//! A host that is loaded shows what the text tells; a text that tells of what the store does not hold is
+//! refused.
+#![tactic(auto)]
+
+mod fault;
+mod load;
+mod save;
+
+pub use crate::fault::LoadFault;
+pub use crate::load::load;
+pub use crate::save::save;

@@ -1,0 +1,12 @@
+use Rattle.std.proofs.Common.{ap, ◌∙◌}
+use Rattle.std.specs.FinMap as map
+use Rattle.git_name.specs.Maps.{map_values}
+use Rattle.git_name.specs.Name.{name_cmp}
+use Rattle.git_name.proofs.MapLemmas.{map_values_empty}
+use Rattle.git_name.proofs.Names.{name_total, name_exact}
+use Rattle.loose_store.proofs.memory.Memory.new.Goals as goal
+
+pub returns : goal.returns
+returns c =
+    ap (λ es. map_values (λ bytes. bytes.items) (map.from_entries {R = name_cmp} es)) c.new.ensures.empty
+    ∙ map_values_empty name_total name_exact (λ bytes. bytes.items)

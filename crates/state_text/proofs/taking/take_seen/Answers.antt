@@ -1,0 +1,8 @@
+use Rattle.std.proofs.Common.{sym, ap, subst}
+use Rattle.state_text.specs.States.{IsStates}
+use Rattle.state_text.proofs.StateLemmas.{tenant_changed}
+use Rattle.state_text.proofs.taking.take_seen.Goals as goal
+
+pub put_back-requires : goal.put_back-requires
+put_back-requires c =
+    tenant_changed c.pop.new.self c.in-Some.tenant c.add_seen.new.self (subst IsStates c.in-Some.ensures.some c.pop.ensures.sound) c.in-Ok.ensures.sound (ap (λ t. t.name) (sym c.in-Ok.ensures.ok))

@@ -1,0 +1,65 @@
+ghost use Rattle.std.specs.Prelude.{◌≡◌, ◌≢◌, ◌≤◌, ◌++◌, ℕ, List, IfSome, IfNone, codes};
+ghost use Rattle.std.specs.Fmt.{decimal as spelled};
+ghost use Rattle.hex.specs.Hex.{encode_lower};
+ghost use Rattle.git_name.specs.Name.{IsName};
+ghost use Rattle.git_refname.specs.Rule.{IsRefName};
+ghost use Rattle.fork_request.specs.Names.{IsTenantName};
+ghost use Rattle.fork_request.specs.declared.limit.TheConstants.{MAX_LIMIT};
+ghost use Rattle.state_text.specs.Adding.{fresh};
+
+use crate::tenant_state::TenantState;
+use fork_request::TenantName;
+use git_name::{Name, decimal, split_once};
+use git_refname::RefName;
+use std::alloc::Global;
+
+// What stands behind this front of a text.
+pub(crate) fn behind<'a>(text: &'a [u8], front: &[u8]) -> Option<&'a [u8]>
+    ensures found { IfSome result (λ rest. text.entry.now ≡ front.now ++ rest.now) }
+    ensures none { IfNone result ((rest : List ℕ) → text.entry.now ≢ front.now ++ rest) }
+{
+    if !text.starts_with(front) {
+        return None;
+    }
+    Some(&text[front.len()..])
+}
+
+// The tenant of a tenant's line, which has nothing yet.
+pub(crate) fn tenant_of(alloc: Global, rest: &[u8]) -> Option<TenantState>
+    ensures found { IfSome result (λ tenant. (tenant ≡ fresh tenant.name tenant.limit) × (rest.now ≡ tenant.name ++ codes " " ++ spelled tenant.limit)) }
+    ensures none { IfNone result ((name : List ℕ) (limit : ℕ) → IsTenantName name → limit ≤ MAX_LIMIT → rest.now ≢ name ++ codes " " ++ spelled limit) }
+{
+    let Some((word, digits)) = split_once(rest, b' ') else {
+        return None;
+    };
+    let Some(name) = TenantName::read(word) else {
+        return None;
+    };
+    let Some(limit) = decimal(digits) else {
+        return None;
+    };
+    let Some(tenant) = TenantState::new(alloc, name, limit) else {
+        return None;
+    };
+    Some(tenant)
+}
+
+// The reference of a reference's line, where this prefix stands before its name.
+pub(crate) fn reference_of(rest: &[u8], prefix: &[u8]) -> Option<(RefName, Name)>
+    ensures found { IfSome result (λ found. rest.now ≡ encode_lower found.1 ++ codes " " ++ prefix.now ++ found.0) }
+    ensures none { IfNone result ((name target : List ℕ) → IsRefName name → IsName target → rest.now ≢ encode_lower target ++ codes " " ++ prefix.now ++ name) }
+{
+    let Some((digits, full)) = split_once(rest, b' ') else {
+        return None;
+    };
+    let Some(target) = Name::parse_hex(digits) else {
+        return None;
+    };
+    let Some(short) = behind(full, prefix) else {
+        return None;
+    };
+    match RefName::read(short) {
+        Ok(name) => Some((name, target)),
+        Err(_) => None,
+    }
+}

@@ -1,0 +1,44 @@
+ghost use Rattle.std.specs.Prelude.{◌≡◌, IfOk, IfErr};
+ghost use Rattle.state_text.specs.States.{IsStates};
+ghost use Rattle.state_text.specs.Text.{state_text};
+
+use crate::fault::StateFault;
+use crate::line_fault::LineFault;
+use crate::states::States;
+use crate::taking::take_line;
+use git_name::split_once;
+use std::alloc::Global;
+
+/// The states whose text this is, all of the text. The time is that of its length and, for each
+/// reference, a few looks at a map.
+pub fn read(alloc: Global, text: &[u8]) -> Result<States, StateFault>
+    // What is read is spelled so.
+    ensures found { IfOk result (λ states. text.now ≡ state_text states) }
+    ensures right { IfOk result IsStates }
+{
+    let Some((first, mut rest)) = split_once(text, b'\n') else {
+        return Err(StateFault::Line(1));
+    };
+    if first != b"forkhost state 1".as_slice() {
+        return Err(StateFault::Line(1));
+    }
+    let mut states = States::new(alloc);
+    // How many lines were read.
+    let mut lines = 1;
+    'lines: while let Some((line, behind)) = split_once(rest, b'\n') {
+        lines += 1;
+        if line == b"end".as_slice() {
+            if behind.len() > 0 {
+                return Err(StateFault::Line(lines + 1));
+            }
+            return Ok(states);
+        }
+        match take_line(alloc, &mut states, line) {
+            Ok(()) => {}
+            Err(LineFault::Wrong) => return Err(StateFault::Line(lines)),
+            Err(LineFault::Memory) => return Err(StateFault::Memory),
+        }
+        rest = behind;
+    }
+    Err(StateFault::Line(lines + 1))
+}

@@ -183,3 +183,7 @@ file_inserted files name bytes = get-insert name_total files name bytes name ∙
 pub whichever : {A E : Type 0} {P Q : Type 0} (G : Type 0) (r : Result A E) → OnOk r P → OnErr r Q → (P → G) → (Q → G) → G
 whichever G (Ok a) p q f g = f p
 whichever G (Err e) p q f g = g q
+
+-- neither the private maps nor the files change
+pub stored_same : (tenants after : Tenants) (old new : Files) → after ≡ tenants → new ≡ old → IsStored tenants old → IsStored after new
+stored_same tenants after old new same still stored = subst (λ m. IsStored m new) (sym same) (subst (λ files. IsStored tenants files) (sym still) stored)

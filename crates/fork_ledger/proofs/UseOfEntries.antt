@@ -1,15 +1,16 @@
 -- What the objects of an ordered list of entries use.
-use Rattle.std.proofs.Common.{◌≡◌, ℕ, ◌+◌, Bool, true, false, cond, not, List, [], ◌∷◌, refl, sym, ap, subst, ◌∙◌, zero-add}
+use Rattle.std.proofs.Common.{◌≡◌, ℕ, ◌+◌, Bool, true, false, cond, not, List, [], ◌∷◌, length, refl, sym, ap, subst, ◌∙◌, zero-add, arith}
 use Rattle.std.specs.Prelude.{sum_by, filter}
 use Rattle.std.specs.Map.{keys_of, values_of}
 use Rattle.std.specs.List.Sorted.{IsStrictlySortedBy}
-use Rattle.std.specs.FinMap.{from_entries, retain_keys}
+use Rattle.std.specs.FinMap.{empty, from_entries, keys, len-empty, retain_keys}
 use Rattle.std.proofs.lemmas.List.Kept.{IsStrictlySortedBy-filter}
 use Rattle.std.proofs.lemmas.List.Sums.{sum_by-cons}
 use Rattle.git_name.specs.Name.{name_cmp}
 use Rattle.git_name.specs.Object.{Object}
 use Rattle.git_name.proofs.Names.{name_total, name_exact}
 use Rattle.git_name.proofs.TreeMaps.{entries_of_ordered, entries_after_retain}
+use Rattle.fork_reach.proofs.NameLemmas.{len_keys}
 use Rattle.fork_reach.specs.Objects.{use_of, use_of_object}
 
 -- what the objects of these entries use
@@ -48,3 +49,18 @@ pub use_of_filtered : (p : List ℕ → Bool) (es : List (List ℕ × Object)) �
 use_of_filtered p es sorted =
     use_of_entries (filter (λ e. p e.0) es) (subst (IsStrictlySortedBy name_cmp) (sym (keys_of-filter p es)) (IsStrictlySortedBy-filter name_cmp p (keys_of es) sorted))
     ∙ ap use_of (entries_after_retain name_total name_exact p es)
+
+-- the names of those that pass
+pub keys_of_kept : (p : List ℕ → Bool) (es : List (List ℕ × Object)) → IsStrictlySortedBy name_cmp (keys_of es) → keys (retain_keys (from_entries {R = name_cmp} es) p) ≡ filter p (keys_of es)
+keys_of_kept p es sorted =
+    ap keys (sym (entries_after_retain name_total name_exact p es))
+    ∙ ap keys_of (entries_of_ordered name_total (filter (λ e. p e.0) es) (subst (IsStrictlySortedBy name_cmp) (sym (keys_of-filter p es)) (IsStrictlySortedBy-filter name_cmp p (keys_of es) sorted)))
+    ∙ keys_of-filter p es
+
+nothing_long : {X : Type 0} (xs : List X) → length xs ≡ 0 → xs ≡ []
+nothing_long [] is = refl
+nothing_long (x ∷ xs) is = absurd (omega (arith, is))
+
+-- no objects have no names
+pub keys_of_none : keys (empty {X = Object} {R = name_cmp}) ≡ []
+keys_of_none = nothing_long (keys (empty {X = Object} {R = name_cmp})) (len_keys empty ∙ len-empty name_cmp Object)

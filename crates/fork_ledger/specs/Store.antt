@@ -6,8 +6,11 @@ use Rattle.loose_store.specs.Files.{Files}
 use Rattle.loose_store.specs.Stored.{Whole}
 use Rattle.fork_ledger.specs.declared.fault.VaultFault.{VaultFault}
 use Rattle.fork_ledger.specs.declared.fault.VaultFault.TheVariants.{Store, Damaged, Memory, Collision}
-use Rattle.fork_ledger.specs.Private.{Holds, is_held_by}
-use Rattle.fork_ledger.specs.Tenants.{Tenants, VaultState, private_of}
+use Rattle.std.specs.FinMap.{get}
+use Rattle.fork_ledger.specs.declared.recalling.Recalled.{Recalled}
+use Rattle.fork_ledger.specs.declared.recalling.Recalled.TheVariants.{Whole as Whole_object, Lost, Damaged as Damaged_object}
+use Rattle.fork_ledger.specs.Private.{Holds, is_held_by, with_staged}
+use Rattle.fork_ledger.specs.Tenants.{Tenants, VaultState, at_tenant, private_of}
 
 -- each object that a tenant sees or has staged stands whole on the store
 abbrev pub IsStored : Tenants → Files → Type 0
@@ -40,6 +43,13 @@ StoresAlone object old new = (name : List ℕ) (other : Object) → Whole new na
 -- another object of the same name stands whole on the store
 abbrev pub Meets : Object → Files → Type 0
 Meets object files = (other : Object) × Whole files (object_name object) other × (other ≢ object)
+
+-- an object that a tenant saw before: what stands whole on the store is staged, and what is lost or damaged changes nothing
+abbrev pub Recalls : Bool → List ℕ → List ℕ → Files → Tenants → Tenants → Recalled → Type 0
+Recalls honest tenant name files old new Whole_object =
+    (object : Object) × (object_name object ≡ name) × (IsTrue honest → Whole files name object) × (new ≡ at_tenant old tenant (with_staged object))
+Recalls honest tenant name files old new Lost = (new ≡ old) × (IsTrue honest → get files name ≡ None)
+Recalls honest tenant name files old new Damaged_object = (new ≡ old) × (IsTrue honest → (object : Object) → Whole files name object → ⊥)
 
 -- the fault of a result
 abbrev pub fault_in : {A : Type 0} → Result A VaultFault → Option VaultFault

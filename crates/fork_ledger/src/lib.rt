@@ -9,9 +9,11 @@ mod hidden;
 mod object_map;
 mod private;
 mod private_maps;
+mod recalling;
 mod staging;
 mod vault;
 
 pub use crate::fault::VaultFault;
 pub use crate::held::Held;
+pub use crate::recalling::Recalled;
 pub use crate::vault::Vault;

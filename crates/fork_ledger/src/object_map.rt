@@ -1,5 +1,5 @@
-ghost use Rattle.std.specs.Prelude.{◌≡◌, ◌||◌, not, OnOk, OnErr, None, Some, filter, sum_by, if◌then◌else◌};
-ghost use Rattle.std.specs.Map.{values_of};
+ghost use Rattle.std.specs.Prelude.{◌≡◌, ◌||◌, not, IfOk, OnOk, OnErr, None, Some, filter, sum_by, if◌then◌else◌};
+ghost use Rattle.std.specs.Map.{keys_of, values_of};
 ghost use Rattle.std.specs.Option.{option_copied};
 ghost use Rattle.std.specs.FinMap as map;
 ghost use Rattle.std.specs.BTreeMap.{IsOrdered, IsUnchanged, Updates};
@@ -83,6 +83,18 @@ impl ObjectMap {
         keep_in(&mut self.objects, names, others);
     }
 
+    // The names that are not hidden, ascending.
+    pub(crate) fn names_of_seen(
+        &self,
+        alloc: Global,
+        staged: &BTreeSet<Name>,
+        again: &BTreeSet<Name>,
+    ) -> Result<Vec<Name>, AllocError>
+        ensures { IfOk result (λ names. names.items ≡ map.keys (seen staged.now again.now self.now)) }
+    {
+        names_in(alloc, &self.objects, staged, again)
+    }
+
     // What those objects use whose names are not hidden, and what all use.
     pub(crate) fn uses(&self, staged: &BTreeSet<Name>, again: &BTreeSet<Name>) -> (u128, u128)
         ensures visible { result.0 ≡ capped (use_of (seen staged.now again.now self.now)) }
@@ -116,6 +128,24 @@ fn is_in_either(names: &BTreeSet<Name>, others: &BTreeSet<Name>, name: &Name) ->
     ensures { result ≡ (contains name_cmp names.now name.now || contains name_cmp others.now name.now) }
 {
     names.contains(name) || others.contains(name)
+}
+
+fn names_in(
+    alloc: Global,
+    objects: &BTreeMap<Name, Sealed>,
+    staged: &BTreeSet<Name>,
+    again: &BTreeSet<Name>,
+) -> Result<Vec<Name>, AllocError>
+    ensures names { IfOk result (λ names. names.items ≡ filter (λ name. not (is_hidden staged.now again.now name)) (keys_of objects.now.entries)) }
+    ensures ordered { IsOrdered name_cmp objects.now }
+{
+    let mut names = Vec::new(alloc);
+    for name in objects.keys() {
+        if !is_hidden(staged, again, name) {
+            names.push(*name)?;
+        }
+    }
+    Ok(names)
 }
 
 // Both totals in one pass over the entries.

@@ -98,6 +98,13 @@ impl Private {
         })
     }
 
+    // The names of what the tenant sees, ascending.
+    pub(crate) fn names(&self, alloc: Global) -> Result<Vec<Name>, AllocError>
+        ensures { IfOk result (λ names. names.items ≡ map.keys self.now.visible) }
+    {
+        self.objects.names_of_seen(alloc, &self.staged, &self.again)
+    }
+
     // Whether the tenant has an object of this name.
     pub(crate) fn holds(&self, name: Name) -> bool
         ensures { result ≡ is_held_by self.now name }

@@ -110,6 +110,16 @@ impl PrivateMaps {
         own.get_staged(alloc, name)
     }
 
+    // The names of what a tenant sees, ascending.
+    pub(crate) fn names(&self, alloc: Global, tenant: &TenantName) -> Result<Vec<Name>, AllocError>
+        ensures { IfOk result (λ names. names.items ≡ map.keys (private_of self.now tenant.now).visible) }
+    {
+        let Some(own) = self.tenants.get(tenant) else {
+            return Ok(Vec::new(alloc));
+        };
+        own.names(alloc)
+    }
+
     // What is known of the object that a tenant sees or has staged under this name.
     pub(crate) fn kind_of(&self, tenant: &TenantName, name: Name) -> Option<Held>
         ensures { result ≡ held_in (private_of self.now tenant.now) name }

@@ -5,7 +5,7 @@ ghost use Rattle.git_name.specs.Name.{name_cmp};
 ghost use Rattle.git_name.specs.Object.{object_name};
 ghost use Rattle.fork_reach.specs.Objects.{use_of};
 ghost use Rattle.fork_ledger.specs.Private.{both_of, held_in, with_discarded, with_kept, with_published, with_staged};
-ghost use Rattle.fork_ledger.specs.Store.{AsksStore, IsOver, LeavesStore, Meets, StoresAlone, fault_in};
+ghost use Rattle.fork_ledger.specs.Store.{AsksStore, IsOver, LeavesStore, Meets, Recalls, StoresAlone, fault_in};
 ghost use Rattle.fork_ledger.specs.Tenants.{at_tenant, private_of, shape_of, with_tenant};
 ghost use Rattle.fork_ledger.specs.Used.{capped};
 
@@ -13,6 +13,7 @@ use crate::arrival::store_fault;
 use crate::fault::VaultFault;
 use crate::held::Held;
 use crate::private_maps::PrivateMaps;
+use crate::recalling::{Recalled, recall};
 use crate::staging::stage_whole;
 use fork_request::TenantName;
 use git_name::{Name, Sealed};
@@ -160,6 +161,28 @@ impl<S: LooseFiles> Vault<S> {
         ensures store { AsksStore self.old self.new (fault_in result) }
     {
         stage_whole(alloc, &mut self.files, &mut self.maps, tenant, sealed)
+    }
+
+    /// Stages the object of this name for a tenant that saw it before, where the store has it.
+    pub fn recall(
+        &mut self,
+        alloc: Global,
+        tenant: &TenantName,
+        name: Name,
+    ) -> Result<Recalled, VaultFault>
+        ensures recalls { IfOk result (Recalls self.old.honest tenant.now name self.old.files self.old.tenants self.new.tenants) }
+        ensures err { OnErr result (self.new.tenants ≡ self.old.tenants) }
+        ensures files { IsTrue self.old.honest → self.new.files ≡ self.old.files }
+        ensures store { AsksStore self.old self.new (fault_in result) }
+    {
+        recall(alloc, &mut self.files, &mut self.maps, tenant, name)
+    }
+
+    /// The names of what a tenant sees, ascending.
+    pub fn names(&self, alloc: Global, tenant: &TenantName) -> Result<Vec<Name>, AllocError>
+        ensures { IfOk result (λ names. names.items ≡ map.keys (private_of self.now.tenants tenant.now).visible) }
+    {
+        self.maps.names(alloc, tenant)
     }
 
     /// What a tenant has staged becomes visible to it. It takes no memory, and asks no store.

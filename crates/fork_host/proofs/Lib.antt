@@ -6,10 +6,12 @@ pub mod OwnLemmas
 pub mod PushLemmas
 pub mod QueryLemmas
 pub mod ReadLemmas
+pub mod RestoreLemmas
 pub mod RowLemmas
 pub mod SafeLemmas
 pub mod ShapeLemmas
 pub mod TakingLemmas
+pub mod TargetLemmas
 pub mod UpdateLemmas
 pub mod WholeLemmas
 pub mod WorldLemmas

@@ -5,6 +5,7 @@ pub mod Given
 pub mod Handle
 pub mod Own
 pub mod Pushed
+pub mod Restored
 pub mod Rows
 pub mod Safe
 pub mod Sent

@@ -10,7 +10,7 @@ ghost use Rattle.fork_reach.specs.Objects.{use_of};
 ghost use Rattle.fork_reach.specs.Reach.{is_reached, linked_names};
 ghost use Rattle.fork_reach.specs.Source.{kind_in};
 ghost use Rattle.fork_ledger.specs.Private.{with_discarded, with_kept, with_published, with_staged};
-ghost use Rattle.fork_ledger.specs.Store.{AsksStore, LeavesStore, Meets, StoresAlone, fault_in};
+ghost use Rattle.fork_ledger.specs.Store.{AsksStore, LeavesStore, Meets, Recalls, StoresAlone, fault_in};
 ghost use Rattle.fork_ledger.specs.Tenants.{at_tenant, shape_of};
 ghost use Rattle.fork_ledger.specs.Used.{capped};
 ghost use Rattle.fork_push.specs.Push.{judged};
@@ -19,7 +19,7 @@ ghost use Rattle.fork_host.specs.Bounds.{IsRead};
 ghost use Rattle.std.specs.Prelude.{ℕ, List, Contains, true};
 
 use crate::both::Both;
-use fork_ledger::{Held, Vault, VaultFault};
+use fork_ledger::{Held, Recalled, Vault, VaultFault};
 use fork_push::{Verdict, judge};
 use fork_reach::{SourceFault, reach};
 use fork_request::TenantName;
@@ -88,6 +88,17 @@ impl<'a, S: LooseFiles> Own<'a, S> {
         self.vault.stage(alloc, self.tenant, sealed)
     }
 
+    // Stages the object of this name, where the store has it.
+    pub(crate) fn recall(&mut self, alloc: Global, name: Name) -> Result<Recalled, VaultFault>
+        ensures recalls { IfOk result (Recalls self.old.vault.now.honest self.old.tenant.now name self.old.vault.now.files self.old.vault.now.tenants self.new.vault.now.tenants) }
+        ensures err { OnErr result (self.new.vault.now.tenants ≡ self.old.vault.now.tenants) }
+        ensures files { IsTrue self.old.vault.now.honest → self.new.vault.now.files ≡ self.old.vault.now.files }
+        ensures store { AsksStore self.old.vault.now self.new.vault.now (fault_in result) }
+        ensures same { IsSame self.old self.new }
+    {
+        self.vault.recall(alloc, self.tenant, name)
+    }
+
     // What is staged is seen.
     pub(crate) fn publish(&mut self)
         ensures tenants { self.new.vault.now.tenants ≡ at_tenant self.old.vault.now.tenants self.old.tenant.now with_published }
@@ -120,6 +131,13 @@ impl<'a, S: LooseFiles> Own<'a, S> {
         ensures { result ≡ capped (use_of (visible_by self.now)) }
     {
         self.vault.used(self.tenant)
+    }
+
+    // Whether the visible and the staged objects use so many bytes at the most.
+    pub(crate) fn is_within(&self, limit: u64) -> bool
+        ensures { result ≡ nat_le (use_of (both_by self.now)) limit }
+    {
+        self.vault.is_within(self.tenant, limit)
     }
 
     // The names of what these names reach of what the tenant sees.

@@ -1,0 +1,20 @@
+use fork_request::TenantName;
+use git_name::Name;
+use thiserror::Error;
+
+/// Why a host was not restored, in the order in which it is judged.
+#[derive(Debug, Drop, PartialEq, Eq, Error)]
+pub enum RestoreError {
+    #[error("no file stands under the name of an object that is seen")]
+    Lost(Name),
+    #[error("the file of an object that is seen is not whole")]
+    Damaged(Name),
+    #[error("an object or the target of a reference is not sound")]
+    Unsound(Name),
+    #[error("a tenant sees more than its limit allows")]
+    OverLimit(TenantName),
+    #[error("the store failed")]
+    Store,
+    #[error("no memory")]
+    Memory,
+}

@@ -2,6 +2,7 @@ pub mod BackLemmas
 pub mod BehindLemmas
 pub mod ContinuingLemmas
 pub mod FaultLemmas
+pub mod KeptLemmas
 pub mod LineLemmas
 pub mod PartLemmas
 pub mod PlainLemmas

@@ -1,5 +1,13 @@
+pub mod BackLemmas
 pub mod BehindLemmas
+pub mod ContinuingLemmas
+pub mod FaultLemmas
+pub mod KeptLemmas
 pub mod LineLemmas
 pub mod PartLemmas
+pub mod PlainLemmas
+pub mod SameLemmas
 pub mod StateLemmas
+pub mod TextLemmas
 pub mod WritingLemmas
+pub mod WrongLemmas

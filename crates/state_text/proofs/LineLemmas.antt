@@ -26,7 +26,7 @@ unseen_more : (a b : List (List ℕ)) (seen : List (List ℕ)) (line : List ℕ)
 unseen_more a b seen line none is =
     ap (λ s. b ++ map seen_line s) none ∙ append-nil b ∙ is ∙ ap (λ ls. ls ++ line ∷ []) (sym (append-nil a) ∙ ap (λ s. a ++ map seen_line s) (sym none))
 
-no_entries : entries (finite.empty {K = List ℕ} {X = List ℕ} {R = name_cmp}) ≡ []
+pub no_entries : entries (finite.empty {K = List ℕ} {X = List ℕ} {R = name_cmp}) ≡ []
 no_entries = nothing_in _ (let none = finite.len-entries (finite.empty {X = List ℕ} {R = name_cmp}) in let zero_is = finite.len-empty name_cmp (List ℕ) in omega (arith, none, zero_is))
 
 last_lines : (tenant : List ℕ) (front : List (List ℕ × References)) (last : List ℕ × References) → flat_map (repository_lines tenant) (front ++ last ∷ []) ≡ flat_map (repository_lines tenant) front ++ repository_lines tenant last
@@ -48,8 +48,8 @@ reference_line_more tenant next name target none more =
     let line = reference_line tenant.name more.repository (name, target) in
     let front = flat_map lines more.repositories in
     let longer : flat_map lines (more.repositories ++ (more.repository, more.more) ∷ []) ≡ flat_map lines tenant.repositories ++ line ∷ [] =
-        last_lines tenant.name more.repositories (more.repository, more.more) ∙ ap (λ ls. front ++ ls) (reference_lines_more tenant.name more.repository more.references more.more (name, target) more.pushed)
-        ∙ sym (append_assoc front (lines (more.repository, more.references)) (line ∷ [])) ∙ ap (λ ls. ls ++ line ∷ []) (sym (last_lines tenant.name more.repositories (more.repository, more.references)) ∙ ap (flat_map lines) (sym more.was)) in
+    last_lines tenant.name more.repositories (more.repository, more.more) ∙ ap (λ ls. front ++ ls) (reference_lines_more tenant.name more.repository more.references more.more (name, target) more.pushed)
+    ∙ sym (append_assoc front (lines (more.repository, more.references)) (line ∷ [])) ∙ ap (λ ls. ls ++ line ∷ []) (sym (last_lines tenant.name more.repositories (more.repository, more.references)) ∙ ap (flat_map lines) (sym more.was)) in
     ap tenant_lines more.added ∙ ap (λ ls. tenant_line tenant.name tenant.limit ∷ ls) (unseen_more (flat_map lines tenant.repositories) (flat_map lines (more.repositories ++ (more.repository, more.more) ∷ [])) tenant.seen line none longer)
 
 seen_line_more : (tenant : TenantState) (name : List ℕ) → tenant_lines (with_seen tenant name) ≡ tenant_lines tenant ++ seen_line name ∷ []

@@ -1,6 +1,8 @@
 -- The first wrong line of a text that is no state text (own).
-use Rattle.std.specs.Prelude.{◌≡◌, ◌≢◌, ℕ, ◌+◌, All, List, [], ◌∷◌, ◌++◌, ◌⊎◌, length}
+use Rattle.std.specs.Prelude.{◌≡◌, ◌≢◌, ℕ, ◌+◌, All, List, [], ◌∷◌, ◌++◌, ◌⊎◌, length, ⊤}
 use Rattle.std.specs.List.{AllByRecursion, flat_map}
+use Rattle.state_text.specs.declared.fault.StateFault.{StateFault}
+use Rattle.state_text.specs.declared.fault.StateFault.TheVariants.{Line, Memory}
 use Rattle.state_text.specs.States.{States}
 use Rattle.state_text.specs.Text.{IsStateText, ended}
 
@@ -38,3 +40,16 @@ pub record IsWrongLine (text : List ℕ) (number : ℕ) : Type 0 where
   pub number_is : number ≡ length before + 1
   pub begins : Begins (flat_map ended before)
   pub wrong : IsRefused (flat_map ended before) rest ⊎ IsCut (flat_map ended before) rest
+
+-- a text has one first wrong line at most
+abbrev pub OneWrongLine : Type 0
+OneWrongLine = (text : List ℕ) (m n : ℕ) → IsWrongLine text m → IsWrongLine text n → m ≡ n
+
+-- and a state text has none
+abbrev pub NoneInStateText : Type 0
+NoneInStateText = (states : States) (text : List ℕ) (number : ℕ) → IsStateText states text → IsWrongLine text number → ⊥
+
+-- the fault tells the first wrong line; want of memory tells nothing
+abbrev pub TellsLine : List ℕ → StateFault → Type 0
+TellsLine text (Line number) = IsWrongLine text number
+TellsLine text Memory = ⊤

@@ -5,12 +5,14 @@ use Rattle.std.specs.FinMap.{empty, entries}
 use Rattle.hex.specs.Hex.{encode_lower}
 use Rattle.git_refname.specs.Namespace.{expanded}
 use Rattle.git_reftx.specs.Transaction.{References}
+use Rattle.git_reftx.specs.declared.fault.PushRefError.{PushRefError}
+use Rattle.git_reftx.specs.declared.fault.PushRefError.TheVariants as push
 use Rattle.state_text.specs.declared.fault.AddError.{AddError}
 use Rattle.state_text.specs.declared.fault.AddError.TheVariants as add
 use Rattle.state_text.specs.declared.line_fault.LineFault.{LineFault}
 use Rattle.state_text.specs.declared.line_fault.LineFault.TheVariants.{Wrong, Memory}
 use Rattle.state_text.specs.Adding.{fresh, with_repository, with_seen}
-use Rattle.state_text.specs.States.{IsStates, States, TenantState}
+use Rattle.state_text.specs.States.{IsStates, IsTenantState, States, TenantState}
 use Rattle.state_text.specs.Text.{ended, tenant_lines}
 
 -- the lines of the states but the last, which is `end`
@@ -75,6 +77,14 @@ abbrev pub WhenWrong : LineFault → Type 0 → Type 0
 WhenWrong Wrong said = said
 WhenWrong Memory said = ⊤
 
+-- no right states are the old ones with this line
+abbrev pub Refuses : (States → List ℕ → States → Type 0) → States → List ℕ → LineFault → Type 0
+Refuses Says old line fault = WhenWrong fault ((new : States) → IsStates new → Says old line new → ⊥)
+
+-- no right tenant is the old one with this reference
+abbrev pub RefusesReference : TenantState → List ℕ → List ℕ → LineFault → Type 0
+RefusesReference old name target fault = WhenWrong fault ((new : TenantState) → IsTenantState new → HasReferenceMore old name target new → ⊥)
+
 -- what is not put behind the others makes a wrong line
 abbrev pub fault_of : AddError → LineFault
 fault_of add.OutOfOrder = Wrong
@@ -87,3 +97,9 @@ pub record IsReadSoFar (text : List ℕ) (states : States) (lines : ℕ) (rest :
   pub count : lines ≡ length (open_lines states)
   pub few : lines + length rest ≤ length text
   pub right : IsStates states
+
+abbrev pub fault_of_push : PushRefError → LineFault
+fault_of_push push.OutOfOrder = Wrong
+fault_of_push push.RefConflict = Wrong
+fault_of_push push.TooMany = Wrong
+fault_of_push push.Memory = Memory

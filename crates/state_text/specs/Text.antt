@@ -45,3 +45,7 @@ state_text states = flat_map ended (state_lines states)
 pub record IsStateText (states : States) (text : List ℕ) : Type 0 where
   pub right : IsStates states
   pub spelled : text ≡ state_text states
+
+-- a text is of one value
+abbrev pub OneValue : Type 0
+OneValue = (states others : States) (text : List ℕ) → IsStateText states text → IsStateText others text → states ≡ others

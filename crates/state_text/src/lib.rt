@@ -5,19 +5,21 @@
 #![tactic(auto)]
 
 mod fault;
+mod laws;
 mod line_fault;
 mod parts;
 mod reading;
-
 mod states;
 mod taking;
-
 mod tenant_state;
 mod writing;
 
 pub use crate::fault::{AddError, StateFault};
-
+pub use crate::laws::{one_value, one_wrong_line};
 pub use crate::reading::read;
 pub use crate::states::States;
 pub use crate::tenant_state::TenantState;
 pub use crate::writing::write;
+
+#[cfg(test)]
+mod tests;

@@ -1,7 +1,8 @@
 ghost use Rattle.std.specs.Prelude.{◌≡◌};
-ghost use Rattle.state_text.specs.Taking.{fault_of};
+ghost use Rattle.state_text.specs.Taking.{fault_of, fault_of_push};
 
 use crate::fault::AddError;
+use git_reftx::PushRefError;
 
 /// Why a line was not taken.
 #[derive(Clone, Copy, Debug, PartialEq, Eq)]
@@ -17,6 +18,16 @@ impl LineFault {
     {
         match error {
             AddError::Memory => LineFault::Memory,
+            _ => LineFault::Wrong,
+        }
+    }
+
+    // So does a reference.
+    pub(crate) fn of_push(error: PushRefError) -> LineFault
+        ensures { result ≡ fault_of_push error }
+    {
+        match error {
+            PushRefError::Memory => LineFault::Memory,
             _ => LineFault::Wrong,
         }
     }

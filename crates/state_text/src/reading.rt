@@ -1,6 +1,8 @@
 ghost use Rattle.std.specs.Prelude.{◌≡◌, IfOk, IfErr};
+ghost use Rattle.state_text.specs.Fault.{TellsLine};
+ghost use Rattle.state_text.specs.States as value;
 ghost use Rattle.state_text.specs.States.{IsStates};
-ghost use Rattle.state_text.specs.Text.{state_text};
+ghost use Rattle.state_text.specs.Text.{IsStateText, state_text};
 
 use crate::fault::StateFault;
 use crate::line_fault::LineFault;
@@ -13,8 +15,20 @@ use std::alloc::Global;
 /// reference, a few looks at a map.
 pub fn read(alloc: Global, text: &[u8]) -> Result<States, StateFault>
     // What is read is spelled so.
+    ensures found { IfOk result (λ states. IsStateText states text.now) }
+    // What is a state text is read, but for want of memory.
+    ensures only { (states : value.States) → IsStateText states text.now → IfOk result (λ found. found ≡ states) × IfErr result (λ fault. fault ≡ StateFault.Memory) }
+    // Which line is wrong.
+    ensures exact { IfErr result (TellsLine text.now) }
+{
+    read_lines(alloc, text)
+}
+
+// The states, line by line.
+fn read_lines(alloc: Global, text: &[u8]) -> Result<States, StateFault>
     ensures found { IfOk result (λ states. text.now ≡ state_text states) }
     ensures right { IfOk result IsStates }
+    ensures exact { IfErr result (TellsLine text.now) }
 {
     let Some((first, mut rest)) = split_once(text, b'\n') else {
         return Err(StateFault::Line(1));

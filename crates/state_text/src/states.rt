@@ -52,7 +52,8 @@ impl States {
     pub fn into_vec(self) -> Vec<TenantState>
         ensures { result.items ≡ self }
     {
-        self.tenants
+        let States { tenants } = self;
+        tenants
     }
 
     /// Puts a tenant's state behind the others. An `Err` leaves the states as they were.

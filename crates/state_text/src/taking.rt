@@ -1,6 +1,6 @@
 ghost use Rattle.std.specs.Prelude.{◌≡◌, ◌∷◌, ◌++◌, [], List, ℕ, OnOk, IfErr};
 ghost use Rattle.state_text.specs.States.{IsStates};
-ghost use Rattle.state_text.specs.Taking.{Adds, AddsReference, AddsRepository, AddsSeen, AddsTenant, WhenWrong};
+ghost use Rattle.state_text.specs.Taking.{Adds, AddsReference, AddsRepository, AddsSeen, AddsTenant, Refuses};
 
 use crate::line_fault::LineFault;
 use crate::parts::{behind, reference_of, tenant_of};
@@ -16,6 +16,7 @@ use std::alloc::Global;
 pub(crate) fn take_line(alloc: Global, states: &mut States, line: &[u8]) -> Result<(), LineFault>
     ensures ok { OnOk result (Adds states.old line.now states.new) }
     ensures sound { OnOk result (IsStates states.new) }
+    ensures wrong { IfErr result (Refuses Adds states.old line.now) }
 {
     if let Some(rest) = behind(line, b"tenant ") {
         return take_tenant(alloc, states, rest);
@@ -36,10 +37,13 @@ pub(crate) fn take_line(alloc: Global, states: &mut States, line: &[u8]) -> Resu
 fn take_tenant(alloc: Global, states: &mut States, rest: &[u8]) -> Result<(), LineFault>
     ensures ok { OnOk result (AddsTenant states.old rest.now states.new) }
     ensures sound { OnOk result (IsStates states.new) }
+    ensures wrong { IfErr result (Refuses AddsTenant states.old rest.now) }
 {
     let Some(tenant) = tenant_of(alloc, rest) else {
         return Err(LineFault::Wrong);
     };
+    // The name tells that the tenant is right.
+    let _name = tenant.name();
     match states.push(tenant) {
         Ok(()) => Ok(()),
         Err(error) => Err(LineFault::of(error)),
@@ -50,6 +54,7 @@ fn take_tenant(alloc: Global, states: &mut States, rest: &[u8]) -> Result<(), Li
 fn take_repository(alloc: Global, states: &mut States, rest: &[u8]) -> Result<(), LineFault>
     ensures ok { OnOk result (AddsRepository states.old rest.now states.new) }
     ensures sound { OnOk result (IsStates states.new) }
+    ensures wrong { IfErr result (Refuses AddsRepository states.old rest.now) }
 {
     let Some(mut tenant) = states.pop() else {
         return Err(LineFault::Wrong);
@@ -71,6 +76,7 @@ fn take_repository(alloc: Global, states: &mut States, rest: &[u8]) -> Result<()
 fn take_reference(alloc: Global, states: &mut States, rest: &[u8]) -> Result<(), LineFault>
     ensures ok { OnOk result (AddsReference states.old rest.now states.new) }
     ensures sound { OnOk result (IsStates states.new) }
+    ensures wrong { IfErr result (Refuses AddsReference states.old rest.now) }
 {
     let Some(tenant) = states.pop() else {
         return Err(LineFault::Wrong);
@@ -87,6 +93,8 @@ fn take_reference(alloc: Global, states: &mut States, rest: &[u8]) -> Result<(),
     let Some((name, target)) = reference_of(rest, prefix.as_slice()) else {
         return Err(LineFault::Wrong);
     };
+    // The bytes tell that the target is a name.
+    let _target = target.as_bytes();
     let next = match tenant.with_reference(name, target) {
         Ok(next) => next,
         Err(fault) => return Err(fault),
@@ -98,6 +106,7 @@ fn take_reference(alloc: Global, states: &mut States, rest: &[u8]) -> Result<(),
 fn take_seen(states: &mut States, rest: &[u8]) -> Result<(), LineFault>
     ensures ok { OnOk result (AddsSeen states.old rest.now states.new) }
     ensures sound { OnOk result (IsStates states.new) }
+    ensures wrong { IfErr result (Refuses AddsSeen states.old rest.now) }
 {
     let Some(mut tenant) = states.pop() else {
         return Err(LineFault::Wrong);
@@ -105,6 +114,8 @@ fn take_seen(states: &mut States, rest: &[u8]) -> Result<(), LineFault>
     let Some(name) = Name::parse_hex(rest) else {
         return Err(LineFault::Wrong);
     };
+    // The bytes tell that it is a name.
+    let _name = name.as_bytes();
     match tenant.add_seen(name) {
         Ok(()) => {}
         Err(error) => return Err(LineFault::of(error)),

@@ -7,7 +7,7 @@ ghost use Rattle.fork_request.specs.declared.limit.TheConstants.{MAX_LIMIT};
 ghost use Rattle.fork_model.specs.declared.limits.TheConstants.{MAX_REPOSITORIES};
 ghost use Rattle.state_text.specs.Adding.{TellsAdd, AreBefore, fresh, with_repository, with_seen};
 ghost use Rattle.state_text.specs.States.{Ascend, IsTenantState};
-ghost use Rattle.state_text.specs.Taking.{HasReferenceMore};
+ghost use Rattle.state_text.specs.Taking.{HasReferenceMore, RefusesReference};
 
 use crate::fault::AddError;
 use crate::line_fault::LineFault;
@@ -15,7 +15,7 @@ use fork_model::MAX_REPOSITORIES;
 use fork_request::{MAX_LIMIT, RepositoryName, TenantName};
 use git_name::Name;
 use git_refname::RefName;
-use git_reftx::{PushRefError, Refs};
+use git_reftx::Refs;
 use std::alloc::Global;
 use std::cmp::Ordering;
 use std::marker::Model;
@@ -121,9 +121,14 @@ impl TenantState {
     }
 
     // Puts a reference behind the others of the last repository.
-    pub(crate) fn with_reference(self, name: RefName, target: Name) -> Result<TenantState, LineFault>
+    pub(crate) fn with_reference(
+        self,
+        name: RefName,
+        target: Name,
+    ) -> Result<TenantState, LineFault>
         ensures ok { IfOk result (HasReferenceMore self name target) }
         ensures sound { IfOk result IsTenantState }
+        ensures wrong { IfErr result (RefusesReference self name target) }
     {
         let TenantState {
             name: tenant,
@@ -137,8 +142,7 @@ impl TenantState {
         };
         match references.push(name, target) {
             Ok(()) => {}
-            Err(PushRefError::Memory) => return Err(LineFault::Memory),
-            Err(_) => return Err(LineFault::Wrong),
+            Err(error) => return Err(LineFault::of_push(error)),
         }
         let _count = references.len();
         let Ok(()) = repositories.push((repository, references)) else {

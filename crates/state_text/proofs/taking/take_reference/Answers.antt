@@ -10,6 +10,7 @@ use Rattle.state_text.specs.States.{TenantState}
 use Rattle.std.specs.Prelude.{codes}
 use Rattle.state_text.proofs.BehindLemmas.{last_is, nothing_in}
 use Rattle.state_text.proofs.StateLemmas.{tenant_changed}
+use Rattle.state_text.proofs.WrongLemmas.{reference_refused, reference_right, reference_spelled_so}
 use Rattle.state_text.proofs.taking.take_reference.Goals as goal
 
 pub put_back-requires : goal.put_back-requires
@@ -40,3 +41,16 @@ returns-clause-ok c =
       spelled = c.in-Some-reference_of.ensures.found ∙ ap (λ p. encode_lower c.in-Some-reference_of.target ++ codes " " ++ p ++ c.in-Some-reference_of.name) prefix;
       added = added;
     }) c.put_back.ensures.ok
+
+pub returns-in_default-reference_of-clause-wrong : goal.returns-in_default-reference_of-clause-wrong
+returns-in_default-reference_of-clause-wrong c new right adds =
+    let prefix_is = c.as_slice.ensures.value ∙ c.in-Ok.ensures ∙ (λ i. expanded ((c.as_bytes.ensures.bytes ∙ c.name.ensures.name) i ∷ c.as_bytes-2.ensures.bytes i ∷ [])) in
+    let known = reference_right c.args.states.now c.pop.new.self new c.in-Some.tenant c.args.rest.now c.as_slice.result.now c.repositories.result.now c.in-Some-last.last.now c.in-Some.ensures.some c.repositories.ensures (sym c.in-Some-last.ensures.value) prefix_is right adds in
+    c.in_default-reference_of.ensures.none adds.name adds.target known.named known.target_named
+    (reference_spelled_so c.args.states.now c.pop.new.self new c.in-Some.tenant c.args.rest.now c.as_slice.result.now c.repositories.result.now c.in-Some-last.last.now c.in-Some.ensures.some c.repositories.ensures (sym c.in-Some-last.ensures.value) prefix_is right adds)
+
+pub returns-in-Err-clause-wrong : goal.returns-in-Err-clause-wrong
+returns-in-Err-clause-wrong c =
+    let prefix_is = c.as_slice.ensures.value ∙ c.in-Ok.ensures ∙ (λ i. expanded ((c.as_bytes.ensures.bytes ∙ c.name.ensures.name) i ∷ c.as_bytes-2.ensures.bytes i ∷ [])) in
+    reference_refused c.args.states.now c.pop.new.self c.in-Some.tenant c.args.rest.now c.as_slice.result.now c.repositories.result.now c.in-Some-last.last.now c.in-Some.ensures.some c.repositories.ensures (sym c.in-Some-last.ensures.value) prefix_is
+    c.in-Some-reference_of.name c.in-Some-reference_of.target c.in-Err.fault c.as_bytes-target.ensures.name c.in-Some-reference_of.ensures.found c.in-Err.ensures.wrong

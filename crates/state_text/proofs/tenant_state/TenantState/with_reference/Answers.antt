@@ -3,6 +3,8 @@ use Rattle.std.specs.List.{AllByRecursion}
 use Rattle.state_text.specs.States.{IsRepository, IsTenantState, TenantState}
 use Rattle.state_text.proofs.BehindLemmas.{each_last}
 use Rattle.state_text.proofs.StateLemmas.{repository_changed, targets_more}
+use Rattle.state_text.specs.Taking.{RefusesReference}
+use Rattle.state_text.proofs.WrongLemmas.{push_wrong}
 use Rattle.state_text.proofs.tenant_state.TenantState.with_reference.Goals as goal
 
 right : (c : goal.In-Ok-push) → IsTenantState (record { name = c.self.inside.name; limit = c.self.inside.limit; repositories = c.push-2.new.self.items; seen = c.self.inside.seen.items })
@@ -32,3 +34,8 @@ returns-clause-ok c =
       pushed = c.in-Ok.ensures.ok;
       added = λ i. record { name = (same i).name; limit = (same i).limit; repositories = c.in-Ok-push.ensures.items i; seen = (same i).seen };
     }
+
+pub returns-in-Err-clause-wrong : goal.returns-in-Err-clause-wrong
+returns-in-Err-clause-wrong c =
+    subst (RefusesReference c.args.self c.args.name c.args.target) (sym c.of_push.ensures)
+    (push_wrong c.args.self c.pop.new.self.items c.in-Some.repository c.in-Some.references c.args.name c.args.target c.in-Err.error (ap (λ t. t.repositories) (sym c.self.view_is) ∙ c.in-Some.ensures.items) c.in-Err.ensures.cause)

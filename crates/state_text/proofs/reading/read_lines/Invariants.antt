@@ -1,6 +1,6 @@
 use Rattle.std.proofs.Common.{length}
 use Rattle.state_text.specs.Taking.{IsReadSoFar}
-use Rattle.state_text.proofs.reading.read.Given as goal
+use Rattle.state_text.proofs.reading.read_lines.Given as goal
 
 -- what was read so far are the lines of states
 abbrev pub invariant-lines : goal.invariant-lines

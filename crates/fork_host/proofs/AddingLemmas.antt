@@ -85,7 +85,7 @@ right_new_view limit = record {
 }
 
 -- what holds of each view, in a world with one more tenant
-each_more : (P : View → Type 0) (w : World) (t : List ℕ) (view : View) → P view → ((q : List ℕ) (other : View) → get w q ≡ Some other → P other)
+pub each_more : (P : View → Type 0) (w : World) (t : List ℕ) (view : View) → P view → ((q : List ℕ) (other : View) → get w q ≡ Some other → P other)
     → (q : List ℕ) (other : View) → get (insert w t view) q ≡ Some other → P other
 each_more P w t view one all q other is = elim (at_key (eq_by_cmp name_cmp q t) view other (get w q) (sym (get-insert name_total w t view q) ∙ is)) [
   | inl set ↦ subst P set.1 one

@@ -1,11 +1,13 @@
 pub mod AddingLemmas
 pub mod BoundLemmas
 pub mod FaultLemmas
+pub mod GatherLemmas
 pub mod HandleLemmas
 pub mod OwnLemmas
 pub mod PushLemmas
 pub mod QueryLemmas
 pub mod ReadLemmas
+pub mod RefillLemmas
 pub mod RestoreLemmas
 pub mod RowLemmas
 pub mod SafeLemmas

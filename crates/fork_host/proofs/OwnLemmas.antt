@@ -1,12 +1,15 @@
 -- What staging, publishing, discarding and keeping leave of the vault.
-use Rattle.std.proofs.Common.{◌≡◌, ℕ, Bool, true, IsTrue, List, [], ◌∷◌, length, arith, refl, sym, ap, ◌∙◌}
-use Rattle.std.specs.FinMap.{contains_key, empty, retain_keys}
+use Rattle.std.proofs.Common.{◌≡◌, ℕ, Bool, true, false, cond, None, IsTrue, List, [], ◌∷◌, length, arith, refl, sym, ap, ◌∙◌}
+use Rattle.std.specs.FinMap.{contains_key, empty, get, get-empty, retain_keys, same_map}
+use Rattle.git_name.specs.Name.{name_cmp}
+use Rattle.git_name.proofs.Names.{name_total, name_exact}
 use Rattle.git_name.specs.Object.{Object}
 use Rattle.fork_reach.specs.Objects.{Measures, measures_of, with_object}
 use Rattle.fork_reach.specs.Source.{Objects}
 use Rattle.fork_ledger.specs.Private.{Private, both_of, private_measures, with_discarded, with_kept, with_published, with_staged}
 use Rattle.fork_ledger.specs.Tenants.{Tenants, VaultState, at_tenant, private_of, shape_of}
 use Rattle.fork_ledger.proofs.BothLemmas.{both_more, none_of, same_both, same_measures, same_tenants_there}
+use Rattle.fork_ledger.proofs.SeenLemmas.{get_kept}
 use Rattle.fork_ledger.proofs.ShapeLemmas.{Respects, respects_discarded, respects_kept, respects_published, respects_staged, shape_at}
 use Rattle.fork_ledger.proofs.TenantLemmas.{private_at, private_others, there_still}
 use Rattle.fork_host.specs.Own.{Changes, IsOf, IsOwn, LeavesOthers, Settles, Stages, staged_in, visible_in}
@@ -16,7 +19,7 @@ none_left [] is = refl
 none_left (x ∷ xs) is = absurd (omega arith)
 
 -- other tenants, as one tenant's private maps change
-leaves_all : (tenants : Tenants) (own : List ℕ) → LeavesOthers own tenants tenants
+pub leaves_all : (tenants : Tenants) (own : List ℕ) → LeavesOthers own tenants tenants
 leaves_all tenants own = record { there = λ q. refl; others = λ q differs. refl }
 
 leaves_more : (before old : Tenants) (own : List ℕ) (change : Private → Private) → LeavesOthers own before old → LeavesOthers own before (at_tenant old own change)
@@ -143,6 +146,25 @@ kept old mid new own names there quiet shape same honest is still = record {
   shown = of_changed old.tenants mid new own (with_kept names) (respects_kept names) (ap shape_of is) (λ _. is) still (of_still old.tenants old mid shape same honest (of_itself old));
   honest = still ∙ honest;
 }
+
+-- nothing of what is seen stays
+none_kept : (objects : Objects) (names : List ℕ → Bool) → ((name : List ℕ) → names name ≡ false) → retain_keys objects names ≡ empty
+none_kept objects names none = same_map name_total name_exact _ _ (λ q. get_kept objects names q ∙ ap (λ b. cond b (get objects q) None) (none q) ∙ sym (get-empty name_cmp q))
+
+pub emptied : (first mid new : VaultState) (own : List ℕ) (objects : Objects) (names : List ℕ → Bool) → contains_key first.tenants own ≡ true → ((name : List ℕ) → names name ≡ false) → new.tenants ≡ at_tenant mid.tenants own (with_kept names)
+    → new.honest ≡ mid.honest → Changes (Settles own objects) first mid → Changes (Settles own empty) first new
+emptied first mid new own objects names there none is still changes =
+    let set = private_at changes.tenants own (with_kept names) (here_still first.tenants changes.tenants own there changes.way.leaves) in
+    record {
+      tenants = at_tenant changes.tenants own (with_kept names);
+      way = record {
+        leaves = leaves_more first.tenants changes.tenants own (with_kept names) changes.way.leaves;
+        sees = ap (λ p. p.visible) set ∙ none_kept (private_of changes.tenants own).visible names none;
+        quiet = ap (λ p. p.staged) set ∙ changes.way.quiet;
+      };
+      shown = of_changed changes.tenants mid new own (with_kept names) (respects_kept names) (ap shape_of is) (λ _. is) still changes.shown;
+      honest = still ∙ changes.honest;
+    }
 
 -- what a tenant sees where nothing is staged: over any store its measures, and over an honest one itself
 pub seen_measures : (old new : VaultState) (own : List ℕ) (objects : Objects) → Changes (Settles own objects) old new → measures_of (visible_in new own) ≡ measures_of objects

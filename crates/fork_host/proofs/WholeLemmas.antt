@@ -137,11 +137,11 @@ at_own old new t q after set tied =
     get_world new q ∙ ap (λ k. option_map (λ a. shown a new.vault k) (get new.accounts k)) (tied_names q t tied)
     ∙ ap (option_map (λ a. shown a new.vault t)) (account_set old new t t after set ∙ ap (λ b. cond b (Some after) (get old.accounts t)) ((eq_by_cmp_equiv name_total).refl t))
 
-at_other : (old new : HostState) (t q : List ℕ) (after : Account) → new.accounts ≡ insert old.accounts t after → eq_by_cmp name_cmp q t ≡ false → get new.accounts q ≡ get old.accounts q
+pub at_other : (old new : HostState) (t q : List ℕ) (after : Account) → new.accounts ≡ insert old.accounts t after → eq_by_cmp name_cmp q t ≡ false → get new.accounts q ≡ get old.accounts q
 at_other old new t q after set apart = account_set old new t q after set ∙ ap (λ b. cond b (Some after) (get old.accounts q)) apart
 
 -- the tenants are those that were there
-known_still : (old new : HostState) (t q : List ℕ) (account after : Account) → get old.accounts t ≡ Some account → new.accounts ≡ insert old.accounts t after → contains_key new.accounts q ≡ contains_key old.accounts q
+pub known_still : (old new : HostState) (t q : List ℕ) (account after : Account) → get old.accounts t ≡ Some account → new.accounts ≡ insert old.accounts t after → contains_key new.accounts q ≡ contains_key old.accounts q
 known_still old new t q account after here set = ap is_some (account_set old new t q after set) ∙ by (eq_by_cmp name_cmp q t) refl
   where
     by : (b : Bool) → eq_by_cmp name_cmp q t ≡ b → is_some (cond b (Some after) (get old.accounts q)) ≡ contains_key old.accounts q

@@ -14,9 +14,10 @@ ghost use Rattle.fork_host.specs.Rows.{YieldsOver};
 ghost use Rattle.fork_host.specs.Safe.{IsSafe};
 ghost use Rattle.fork_host.specs.Sent.{sent_by, sent_in_world};
 ghost use Rattle.fork_host.specs.Shape.{SameShape};
-ghost use Rattle.fork_host.specs.Shown.{IsWhole, Trusted, shown, state_of, world_of};
+ghost use Rattle.fork_host.specs.Shown.{Account, IsWhole, Trusted, shown, state_of, world_of};
 
 use crate::own::Own;
+use crate::repositories::Repositories;
 use crate::tenant::Tenant;
 use fork_ledger::Vault;
 use fork_request::{Refusal, Reply, Request, TenantName};
@@ -85,6 +86,17 @@ impl Accounts {
         ensures { self.new ≡ map.remove self.old name.now }
     {
         take_out(&mut self.tenants, name)
+    }
+
+    // Gives a tenant these repositories. It takes no memory.
+    pub(crate) fn settle(&mut self, name: &TenantName, repositories: Repositories)
+        ensures { (account : Account) → map.get self.old name.now ≡ Some account
+            → self.new ≡ map.insert self.old name.now (record { repositories = repositories; upload = account.upload; limit = account.limit }) }
+    {
+        let Some(tenant) = self.tenants.get_mut(name) else {
+            return;
+        };
+        tenant.settle(repositories);
     }
 
     // Answers a tenant's request from its account and its own part of the vault.

@@ -35,8 +35,8 @@ pub struct NoMemory;
 /// A host of at most `MAX_TENANTS` tenants.
 #[derive(Drop)]
 pub struct Host<S: LooseFiles> {
-    accounts: Accounts,
-    vault: Vault<S>,
+    pub(crate) accounts: Accounts,
+    pub(crate) vault: Vault<S>,
 }
 
 impl<S: LooseFiles> Model for Host<S> {

@@ -16,6 +16,7 @@ mod recalling;
 mod replies;
 mod repositories;
 mod restore_error;
+mod restoring;
 mod seeing;
 mod staging;
 mod step;

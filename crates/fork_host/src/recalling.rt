@@ -19,7 +19,7 @@ pub(crate) fn recall_all<S: LooseFiles>(
     alloc: Global,
     own: &mut Own<'_, S>,
     names: &[Name],
-) -> Result<Option<RestoreError>, VaultFault>
+) -> Result<Option<Loss>, VaultFault>
     requires there { map.contains_key own.old.vault.now.tenants own.old.tenant.now ≡ true }
     ensures ok { OnOk result (SeesAgain own.old.tenant.now names.now own.old.vault.now own.new.vault.now) }
     ensures err { OnErr result (Changes (Settles own.old.tenant.now (visible_by own.old)) own.old.vault.now own.new.vault.now) }
@@ -39,14 +39,35 @@ pub(crate) fn recall_all<S: LooseFiles>(
     Ok(loss)
 }
 
+// The first object of those that a tenant saw which the store has not whole.
+#[derive(Clone, Copy)]
+pub(crate) struct Loss {
+    name: Name,
+    is_there: bool,
+}
+
+impl Loss {
+    // Why the object of this name is not sound: it is the one that was lost, or it breaks a rule.
+    pub(crate) fn why(loss: Option<Loss>, name: Name) -> RestoreError {
+        let Some(loss) = loss else {
+            return RestoreError::Unsound(name);
+        };
+        if loss.name != name {
+            return RestoreError::Unsound(name);
+        }
+        if loss.is_there {
+            RestoreError::Damaged(name)
+        } else {
+            RestoreError::Lost(name)
+        }
+    }
+}
+
 // Notes the first object that is not whole.
-fn note(loss: &mut Option<RestoreError>, recalled: Recalled, name: Name) {
-    if loss.is_some() {
+fn note(loss: &mut Option<Loss>, recalled: Recalled, name: Name) {
+    if recalled == Recalled::Whole || loss.is_some() {
         return;
     }
-    match recalled {
-        Recalled::Whole => {}
-        Recalled::Lost => *loss = Some(RestoreError::Lost(name)),
-        Recalled::Damaged => *loss = Some(RestoreError::Damaged(name)),
-    }
+    let is_there = recalled == Recalled::Damaged;
+    *loss = Some(Loss { name, is_there });
 }

@@ -1,4 +1,4 @@
-ghost use Rattle.std.specs.Prelude.{◌≡◌, ◌++◌, OnOk, OnErr, IfOk, IfErr, Ok, Err, Some, true};
+ghost use Rattle.std.specs.Prelude.{◌≡◌, ◌≤◌, ◌++◌, ℕ, List, Contains, length, OnOk, OnErr, IfOk, IfErr, Ok, Err, Some, true};
 ghost use Rattle.std.specs.Option.{option_copied};
 ghost use Rattle.std.specs.FinMap as map;
 ghost use Rattle.std.specs.BTreeMap.{IsUnchanged, Updates};
@@ -40,6 +40,22 @@ impl Repositories {
         Repositories {
             repositories: BTreeMap::new(alloc),
         }
+    }
+
+    // The repositories of this list.
+    pub(crate) fn gather(
+        alloc: Global,
+        list: &[(RepositoryName, Refs)],
+    ) -> Result<Repositories, AllocError>
+        ensures among { IfOk result (λ gathered. (name : List ℕ) (references : References) → map.get gathered name ≡ Some references → Contains list.now (name, references)) }
+        ensures few { IfOk result (λ gathered. map.len gathered ≤ length list.now) }
+    {
+        let mut repositories = Repositories::new(alloc);
+        for (name, references) in list {
+            let copy = references.copy()?;
+            repositories.insert(name.copy(), copy)?;
+        }
+        Ok(repositories)
     }
 
     // How many there are.

@@ -54,6 +54,13 @@ impl Tenant {
         }
     }
 
+    // The tenant has these repositories.
+    pub(crate) fn settle(&mut self, repositories: Repositories)
+        ensures { self.new ≡ record { repositories = repositories; upload = self.old.upload; limit = self.old.limit } }
+    {
+        self.repositories = repositories;
+    }
+
     #[tactic(auto, unfolding(fork_model::specs::Answer::answer))]
     // Answers a request from the tenant's account and its own part of the vault: a row of the answer a
     // method, each in the file of its subject.

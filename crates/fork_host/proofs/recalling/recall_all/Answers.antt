@@ -25,9 +25,9 @@ loop-name-preserved g c =
     let old = c.loop-name.own in
     let new = c.recall.new.self in
     record {
-      same = same_then first old new before.same c.in_default.ensures.same;
-      so_far = came_more first.tenant.now c.name-item.result c.args.names.now (both_by first) first.vault.now old.vault.now new.vault.now c.in_default.field-0 c.requires.there (c.loop-name.name-index, c.loop-name-test.true, sym c.name-item.is) c.in_default.ensures.store.honest
-          (subst (λ r. Recalls old.vault.now.honest r.now c.name-item.result old.vault.now.files old.vault.now.tenants new.vault.now.tenants c.in_default.field-0) before.same.tenant c.in_default.ensures.recalls) before.so_far;
+      same = same_then first old new before.same c.in-Ok.ensures.same;
+      so_far = came_more first.tenant.now c.name-item.result c.args.names.now (both_by first) first.vault.now old.vault.now new.vault.now c.in-Ok.recalled c.requires.there (c.loop-name.name-index, c.loop-name-test.true, sym c.name-item.is) c.in-Ok.ensures.store.honest
+          (subst (λ r. Recalls old.vault.now.honest r.now c.name-item.result old.vault.now.files old.vault.now.tenants new.vault.now.tenants c.in-Ok.recalled) before.same.tenant c.in-Ok.ensures.recalls) before.so_far;
     }
 
 pub discard-requires : goal.discard-requires

@@ -1,0 +1,173 @@
+-- A tenant that is filled again: its view is in order and right, and the state stays whole.
+use Rattle.std.proofs.Common.{◌≡◌, ◌≢◌, ◌⊎◌, inl, inr, ℕ, ◌≤◌, arith, Bool, true, false, cond, not, IsTrue, List, [], ◌∷◌, Option, None, Some, refl, sym, ap, subst, ◌∙◌, length, is_some}
+use Rattle.std.specs.Prelude.{Contains, ◌&&◌, ◌||◌, is_none}
+use Rattle.std.proofs.lemmas.List.Elements.{Contains-get_or}
+use Rattle.std.proofs.lemmas.List.Folds.{find-append}
+use Rattle.std.proofs.lemmas.Map.Views.{Contains-from_lookup}
+use Rattle.std.specs.List.{AllByRecursion, find, flat_map}
+use Rattle.std.specs.Option.{option_map, option_or, unwrap_or}
+use Rattle.std.specs.Ordering.{eq_by_cmp}
+use Rattle.std.specs.Cmp.{eq_by_cmp_equiv}
+use Rattle.std.specs.FinMap.{contains_key, empty, entries, get, get-entries, get-insert, insert, len}
+use Rattle.git_name.specs.Name.{name_cmp}
+use Rattle.git_name.specs.Object.{Object}
+use Rattle.git_name.specs.declared.kind.Kind.{Kind}
+use Rattle.git_name.proofs.Names.{name_total}
+use Rattle.git_name.proofs.TreeMaps.{find_is_lookup}
+use Rattle.git_reftx.specs.Known.{Kinds}
+use Rattle.git_reftx.specs.Transaction.{References, is_branch, is_commit}
+use Rattle.push_stream.specs.Upload.{UploadValue}
+use Rattle.fork_reach.specs.Objects.{IsNamed, Measures, measures_of, use_of}
+use Rattle.fork_reach.specs.Source.{Objects, kind_in}
+use Rattle.fork_reach.proofs.KeptObjects.{at_key, tied_names}
+use Rattle.fork_ledger.specs.Tenants.{VaultState, private_of}
+use Rattle.fork_ledger.proofs.BothLemmas.{none_of}
+use Rattle.fork_model.specs.Sound.{AreReferences, AreRight, IsClosed, IsOrderly, IsOrderlyWorld, IsReference, IsRight, IsRightWorld}
+use Rattle.fork_model.specs.View.{View, Repositories}
+use Rattle.fork_model.specs.World.{World}
+use Rattle.fork_model.proofs.ClosedLemmas.{each_of}
+use Rattle.state_text.specs.States.{IsRepository}
+use Rattle.fork_host.specs.Adding.{new_view}
+use Rattle.fork_host.specs.Own.{Changes, IsOwn, Settles, staged_in, visible_in}
+use Rattle.fork_host.specs.Restored.{IsRestored, is_bad_target, references_in}
+use Rattle.fork_host.specs.Shown.{Account, HostState, IsWhole, Trusted, seen_by, shown, uploaded, world_of}
+use Rattle.fork_host.proofs.AddingLemmas.{each_more}
+use Rattle.fork_host.proofs.GatherLemmas.{Gathered}
+use Rattle.fork_host.proofs.OwnLemmas.{own_of, seen_itself, seen_measures}
+use Rattle.fork_host.proofs.WholeLemmas.{at_other, known_still, orderly_after}
+use Rattle.fork_host.proofs.WorldLemmas.{distinct, get_world, world_set}
+
+abbrev Reference : Type 0
+Reference = List ℕ × List ℕ
+
+head_none : (bad : Reference → Bool) (x : Reference) (o : Option Reference) → cond (bad x) (Some x) o ≡ None → bad x ≡ false
+head_none bad x o none = by (bad x) none
+  where
+    by : (b : Bool) → cond b (Some x) o ≡ None → b ≡ false
+    by true found = absurd (cc)
+    by false found = refl
+
+tail_none : (b : Bool) (x : Reference) (o : Option Reference) → cond b (Some x) o ≡ None → o ≡ None
+tail_none true x o found = absurd (cc)
+tail_none false x o found = found
+
+-- where none is found, none of them passes
+none_passes : (bad : Reference → Bool) (xs : List Reference) → find bad xs ≡ None → AllByRecursion (λ x. bad x ≡ false) xs
+none_passes bad [] none = tt
+none_passes bad (x ∷ xs) none = (head_none bad x (find bad xs) none, none_passes bad xs (tail_none (bad x) x (find bad xs) none))
+
+first_of : (o p : Option Reference) → option_or o p ≡ None → o ≡ None
+first_of None p is = refl
+first_of (Some x) p is = absurd (cc)
+
+second_of : (o p : Option Reference) → option_or o p ≡ None → p ≡ None
+second_of None p is = is
+second_of (Some x) p is = absurd (cc)
+
+none_in_each : (bad : Reference → Bool) (list : List (List ℕ × References)) → find bad (flat_map references_in list) ≡ None → AllByRecursion (λ r. find bad (references_in r) ≡ None) list
+none_in_each bad [] none = tt
+none_in_each bad (r ∷ list) none =
+    let parted = sym (find-append bad (references_in r) (flat_map references_in list)) ∙ none in
+    (first_of (find bad (references_in r)) (find bad (flat_map references_in list)) parted, none_in_each bad list (second_of (find bad (references_in r)) (find bad (flat_map references_in list)) parted))
+
+good_reference : (bad : Reference → Bool) (list : List (List ℕ × References)) (name : List ℕ) (references : References) (reference target : List ℕ) → find bad (flat_map references_in list) ≡ None → Contains list (name, references)
+    → get references reference ≡ Some target → bad (reference, target) ≡ false
+good_reference bad list name references reference target none among points =
+    let here = each_of (λ (r : List ℕ × References). find bad (references_in r) ≡ None) list (name, references) (none_in_each bad list none) among in
+    let entry = Contains-from_lookup {eq = eq_by_cmp name_cmp} tied_names reference target (entries references) (sym (get-entries references reference ∙ find_is_lookup name_cmp (entries references) reference) ∙ points) in
+    each_of (λ (x : Reference). bad x ≡ false) (entries references) (reference, target) (none_passes bad (entries references) here) entry
+
+either_false : (a b : Bool) → (a || b) ≡ false → (a ≡ false) × (b ≡ false)
+either_false true b is = absurd (cc)
+either_false false b is = (refl, is)
+
+known : (o : Option Kind) → is_none o ≡ false → is_some o ≡ true
+known None is = absurd (cc)
+known (Some kind) is = refl
+
+there_by_kind : (objects : Objects) (name : List ℕ) → is_some (kind_in objects name) ≡ true → contains_key objects name ≡ true
+there_by_kind objects name there = by (get objects name) there
+  where
+    by : (o : Option Object) → is_some (option_map (λ object. object.kind) o) ≡ true → is_some o ≡ true
+    by None is = absurd (cc)
+    by (Some object) is = refl
+
+commit_of_branch : (branch commit : Bool) → (branch && not commit) ≡ false → branch ≡ true → commit ≡ true
+commit_of_branch true true is on = refl
+commit_of_branch true false is on = absurd (cc)
+commit_of_branch false commit is on = absurd (cc)
+
+-- references that were judged are such as a repository may have
+references_restored : (objects : Objects) (list : List (List ℕ × References)) (name : List ℕ) (references : References) → AllByRecursion IsRepository list → find (is_bad_target (kind_in objects)) (flat_map references_in list) ≡ None
+    → Contains list (name, references) → AreReferences objects references
+references_restored objects list name references right none among =
+    let repository = each_of IsRepository list (name, references) right among in
+    record {
+      each = λ reference target points.
+          let parts = either_false (is_none (kind_in objects target)) (is_branch reference && not (is_commit (kind_in objects target))) (good_reference (is_bad_target (kind_in objects)) list name references reference target none among points) in
+          record {
+            named = repository.references.named reference (ap is_some points);
+            there = there_by_kind objects target (known (kind_in objects target) parts.0);
+            commit = commit_of_branch (is_branch reference) (is_commit (kind_in objects target)) parts.1;
+          };
+      apart = repository.references.free;
+      few = repository.references.few;
+    }
+
+-- the account of a tenant that is filled again
+abbrev pub refilled : Repositories → ℕ → Account
+refilled repositories limit = record { repositories = repositories; upload = None; limit = limit }
+
+none_open : (upload : UploadValue) (G : Type 0) → ◌≡◌ {A = Option UploadValue} None (Some upload) → G
+none_open upload G is = absurd (cc)
+
+pub orderly_refilled : (own : List ℕ) (list : List (List ℕ × References)) (repositories : Repositories) (limit : ℕ) (old new : VaultState) → limit ≤ 1099511627776 → length list ≤ 256 → AllByRecursion IsRepository list
+    → Gathered list (length list) repositories → IsRestored own list limit old new → IsOrderly (shown (refilled repositories limit) new own)
+orderly_refilled own list repositories limit old new low few right gathered restored = record {
+  upload = λ upload is. none_open upload _ is;
+  within_limit = restored.within;
+  limit = low;
+  few_repositories = (let some = gathered.few in omega (arith, some, few));
+  repositories = λ name references here. (each_of IsRepository list (name, references) right (gathered.among name references here)).named;
+  references = λ name references here. references_restored (visible_in new own) list name references right restored.targets (gathered.among name references here);
+}
+
+pub right_refilled : (own : List ℕ) (list : List (List ℕ × References)) (repositories : Repositories) (limit : ℕ) (old new : VaultState) → IsTrue old.honest → IsRestored own list limit old new → IsRight (shown (refilled repositories limit) new own)
+right_refilled own list repositories limit old new honest restored =
+    subst (λ objects. IsRight (seen_by (refilled repositories limit) objects)) (sym (seen_itself old new own restored.objects restored.changes honest)) (record {
+      named = restored.named honest;
+      right = restored.right honest;
+      closed = restored.closed honest;
+      upload = λ upload is. none_open upload _ is;
+    })
+
+-- the state stays whole where one tenant's account and part of the vault change so
+pub whole_set : (old new : HostState) (t : List ℕ) (account after : Account) → IsWhole old → get old.accounts t ≡ Some account → new.accounts ≡ insert old.accounts t after → IsOwn t old.vault new.vault → after.upload ≡ None
+    → IsOrderly (shown after new.vault t) → (IsTrue new.vault.honest → IsRight (shown after new.vault t)) → IsWhole new
+whole_set old new t account after whole here set own quiet orderly right = record {
+  orderly = orderly_after old new t account after whole.orderly here set own (λ _. orderly);
+  right = λ trusted.
+      let before = sym own.honest ∙ trusted in
+      subst IsRightWorld (sym (world_set old new t after set (own.others before))) (each_more IsRight (world_of old) t (shown after new.vault t) (right trusted) (whole.right before));
+  there = λ q. own.there q ∙ whole.there q ∙ sym (known_still old new t q account after here set);
+  staged = λ q other is. rests q other (eq_by_cmp name_cmp q t) refl is;
+}
+  where
+    rests : (q : List ℕ) (other : Account) (b : Bool) → eq_by_cmp name_cmp q t ≡ b → get new.accounts q ≡ Some other → staged_in new.vault q ≡ uploaded other.upload
+    rests q other true same is = ap (staged_in new.vault) (tied_names q t same) ∙ own.quiet
+    rests q other false apart is =
+        none_of (staged_in new.vault q)
+        (ap (λ (p : Measures × Measures). p.1) (own.shape q (λ same. distinct t q same apart)) ∙ ap measures_of (whole.staged q other (sym (at_other old new t q after set apart) ∙ is)))
+
+-- a tenant of a view
+pub account_shown : (state : HostState) (t : List ℕ) (view : View) → get (world_of state) t ≡ Some view → (account : Account) × (get state.accounts t ≡ Some account) × (shown account state.vault t ≡ view)
+account_shown state t view is = by (get state.accounts t) (sym (get_world state t) ∙ is)
+  where
+    by : (o : Option Account) → option_map (λ a. shown a state.vault t) o ≡ Some view → (account : Account) × (o ≡ Some account) × (shown account state.vault t ≡ view)
+    by None none = absurd (cc)
+    by (Some account) same = (account, refl, ap (λ v. unwrap_or v (shown account state.vault t)) same)
+
+-- a tenant that was added is there
+pub added_there : (world after : World) (t name : List ℕ) (view : View) → name ≡ t → after ≡ insert world name view → get after t ≡ Some view
+added_there world after t name view same added =
+    ap (λ (w : World). get w t) (added ∙ ap (λ n. insert world n view) same) ∙ get-insert name_total world t view t ∙ ap (λ b. cond b (Some view) (get world t)) ((eq_by_cmp_equiv name_total).refl t)

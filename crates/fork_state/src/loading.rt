@@ -1,13 +1,47 @@
+ghost use Rattle.std.specs.Prelude.{◌≡◌, IfErr, IfOk, IsTrue, ℕ};
+ghost use Rattle.state_text.specs.Fault.{IsWrongLine};
+ghost use Rattle.state_text.specs.States.{States};
+ghost use Rattle.state_text.specs.Text.{IsStateText};
+ghost use Rattle.fork_host.specs.Shown.{Trusted};
+
 use crate::fault::LoadFault;
-use fork_host::Host;
+use fork_host::{Host, RestoreError};
 use loose_store::LooseFiles;
+use state_text::{StateFault, read};
 use std::alloc::Global;
 
-/// The host of this state, over this store.
+/// The host of this state, over the store that holds its objects. The text is judged first, then what it
+/// tells.
 pub fn load<S: LooseFiles + Drop>(
-    _alloc: Global,
-    _text: &[u8],
-    _files: S,
-) -> Result<Host<S>, LoadFault> {
-    Err(LoadFault::Memory)
+    alloc: Global,
+    text: &[u8],
+    files: S,
+) -> Result<Host<S>, LoadFault>
+    ensures text { IfOk result (λ host. (states : States) × IsStateText states text.now) }
+    ensures line { IfErr result (λ fault. (number : ℕ) → fault ≡ LoadFault.Line number → IsWrongLine text.now number) }
+    ensures trusted { IfOk result (λ host. IsTrue (S.honest files) → Trusted host) }
+{
+    let states = match read(alloc, text) {
+        Ok(states) => states,
+        Err(StateFault::Line(number)) => return Err(LoadFault::Line(number)),
+        Err(StateFault::Memory) => return Err(LoadFault::Memory),
+    };
+    match Host::restore(alloc, files, states) {
+        Ok(host) => Ok(host),
+        Err(error) => Err(of_restore(error)),
+    }
+}
+
+// How what stands against a restored host is told.
+fn of_restore(error: RestoreError) -> LoadFault
+    ensures { (number : ℕ) → result ≡ LoadFault.Line number → ⊥ }
+{
+    match error {
+        RestoreError::Lost(name) => LoadFault::Lost(name),
+        RestoreError::Damaged(name) => LoadFault::Damaged(name),
+        RestoreError::Unsound(name) => LoadFault::Unsound(name),
+        RestoreError::OverLimit(tenant) => LoadFault::OverLimit(tenant),
+        RestoreError::Store => LoadFault::Store,
+        RestoreError::Memory => LoadFault::Memory,
+    }
 }

@@ -2,6 +2,7 @@ pub mod AddingLemmas
 pub mod BoundLemmas
 pub mod FaultLemmas
 pub mod HandleLemmas
+pub mod KeepingLemmas
 pub mod OwnLemmas
 pub mod PushLemmas
 pub mod QueryLemmas

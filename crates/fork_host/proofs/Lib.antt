@@ -3,6 +3,7 @@ pub mod BoundLemmas
 pub mod FaultLemmas
 pub mod GatherLemmas
 pub mod HandleLemmas
+pub mod KeepingLemmas
 pub mod OwnLemmas
 pub mod PushLemmas
 pub mod QueryLemmas

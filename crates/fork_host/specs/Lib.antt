@@ -3,6 +3,7 @@ pub mod Bounds
 pub mod Faults
 pub mod Given
 pub mod Handle
+pub mod Keeping
 pub mod Own
 pub mod Pushed
 pub mod Restored

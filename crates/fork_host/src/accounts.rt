@@ -1,11 +1,13 @@
-ghost use Rattle.std.specs.Prelude.{◌≡◌, ◌≢◌, IsTrue, List, ℕ, OnOk, OnErr, Some, None, false};
+ghost use Rattle.std.specs.Prelude.{◌≡◌, ◌≢◌, IfOk, IsTrue, List, ℕ, OnOk, OnErr, Some, None, false};
 ghost use Rattle.std.specs.FinMap as map;
 ghost use Rattle.std.specs.BTreeMap.{IsUnchanged, Updates};
 ghost use Rattle.git_name.specs.Name.{name_cmp};
 ghost use Rattle.fork_request.specs.Asked.{ask_of};
 ghost use Rattle.fork_request.specs.Told.{is_done};
 ghost use Rattle.fork_model.specs.Runs.{Asks};
+ghost use Rattle.fork_model.specs.Sound.{IsOrderlyWorld};
 ghost use Rattle.fork_model.specs.World.{Steps};
+ghost use Rattle.state_text.specs.Kept.{states_of};
 ghost use Rattle.fork_host.specs.Adding.{new_account};
 ghost use Rattle.fork_host.specs.Bounds.{IsBounded};
 ghost use Rattle.fork_model.specs.Answer.{answer};
@@ -16,12 +18,14 @@ ghost use Rattle.fork_host.specs.Sent.{sent_by, sent_in_world};
 ghost use Rattle.fork_host.specs.Shape.{SameShape};
 ghost use Rattle.fork_host.specs.Shown.{Account, IsWhole, Trusted, shown, state_of, world_of};
 
+use crate::keeping::keep_tenant;
 use crate::own::Own;
 use crate::repositories::Repositories;
 use crate::tenant::Tenant;
 use fork_ledger::Vault;
 use fork_request::{Refusal, Reply, Request, TenantName};
 use loose_store::LooseFiles;
+use state_text::States;
 use std::alloc::{AllocError, Global};
 use std::collections::BTreeMap;
 use std::marker::Model;
@@ -97,6 +101,23 @@ impl Accounts {
             return;
         };
         tenant.settle(repositories);
+    }
+
+    // What outlives the host's process, tenant by tenant.
+    pub(crate) fn states<S: LooseFiles>(
+        &self,
+        alloc: Global,
+        vault: &Vault<S>,
+    ) -> Result<States, AllocError>
+        requires { IsOrderlyWorld (world_of (state_of self.now vault.now)) }
+        ensures { IfOk result (λ states. states ≡ states_of (world_of (state_of self.now vault.now))) }
+    {
+        let mut states = States::new(alloc);
+        for (name, tenant) in self.tenants.iter() {
+            let state = tenant.state(alloc, vault, name)?;
+            keep_tenant(&mut states, state)?;
+        }
+        Ok(states)
     }
 
     // Answers a tenant's request from its account and its own part of the vault.

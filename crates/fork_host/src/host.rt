@@ -8,6 +8,7 @@ ghost use Rattle.fork_model.specs.Runs.{Asks, HostAsks};
 ghost use Rattle.fork_model.specs.Sound.{IsOrderlyWorld, IsRightWorld};
 ghost use Rattle.fork_model.specs.View.{View};
 ghost use Rattle.fork_model.specs.World.{Steps, Explains, IsUnfaulted, alone, own, told};
+ghost use Rattle.state_text.specs.Kept.{states_of};
 ghost use Rattle.fork_ledger.specs.Store.{IsOver, LeavesStore};
 ghost use Rattle.fork_ledger.specs.Tenants.{with_tenant};
 ghost use Rattle.fork_host.specs.Adding.{new_account, new_view, refusal_to_add};
@@ -23,6 +24,7 @@ use fork_ledger::{Vault, VaultFault};
 use fork_model::{MAX_TENANTS, a_run_is_private, what_runs_show_was_seen_or_sent};
 use fork_request::{HostRequest, MAX_LIMIT, Refusal, Reply, Request, TenantName};
 use loose_store::LooseFiles;
+use state_text::States;
 use std::alloc::{AllocError, Global};
 use std::marker::Model;
 use thiserror::Error;
@@ -84,6 +86,17 @@ impl<S: LooseFiles> Host<S> {
         ensures right { Trusted self.now → IsRightWorld (world_of self.now) }
     {
         self.accounts.len()
+    }
+
+    /// What of the host outlives its process: of each tenant its limit, its repositories and the names
+    /// of the objects that it sees. Open uploads are not in it.
+    pub fn states(&self, alloc: Global) -> Result<States, NoMemory>
+        ensures { IfOk result (λ states. states ≡ states_of (world_of self.now)) }
+    {
+        let Ok(states) = self.accounts.states(alloc, &self.vault) else {
+            return Err(NoMemory);
+        };
+        Ok(states)
     }
 
     /// Adds a tenant that sees nothing and may use so many bytes. Where it fails, the host is as it

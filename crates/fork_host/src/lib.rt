@@ -9,6 +9,7 @@ mod add_error;
 mod both;
 mod host;
 mod items;
+mod keeping;
 mod open_error;
 mod own;
 mod pruning;

@@ -1,4 +1,4 @@
-ghost use Rattle.std.specs.Prelude.{◌≡◌, ◌≤◌, ◌++◌, ℕ, List, Contains, length, OnOk, OnErr, IfOk, IfErr, Ok, Err, Some, true};
+ghost use Rattle.std.specs.Prelude.{◌≡◌, ◌≤◌, ◌++◌, ℕ, List, [], Contains, length, OnOk, OnErr, IfOk, IfErr, Ok, Err, Some, true};
 ghost use Rattle.std.specs.Option.{option_copied};
 ghost use Rattle.std.specs.FinMap as map;
 ghost use Rattle.std.specs.BTreeMap.{IsUnchanged, Updates};
@@ -6,10 +6,14 @@ ghost use Rattle.git_name.specs.Name.{name_cmp};
 ghost use Rattle.git_reftx.specs.Transaction.{References, transacted};
 ghost use Rattle.git_reftx.specs.Judging.{TellsTransacted};
 ghost use Rattle.fork_model.specs.Answer.{targets_of};
+ghost use Rattle.fork_model.specs.declared.limits.TheConstants.{MAX_REPOSITORIES};
+ghost use Rattle.fork_host.specs.Keeping.{with_repositories};
 
+use crate::keeping::keep_repository;
 use fork_request::RepositoryName;
 use git_name::Name;
 use git_reftx::{ApplyError, Command, Known, Refs};
+use state_text::TenantState;
 use std::alloc::{AllocError, Global};
 use std::collections::BTreeMap;
 use std::marker::Model;
@@ -121,6 +125,19 @@ impl Repositories {
             add_targets(&mut names, references)?;
         }
         Ok(names)
+    }
+
+    // Puts each, with a copy of its references, behind the repositories of a tenant's state.
+    pub(crate) fn keep(&self, state: &mut TenantState) -> Result<(), AllocError>
+        requires none { state.old.repositories ≡ [] }
+        requires few { map.len self.now ≤ MAX_REPOSITORIES }
+        ensures { OnOk result (state.new ≡ with_repositories state.old (map.entries self.now)) }
+    {
+        for (name, references) in self.repositories.iter() {
+            let references = references.copy()?;
+            keep_repository(state, name.copy(), references)?;
+        }
+        Ok(())
     }
 
     // Takes out the one of this name, if it is there. It takes no memory.

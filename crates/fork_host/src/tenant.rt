@@ -9,6 +9,7 @@ ghost use Rattle.fork_host.specs.Safe.{IsSafe};
 ghost use Rattle.fork_host.specs.Sent.{sent_by};
 ghost use Rattle.fork_host.specs.Shown.{shown};
 
+mod keeping;
 mod objects;
 mod pushes;
 mod queries;

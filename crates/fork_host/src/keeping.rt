@@ -1,0 +1,66 @@
+// What is put behind the others of a state that outlives the host's process. Each is asked for in order
+// and within the limits, so that nothing but want of memory may refuse it.
+ghost use Rattle.std.specs.Prelude.{◌≡◌, ◌<◌, ◌++◌, ◌∷◌, [], OnOk, length, map};
+ghost use Rattle.fork_model.specs.declared.limits.TheConstants.{MAX_REPOSITORIES, MAX_TENANTS};
+ghost use Rattle.state_text.specs.Adding.{AreBefore, with_repository, with_seen};
+ghost use Rattle.state_text.specs.States.{Ascend};
+ghost use Rattle.fork_host.specs.Keeping.{with_names};
+
+use fork_request::RepositoryName;
+use git_name::Name;
+use git_reftx::Refs;
+use state_text::{AddError, States, TenantState};
+use std::alloc::AllocError;
+
+// Puts a tenant's state behind the others.
+pub(crate) fn keep_tenant(states: &mut States, tenant: TenantState) -> Result<(), AllocError>
+    requires before { AreBefore (map (λ other. other.name) states.old) tenant.name }
+    requires room { length states.old < MAX_TENANTS }
+    ensures { OnOk result (states.new ≡ states.old ++ tenant ∷ []) }
+{
+    match states.push(tenant) {
+        Ok(()) => Ok(()),
+        Err(AddError::Memory) => Err(AllocError),
+        Err(_) => unreachable!(),
+    }
+}
+
+// Puts a repository behind the others of a tenant.
+pub(crate) fn keep_repository(
+    tenant: &mut TenantState,
+    name: RepositoryName,
+    references: Refs,
+) -> Result<(), AllocError>
+    requires before { AreBefore (map (λ repository. repository.0) tenant.old.repositories) name }
+    requires room { length tenant.old.repositories < MAX_REPOSITORIES }
+    ensures { OnOk result (tenant.new ≡ with_repository tenant.old name references) }
+{
+    match tenant.add_repository(name, references) {
+        Ok(()) => Ok(()),
+        Err(AddError::Memory) => Err(AllocError),
+        Err(_) => unreachable!(),
+    }
+}
+
+// Puts the name of an object behind the others that a tenant sees.
+fn keep_name(tenant: &mut TenantState, name: Name) -> Result<(), AllocError>
+    requires { AreBefore tenant.old.seen name }
+    ensures { OnOk result (tenant.new ≡ with_seen tenant.old name) }
+{
+    match tenant.add_seen(name) {
+        Ok(()) => Ok(()),
+        Err(AddError::Memory) => Err(AllocError),
+        Err(_) => unreachable!(),
+    }
+}
+
+// Puts the names of objects behind the others that a tenant sees.
+pub(crate) fn keep_names(tenant: &mut TenantState, names: Vec<Name>) -> Result<(), AllocError>
+    requires { Ascend (tenant.old.seen ++ names.items) }
+    ensures { OnOk result (tenant.new ≡ with_names tenant.old names.items) }
+{
+    for name in names {
+        keep_name(tenant, name)?;
+    }
+    Ok(())
+}

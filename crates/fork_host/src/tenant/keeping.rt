@@ -1,0 +1,34 @@
+// What of a tenant outlives the host's process.
+ghost use Rattle.std.specs.Prelude.{◌≡◌, IfOk};
+ghost use Rattle.fork_model.specs.Sound.{IsOrderly};
+ghost use Rattle.state_text.specs.Kept.{kept_of};
+ghost use Rattle.fork_host.specs.Shown.{shown};
+
+use crate::keeping::keep_names;
+use crate::tenant::Tenant;
+use fork_ledger::Vault;
+use fork_request::TenantName;
+use loose_store::LooseFiles;
+use state_text::TenantState;
+use std::alloc::{AllocError, Global};
+
+impl Tenant {
+    // The tenant's limit, its repositories and the names of the objects that it sees.
+    pub(crate) fn state<S: LooseFiles>(
+        &self,
+        alloc: Global,
+        vault: &Vault<S>,
+        name: &TenantName,
+    ) -> Result<TenantState, AllocError>
+        requires { IsOrderly (shown self.now vault.now name.now) }
+        ensures { IfOk result (λ state. state ≡ kept_of (name.now, shown self.now vault.now name.now)) }
+    {
+        let names = vault.names(alloc, name)?;
+        let Some(mut state) = TenantState::new(alloc, name.copy(), self.limit) else {
+            unreachable!();
+        };
+        self.repositories.keep(&mut state)?;
+        keep_names(&mut state, names)?;
+        Ok(state)
+    }
+}

@@ -110,7 +110,13 @@ impl<S: LooseFiles + Drop> Host<S> {
         let Ok(()) = self.add_tenant(alloc, name.copy(), limit) else {
             return Err(RestoreError::Memory);
         };
-        match self.refill(alloc, &name, limit, repositories.as_slice(), seen.as_slice()) {
+        match self.refill(
+            alloc,
+            &name,
+            limit,
+            repositories.as_slice(),
+            seen.as_slice(),
+        ) {
             Ok(()) => Ok(()),
             Err(Against::Objects(error)) => Err(error),
             Err(Against::Targets(error)) => {

@@ -7,8 +7,10 @@ mod command;
 mod error;
 mod grant;
 mod grants;
+mod hosting;
 mod table;
 
 pub use crate::command::{Command, command_of};
 pub use crate::error::CommandError;
 pub use crate::grant::Grant;
+pub use crate::hosting::Hosting;

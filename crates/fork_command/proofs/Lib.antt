@@ -1,3 +1,4 @@
+pub mod AskedLemmas
 pub mod EnteredLemmas
 pub mod Examples
 pub mod GivenLemmas

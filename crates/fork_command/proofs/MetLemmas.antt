@@ -19,11 +19,11 @@ both_halves {X} {A} {B} (Some x) f g a b first second =
 pub text_is : (s t : List ℕ) (r : Bool) → r ≡ bytes_eq s t → r ≡ true → s ≡ t
 text_is s t r e is = (bytes_eq-Decides s t).0 (sym e ∙ is)
 
-abbrev rows_met : Option (Text × List Row) → List Row
+abbrev pub rows_met : Option (Text × List Row) → List Row
 rows_met None = []
 rows_met (Some p) = p.1
 
-abbrev first_letter : Option (Text × List Row) → ℕ
+abbrev pub first_letter : Option (Text × List Row) → ℕ
 first_letter None = 0
 first_letter (Some p) = slice_index p.0 0
 

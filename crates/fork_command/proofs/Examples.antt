@@ -76,6 +76,10 @@ pub more_connections_are_faulty : fault_of table_app (codes "forkhost" ∷ codes
 unfolding clap_on_literals table_app
 more_connections_are_faulty = refl
 
+pub a_sign_and_zeros_are_passed_over : option_map (λ p. connections_given p.1) (subcommand_of table_app (codes "forkhost" ∷ codes "serve" ∷ codes "--socket=s" ∷ codes "--connections=+007" ∷ [])) ≡ Some (Some 7)
+unfolding clap_on_literals table_app
+a_sign_and_zeros_are_passed_over = refl
+
 pub check_is_asked : option_map {U = Text × Option Text} (λ p. (p.0, first_of (codes "dir") p.1)) (subcommand_of table_app (codes "forkhost" ∷ codes "check" ∷ codes "--dir" ∷ codes "d" ∷ [])) ≡ Some (codes "check", Some (codes "d"))
 unfolding clap_on_literals table_app
 check_is_asked = refl

@@ -4,9 +4,9 @@
 #![tactic(auto)]
 
 mod fault;
-mod load;
-mod save;
+mod loading;
+mod saving;
 
 pub use crate::fault::LoadFault;
-pub use crate::load::load;
-pub use crate::save::save;
+pub use crate::loading::load;
+pub use crate::saving::save;

@@ -1,27 +1,14 @@
--- Words in which clap finds no fault name a subcommand of the table.
-use Rattle.std.proofs.Common.{◌≡◌, inl, inr, Bool, true, false, cond, codes, List, [], ◌∷◌, Option, Some, None, is_some, refl, sym, ap, subst}
-use Rattle.std.specs.List.{find}
-use Rattle.std.specs.Option.{option_map}
-use Rattle.clap.specs.Words.{App, Kinds, Row, Shape, Text, fault_of, subcommand_of}
-use Rattle.clap.specs.Kinds.{or_else}
-use Rattle.clap.specs.Faults.{check_fault, defaults_fault, entered_fault, level_fault, settle_fault, walk_fault}
+-- Words in which clap finds no fault name a subcommand of the table, and give it what it needs.
+use Rattle.std.proofs.Common.{◌≡◌, Bool, true, false, cond, codes, List, [], ◌∷◌, Option, Some, None, is_some, refl, ap}
+use Rattle.std.specs.Option.{option_map, option_map_or}
+use Rattle.clap.specs.Words.{Row, Shape, Text, fault_of, first_of, subcommand_of}
+use Rattle.clap.specs.Faults.{check_fault, entered_fault, level_fault}
 use Rattle.clap.specs.Simple.{argument_words, built, entered, label_of, names_of, rows_at}
-use Rattle.clap.specs.Walk.{Held, Names, answers_to, finished, nothing_held, rows_after, settled, stop_after, walk, walk_from}
+use Rattle.clap.specs.Walk.{answers_to, nothing_held, rows_after, stop_after}
 use Rattle.clap.specs.declared.error.kind.ErrorKind.TheVariants.{MissingSubcommand}
-use Rattle.fork_command.specs.Command.{IsMet}
-use Rattle.fork_command.specs.Table.{table_app}
-
-or_else_last : (a b : Kinds) → or_else a b ≡ [] → b ≡ []
-or_else_last [] b none = none
-or_else_last (kind ∷ kinds) b none = absurd (cc)
-
--- a level without a fault passes the last checks
-level_last : (s : Shape) (names : Names) (h : Held) (words : List Text) (has : Bool) (below : Kinds) → level_fault s names h words has below ≡ []
-    → check_fault s (finished s.rules (walk s.rules names h words).held) has ≡ []
-level_last s names h words has below none =
-    let end = (walk s.rules names h words).held in
-    or_else_last (defaults_fault (settled s.rules end).rows s.rules) _
-    (or_else_last (settle_fault s.rules s.args_override_self end) _ (or_else_last below _ (or_else_last (walk_fault s names (walk_from h) words) _ none)))
+use Rattle.fork_command.specs.Command.{HasServeWords, IsMet, ToCheck, ToHash, ToRun, ToServe}
+use Rattle.fork_command.specs.Table.{check_app, hash_object_app, run_app, serve_app, table_app}
+use Rattle.fork_command.proofs.NeededLemmas.{check_words, level_below, level_last, serve_words, standing}
 
 -- those of the table ask for a subcommand
 checked : (rows : List Row) (has : Bool) → check_fault (built table_app).top rows has ≡ [] → has ≡ true
@@ -29,25 +16,31 @@ unfolding table_app
 checked rows true none = refl
 checked rows false none = (let bad : MissingSubcommand ∷ [] ≡ [] = none in absurd (cc))
 
--- one of two subcommands
-one_of_two : (x y : Shape) (words : List Text) → x.name ≡ codes "hash-object" → y.name ≡ codes "run" → (t u : Bool)
-    → is_some (option_map (λ s. rows_at s words) (cond t (Some x) (cond u (Some y) None))) ≡ true → IsMet (option_map (λ s. rows_at s words) (cond t (Some x) (cond u (Some y) None)))
-one_of_two x y words first second true u some = inl (rows_after x.rules [] words, ap (λ (name : Text). Some (name, rows_after x.rules [] words)) first)
-one_of_two x y words first second false true some = inr (rows_after y.rules [] words, ap (λ (name : Text). Some (name, rows_after y.rules [] words)) second)
-one_of_two x y words first second false false some = absurd (cc)
+-- a subcommand finds no fault in the words
+abbrev Takes : Shape → List Text → Type 0
+Takes s words = level_fault s [] nothing_held words false [] ≡ []
 
-at_stop : (a : App) (x y : Shape) → a.subs ≡ x ∷ y ∷ [] → x.name ≡ codes "hash-object" → y.name ≡ codes "run" → (stop : Option (Text × List Text))
-    → is_some (entered a stop) ≡ true → IsMet (entered a stop)
-at_stop a x y subs first second None some = absurd (cc)
-at_stop a x y subs first second (Some p) some =
-    let rows = (λ (ss : List Shape). option_map (λ s. rows_at s p.1) (find (λ s. answers_to p.0 (label_of s)) ss)) in
-    let there : is_some (rows (x ∷ y ∷ [])) ≡ true = subst (λ ss. is_some (rows ss) ≡ true) subs some in
-    subst (λ ss. IsMet (rows ss)) (sym subs) (one_of_two x y p.1 first second (answers_to p.0 (label_of x)) (answers_to p.0 (label_of y)) there)
+-- one of four subcommands, the last two of which need words
+one_of_four : (w x y z : Shape) (words : List Text) → w.name ≡ codes "hash-object" → x.name ≡ codes "run" → y.name ≡ codes "serve" → z.name ≡ codes "check"
+    → (Takes y words → HasServeWords (rows_after y.rules [] words)) → (Takes z words → is_some (first_of (codes "dir") (rows_after z.rules [] words)) ≡ true)
+    → (a b c d : Bool) → (let one = cond a (Some w) (cond b (Some x) (cond c (Some y) (cond d (Some z) None))) in
+    is_some (option_map (λ s. rows_at s words) one) ≡ true → option_map_or (λ s. level_fault s [] nothing_held words false []) one [] ≡ [] → IsMet (option_map (λ s. rows_at s words) one))
+one_of_four w x y z words first second third fourth serves checks true b c d some none = ToHash (rows_after w.rules [] words) (ap (λ (name : Text). Some (name, rows_after w.rules [] words)) first)
+one_of_four w x y z words first second third fourth serves checks false true c d some none = ToRun (rows_after x.rules [] words) (ap (λ (name : Text). Some (name, rows_after x.rules [] words)) second)
+one_of_four w x y z words first second third fourth serves checks false false true d some none =
+    ToServe (rows_after y.rules [] words) (ap (λ (name : Text). Some (name, rows_after y.rules [] words)) third) (serves none)
+one_of_four w x y z words first second third fourth serves checks false false false true some none =
+    ToCheck (rows_after z.rules [] words) (ap (λ (name : Text). Some (name, rows_after z.rules [] words)) fourth) (checks none)
+one_of_four w x y z words first second third fourth serves checks false false false false some none = absurd (cc)
 
 -- the table's subcommands
-entered_one : (stop : Option (Text × List Text)) → is_some (entered (built table_app) stop) ≡ true → IsMet (entered (built table_app) stop)
+at_stop : (stop : Option (Text × List Text)) → is_some (entered (built table_app) stop) ≡ true → entered_fault (built table_app) stop ≡ [] → IsMet (entered (built table_app) stop)
 unfolding table_app
-entered_one stop some = at_stop (built table_app) _ _ refl refl refl stop some
+at_stop None some none = absurd (cc)
+at_stop (Some p) some none =
+    let answers = (λ (s : Shape). answers_to p.0 (label_of s)) in
+    one_of_four (standing hash_object_app) (standing run_app) (standing serve_app) (standing check_app) p.1 refl refl refl refl (serve_words p.1) (check_words p.1)
+    (answers (standing hash_object_app)) (answers (standing run_app)) (answers (standing serve_app)) (answers (standing check_app)) some none
 
 -- where clap finds no fault, it met a subcommand of the table
 pub met_of : (texts : List Text) → fault_of table_app texts ≡ [] → IsMet (subcommand_of table_app texts)
@@ -55,5 +48,6 @@ met_of texts none =
     let a = built table_app in
     let words = argument_words table_app texts in
     let stop = stop_after a.top.rules (names_of a) words in
-    let rows = finished a.top.rules (walk a.top.rules (names_of a) nothing_held words).held in
-    entered_one stop (checked rows (is_some (entered a stop)) (level_last a.top (names_of a) nothing_held words (is_some (entered a stop)) (entered_fault a stop) none))
+    let has = is_some (entered a stop) in
+    at_stop stop (checked (rows_after a.top.rules (names_of a) words) has (level_last a.top (names_of a) words has (entered_fault a stop) none))
+    (level_below a.top (names_of a) words has (entered_fault a stop) none)

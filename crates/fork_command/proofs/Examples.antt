@@ -1,9 +1,9 @@
 -- Command lines that are written out, as the definitions compute them.
-use Rattle.std.proofs.Common.{◌≡◌, ℕ, Some, List, [], ◌∷◌, codes, option_map, refl}
-use Rattle.clap.specs.Words.{Text, fault_of, subcommand_of}
-use Rattle.clap.specs.declared.error.kind.ErrorKind.TheVariants.{DisplayHelp, MissingSubcommand, UnknownArgument}
+use Rattle.std.proofs.Common.{◌≡◌, ℕ, Option, Some, None, List, [], ◌∷◌, codes, option_map, refl}
+use Rattle.clap.specs.Words.{Text, fault_of, first_of, subcommand_of}
+use Rattle.clap.specs.declared.error.kind.ErrorKind.TheVariants.{ArgumentConflict, DisplayHelp, MissingRequiredArgument, MissingSubcommand, UnknownArgument, ValueValidation}
 use Rattle.clap.proofs.OnLiterals.{clap_on_literals}
-use Rattle.fork_command.specs.Command.{tenants_given, type_given}
+use Rattle.fork_command.specs.Command.{connections_given, tenants_given, type_given}
 use Rattle.fork_command.specs.Table.{table_app}
 
 pub hash_object_is_taken : fault_of table_app (codes "forkhost" ∷ codes "hash-object" ∷ []) ≡ []
@@ -30,9 +30,67 @@ pub nothing_is_faulty : fault_of table_app (codes "forkhost" ∷ []) ≡ Missing
 unfolding clap_on_literals table_app
 nothing_is_faulty = refl
 
-pub dir_is_faulty : fault_of table_app (codes "forkhost" ∷ codes "run" ∷ codes "--dir" ∷ codes "x" ∷ []) ≡ UnknownArgument ∷ []
+pub dir_is_given : option_map {U = Option Text × List Text} (λ p. (first_of (codes "dir") p.1, tenants_given p.1)) (subcommand_of table_app (codes "forkhost" ∷ codes "run" ∷ codes "alice=1" ∷ codes "--dir" ∷ codes "/a b" ∷ codes "bob=2" ∷ [])) ≡ Some (Some (codes "/a b"), codes "alice=1" ∷ codes "bob=2" ∷ [])
 unfolding clap_on_literals table_app
-dir_is_faulty = refl
+dir_is_given = refl
+
+pub run_needs_no_dir : option_map (λ p. first_of (codes "dir") p.1) (subcommand_of table_app (codes "forkhost" ∷ codes "run" ∷ [])) ≡ Some None
+unfolding clap_on_literals table_app
+run_needs_no_dir = refl
+
+pub two_dirs_are_faulty : fault_of table_app (codes "forkhost" ∷ codes "run" ∷ codes "--dir" ∷ codes "x" ∷ codes "--dir=y" ∷ []) ≡ ArgumentConflict ∷ []
+unfolding clap_on_literals table_app
+two_dirs_are_faulty = refl
+
+pub run_takes_no_socket : fault_of table_app (codes "forkhost" ∷ codes "run" ∷ codes "--socket" ∷ codes "x" ∷ []) ≡ UnknownArgument ∷ []
+unfolding clap_on_literals table_app
+run_takes_no_socket = refl
+
+pub serve_is_taken : fault_of table_app (codes "forkhost" ∷ codes "serve" ∷ codes "--socket" ∷ codes "s" ∷ codes "--connections" ∷ codes "2" ∷ codes "alice=1" ∷ []) ≡ []
+unfolding clap_on_literals table_app
+serve_is_taken = refl
+
+pub serve_is_asked : option_map {U = Text × Option Text × Option ℕ × Option Text × List Text} (λ p. (p.0, first_of (codes "socket") p.1, connections_given p.1, first_of (codes "dir") p.1, tenants_given p.1))
+    (subcommand_of table_app (codes "forkhost" ∷ codes "serve" ∷ codes "alice=1" ∷ codes "--dir=d" ∷ codes "--connections=12" ∷ codes "--socket" ∷ codes "s" ∷ []))
+    ≡ Some (codes "serve", Some (codes "s"), Some 12, Some (codes "d"), codes "alice=1" ∷ [])
+unfolding clap_on_literals table_app
+serve_is_asked = refl
+
+pub serve_wants_its_socket : fault_of table_app (codes "forkhost" ∷ codes "serve" ∷ codes "--connections" ∷ codes "2" ∷ []) ≡ MissingRequiredArgument ∷ []
+unfolding clap_on_literals table_app
+serve_wants_its_socket = refl
+
+pub serve_wants_its_connections : fault_of table_app (codes "forkhost" ∷ codes "serve" ∷ codes "--socket" ∷ codes "s" ∷ []) ≡ MissingRequiredArgument ∷ []
+unfolding clap_on_literals table_app
+serve_wants_its_connections = refl
+
+pub no_connections_are_faulty : fault_of table_app (codes "forkhost" ∷ codes "serve" ∷ codes "--socket=s" ∷ codes "--connections=0" ∷ []) ≡ ValueValidation ∷ []
+unfolding clap_on_literals table_app
+no_connections_are_faulty = refl
+
+pub a_million_connections_are_taken : fault_of table_app (codes "forkhost" ∷ codes "serve" ∷ codes "--socket=s" ∷ codes "--connections=1000000" ∷ []) ≡ []
+unfolding clap_on_literals table_app
+a_million_connections_are_taken = refl
+
+pub more_connections_are_faulty : fault_of table_app (codes "forkhost" ∷ codes "serve" ∷ codes "--socket=s" ∷ codes "--connections=1000001" ∷ []) ≡ ValueValidation ∷ []
+unfolding clap_on_literals table_app
+more_connections_are_faulty = refl
+
+pub a_sign_and_zeros_are_passed_over : option_map (λ p. connections_given p.1) (subcommand_of table_app (codes "forkhost" ∷ codes "serve" ∷ codes "--socket=s" ∷ codes "--connections=+007" ∷ [])) ≡ Some (Some 7)
+unfolding clap_on_literals table_app
+a_sign_and_zeros_are_passed_over = refl
+
+pub check_is_asked : option_map {U = Text × Option Text} (λ p. (p.0, first_of (codes "dir") p.1)) (subcommand_of table_app (codes "forkhost" ∷ codes "check" ∷ codes "--dir" ∷ codes "d" ∷ [])) ≡ Some (codes "check", Some (codes "d"))
+unfolding clap_on_literals table_app
+check_is_asked = refl
+
+pub check_wants_its_dir : fault_of table_app (codes "forkhost" ∷ codes "check" ∷ []) ≡ MissingRequiredArgument ∷ []
+unfolding clap_on_literals table_app
+check_wants_its_dir = refl
+
+pub check_takes_no_tenant : fault_of table_app (codes "forkhost" ∷ codes "check" ∷ codes "--dir=d" ∷ codes "alice=1" ∷ []) ≡ UnknownArgument ∷ []
+unfolding clap_on_literals table_app
+check_takes_no_tenant = refl
 
 pub help_is_asked : fault_of table_app (codes "forkhost" ∷ codes "run" ∷ codes "--help" ∷ []) ≡ DisplayHelp ∷ []
 unfolding clap_on_literals table_app

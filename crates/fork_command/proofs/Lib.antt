@@ -1,5 +1,10 @@
+pub mod AskedLemmas
 pub mod EnteredLemmas
 pub mod Examples
+pub mod GivenLemmas
 pub mod GrantLemmas
+pub mod KeptLemmas
 pub mod MetLemmas
+pub mod NeededLemmas
+pub mod ServeLemmas
 pub mod TableLemmas

@@ -1,7 +1,9 @@
 -- What the subcommand that clap met says.
-use Rattle.std.proofs.Common.{◌≡◌, ◌∙◌, sym, ap, Option, Some, None, List, ℕ, Bool, true}
+use Rattle.std.proofs.Common.{◌≡◌, ◌≢◌, ◌∙◌, sym, ap, subst, arith, codes, is_some, slice_index, Option, Some, None, List, [], ℕ, Bool, true}
 use Rattle.std.specs.Option.{option_map}
 use Rattle.std.specs.Str.{bytes_eq}
+use Rattle.clap.specs.Words.{Row, Text, first_of}
+use Rattle.fork_command.specs.Command.{IsMet, ToCheck, ToHash, ToRun, ToServe}
 use Rattle.std.proofs.lemmas.Slice.Eq.{bytes_eq-Decides}
 
 -- two halves that are known of an option's pair are the pair
@@ -17,7 +19,25 @@ both_halves {X} {A} {B} (Some x) f g a b first second =
 pub text_is : (s t : List ℕ) (r : Bool) → r ≡ bytes_eq s t → r ≡ true → s ≡ t
 text_is s t r e is = (bytes_eq-Decides s t).0 (sym e ∙ is)
 
+abbrev pub rows_met : Option (Text × List Row) → List Row
+rows_met None = []
+rows_met (Some p) = p.1
+
+abbrev pub first_letter : Option (Text × List Row) → ℕ
+first_letter None = 0
+first_letter (Some p) = slice_index p.0 0
+
 -- where no subcommand was met
 pub none_met : {X A B : Type 0} (o : Option X) (f : X → A) (g : X → B) (p : A × B) → None ≡ option_map f o → option_map {U = A × B} (λ x. (f x, g x)) o ≡ Some p → ⊥
 none_met None f g p none some = absurd (cc)
 none_met (Some x) f g p none some = absurd (cc)
+
+other_letter : {X : Type 0} (n : ℕ) → n ≡ 99 → n ≢ 99 → X
+other_letter n is differs = absurd (differs is)
+
+-- where `check` was met, a folder is given
+pub check_met : (met : Option (Text × List Row)) (rows : List Row) → IsMet met → met ≡ Some (codes "check", rows) → is_some (first_of (codes "dir") rows) ≡ true
+check_met met rows (ToHash others is) check = other_letter 104 (ap first_letter (sym is ∙ check)) (omega arith)
+check_met met rows (ToRun others is) check = other_letter 114 (ap first_letter (sym is ∙ check)) (omega arith)
+check_met met rows (ToServe others is words) check = other_letter 115 (ap first_letter (sym is ∙ check)) (omega arith)
+check_met met rows (ToCheck others is some) check = subst (λ (rs : List Row). is_some (first_of (codes "dir") rs) ≡ true) (ap rows_met (sym is ∙ check)) some

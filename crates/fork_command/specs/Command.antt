@@ -1,11 +1,13 @@
 -- What the command line asks for (own), by `clap`'s meaning of the words under the table.
-use Rattle.std.specs.Prelude.{◌≡◌, ◌≢◌, ◌⊎◌, ℕ, Bool, false, List, [], codes, Option, Some, unwrap_or}
-use Rattle.clap.specs.Words.{IsAmong, Kinds, Row, Text, all_of, first_of, kind_of}
+use Rattle.std.specs.Prelude.{◌≡◌, ◌≢◌, ◌⊎◌, ◌≤◌, ℕ, Bool, false, List, [], codes, Option, Some, is_some, option_map, pos, true, unwrap_or}
+use Rattle.std.specs.Str.Parse.{digits_value, without_leading_plus}
+use Rattle.clap.specs.Words.{IsAmong, IsSignedIn, Kinds, Row, Text, all_of, first_of, kind_of, one_of, without_minus}
 use Rattle.clap.specs.declared.error.kind.ErrorKind.TheVariants.{DisplayHelp}
 use Rattle.git_name.specs.declared.kind.Kind.{Kind}
 use Rattle.git_name.specs.Kind.{type_word}
 use Rattle.fork_command.specs.declared.command.Command.{Command}
-use Rattle.fork_command.specs.declared.command.Command.TheVariants.{HashObject, Run}
+use Rattle.fork_command.specs.declared.command.Command.TheVariants.{HashObject, Run, Serve, Check}
+use Rattle.fork_command.specs.declared.hosting.Hosting.{Hosting}
 use Rattle.fork_command.specs.declared.error.CommandError.{CommandError}
 use Rattle.fork_command.specs.declared.error.CommandError.TheVariants.{Help, Usage, BadTenant, Memory}
 use Rattle.fork_command.specs.Grant.{AreGrants, IsFirstBad}
@@ -18,22 +20,51 @@ type_given rows = unwrap_or (first_of (codes "type") rows) (codes "blob")
 abbrev pub tenants_given : List Row → List (List ℕ)
 tenants_given rows = unwrap_or (all_of (codes "tenants") rows) []
 
+-- the number given as N, as `clap` reads it
+abbrev pub connections_given : List Row → Option ℕ
+connections_given rows = option_map (λ text. digits_value 10 (without_leading_plus text)) (one_of (codes "connections") rows)
+
+-- what is hosted: the folder given by `--dir`, if any, and the tenants
+pub record IsHosting (rows : List Row) (hosting : Hosting) : Type 0 where
+  pub dir : option_map (λ dir. dir.now) hosting.dir ≡ first_of (codes "dir") rows
+  pub tenants : AreGrants hosting.tenants.items (tenants_given rows)
+
+-- what `serve` is asked for
+pub record IsServing (rows : List Row) (path : Text) (n : ℕ) (hosting : Hosting) : Type 0 where
+  pub socket : first_of (codes "socket") rows ≡ Some path
+  pub connections : connections_given rows ≡ Some n
+  pub least : 1 ≤ n
+  pub most : n ≤ 1000000
+  pub hosted : IsHosting rows hosting
+
 -- the subcommand that `clap` met, and the words given to it, ask for this command
 abbrev pub Asks : Option (Text × List Row) → Command → Type 0
 Asks met (HashObject kind) = (rows : List Row) × (met ≡ Some (codes "hash-object", rows)) × (type_given rows ≡ type_word kind)
-Asks met (Run tenants) = (rows : List Row) × (met ≡ Some (codes "run", rows)) × AreGrants tenants.items (tenants_given rows)
+Asks met (Run hosting) = (rows : List Row) × (met ≡ Some (codes "run", rows)) × IsHosting rows hosting
+Asks met (Serve socket connections hosting) = (rows : List Row) × (met ≡ Some (codes "serve", rows)) × IsServing rows socket.now connections hosting
+Asks met (Check dir) = (rows : List Row) × (met ≡ Some (codes "check", rows)) × (first_of (codes "dir") rows ≡ Some dir.now)
 
--- `clap` met a subcommand of the table
-abbrev pub IsMet : Option (Text × List Row) → Type 0
-IsMet met = ((rows : List Row) × (met ≡ Some (codes "hash-object", rows))) ⊎ ((rows : List Row) × (met ≡ Some (codes "run", rows)))
+-- the words have what `serve` needs: a socket, and a text that `clap` takes for N
+pub record HasServeWords (rows : List Row) : Type 0 where
+  pub socket : is_some (first_of (codes "socket") rows) ≡ true
+  pub text : Text
+  pub connections : one_of (codes "connections") rows ≡ Some (without_minus text)
+  pub number : IsSignedIn (pos 1) (pos 1000000) text
+
+-- `clap` met a subcommand of the table, and the words that it needs
+pub data IsMet (met : Option (Text × List Row)) : Type 0 where
+  ToHash : (rows : List Row) → met ≡ Some (codes "hash-object", rows) → IsMet met
+  ToRun : (rows : List Row) → met ≡ Some (codes "run", rows) → IsMet met
+  ToServe : (rows : List Row) → met ≡ Some (codes "serve", rows) → HasServeWords rows → IsMet met
+  ToCheck : (rows : List Row) → met ≡ Some (codes "check", rows) → is_some (first_of (codes "dir") rows) ≡ true → IsMet met
 
 -- the word given as TYPE is the type of no object
 abbrev pub IsBadType : Option (Text × List Row) → Type 0
 IsBadType met = (rows : List Row) × (met ≡ Some (codes "hash-object", rows)) × ((kind : Kind) → type_given rows ≢ type_word kind)
 
--- this is the first word given to `run` that is no grant
+-- this is the first word given to `run` or to `serve` that is no grant
 abbrev pub IsBadTenant : Option (Text × List Row) → List ℕ → Type 0
-IsBadTenant met word = (rows : List Row) × (met ≡ Some (codes "run", rows)) × IsFirstBad word (tenants_given rows)
+IsBadTenant met word = (rows : List Row) × ((met ≡ Some (codes "run", rows)) ⊎ (met ≡ Some (codes "serve", rows))) × IsFirstBad word (tenants_given rows)
 
 -- why the words are refused: `faults` are the kinds of error that `clap` finds in them, none where it takes them
 abbrev pub IsRefused : Kinds → Option (Text × List Row) → CommandError → Type 0

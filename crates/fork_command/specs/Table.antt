@@ -1,19 +1,48 @@
 -- What the command line takes (own), as `clap` reads it.
-use Rattle.std.specs.Prelude.{codes, Some, true}
-use Rattle.clap.specs.Words.{App, new_app, new_rule, with_rule, with_subcommand}
+use Rattle.std.specs.Prelude.{codes, pos, Some, true}
+use Rattle.clap.specs.Words.{App, Rule, Text, new_app, new_rule, with_rule, with_subcommand}
 use Rattle.clap.specs.declared.builder.ArgAction.TheVariants.{Set, Append}
+use Rattle.clap.specs.declared.builder.value_parser.ValueParser.TheVariants.{Signed}
+
+-- `--NAME VALUE`, once at most
+abbrev pub option_rule : Text → Rule
+option_rule name = record (new_rule name) { long = Some name; action = Some Set; value_names = 1 }
+
+-- the same, where it must be given
+abbrev pub needed_rule : Text → Rule
+needed_rule name = record (option_rule name) { required = true }
+
+-- `--connections N`, a number from 1 to 1,000,000
+abbrev pub connections_rule : Rule
+connections_rule = record (needed_rule (codes "connections")) { parser = Some (Signed (pos 1) (pos 1000000)) }
+
+-- `[TENANT=LIMIT ..]`
+abbrev pub tenants_rule : Rule
+tenants_rule = record (new_rule (codes "tenants")) { action = Some Append; value_names = 1 }
 
 -- `hash-object [--type TYPE]`
 abbrev pub hash_object_app : App
-hash_object_app = with_rule (new_app (codes "hash-object")) (record (new_rule (codes "type")) { long = Some (codes "type"); action = Some Set; value_names = 1 })
+hash_object_app = with_rule (new_app (codes "hash-object")) (option_rule (codes "type"))
 
--- `run [TENANT=LIMIT ..]`
+-- `run [--dir PATH] [TENANT=LIMIT ..]`
 abbrev pub run_app : App
-run_app = with_rule (new_app (codes "run")) (record (new_rule (codes "tenants")) { action = Some Append; value_names = 1 })
+run_app = with_rule (with_rule (new_app (codes "run")) (option_rule (codes "dir"))) tenants_rule
+
+-- `serve --socket PATH --connections N [--dir PATH] [TENANT=LIMIT ..]`
+abbrev pub serve_app : App
+serve_app =
+    with_rule
+    (with_rule
+    (with_rule (with_rule (new_app (codes "serve")) (needed_rule (codes "socket"))) connections_rule)
+    (option_rule (codes "dir"))) tenants_rule
+
+-- `check --dir PATH`
+abbrev pub check_app : App
+check_app = with_rule (new_app (codes "check")) (needed_rule (codes "dir"))
 
 -- `forkhost` and one of its subcommands
 abbrev pub top_app : App
 top_app = let top = new_app (codes "forkhost") in record top { top = record top.top { subcommand_required = true; disable_help_subcommand = true } }
 
 unfoldable pub table_app : App
-table_app = with_subcommand (with_subcommand top_app hash_object_app.top) run_app.top
+table_app = with_subcommand (with_subcommand (with_subcommand (with_subcommand top_app hash_object_app.top) run_app.top) serve_app.top) check_app.top

@@ -1,27 +1,40 @@
-ghost use Rattle.std.specs.Prelude.{◌≡◌, ◌≢◌, Bool, IfOk, IfErr, IfSome, IfNone, List, [], Option, codes, map, option_map, true, unwrap_or};
-ghost use Rattle.clap.specs.Words.{HasKind, Kinds, Row, Text, fault_of, found_of, kind_of, rows_of, subcommand_of, subcommand_rows_of, takes};
+ghost use Rattle.std.specs.Prelude.{◌≡◌, ◌≢◌, ◌⊎◌, Bool, IfOk, IfErr, IfSome, IfNone, List, [], Option, Some, codes, is_some, map, option_map, true, unwrap_or};
+ghost use Rattle.clap.specs.Words.{HasKind, Kinds, Row, Text, fault_of, first_of, found_of, kind_of, rows_of, subcommand_of, subcommand_rows_of, takes};
 ghost use Rattle.git_name.specs.declared.kind.Kind.{Kind};
 ghost use Rattle.git_name.specs.Kind.{type_word};
-ghost use Rattle.fork_command.specs.Grant.{AreGrants, IsBadGrant};
+ghost use Rattle.fork_command.specs.Grant.{IsBadGrant};
 ghost use Rattle.fork_command.specs.Table.{table_app};
-ghost use Rattle.fork_command.specs.Command.{Asks, IsBadType, IsFaulty, IsMet, IsRefused, tenants_given};
+ghost use Rattle.fork_command.specs.Command.{Asks, HasServeWords, IsBadType, IsFaulty, IsMet, IsRefused, tenants_given};
 
 use crate::error::CommandError;
-use crate::grant::Grant;
-use crate::grants::grants_of;
+use crate::hosting::{Hosting, hosting_of};
 use crate::table::table;
 use clap::error::ErrorKind;
 use clap::{ArgMatches, Error};
 use git_name::Kind;
 use std::alloc::Global;
 
-/// What the command line asks for.
+/// What the command line asks for. A path is as it was written.
 #[derive(Debug, Drop)]
-pub enum Command {
+pub enum Command<'a> {
     /// To print the name of the object of this kind that standard input holds.
-    HashObject { kind: Kind },
-    /// To serve frames from standard input to standard output, for these tenants.
-    Run { tenants: Vec<Grant> },
+    HashObject {
+        kind: Kind,
+    },
+    /// To serve frames from standard input to standard output.
+    Run {
+        hosting: Hosting<'a>,
+    },
+    /// To serve this many connections to a Unix socket, one after another.
+    Serve {
+        socket: &'a str,
+        connections: u32,
+        hosting: Hosting<'a>,
+    },
+    /// To read all that a folder keeps, and to tell what is wrong with it.
+    Check {
+        dir: &'a str,
+    },
 }
 
 // What clap's refusal of the words is.
@@ -47,19 +60,31 @@ fn kind_given(word: Option<&str>) -> Option<Kind>
     Kind::from_word(word.as_bytes())
 }
 
-// The tenants given to `run`.
-fn tenants_of<'a>(alloc: Global, matches: &ArgMatches<'a>) -> Result<Vec<Grant>, CommandError<'a>>
-    ensures ok { IfOk result (λ grants. AreGrants grants.items (tenants_given (rows_of (found_of matches.entry.now)))) }
+// What the words given to `serve` ask for.
+fn serving<'a>(alloc: Global, matches: &ArgMatches<'a>) -> Result<Command<'a>, CommandError<'a>>
+    requires words { HasServeWords (rows_of (found_of matches.now)) }
+    ensures ok { IfOk result (Asks (Some (codes "serve", rows_of (found_of matches.entry.now)))) }
     ensures err { IfErr result (IsBadGrant (tenants_given (rows_of (found_of matches.entry.now)))) }
 {
-    match matches.get_strs("tenants") {
-        Some(words) => grants_of(alloc, words),
-        None => Ok(Vec::new(alloc)),
-    }
+    let Some(socket) = matches.get_str("socket") else {
+        unreachable!();
+    };
+    let Some(connections) = matches.get_one::<u32>("connections") else {
+        unreachable!();
+    };
+    let hosting = hosting_of(alloc, matches)?;
+    Ok(Command::Serve {
+        socket,
+        connections,
+        hosting,
+    })
 }
 
 // What the words ask for that clap took; nothing where TYPE is bad.
-fn asked<'a>(alloc: Global, matches: &ArgMatches<'a>) -> Result<Option<Command>, CommandError<'a>>
+fn asked<'a>(
+    alloc: Global,
+    matches: &ArgMatches<'a>,
+) -> Result<Option<Command<'a>>, CommandError<'a>>
     requires met { IsMet (subcommand_rows_of matches.now) }
     ensures some { IfOk result (λ o. IfSome o (Asks (subcommand_rows_of matches.entry.now))) }
     ensures none { IfOk result (λ o. IfNone o (IsBadType (subcommand_rows_of matches.entry.now))) }
@@ -75,8 +100,18 @@ fn asked<'a>(alloc: Global, matches: &ArgMatches<'a>) -> Result<Option<Command>,
         return Ok(Some(Command::HashObject { kind }));
     }
     if name == "run" {
-        let tenants = tenants_of(alloc, matches)?;
-        return Ok(Some(Command::Run { tenants }));
+        let hosting = hosting_of(alloc, matches)?;
+        return Ok(Some(Command::Run { hosting }));
+    }
+    if name == "serve" {
+        let command = serving(alloc, matches)?;
+        return Ok(Some(command));
+    }
+    if name == "check" {
+        let Some(dir) = matches.get_str("dir") else {
+            unreachable!();
+        };
+        return Ok(Some(Command::Check { dir }));
     }
     unreachable!()
 }
@@ -93,8 +128,8 @@ fn bad_type<'a>(top: &mut clap::Command<'_>) -> CommandError<'a>
 }
 
 /// What the words ask for; the first of them is the program's name. Each word in the place of
-/// TENANT=LIMIT is judged before any command is answered.
-pub fn command_of<'a>(alloc: Global, words: &'a [&'a str]) -> Result<Command, CommandError<'a>>
+/// TENANT=LIMIT is judged before any command is answered, and after all that `clap` judges.
+pub fn command_of<'a>(alloc: Global, words: &'a [&'a str]) -> Result<Command<'a>, CommandError<'a>>
     ensures ok { let texts = map (λ word. word.now) words.entry.now in
         IfOk result (λ command. (fault_of table_app texts ≡ []) × Asks (subcommand_of table_app texts) command) }
     ensures err { let texts = map (λ word. word.now) words.entry.now in

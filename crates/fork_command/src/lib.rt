@@ -7,8 +7,12 @@ mod command;
 mod error;
 mod grant;
 mod grants;
+mod hosting;
+mod laws;
 mod table;
 
 pub use crate::command::{Command, command_of};
 pub use crate::error::CommandError;
 pub use crate::grant::Grant;
+pub use crate::hosting::Hosting;
+pub use crate::laws::what_is_asked_is_not_refused;

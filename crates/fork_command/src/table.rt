@@ -1,9 +1,10 @@
-ghost use Rattle.std.specs.Prelude.{◌≡◌, IfOk, false};
+ghost use Rattle.std.specs.Prelude.{◌≡◌, IfOk, codes, false};
+ghost use Rattle.clap.specs.Walk.{rule_of};
 ghost use Rattle.clap.specs.Words.{app_of};
 ghost use Rattle.clap.specs.declared.builder.command.Command.TheViews.{out-Command};
-ghost use Rattle.fork_command.specs.Table.{hash_object_app, run_app, table_app};
+ghost use Rattle.fork_command.specs.Table.{check_app, connections_rule, hash_object_app, needed_rule, option_rule, run_app, serve_app, table_app, tenants_rule};
 
-use clap::{Arg, ArgAction, Command};
+use clap::{Arg, ArgAction, Command, value_parser};
 use std::alloc::{AllocError, Global};
 
 fn hash_object<'a>(alloc: Global) -> Result<Command<'a>, AllocError>
@@ -20,27 +21,93 @@ fn hash_object<'a>(alloc: Global) -> Result<Command<'a>, AllocError>
         .arg(kind)
 }
 
+fn dir<'a>(alloc: Global) -> Arg<'a>
+    ensures rule { rule_of result ≡ option_rule (codes "dir") }
+    ensures local { result.global ≡ false }
+{
+    Arg::new(alloc, "dir")
+        .long("dir")
+        .value_name("PATH")
+        .help("The folder that keeps the host")
+        .action(ArgAction::Set)
+}
+
+fn tenants<'a>(alloc: Global) -> Arg<'a>
+    ensures rule { rule_of result ≡ tenants_rule }
+    ensures local { result.global ≡ false }
+{
+    Arg::new(alloc, "tenants")
+        .value_name("TENANT=LIMIT")
+        .help("A tenant to add, and its limit in bytes")
+        .action(ArgAction::Append)
+}
+
 fn run<'a>(alloc: Global) -> Result<Command<'a>, AllocError>
     ensures table { IfOk result (λ c. app_of c ≡ run_app) }
     ensures local { IfOk result (λ c. (out-Command c).has_globals ≡ false) }
 {
-    let tenants = Arg::new(alloc, "tenants")
-        .value_name("TENANT=LIMIT")
-        .help("A tenant to add, and its limit in bytes")
-        .action(ArgAction::Append);
     Command::new(alloc, "run")
         .about("Serve request frames from standard input to standard output")
-        .arg(tenants)
+        .arg(dir(alloc))?
+        .arg(tenants(alloc))
+}
+
+fn socket<'a>(alloc: Global) -> Arg<'a>
+    ensures rule { rule_of result ≡ needed_rule (codes "socket") }
+    ensures local { result.global ≡ false }
+{
+    Arg::new(alloc, "socket")
+        .long("socket")
+        .value_name("PATH")
+        .help("The Unix socket to listen on")
+        .required(true)
+        .action(ArgAction::Set)
+}
+
+fn connections<'a>(alloc: Global) -> Arg<'a>
+    ensures rule { rule_of result ≡ connections_rule }
+    ensures local { result.global ≡ false }
+{
+    Arg::new(alloc, "connections")
+        .long("connections")
+        .value_name("N")
+        .help("How many connections to serve, one after another")
+        .required(true)
+        .action(ArgAction::Set)
+        .value_parser(value_parser!(u32).range(1..=1_000_000))
+}
+
+fn serve<'a>(alloc: Global) -> Result<Command<'a>, AllocError>
+    ensures table { IfOk result (λ c. app_of c ≡ serve_app) }
+    ensures local { IfOk result (λ c. (out-Command c).has_globals ≡ false) }
+{
+    Command::new(alloc, "serve")
+        .about("Serve request frames on a Unix socket")
+        .arg(socket(alloc))?
+        .arg(connections(alloc))?
+        .arg(dir(alloc))?
+        .arg(tenants(alloc))
+}
+
+fn check<'a>(alloc: Global) -> Result<Command<'a>, AllocError>
+    ensures table { IfOk result (λ c. app_of c ≡ check_app) }
+    ensures local { IfOk result (λ c. (out-Command c).has_globals ≡ false) }
+{
+    Command::new(alloc, "check")
+        .about("Read all that a folder keeps, and tell what is wrong with it")
+        .arg(dir(alloc).required(true))
 }
 
 /// What the command line takes.
 pub(crate) fn table<'a>(alloc: Global) -> Result<Command<'a>, AllocError>
     ensures table { IfOk result (λ c. app_of c ≡ table_app) }
-    ensures local { IfOk result (λ c. (out-Command c).has_globals ≡ false) }
 {
     let top = Command::new(alloc, "forkhost")
         .about("The core of a Git host for many tenants")
         .subcommand_required(true)
         .disable_help_subcommand(true);
-    top.subcommand(hash_object(alloc)?)?.subcommand(run(alloc)?)
+    top.subcommand(hash_object(alloc)?)?
+        .subcommand(run(alloc)?)?
+        .subcommand(serve(alloc)?)?
+        .subcommand(check(alloc)?)
 }

@@ -1,2 +1,4 @@
 pub mod TakenLemmas
-pub mod RunningLemmas
+pub mod GivenLemmas
+pub mod HostingLemmas
+pub mod VisitLemmas

@@ -7,7 +7,7 @@ use Rattle.git_name.specs.Object.{object_name}
 use Rattle.git_object.specs.Object.{ObjectValue, IsObject}
 use Rattle.push_stream.specs.declared.record.TheConstants.{MAX_CONTENT}
 use Rattle.forkhost.specs.declared.fault.Fault.{Fault}
-use Rattle.forkhost.specs.declared.fault.Fault.TheVariants.{TooLarge, BadObject, BadFrame, Read, Write, Memory, There, TooManyTenants}
+use Rattle.forkhost.specs.declared.fault.Fault.TheVariants.{TooLarge, BadObject, Read, Write, Memory}
 
 -- the bytes are an object of this kind
 abbrev pub IsOfKind : Kind → List ℕ → Type 0
@@ -29,13 +29,9 @@ pub record IsContent (input : Option (List ℕ)) (content : List ℕ) : Type 0 w
 -- why the input was not read whole
 abbrev pub IsUnread : Option (List ℕ) → Fault → Type 0
 IsUnread input TooLarge = IsTooLarge input
-IsUnread input BadObject = ⊥
-IsUnread input BadFrame = ⊥
 IsUnread input Read = ⊤
-IsUnread input Write = ⊥
 IsUnread input Memory = ⊤
-IsUnread input (There tenant) = ⊥
-IsUnread input TooManyTenants = ⊥
+IsUnread input _ = ⊥
 
 -- the input is an object of the kind, and its name went out
 abbrev pub IsNamed : Kind → Option (List ℕ) → Option (List ℕ) → Option (List ℕ) → Type 0
@@ -45,9 +41,7 @@ IsNamed kind input before after = (content : List ℕ) × IsContent input conten
 abbrev pub IsUnnamed : Kind → Option (List ℕ) → Option (List ℕ) → Option (List ℕ) → Fault → Type 0
 IsUnnamed kind input before after TooLarge = IsTooLarge input × Keeps before after
 IsUnnamed kind input before after BadObject = (content : List ℕ) × IsContent input content × (¬ IsOfKind kind content) × Keeps before after
-IsUnnamed kind input before after BadFrame = ⊥
 IsUnnamed kind input before after Read = Keeps before after
 IsUnnamed kind input before after Write = (content : List ℕ) × IsContent input content × IsOfKind kind content
 IsUnnamed kind input before after Memory = Keeps before after
-IsUnnamed kind input before after (There tenant) = ⊥
-IsUnnamed kind input before after TooManyTenants = ⊥
+IsUnnamed kind input before after _ = ⊥

@@ -1,4 +1,7 @@
 pub mod Fault
 pub mod Hashing
+pub mod Given
+pub mod Keeping
 pub mod Running
+pub mod Serving
 pub mod Program

@@ -6,12 +6,14 @@ use Rattle.clap.specs.declared.error.kind.ErrorKind.TheVariants.{DisplayHelp}
 use Rattle.fork_command.specs.Command.{Asks, IsRefused}
 use Rattle.fork_command.specs.Table.{table_app}
 use Rattle.fork_command.specs.declared.command.Command.{Command}
-use Rattle.fork_command.specs.declared.command.Command.TheVariants.{HashObject, Run}
+use Rattle.fork_command.specs.declared.command.Command.TheVariants.{HashObject, Run, Serve, Check}
 use Rattle.fork_command.specs.declared.error.CommandError.TheVariants as refusal
 use Rattle.fork_frame.specs.declared.ended.Ended.TheVariants.{Clean}
 use Rattle.forkhost.specs.Fault.{fault_line}
 use Rattle.forkhost.specs.Hashing.{IsNamed, IsUnnamed}
-use Rattle.forkhost.specs.Running.{IsRun, IsUnserved, IsUntouched}
+use Rattle.forkhost.specs.Keeping.{IsUnchecked, IsUntouched, sound_line}
+use Rattle.forkhost.specs.Running.{IsRun, IsUnserved}
+use Rattle.forkhost.specs.Serving.{IsListened, IsUnlistened}
 use Rattle.forkhost.specs.declared.ending.Ending.{Ending}
 use Rattle.forkhost.specs.declared.ending.Ending.TheVariants.{Done, Failed, Misused, BadTenant}
 use Rattle.forkhost.specs.declared.fault.Fault.{Fault}
@@ -34,12 +36,16 @@ IsTold (BadTenant word) before after = Appends before after (codes "forkhost: ba
 -- the command was done
 abbrev pub IsDone : Command → Option (List ℕ) → Option (List ℕ) → Option (List ℕ) → Type 0
 IsDone (HashObject kind) input before after = IsNamed kind input before after
-IsDone (Run tenants) input before after = IsRun tenants.items input before after Clean
+IsDone (Run hosting) input before after = IsRun hosting input before after Clean
+IsDone (Serve socket connections hosting) input before after = IsListened hosting connections × Keeps before after
+IsDone (Check dir) input before after = Appends before after sound_line
 
 -- why it was not
 abbrev pub IsUndone : Command → Option (List ℕ) → Option (List ℕ) → Option (List ℕ) → Option (List ℕ) → Fault → Type 0
 IsUndone (HashObject kind) input left before after fault = IsUnnamed kind input before after fault
-IsUndone (Run tenants) input left before after fault = IsUnserved tenants.items input left before after fault
+IsUndone (Run hosting) input left before after fault = IsUnserved hosting input left before after fault
+IsUndone (Serve socket connections hosting) input left before after fault = IsUnlistened hosting connections fault × IsUntouched input left before after
+IsUndone (Check dir) input left before after fault = IsUnchecked before after fault × Keeps input left
 
 -- all is well
 pub data IsWell (kinds : Kinds) (met : Option (Text × List Row)) (input left before after : Option (List ℕ)) : Type 0 where

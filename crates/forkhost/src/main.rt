@@ -1,25 +1,36 @@
-//! `forkhost`, the core of a Git host for many tenants: names objects, and serves request frames from
-//! standard input to standard output.
+//! `forkhost`, the core of a Git host for many tenants: names objects, serves request frames from
+//! standard input to standard output or at a Unix socket, and checks the folder that keeps a host.
 #![tactic(auto)]
 
+mod check;
+mod connections;
 mod content;
 mod ending;
 mod fault;
 mod hash_object;
+mod keeping;
+mod listening;
 mod program;
 mod run;
 mod send;
+mod serve;
+mod telling;
+mod tenants;
 #[cfg(test)]
 mod tests;
 
 use program::{Untold, program};
+use std::fs::{File, Files};
 use std::io::{BufReader, BufWriter, Write};
+use std::net::Net;
 use std::process::ExitCode;
 use std::rt::Env;
 use std::{env, io};
 
 // Runs the program on what the process was given, and answers its exit status.
-fn started<R: Env + AllocGlobal + Input + Print + Eprint>(rt: &R) -> io::Result<u8> {
+fn started<R: Env + AllocGlobal + Input + Print + Eprint + Files<File = File> + Net>(
+    rt: &R,
+) -> io::Result<u8> {
     let alloc = rt.alloc();
     let mut texts = Vec::new(alloc);
     let args = match env::args(rt) {
@@ -42,13 +53,7 @@ fn started<R: Env + AllocGlobal + Input + Print + Eprint>(rt: &R) -> io::Result<
     let mut reader = BufReader::new(alloc, rt.reader())?;
     let mut writer = BufWriter::new(alloc, io::writer(rt))?;
     let mut faults = Vec::new(alloc);
-    let status = match program(
-        alloc,
-        words.as_slice(),
-        &mut reader,
-        &mut writer,
-        &mut faults,
-    ) {
+    let status = match program(rt, words.as_slice(), &mut reader, &mut writer, &mut faults) {
         Ok(status) => status,
         Err(Untold { status }) => status,
     };

@@ -2,15 +2,19 @@ ghost use Rattle.std.specs.Prelude.{◌≡◌, ◌≢◌, ◌≤◌, ℕ, IfErr,
 ghost use Rattle.std.specs.Io.KnownBytes.{Appends, Keeps};
 ghost use Rattle.forkhost.specs.Program.{Ends, IsDone, IsEnded, IsEndedAndTold, IsUndone};
 
+use crate::check::check;
 use crate::ending::Ending;
 use crate::fault::Fault;
 use crate::hash_object::hash_object;
 use crate::run::run;
 use crate::send::send;
+use crate::serve::serve;
 use clap::Error;
 use fork_command::{Command, CommandError, command_of};
 use std::alloc::Global;
+use std::fs::{File, Files};
 use std::io::{Read, Write};
+use std::net::Net;
 
 /// What belongs on standard error could not be written, or not wholly. The exit status stays what it is.
 #[derive(Clone, Copy, Debug, PartialEq, Eq)]
@@ -19,20 +23,27 @@ pub struct Untold {
 }
 
 // Carries the command out.
-fn carried_out<R: Read, W: Write>(
+fn carried_out<H: Files<File = File> + Net + AllocGlobal, R: Read, W: Write>(
+    rt: &H,
     alloc: Global,
-    command: Command,
+    command: Command<'_>,
     reader: &mut R,
     writer: &mut W,
 ) -> Result<(), Fault>
-    ensures ok { OnOk result (IsDone command (R.remaining reader.old)
+    ensures ok { OnOk result (IsDone command.entry (R.remaining reader.old)
         (W.contents writer.old) (W.contents writer.new)) }
-    ensures err { IfErr result (IsUndone command (R.remaining reader.old) (R.remaining reader.new)
+    ensures err { IfErr result (IsUndone command.entry (R.remaining reader.old) (R.remaining reader.new)
         (W.contents writer.old) (W.contents writer.new)) }
 {
     match command {
         Command::HashObject { kind } => hash_object(alloc, kind, reader, writer),
-        Command::Run { tenants } => run(alloc, tenants, reader, writer),
+        Command::Run { hosting } => run(rt, alloc, hosting, reader, writer),
+        Command::Serve {
+            socket,
+            connections,
+            hosting,
+        } => serve(rt, alloc, socket, connections, hosting),
+        Command::Check { dir } => check(rt, alloc, dir, writer),
     }
 }
 
@@ -48,7 +59,8 @@ fn help<W: Write>(alloc: Global, error: Error, writer: &mut W) -> Result<(), Fau
 }
 
 // Does what the words ask for.
-fn ending<'a, R: Read, W: Write>(
+fn ending<'a, H: Files<File = File> + Net + AllocGlobal, R: Read, W: Write>(
+    rt: &H,
     alloc: Global,
     words: &'a [&'a str],
     reader: &mut R,
@@ -58,7 +70,7 @@ fn ending<'a, R: Read, W: Write>(
         (W.contents writer.old) (W.contents writer.new) result }
 {
     match command_of(alloc, words) {
-        Ok(command) => match carried_out(alloc, command, reader, writer) {
+        Ok(command) => match carried_out(rt, alloc, command, reader, writer) {
             Ok(()) => Ending::Done,
             Err(fault) => Ending::Failed(fault),
         },
@@ -74,8 +86,8 @@ fn ending<'a, R: Read, W: Write>(
 
 /// Does what the words ask for, of which the first is the program's name, tells on `faults` what
 /// belongs on standard error, and answers the exit status.
-pub fn program<R: Read, W: Write, F: Write>(
-    alloc: Global,
+pub fn program<H: Files<File = File> + Net + AllocGlobal, R: Read, W: Write, F: Write>(
+    rt: &H,
     words: &[&str],
     reader: &mut R,
     writer: &mut W,
@@ -88,7 +100,8 @@ pub fn program<R: Read, W: Write, F: Write>(
         (R.remaining reader.old) (R.remaining reader.new) (W.contents writer.old) (W.contents writer.new) untold.status) }
     ensures cause { IfErr result (λ untold. 1 ≤ untold.status) }
 {
-    let how = ending(alloc, words, reader, writer);
+    let alloc = rt.alloc();
+    let how = ending(rt, alloc, words, reader, writer);
     let status = how.status();
     match how.tell(alloc, faults) {
         Ok(()) => Ok(status),

@@ -1,63 +1,109 @@
-ghost use Rattle.std.specs.Prelude.{◌≡◌, IfErr, OnOk, OnErr, None, Some};
+ghost use Rattle.std.specs.Prelude.{◌≡◌, IfErr, OnOk, is_some, true};
 ghost use Rattle.fork_frame.specs.declared.ended.Ended.TheVariants.{Clean};
-ghost use Rattle.fork_host.specs.Adding.{refusal_to_add};
-ghost use Rattle.fork_host.specs.Shown.{Trusted, world_of};
-ghost use Rattle.forkhost.specs.Running.{IsRun, IsUnadded, IsUnserved, with_tenant};
+ghost use Rattle.fork_wire.specs.Sessions.{IsServed};
+ghost use Rattle.forkhost.specs.Running.{IsCutShort, IsRun, IsUnserved};
 
-use crate::fault::{Fault, of_session};
-use fork_command::Grant;
+use crate::fault::Fault;
+use crate::keeping::{kept_host, save};
+use crate::telling::of_session;
+use crate::tenants::add_tenants;
+use fork_command::Hosting;
 use fork_frame::Ended;
-use fork_host::{AddError, Host};
-use fork_request::TenantName;
+use fork_host::Host;
 use fork_wire::serve;
 use loose_store::{LooseFiles, Memory};
 use std::alloc::Global;
+use std::fs::{File, Files};
 use std::io::{Read, Write};
 
-// Adds a tenant.
-fn add<S: LooseFiles>(host: &mut Host<S>, alloc: Global, grant: Grant) -> Result<(), Fault>
-    ensures ok { OnOk result (world_of host.new ≡ with_tenant (world_of host.old) grant) }
-    ensures free { OnOk result (refusal_to_add (world_of host.old) grant.tenant grant.limit ≡ None) }
-    ensures err { IfErr result (IsUnadded (world_of host.old) grant) }
-    ensures trusted { Trusted host.old → Trusted host.new }
-{
-    let Grant { tenant, limit } = grant;
-    let Some(name) = TenantName::read(tenant.as_bytes()) else {
-        unreachable!();
-    };
-    match host.add_tenant(alloc, tenant, limit) {
-        Ok(()) => Ok(()),
-        Err(AddError::There) => Err(Fault::There(name)),
-        Err(AddError::TooMany) => Err(Fault::TooManyTenants),
-        Err(AddError::Limit) => unreachable!(),
-        Err(AddError::Memory) => Err(Fault::Memory),
-    }
-}
-
-/// Serves one session of a host that has these tenants, which see nothing at first.
-pub fn run<R: Read, W: Write>(
+// Serves one session.
+fn session<S: LooseFiles, R: Read, W: Write>(
+    host: &mut Host<S>,
     alloc: Global,
-    tenants: Vec<Grant>,
     reader: &mut R,
     writer: &mut W,
 ) -> Result<(), Fault>
-    ensures ok { OnOk result (IsRun tenants.items (R.remaining reader.old)
+    ensures ok { OnOk result (IsServed host.old host.new (R.remaining reader.old)
         (W.contents writer.old) (W.contents writer.new) Clean) }
-    ensures err { IfErr result (IsUnserved tenants.items (R.remaining reader.old) (R.remaining reader.new)
+    ensures err { IfErr result (IsCutShort host.old host.new (R.remaining reader.old)
+        (W.contents writer.old) (W.contents writer.new)) }
+{
+    match serve(host, alloc, reader, writer) {
+        Ok(Ended::Clean) => Ok(()),
+        Ok(Ended::BadFrame) => Err(Fault::BadFrame),
+        Err(fault) => Err(of_session(fault)),
+    }
+}
+
+// Serves one session of a new host.
+fn run_in_memory<R: Read, W: Write>(
+    alloc: Global,
+    hosting: Hosting<'_>,
+    reader: &mut R,
+    writer: &mut W,
+) -> Result<(), Fault>
+    ensures ok { OnOk result (IsRun hosting.entry (R.remaining reader.old)
+        (W.contents writer.old) (W.contents writer.new) Clean) }
+    ensures err { IfErr result (IsUnserved hosting.entry (R.remaining reader.old) (R.remaining reader.new)
         (W.contents writer.old) (W.contents writer.new)) }
 {
     let Ok(mut host) = Host::new(alloc, Memory::new(alloc)) else {
         return Err(Fault::Memory);
     };
-    for grant in tenants {
-        match add(&mut host, alloc, grant) {
-            Ok(()) => {}
-            Err(fault) => return Err(fault),
-        }
+    match add_tenants(&mut host, alloc, hosting.tenants) {
+        Ok(()) => {}
+        Err(fault) => return Err(fault),
     }
-    match serve(&mut host, alloc, reader, writer) {
-        Ok(Ended::Clean) => Ok(()),
-        Ok(Ended::BadFrame) => Err(Fault::BadFrame),
-        Err(fault) => Err(of_session(fault)),
+    session(&mut host, alloc, reader, writer)
+}
+
+// Serves one session of the host that a folder keeps, and saves its state, however the session ended.
+fn run_in_folder<H: Files<File = File> + AllocGlobal, R: Read, W: Write>(
+    rt: &H,
+    alloc: Global,
+    dir: &str,
+    hosting: Hosting<'_>,
+    reader: &mut R,
+    writer: &mut W,
+) -> Result<(), Fault>
+    requires { is_some hosting.dir ≡ true }
+    ensures ok { OnOk result (IsRun hosting.entry (R.remaining reader.old)
+        (W.contents writer.old) (W.contents writer.new) Clean) }
+    ensures err { IfErr result (IsUnserved hosting.entry (R.remaining reader.old) (R.remaining reader.new)
+        (W.contents writer.old) (W.contents writer.new)) }
+{
+    let mut host = match kept_host(rt, alloc, dir) {
+        Ok(host) => host,
+        Err(fault) => return Err(fault),
+    };
+    match add_tenants(&mut host, alloc, hosting.tenants) {
+        Ok(()) => {}
+        Err(fault) => return Err(fault),
+    }
+    let served = session(&mut host, alloc, reader, writer);
+    let saved = save(rt, alloc, dir, &host);
+    match served {
+        Ok(()) => saved,
+        Err(fault) => Err(fault),
+    }
+}
+
+/// Serves one session of the host that has these tenants too. What was served is saved where a folder
+/// keeps the host, also after a fault of the session.
+pub fn run<H: Files<File = File> + AllocGlobal, R: Read, W: Write>(
+    rt: &H,
+    alloc: Global,
+    hosting: Hosting<'_>,
+    reader: &mut R,
+    writer: &mut W,
+) -> Result<(), Fault>
+    ensures ok { OnOk result (IsRun hosting.entry (R.remaining reader.old)
+        (W.contents writer.old) (W.contents writer.new) Clean) }
+    ensures err { IfErr result (IsUnserved hosting.entry (R.remaining reader.old) (R.remaining reader.new)
+        (W.contents writer.old) (W.contents writer.new)) }
+{
+    match hosting.dir {
+        Some(dir) => run_in_folder(rt, alloc, dir, hosting, reader, writer),
+        None => run_in_memory(alloc, hosting, reader, writer),
     }
 }

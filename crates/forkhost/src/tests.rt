@@ -21,20 +21,15 @@ struct Outcome {
 }
 
 // Runs the program with these words behind its name on this input.
-fn ran(alloc: Global, words: &[&str], input: &[u8]) -> Result<Outcome, Fail> {
+fn ran(rt: &HostRuntime, words: &[&str], input: &[u8]) -> Result<Outcome, Fail> {
+    let alloc = rt.alloc();
     let mut all = Vec::new(alloc);
     all.push("forkhost")?;
     all.extend_from_slice(words)?;
     let mut reader = input;
     let mut written = Vec::new(alloc);
     let mut faults = Vec::new(alloc);
-    let Ok(status) = program(
-        alloc,
-        all.as_slice(),
-        &mut reader,
-        &mut written,
-        &mut faults,
-    ) else {
+    let Ok(status) = program(rt, all.as_slice(), &mut reader, &mut written, &mut faults) else {
         return Err("untold")?;
     };
     Ok(Outcome {

@@ -1,5 +1,4 @@
 use crate::program::{Untold, program};
-use std::alloc::Global;
 use std::io;
 use std::io::{ErrorKind, Write};
 use std::test::Fail;
@@ -19,10 +18,10 @@ impl Write for Closed {
 }
 
 // The status of a run that may not write what belongs on standard error, and whether it told so.
-fn untold(alloc: Global, words: &[&str]) -> (u8, bool) {
+fn untold(rt: &HostRuntime, words: &[&str]) -> (u8, bool) {
     let mut reader: &[u8] = b"";
-    let mut written = Vec::new(alloc);
-    match program(alloc, words, &mut reader, &mut written, &mut Closed) {
+    let mut written = Vec::new(rt.alloc());
+    match program(rt, words, &mut reader, &mut written, &mut Closed) {
         Ok(status) => (status, false),
         Err(Untold { status }) => (status, true),
     }
@@ -30,7 +29,6 @@ fn untold(alloc: Global, words: &[&str]) -> (u8, bool) {
 
 #[test]
 fn the_status_stays_where_nothing_can_be_told(rt: HostRuntime) {
-    let alloc = rt.alloc();
     let cases: [(&[&str], (u8, bool)); 5] = [
         (&["forkhost", "hash-object"], (0, false)),
         (&["forkhost", "--help"], (0, false)),
@@ -39,7 +37,7 @@ fn the_status_stays_where_nothing_can_be_told(rt: HostRuntime) {
         (&["forkhost", "run", "alice"], (2, true)),
     ];
     for (words, wanted) in cases {
-        assert!(rt; untold(alloc, words) == wanted, "{words:?}");
+        assert!(rt; untold(&rt, words) == wanted, "{words:?}");
     }
 }
 
@@ -54,7 +52,7 @@ fn output_that_cannot_be_written_is_a_fault(rt: HostRuntime) -> Result<(), Fail>
     for words in cases {
         let mut reader: &[u8] = b"";
         let mut faults = Vec::new(alloc);
-        let status = program(alloc, words, &mut reader, &mut Closed, &mut faults);
+        let status = program(&rt, words, &mut reader, &mut Closed, &mut faults);
         assert!(rt; status == Ok(1), "{words:?}");
         assert_eq!(rt; faults.as_slice(), b"forkhost: write\n".as_slice());
     }

@@ -159,7 +159,7 @@ fn what_is_no_frame_ends_the_session(rt: HostRuntime) -> Result<(), Fail> {
         (b"alice 0\n", b"15\nno bad-request\n"),
     ];
     for (input, output) in SESSIONS {
-        let told = ran(rt.alloc(), ["run", "alice=1000"].as_slice(), input)?;
+        let told = ran(&rt, ["run", "alice=1000"].as_slice(), input)?;
         assert!(rt; told.written.as_slice() == *output);
     }
     Ok(())

@@ -16,7 +16,7 @@ fn hears_alone(
         }
     }
     let word = format!(in alloc; "{who}={limit}")?;
-    own.is_told(alloc, ["run", word.as_str()].as_slice())
+    own.is_told(rt, ["run", word.as_str()].as_slice())
 }
 
 // Whether alice, and bob with this limit, hear this beside one another, and each the same alone.

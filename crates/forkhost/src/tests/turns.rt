@@ -176,8 +176,8 @@ impl Session {
     }
 
     /// Whether the program, run with these words, tells every reply, and no fault, and ends clean.
-    pub fn is_told(&self, alloc: Global, words: &[&str]) -> Result<bool, Fail> {
-        let told = ran(alloc, words, self.input.as_slice())?;
+    pub fn is_told(&self, rt: &HostRuntime, words: &[&str]) -> Result<bool, Fail> {
+        let told = ran(rt, words, self.input.as_slice())?;
         let is_clean = told.status == 0 && told.faults.is_empty();
         Ok(is_clean && told.written.as_slice() == self.output.as_slice())
     }
@@ -192,7 +192,7 @@ pub fn alice_hears(rt: &HostRuntime, limit: &str, pairs: &[(&str, &str)]) -> Res
         session.add(alloc, "alice", payload, reply)?;
     }
     let word = format!(in alloc; "alice={limit}")?;
-    session.is_told(alloc, ["run", word.as_str()].as_slice())
+    session.is_told(rt, ["run", word.as_str()].as_slice())
 }
 
 /// Whether the program, run with these words, answers every turn so.
@@ -206,5 +206,5 @@ pub fn both_hear(
     for (who, payload, reply) in turns {
         session.add(alloc, who, payload, reply)?;
     }
-    session.is_told(alloc, words)
+    session.is_told(rt, words)
 }

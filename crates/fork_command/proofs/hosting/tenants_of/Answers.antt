@@ -3,7 +3,7 @@ use Rattle.std.proofs.lemmas.List.Elements.{All-nil, All-same}
 use Rattle.clap.specs.Words.{Text, found_of}
 use Rattle.clap.proofs.WalkLemmas.{raw_values-rows}
 use Rattle.fork_command.specs.Grant.{AreGrants, IsBadGrant, IsGrant, grant_word}
-use Rattle.fork_command.proofs.command.tenants_of.Goals as goal
+use Rattle.fork_command.proofs.hosting.tenants_of.Goals as goal
 
 pub returns-in-Some-clause-ok : goal.returns-in-Some-clause-ok
 returns-in-Some-clause-ok c =

@@ -1,0 +1,44 @@
+ghost use Rattle.std.specs.Prelude.{IfOk, IfErr};
+ghost use Rattle.clap.specs.Words.{found_of, rows_of};
+ghost use Rattle.fork_command.specs.Grant.{AreGrants, IsBadGrant};
+ghost use Rattle.fork_command.specs.Command.{IsHosting, tenants_given};
+
+use crate::error::CommandError;
+use crate::grant::Grant;
+use crate::grants::grants_of;
+use clap::ArgMatches;
+use std::alloc::Global;
+
+/// What is hosted, and where it is kept.
+#[derive(Debug, Drop)]
+pub struct Hosting<'a> {
+    /// The folder that keeps the host, as it was written; where there is none the host is kept in
+    /// memory alone.
+    pub dir: Option<&'a str>,
+    /// The tenants to add, in the order of the words.
+    pub tenants: Vec<Grant>,
+}
+
+// The tenants that the words give.
+fn tenants_of<'a>(alloc: Global, matches: &ArgMatches<'a>) -> Result<Vec<Grant>, CommandError<'a>>
+    ensures ok { IfOk result (λ grants. AreGrants grants.items (tenants_given (rows_of (found_of matches.entry.now)))) }
+    ensures err { IfErr result (IsBadGrant (tenants_given (rows_of (found_of matches.entry.now)))) }
+{
+    match matches.get_strs("tenants") {
+        Some(words) => grants_of(alloc, words),
+        None => Ok(Vec::new(alloc)),
+    }
+}
+
+// What the words give of the host.
+pub(crate) fn hosting_of<'a>(
+    alloc: Global,
+    matches: &ArgMatches<'a>,
+) -> Result<Hosting<'a>, CommandError<'a>>
+    ensures ok { IfOk result (IsHosting (rows_of (found_of matches.entry.now))) }
+    ensures err { IfErr result (IsBadGrant (tenants_given (rows_of (found_of matches.entry.now)))) }
+{
+    let dir = matches.get_str("dir");
+    let tenants = tenants_of(alloc, matches)?;
+    Ok(Hosting { dir, tenants })
+}

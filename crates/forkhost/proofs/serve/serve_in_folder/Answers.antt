@@ -1,0 +1,24 @@
+use Rattle.forkhost.specs.Serving.{Deaf, Unbound, Unhosted, Unsaved}
+use Rattle.forkhost.proofs.HostingLemmas.{if_err_more, kept_host, on_ok_always, ungiven_kept}
+use Rattle.forkhost.proofs.serve.serve_in_folder.Goals as goal
+
+pub returns-in-Err-add_tenants-clause-err : goal.returns-in-Err-add_tenants-clause-err
+returns-in-Err-add_tenants-clause-err g c = Unhosted (ungiven_kept _ c.in-Ok.host _ c.requires c.in-Err-add_tenants.ensures.err)
+
+pub returns-in-Err-listen-clause-err : goal.returns-in-Err-listen-clause-err
+returns-in-Err-listen-clause-err g c =
+    Unbound _ (kept_host c.args.hosting c.in-Ok.host c.add_tenants.new.host c.requires c.in-Ok-add_tenants.ensures.ok) c.in-Err-listen.ensures
+
+pub returns-in-Ok-served-clause-ok : goal.returns-in-Ok-served-clause-ok
+returns-in-Ok-served-clause-ok g c =
+    let host = kept_host c.args.hosting c.in-Ok.host c.add_tenants.new.host c.requires c.in-Ok-add_tenants.ensures.ok in
+    on_ok_always c.save-saved.result (record { first = c.add_tenants.new.host; last = c.serve_at-served.new.host; host = host; served = c.in-Ok-served.ensures.ok })
+
+pub returns-in-Ok-served-clause-err : goal.returns-in-Ok-served-clause-err
+returns-in-Ok-served-clause-err g c =
+    let host = kept_host c.args.hosting c.in-Ok.host c.add_tenants.new.host c.requires c.in-Ok-add_tenants.ensures.ok in
+    if_err_more c.save-saved.result (λ fault is. Unsaved c.requires is (record { first = c.add_tenants.new.host; last = c.serve_at-served.new.host; host = host; served = c.in-Ok-served.ensures.ok })) c.save-saved.ensures
+
+pub returns-clause-err : goal.returns-clause-err
+returns-clause-err g c =
+    Deaf _ _ (kept_host c.args.hosting c.in-Ok.host c.add_tenants.new.host c.requires c.in-Ok-add_tenants.ensures.ok) c.in-Err-served.ensures.err c.in-Err-served.ensures.cause

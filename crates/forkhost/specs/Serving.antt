@@ -1,0 +1,56 @@
+-- What `serve` does (own): it adds the given tenants to a host, and serves connections to a socket, one after another.
+use Rattle.std.specs.Prelude.{◌≡◌, ◌⊎◌, ◌≤◌, ℕ, true, List, [], ◌∷◌, length, is_some}
+use Rattle.fork_command.specs.declared.hosting.Hosting.{Hosting}
+use Rattle.fork_frame.specs.declared.frame.Frame.{Frame}
+use Rattle.fork_host.specs.Shown.{HostState}
+use Rattle.fork_request.specs.declared.reply.Reply.{Reply}
+use Rattle.fork_wire.specs.Sessions.{IsAnswered}
+use Rattle.forkhost.specs.Running.{IsHostOf, IsUnhosted}
+use Rattle.forkhost.specs.declared.fault.Fault.{Fault}
+use Rattle.forkhost.specs.declared.fault.Fault.TheVariants.{Memory, NotSaved, Socket}
+
+-- what a connection, however it ended, did to the host
+pub data IsVisit (old new : HostState) : Type 0 where
+  -- nothing was asked
+  Idle : new ≡ old → IsVisit old new
+  -- each of these frames was answered
+  Asked : (frames : List Frame) (replies : List Reply) → IsAnswered old new frames replies → IsVisit old new
+
+-- the host came from the one state to the other by way of these, one behind each connection
+abbrev pub Visits : HostState → List HostState → HostState → Type 0
+Visits old [] new = old ≡ new
+Visits old (next ∷ states) new = IsVisit old next × Visits next states new
+
+-- so many connections were served
+pub record AreVisits (old new : HostState) (n : ℕ) : Type 0 where
+  pub states : List HostState
+  pub number : length states ≡ n
+  pub chain : Visits old states new
+
+-- so many at the most
+pub record AreSomeVisits (old new : HostState) (n : ℕ) : Type 0 where
+  pub states : List HostState
+  pub number : length states ≤ n
+  pub chain : Visits old states new
+
+-- so many connections to such a host were served
+pub record IsListened (hosting : Hosting) (n : ℕ) : Type 0 where
+  pub first : HostState
+  pub last : HostState
+  pub host : IsHostOf hosting first
+  pub served : AreVisits first last n
+
+-- the faults of a socket
+abbrev pub IsUnbound : Fault → Type 0
+IsUnbound fault = (fault ≡ Socket) ⊎ (fault ≡ Memory)
+
+-- why so many were not, or why the host was not kept
+pub data IsUnlistened (hosting : Hosting) (n : ℕ) (fault : Fault) : Type 0 where
+  -- there was no host
+  Unhosted : IsUnhosted hosting fault → IsUnlistened hosting n fault
+  -- the socket could not be bound
+  Unbound : (first : HostState) → IsHostOf hosting first → IsUnbound fault → IsUnlistened hosting n fault
+  -- it could not be listened on any more
+  Deaf : (first last : HostState) → IsHostOf hosting first → AreSomeVisits first last n → IsUnbound fault → IsUnlistened hosting n fault
+  -- all were served, and then the state could not be saved
+  Unsaved : is_some hosting.dir ≡ true → fault ≡ NotSaved → IsListened hosting n → IsUnlistened hosting n fault

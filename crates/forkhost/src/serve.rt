@@ -1,0 +1,109 @@
+ghost use Rattle.std.specs.Prelude.{◌≡◌, IfErr, OnErr, OnOk, is_some, true};
+ghost use Rattle.forkhost.specs.Serving.{AreSomeVisits, AreVisits, IsListened, IsUnbound, IsUnlistened};
+
+use crate::connections::serve_connections;
+use crate::fault::Fault;
+use crate::keeping::{kept_host, save};
+use crate::listening::{Listening, listen};
+use crate::tenants::add_tenants;
+use fork_command::Hosting;
+use fork_host::Host;
+use loose_store::{LooseFiles, Memory};
+use std::alloc::Global;
+use std::fs;
+use std::fs::{File, Files};
+use std::net::Net;
+
+// Serves so many connections, and then takes the socket away.
+fn serve_at<H: Files, S: LooseFiles>(
+    rt: &H,
+    alloc: Global,
+    host: &mut Host<S>,
+    listening: Listening,
+    socket: &str,
+    connections: u32,
+) -> Result<(), Fault>
+    ensures ok { OnOk result (AreVisits host.old host.new connections) }
+    ensures err { OnErr result (AreSomeVisits host.old host.new connections) }
+    ensures cause { IfErr result IsUnbound }
+{
+    let served = serve_connections(host, alloc, listening.listener(), connections);
+    let _removed = fs::remove_file(rt, socket);
+    served
+}
+
+// Serves connections to a new host.
+fn serve_in_memory<H: Files<File = File> + Net>(
+    rt: &H,
+    alloc: Global,
+    socket: &str,
+    connections: u32,
+    hosting: Hosting<'_>,
+) -> Result<(), Fault>
+    ensures ok { OnOk result (IsListened hosting.entry connections) }
+    ensures err { IfErr result (IsUnlistened hosting.entry connections) }
+{
+    let Ok(mut host) = Host::new(alloc, Memory::new(alloc)) else {
+        return Err(Fault::Memory);
+    };
+    match add_tenants(&mut host, alloc, hosting.tenants) {
+        Ok(()) => {}
+        Err(fault) => return Err(fault),
+    }
+    let listening = match listen(rt, alloc, socket) {
+        Ok(listening) => listening,
+        Err(fault) => return Err(fault),
+    };
+    serve_at(rt, alloc, &mut host, listening, socket, connections)
+}
+
+// Serves connections to the host that a folder keeps, and saves its state once it has served.
+fn serve_in_folder<H: Files<File = File> + Net + AllocGlobal>(
+    rt: &H,
+    alloc: Global,
+    dir: &str,
+    socket: &str,
+    connections: u32,
+    hosting: Hosting<'_>,
+) -> Result<(), Fault>
+    requires { is_some hosting.dir ≡ true }
+    ensures ok { OnOk result (IsListened hosting.entry connections) }
+    ensures err { IfErr result (IsUnlistened hosting.entry connections) }
+{
+    let mut host = match kept_host(rt, alloc, dir) {
+        Ok(host) => host,
+        Err(fault) => return Err(fault),
+    };
+    match add_tenants(&mut host, alloc, hosting.tenants) {
+        Ok(()) => {}
+        Err(fault) => return Err(fault),
+    }
+    let listening = match listen(rt, alloc, socket) {
+        Ok(listening) => listening,
+        Err(fault) => return Err(fault),
+    };
+    let served = serve_at(rt, alloc, &mut host, listening, socket, connections);
+    let saved = save(rt, alloc, dir, &host);
+    match served {
+        Ok(()) => saved,
+        Err(fault) => Err(fault),
+    }
+}
+
+/// Serves so many connections to a socket, each a session of the host that has these tenants too.
+/// What was served is saved where a folder keeps the host.
+pub fn serve<H: Files<File = File> + Net + AllocGlobal>(
+    rt: &H,
+    alloc: Global,
+    socket: &str,
+    connections: u32,
+    hosting: Hosting<'_>,
+) -> Result<(), Fault>
+    ensures ok { OnOk result (IsListened hosting.entry connections) }
+    ensures err { IfErr result (IsUnlistened hosting.entry connections) }
+{
+    match hosting.dir {
+        Some(dir) => serve_in_folder(rt, alloc, dir, socket, connections, hosting),
+        None => serve_in_memory(rt, alloc, socket, connections, hosting),
+    }
+}

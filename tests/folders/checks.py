@@ -1,5 +1,7 @@
 """What is shown, and how much of it was as it should be."""
+import os
 import sys
+import tempfile
 
 LONGEST = 300
 
@@ -24,6 +26,19 @@ class Checks:
     def holds(self, label, why):
         """One check: there is no reason why not."""
         self.same(label, None, why)
+
+    def show(self, shows, program):
+        """Shows each subject in a folder of its own; one that breaks off counts as a failure."""
+        with tempfile.TemporaryDirectory() as work:
+            for show in shows:
+                folder = os.path.join(work, show.__name__)
+                os.mkdir(folder)
+                try:
+                    show(self, program, folder)
+                except (OSError, ValueError) as error:
+                    self.same(show.__name__, "an end", repr(error))
+                program.stop()
+        self.end()
 
     def end(self):
         print(f"{self.passed} passed, {self.failed} failed")

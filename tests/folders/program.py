@@ -15,6 +15,16 @@ class Ran(NamedTuple):
     fault: bytes
 
 
+def ended(child, given=b""):
+    """How a process ends behind these last bytes of its input; one that does not end is killed."""
+    try:
+        output, fault = child.communicate(given, timeout=PATIENCE)
+    except subprocess.TimeoutExpired:
+        child.kill()
+        output, fault = child.communicate()
+    return Ran(child.returncode, output, fault)
+
+
 def done(output=b""):
     """A run that ended well."""
     return Ran(0, output, b"")
@@ -27,16 +37,24 @@ def failed(fault, output=b""):
 
 class Program:
     def __init__(self, path):
-        self.path = os.path.abspath(path)
+        self.path, self.running = os.path.abspath(path), []
 
     def ran(self, *words, given=b""):
-        run = subprocess.run([self.path, *words], input=given, capture_output=True, timeout=PATIENCE)
-        return Ran(run.returncode, run.stdout, run.stderr)
+        return ended(self.begun(*words), given)
 
     def begun(self, *words):
         """The program with pipes, still running."""
         pipe = subprocess.PIPE
-        return subprocess.Popen([self.path, *words], stdin=pipe, stdout=pipe, stderr=pipe)
+        child = subprocess.Popen([self.path, *words], stdin=pipe, stdout=pipe, stderr=pipe)
+        self.running = [other for other in self.running if other.poll() is None] + [child]
+        return child
+
+    def stop(self):
+        """Kills what still runs."""
+        for child in self.running:
+            if child.poll() is None:
+                child.kill()
+                child.wait()
 
     def checked(self, folder):
         return self.ran("check", "--dir", folder)

@@ -57,9 +57,8 @@ class Requests:
 
     def command(self, target):
         reference = self.chance.choice(HEADS)
-        return self.chance.choice(
-            [b"create %s %s" % (reference, target), b"update %s %s" % (reference, target), b"delete %s" % reference]
-        )
+        verb = self.chance.choice([b"create", b"update", b"delete"])
+        return b"delete " + reference if verb == b"delete" else b" ".join([verb, reference, target])
 
     def push(self):
         """A push's body: all that a tip or a tag leads to, or nearly all."""
@@ -76,13 +75,15 @@ class Requests:
     def payloads(self):
         """The payloads of one request, or of an upload in parts."""
         pick, place = self.chance.choice, self.chance.choice(REPOSITORIES)
-        kind = pick([b"push"] * 4 + [b"part", b"update-refs", b"init", b"fork", b"drop", b"prune", b"quota"] + [b"ask"] * 4)
+        changes = [b"part", b"update-refs", b"init", b"fork", b"drop", b"prune", b"quota"]
+        kind = pick([b"push"] * 4 + changes + [b"ask"] * 4)
         if kind == b"push":
             return [b"push %s\n%s" % (place, self.push())]
         if kind == b"part":
             body = self.push()
             cut = self.chance.randrange(len(body))
-            return [b"part\n" + body[:cut], b"part\n" + body[cut:], pick([b"part-end %s\n" % place] * 3 + [b"part-drop\n"])]
+            end = pick([b"part-end %s\n" % place] * 3 + [b"part-drop\n"])
+            return [b"part\n" + body[:cut], b"part\n" + body[cut:], end]
         if kind == b"update-refs":
             return [b"update-refs %s\n%s\n" % (place, self.command(pick(self.history.tips)))]
         if kind == b"init":

@@ -33,7 +33,14 @@ SECOND = commit(T, C)
 D = name_of(b"commit", SECOND)
 TAG = tag(D, b"commit")
 G = name_of(b"tag", TAG)
-OBJECTS = {B: (b"blob", BLOB), O: (b"blob", OTHER), T: (b"tree", TREE), C: (b"commit", FIRST), D: (b"commit", SECOND), G: (b"tag", TAG)}
+OBJECTS = {
+    B: (b"blob", BLOB),
+    O: (b"blob", OTHER),
+    T: (b"tree", TREE),
+    C: (b"commit", FIRST),
+    D: (b"commit", SECOND),
+    G: (b"tag", TAG),
+}
 FILES = {name: stored(*thing) for name, thing in OBJECTS.items()}
 LIMIT = 10_000
 USED = sum(len(content) + USE for _, content in OBJECTS.values())
@@ -150,18 +157,35 @@ LIMITS = {
     "one more is used": (alone(OBJECTS, MAIN, limit=USED - 1), FILES, "over limit alice"),
     "nothing is used of none": (alone([], limit=0), FILES, "sound"),
     "each tenant's use counts in full": (
-        spelled([tenant(b"alice", [B], limit=70), tenant(b"bob", [B], limit=69), tenant(b"carol", [B], limit=0)]), FILES, "over limit bob"),
+        spelled([tenant(b"alice", [B], limit=70), tenant(b"bob", [B], limit=69), tenant(b"carol", [B], limit=0)]),
+        FILES,
+        "over limit bob",
+    ),
 }
 
 ORDERS = {
     "a wrong line before what is lost": (ALL + b"x", {}, "state line 13"),
-    "objects by the text's order, whatever is wrong": (alone([B, O], limit=0), {max(B, O): b""}, f"lost {text(min(B, O))}"),
+    "objects by the text's order, whatever is wrong": (
+        alone([B, O], limit=0),
+        {max(B, O): b""},
+        f"lost {text(min(B, O))}",
+    ),
     "the later tenant's objects before references": (
-        spelled([tenant(b"alice", [B], [(b"refs/tags/o", O)]), tenant(b"bob", [O])]), lacking(O), f"lost {text(O)}"),
+        spelled([tenant(b"alice", [B], [(b"refs/tags/o", O)]), tenant(b"bob", [O])]),
+        lacking(O),
+        f"lost {text(O)}",
+    ),
     "references before use": (alone([B], (b"refs/tags/o", O), limit=0), FILES, f"unsound {text(O)}"),
     "the later tenant's references before use": (
-        spelled([tenant(b"alice", [B], limit=0), tenant(b"bob", [B], [(b"refs/heads/b", B)])]), FILES, f"unsound {text(B)}"),
-    "the earlier reference": (alone([B, O], (b"refs/heads/b", O), (b"refs/tags/x", ABSENT)), FILES, f"unsound {text(O)}"),
+        spelled([tenant(b"alice", [B], limit=0), tenant(b"bob", [B], [(b"refs/heads/b", B)])]),
+        FILES,
+        f"unsound {text(B)}",
+    ),
+    "the earlier reference": (
+        alone([B, O], (b"refs/heads/b", O), (b"refs/tags/x", ABSENT)),
+        FILES,
+        f"unsound {text(O)}",
+    ),
 }
 
 CASES = LOST | DAMAGED | UNSOUND | LIMITS | ORDERS
@@ -181,8 +205,9 @@ def altered(file, at):
 
 def pool():
     """Objects of all kinds, right ones and such as no push would take."""
-    wrong = [(b"tree", BAD_TREE), (b"tree", WRONG_KIND), (b"commit", NO_TREE), (b"commit", TREE_OF_BLOB), (b"tag", WRONG_TAG), (b"tag", NO_TAG)]
-    return FILES | named(*wrong, (b"tree", GITLINK), (b"tree", b""))
+    trees = [(b"tree", content) for content in (BAD_TREE, WRONG_KIND, GITLINK, b"")]
+    commits = [(b"commit", content) for content in (NO_TREE, TREE_OF_BLOB)]
+    return FILES | named(*trees, *commits, (b"tag", WRONG_TAG), (b"tag", NO_TAG))
 
 
 def by_chance(chance):

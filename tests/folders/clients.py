@@ -1,7 +1,6 @@
 """Clients of a socket, right ones and such as go, send garbage, or read nothing."""
 import os
 import socket
-import struct
 import threading
 import time
 
@@ -35,7 +34,8 @@ def still_serves(checks, label, serving):
 def show_many(checks, program, folder):
     """Connections one after another share the host, and so do ten that wait at once."""
     serving = served(program, folder, 15)
-    turns = [(ALICE, b"init r\n"), (BOB, b"init r\n"), (ALICE, PUSH), (BOB, b"cat-file %s\n" % B), (b"carol", b"quota\n")]
+    turns = [(ALICE, b"init r\n"), (BOB, b"init r\n"), (ALICE, PUSH)]
+    turns += [(BOB, b"cat-file %s\n" % B), (b"carol", b"quota\n")]
     wanted = [b"ok\n", b"ok\n", b"ok\n", b"no missing %s\n" % B, b"no unknown-tenant\n"]
     checks.same("two tenants in one connection", b"".join(map(framed, wanted)), serving.told(frames(turns)))
     blob = record(*OBJECTS[B])
@@ -73,18 +73,27 @@ def hang_up(stream, given):
     stream.close()
 
 
-def reset(stream, given):
-    """A client that sends this and is cut off."""
-    stream.setsockopt(socket.SOL_SOCKET, socket.SO_LINGER, struct.pack("ii", 1, 0))
-    hang_up(stream, given)
+def turn_away(stream, given):
+    """A client that sends this, reads the first byte of what it is told, and goes."""
+    stream.sendall(given)
+    stream.recv(1)
+    stream.close()
+
+
+def turn_deaf(stream, given):
+    """A client that sends this and will read nothing."""
+    stream.shutdown(socket.SHUT_RD)
+    send_all(stream, given)
+    stream.close()
 
 
 def show_gone_clients(checks, program, folder):
-    garbage = [b"\n", b"bob", b"bob 6", b"bob 06\nquota\n", b"bob 1048577\n", b"GET / HTTP/1.1\r\n\r\n", b"\x16\x03\x01" * 100, b"\0" * 100_000]
+    garbage = [b"\n", b"bob 06\nquota\n", b"bob 1048577\n", b"GET / HTTP/1.1\r\n\r\n", b"\0" * 100_000]
     cuts = [QUOTA[:length] for length in range(1, len(QUOTA))]
     pending = [GREAT_ASK, GREAT_ASK * 50, QUOTA * 3000]
-    ways = (hang_up, reset)
-    count = 1 + 2 * (len(garbage) + len(cuts)) + 2 * len(ways) * (len(cuts) + len(pending)) + 2
+    gone = [(hang_up, text) for text in cuts + pending]
+    gone += [(way, text) for way in (turn_away, turn_deaf) for text in pending]
+    count = 1 + 2 * (len(garbage) + len(cuts)) + 2 * len(gone) + 2
     serving = served(program, folder, count)
     given = frames([(ALICE, b"init r\n"), (ALICE, GREAT_PUSH)])
     checks.same("a great object is pushed", framed(b"ok\n") * 2, serving.told(given))
@@ -93,10 +102,9 @@ def show_gone_clients(checks, program, folder):
             send_all(stream, text)
             checks.same(f"the reply to {text[:40]!r}", BAD, to_end(stream))
         still_serves(checks, f"behind {text[:40]!r}", serving)
-    for way in ways:
-        for text in cuts + pending:
-            way(serving.client(), text)
-            still_serves(checks, f"{way.__name__} behind {text[:40]!r}", serving)
+    for way, text in gone:
+        way(serving.client(), text)
+        still_serves(checks, f"{way.__name__} behind {text[:40]!r}", serving)
     checks.same("replies before garbage", TOLD * 2 + BAD, serving.told(QUOTA * 2 + b"x"))
     checks.same("a long reply is whole", GREAT_TOLD, serving.told(GREAT_ASK))
     checks.same("the end", done(), serving.ended())
@@ -114,7 +122,8 @@ def send_all(stream, text):
 def show_slow_clients(checks, program, folder):
     """Clients that read nothing for a while: the host waits for them, and then for the next."""
     serving = served(program, folder, 4)
-    checks.same("a great object", framed(b"ok\n") * 2, serving.told(frames([(ALICE, b"init r\n"), (ALICE, GREAT_PUSH)])))
+    given = frames([(ALICE, b"init r\n"), (ALICE, GREAT_PUSH)])
+    checks.same("a great object is pushed", framed(b"ok\n") * 2, serving.told(given))
     slow, next_one = serving.client(), serving.client()
     sender = threading.Thread(target=send_all, args=(slow, GREAT_ASK * 20), daemon=True)
     sender.start()

@@ -67,7 +67,7 @@ def show_reads(checks: Checks, program, folder):
 
 
 def show_saves(checks: Checks, program, folder, rest, fault):
-    """The state can't be written: a folder lies where its part must be. The old one stays, and what went wrong first is told."""
+    """The state can't be written: a folder lies where its part must be. The old one stays."""
     checks.same("the first start", done(), program.ran("run", "--dir", folder.path, "alice=10000"))
     old = folder.state()
     live = Live(program, "--dir", folder.path)

@@ -34,7 +34,8 @@ class Killed:
         history = History(random.Random(count), count)
         places = [b"init r\n", b"init s\n"]
         self.first = [(b"alice", payload) for payload in places] + [self.push(history, 0, b"r")]
-        self.turns = [self.push(history, at, b"s") for at in range(1, count)] + [(b"alice", b"drop r\n"), (b"alice", b"prune\n")]
+        self.turns = [self.push(history, at, b"s") for at in range(1, count)]
+        self.turns += [(b"alice", b"drop r\n"), (b"alice", b"prune\n")]
         self.base = Folder(os.path.join(work, f"base{count}"))
         words = ["--dir", self.base.path, "alice=1000000"]
         checks.same("the session before", b"ok\n" * 3, self.told(program.ran("run", *words, given=frames(self.first))))
@@ -129,8 +130,8 @@ def some_of(count):
 def counted(killed, calls):
     """How many such calls a run makes."""
     folder, path = killed.copy(), os.path.join(killed.work, "calls")
-    words = ["strace", "-f", "-qq", "-o", path, "-e", f"trace={calls}", killed.program.path, "run", "--dir", folder.path]
-    subprocess.run(words, input=frames(killed.turns), capture_output=True, timeout=PATIENCE)
+    words = ["strace", "-f", "-qq", "-o", path, "-e", f"trace={calls}", killed.program.path, "run", "--dir"]
+    subprocess.run([*words, folder.path], input=frames(killed.turns), capture_output=True, timeout=PATIENCE)
     shutil.rmtree(folder.path)
     with open(path, encoding="utf-8", errors="replace") as file:
         return min(sum("(" in line for line in file), MOST)
@@ -165,6 +166,7 @@ def judge_failed(killed, label, folder, ran):
     kept = [turn for turn, reply in zip(killed.turns, told) if reply != HOST_STORE]
     other = killed.copy()
     again = killed.program.ran("run", "--dir", other.path, given=frames(kept))
-    killed.checks.same(f"{label}: the other replies", [reply for reply in told if reply != HOST_STORE], replies(again.output)[0])
+    others = [reply for reply in told if reply != HOST_STORE]
+    killed.checks.same(f"{label}: the other replies", others, replies(again.output)[0])
     killed.checks.same(f"{label}: the state", other.state(), folder.state())
     killed.checks.same(f"{label}: check", done(b"sound\n"), killed.program.checked(folder.path))

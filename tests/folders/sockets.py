@@ -108,13 +108,15 @@ def show_faults(checks, program, folder):
     checks.same("a socket that can't be bound, over a folder", failed("socket"), serving)
     checks.same("it saves nothing", False, os.path.exists(inside("other/state")))
     words = ["serve", "--socket", inside("file"), "--connections", "1", "--dir", kept.path, "alice=8"]
-    checks.same("the tenants are judged before the socket", failed("tenant alice is there already"), program.ran(*words))
+    there = failed("tenant alice is there already")
+    checks.same("the tenants are judged before the socket", there, program.ran(*words))
     checks.same("the state stays", state, kept.state())
     kept.set_state(b"x")
     checks.same("the state is judged before them", failed("state line 1"), program.ran(*words))
-    for words in ([], ["--connections", "1"], ["--socket", inside("s")], ["--socket", inside("s"), "--connections", "x"]):
+    at = ["--socket", inside("s")]
+    for words in ([], ["--connections", "1"], at, [*at, "--connections", "x"], [*at, "--connections", "-1"]):
         checks.same(f"serve {words}", (2, b""), program.ran("serve", *words)[:2])
-    checks.same("no connections", done(), program.ran("serve", "--socket", inside("s"), "--connections", "0"))
+    checks.same("no connections", done(), program.ran("serve", *at, "--connections", "0"))
     checks.same("the socket is gone", False, os.path.lexists(inside("s")))
 
 
@@ -124,7 +126,8 @@ def show_saved(checks, program, folder):
     serving = Serving(program, path, 4, "--dir", kept.path, "alice=10000")
     checks.same("a push", framed(b"ok\n") * 2, serving.told(frames([(ALICE, b"init r\n"), (ALICE, PUSH)])))
     checks.same("another session's part", framed(b"ok\n"), serving.told(frame(ALICE, b"part\n")))
-    checks.same("one that goes in a frame", framed(b"ok\n") + b"! bad-frame\n", serving.told(frame(ALICE, b"part\n") + b"alice 9\n"))
+    told = serving.told(frame(ALICE, b"part\n") + b"alice 9\n")
+    checks.same("one that goes in a frame", framed(b"ok\n") + b"! bad-frame\n", told)
     checks.same("no state is there before the end", None, kept.state())
     checks.same("the folder is held", failed("store"), program.ran("run", "--dir", kept.path))
     checks.same("the upload is the tenant's", framed(b"no upload-open\n"), serving.told(frame(ALICE, b"push r\n\n")))

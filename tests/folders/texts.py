@@ -99,44 +99,47 @@ CONFLICTS = [
     (None, text(ALICE, b"repo r", ref(b"refs/heads/a/b"), ref(b"refs/heads/a/b-"), ref(b"refs/heads/a/c"))),
 ]
 
+BAD_REFERENCES = [
+    *(b"", b"HEAD", b"heads/a", b"refs", b"refs/", b"refs//a", b"refs/heads/", b"Refs/heads/a"),
+    *(b"refs/heads/a.lock", b"refs/heads/a.lock/b", b"refs/heads/.a", b"refs/heads/a..b", b"refs/heads/a."),
+    *(b"refs/heads/a" + byte + b"b" for byte in (b" ", b"\t", b"\x7f", b"~", b"^", b":", b"?", b"*", b"[", b"@{", b"\\")),
+    b"refs/" + b"a" * 251,
+]
+RIGHT_REFERENCES = [
+    *(OWN + b"refs/heads/a", b"refs/@", b"refs/heads/@", b"refs/heads/a.lockx", b"refs/heads/\x80\xff", b"refs/-a", b"refs/heads/a{"),
+    b"refs/" + b"a" * 250,
+]
+BAD_SPACES = [
+    *(b"", b"refs/namespaces/alice/", b"refs/namespaces/bob/refs/namespaces/r/"),
+    *(b"refs/namespaces/alice/refs/namespaces/s/", OWN + b"/", OWN[:-1], OWN[:-1] + b" "),
+]
 REFERENCES = [
-    (4, text(ALICE, b"repo r", ref(name)))
-    for name in (
-        b"", b"HEAD", b"heads/a", b"refs", b"refs/", b"refs//a", b"refs/heads/", b"refs/heads/a.lock", b"refs/heads/a.lock/b",
-        b"refs/heads/.a", b"refs/heads/a..b", b"refs/heads/a.", b"refs/heads/a b", b"refs/heads/a\tb", b"refs/heads/a\x7f",
-        b"refs/heads/a~b", b"refs/heads/a^b", b"refs/heads/a:b", b"refs/heads/a?", b"refs/heads/a*", b"refs/heads/a[", b"refs/heads/a@{b",
-        b"refs/heads/a\\b", b"Refs/heads/a", b"refs/" + b"a" * 251,
-    )
-] + [
-    (None, text(ALICE, b"repo r", ref(name)))
-    for name in (b"refs/" + b"a" * 250, b"refs/@", b"refs/heads/@", b"refs/heads/a.lockx", b"refs/heads/\x80\xff", b"refs/-a", b"refs/heads/a{")
-] + [
-    (4, text(ALICE, b"repo r", ref(b"refs/heads/a", space=space)))
-    for space in (
-        b"", b"refs/namespaces/alice/", b"refs/namespaces/bob/refs/namespaces/r/", b"refs/namespaces/alice/refs/namespaces/s/",
-        b"refs/namespaces/alice/refs/namespaces/r//", b"refs/namespaces/alice/refs/namespaces/r/refs/namespaces/r ",
-    )
+    *((4, text(ALICE, b"repo r", ref(name))) for name in BAD_REFERENCES),
+    *((None, text(ALICE, b"repo r", ref(name))) for name in RIGHT_REFERENCES),
+    *((4, text(ALICE, b"repo r", ref(b"refs/heads/a", space=space))) for space in BAD_SPACES),
 ]
 
+BAD_TENANTS = [
+    *(b"", b" ", b" 0", b" a", b" a ", b"  0", b"  a 0", b" Alice 0", b" -a 0", b" _a 0", b" a/b 0", b" @host 0"),
+    *(b" " + b"a" * 33 + b" 0", b" a 0 0", b" a\t0"),
+]
+BAD_REPOSITORIES = [
+    *(b"", b" ", b" r s", b" r/s", b" R", b" -r", b" _r", b"  r", b" r ", b" .", b" " + b"r" * 65),
+]
+BAD_SIGHTS = [
+    *(b"see", b"see ", see(E.upper()), see(E[:-1]), see(E + b"0"), see(E + b" "), b"see  " + E),
+    *(see(E[:-1] + b"g"), b"see\t" + E, b"See " + E),
+]
+BAD_TARGETS = [
+    *(b"ref", b"ref ", b"ref " + E, b"ref " + E + b" ", b"ref " + E + b"  " + OWN + b"refs/heads/a"),
+    *(b"ref  " + E + b" " + OWN + b"refs/heads/a", ref(b"refs/heads/a", E.upper()), ref(b"refs/heads/a", E[:-1])),
+    *(ref(b"refs/heads/a", E + b"0"), ref(b"refs/heads/a", b""), A + b" "),
+]
 NAMES = [
-    (3, text(ALICE, line))
-    for line in (
-        b"see", b"see ", see(E.upper()), see(E[:-1]), see(E + b"0"), see(E + b" "), b"see  " + E, see(E[:-1] + b"g"), b"see\t" + E, b"See " + E,
-        b"repo", b"repo ", b"repo r s", b"repo r/s", b"repo R", b"repo -r", b"repo _r", b"repo  r", b"repo r ", b"repo " + b"r" * 65, b"repo .",
-    )
-] + [
-    (4, text(ALICE, b"repo r", line))
-    for line in (
-        b"ref", b"ref ", b"ref " + E, b"ref " + E + b" ", b"ref " + E + b"  " + OWN + b"refs/heads/a", b"ref  " + E + b" " + OWN + b"refs/heads/a",
-        ref(b"refs/heads/a", E.upper()), ref(b"refs/heads/a", E[:-1]), ref(b"refs/heads/a", E + b"0"), ref(b"refs/heads/a", b""), A + b" ",
-    )
-] + [
-    (2, text(line))
-    for line in (
-        b"tenant", b"tenant ", b"tenant 0", b"tenant a", b"tenant a ", b"tenant  0", b"tenant  a 0", b"tenant Alice 0", b"tenant -a 0", b"tenant _a 0",
-        b"tenant a/b 0", b"tenant @host 0", b"tenant " + b"a" * 33 + b" 0", b"tenant a 0 0", b"tenant a\t0",
-    )
-] + [
+    *((2, text(b"tenant" + rest)) for rest in BAD_TENANTS),
+    *((3, text(ALICE, b"repo" + rest)) for rest in BAD_REPOSITORIES),
+    *((3, text(ALICE, line)) for line in BAD_SIGHTS),
+    *((4, text(ALICE, b"repo r", line)) for line in BAD_TARGETS),
     (None, text(b"tenant a-_9 0")),
     (None, text(b"tenant 0 0")),
     (None, text(b"tenant " + b"a" * 32 + b" 0")),
@@ -144,13 +147,15 @@ NAMES = [
     (None, text(ALICE, b"repo 9_-")),
 ]
 
+BAD_LIMITS = [
+    *(b"00", b"01", b"+1", b"-1", b"1 ", b" 1", b"1x", b"0x1", b"1_0", b"1.0", b"1e3", b"\xd9\xa1"),
+    *(b"1099511627777", b"9999999999999", b"18446744073709551615", b"18446744073709551616"),
+    *(b"18446744073709551617", b"9" * 26, b"1" * 400),
+]
 LIMITS = [
-    (2, text(b"tenant a " + limit))
-    for limit in (
-        b"00", b"01", b"+1", b"-1", b"1 ", b" 1", b"1x", b"0x1", b"1_0", b"1.0", b"1e3", b"\xd9\xa1",
-        b"1099511627777", b"9999999999999", b"18446744073709551615", b"18446744073709551616", b"18446744073709551617", b"9" * 26, b"1" * 400,
-    )
-] + [(None, text(b"tenant a " + limit)) for limit in (b"0", b"1", b"1099511627776")]
+    *((2, text(b"tenant a " + limit)) for limit in BAD_LIMITS),
+    *((None, text(b"tenant a " + limit)) for limit in (b"0", b"1", b"1099511627776")),
+]
 
 COUNTS = [
     (None, text(*many(b"tenant t%02d 1", 64))),

@@ -5,9 +5,11 @@ import shutil
 from cases import B, C, D, FILES, G, OBJECTS, T, alone
 from checks import Checks
 from folder import Folder
+from frames import frames
 from live import Live
 from objects import record
-from program import done, failed
+from program import done, ended, failed
+from state_text import Repository, Tenant, spelled
 
 PUSH = b"push r\ncreate refs/heads/main %s\n\n" % D + b"".join(record(*thing) for thing in OBJECTS.values())
 ALICE = b"alice"
@@ -21,8 +23,30 @@ def homes(folder):
 def show_devices(checks, program, work):
     show_writes(checks, program, Folder(os.path.join(work, "writes")))
     show_reads(checks, program, Folder(os.path.join(work, "reads")))
+    show_streams(checks, program, Folder(os.path.join(work, "streams")))
     for rest, fault in ((b"", "state not saved"), (b"alice", "bad frame")):
         show_saves(checks, program, Folder(os.path.join(work, f"saves{len(rest)}")), rest, fault)
+
+
+def show_streams(checks: Checks, program, folder):
+    """Standard input or output fails: what was answered before is saved."""
+    made = spelled([Tenant(ALICE, 10000, [Repository(b"r", {})], [])])
+    pushed = frames([(ALICE, b"init r\n"), (ALICE, b"init s\n")])
+    words = ["run", "--dir", folder.path, "alice=10000"]
+    with open("/dev/full", "wb") as full:
+        checks.same("a full device", failed("write", None), ended(program.begun(*words, stdout=full), pushed))
+    checks.same("what was answered", made, folder.state())
+    os.remove(folder.inside("state"))
+    reading, writing = os.pipe()
+    os.close(reading)
+    checks.same("a pipe that nobody reads", failed("write", None), ended(program.begun(*words, stdout=writing), pushed))
+    os.close(writing)
+    checks.same("what was answered", made, folder.state())
+    place = os.open(folder.path, os.O_RDONLY)
+    child = program.begun("run", "--dir", folder.path, stdin=place)
+    checks.same("an input that can't be read", failed("read"), ended(child, None))
+    os.close(place)
+    checks.same("the state stays", made, folder.state())
 
 
 def show_writes(checks: Checks, program, folder):

@@ -42,10 +42,9 @@ class Program:
     def ran(self, *words, given=b""):
         return ended(self.begun(*words), given)
 
-    def begun(self, *words):
-        """The program with pipes, still running."""
-        pipe = subprocess.PIPE
-        child = subprocess.Popen([self.path, *words], stdin=pipe, stdout=pipe, stderr=pipe)
+    def begun(self, *words, stdin=subprocess.PIPE, stdout=subprocess.PIPE):
+        """The program with pipes, or with what is given in their place, still running."""
+        child = subprocess.Popen([self.path, *words], stdin=stdin, stdout=stdout, stderr=subprocess.PIPE)
         self.running = [other for other in self.running if other.poll() is None] + [child]
         return child
 

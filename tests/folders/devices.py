@@ -2,17 +2,17 @@
 import os
 import shutil
 
-from cases import B, C, D, FILES, G, OBJECTS, T, alone
+from cases import B, C, D, FILES, OBJECTS, alone
 from checks import Checks
 from folder import Folder
-from frames import frames
+from frames import framed, frames
 from live import Live
 from objects import record
 from program import done, ended, failed
 from state_text import Repository, Tenant, spelled
 
 PUSH = b"push r\ncreate refs/heads/main %s\n\n" % D + b"".join(record(*thing) for thing in OBJECTS.values())
-ALICE = b"alice"
+ALICE, BOB = b"alice", b"bob"
 SAVED = alone(OBJECTS, (b"refs/heads/main", D))
 
 
@@ -23,6 +23,7 @@ def homes(folder):
 def show_devices(checks, program, work):
     show_writes(checks, program, Folder(os.path.join(work, "writes")))
     show_reads(checks, program, Folder(os.path.join(work, "reads")))
+    show_leftovers(checks, program, Folder(os.path.join(work, "leftovers")))
     show_streams(checks, program, Folder(os.path.join(work, "streams")))
     for rest, fault in ((b"", "state not saved"), (b"alice", "bad frame")):
         show_saves(checks, program, Folder(os.path.join(work, f"saves{len(rest)}")), rest, fault)
@@ -69,25 +70,56 @@ def show_writes(checks: Checks, program, folder):
     checks.same("check", done(b"sound\n"), program.checked(folder.path))
 
 
+def is_right(reply, *others):
+    """The commit's record, or one of these; and never other bytes."""
+    return None if reply in (b"ok\n" + record(*OBJECTS[C]), *others) else reply
+
+
 def show_reads(checks: Checks, program, folder):
-    """Files are altered while the host runs. It tells what it can't read, and goes on."""
+    """A file is altered while the host runs. Who sees it is told what it was, or a fault; who sends it is told a fault."""
     live = Live(program, "--dir", folder.path, "alice=10000", "bob=10000")
-    for payload in (b"init r\n", PUSH):
-        checks.same(repr(payload[:10]), b"ok\n", live.asked(ALICE, payload))
-    ask = b"cat-file %s\n" % C
-    for label, file in (("cut", FILES[C][:-1]), ("empty", b""), ("another's", FILES[B])):
-        folder.keep(C, file)
-        checks.same(f"a file that is {label}", b"host damaged\n", live.asked(ALICE, ask))
-    os.remove(folder.file_of(C))
-    checks.same("a file that is gone", b"host damaged\n", live.asked(ALICE, ask))
-    os.mkdir(folder.file_of(C))
-    checks.same("a folder in its place", b"host store\n", live.asked(ALICE, ask))
-    checks.same("one who sees none is told so", b"no missing %s\n" % C, live.asked(b"bob", ask))
-    os.rmdir(folder.file_of(C))
-    folder.keep(C, FILES[C])
-    for name in (B, T, C, D, G):
-        checks.same("what is put back", b"ok\n" + record(*OBJECTS[name]), live.asked(ALICE, b"cat-file %s\n" % name))
+    for who, payload in ((ALICE, b"init r\n"), (ALICE, PUSH), (BOB, b"init r\n")):
+        checks.same(repr(payload[:10]), b"ok\n", live.asked(who, payload))
+    spoil_one(checks, live, folder)
+    checks.same("the same push later", b"ok\n", live.asked(BOB, PUSH))
+    for name in OBJECTS:
+        for who in (ALICE, BOB):
+            wanted = b"ok\n" + record(*OBJECTS[name])
+            checks.same("what is put back", wanted, live.asked(who, b"cat-file %s\n" % name))
     checks.same("its end", done(), live.ended())
+    checks.same("check", done(b"sound\n"), program.checked(folder.path))
+
+
+def spoil_one(checks, live, folder):
+    """The commit's file is spoiled in some ways, and then put back."""
+    spoiled = [("cut", FILES[C][:-1]), ("empty", b""), ("another's", FILES[B]), ("gone", None), ("a folder", b"")]
+    for label, file in spoiled:
+        os.remove(folder.file_of(C))
+        fault = b"host store\n" if label == "a folder" else b"host damaged\n"
+        if label == "a folder":
+            os.mkdir(folder.file_of(C))
+        elif file is not None:
+            folder.keep(C, file)
+        told = live.asked(ALICE, b"cat-file %s\n" % C)
+        checks.holds(f"a file that is {label}", is_right(told, fault))
+        checks.same(f"a push to one that is {label}", fault, live.asked(BOB, PUSH))
+        checks.same("it changes nothing", b"ok\n0 10000\n", live.asked(BOB, b"quota\n"))
+        checks.same("one who sees none is told so", b"no missing %s\n" % C, live.asked(BOB, b"cat-file %s\n" % C))
+        if label == "a folder":
+            os.rmdir(folder.file_of(C))
+        folder.keep(C, FILES[C])
+
+
+def show_leftovers(checks: Checks, program, folder):
+    """Files that nobody sees and that are not whole are written anew by a push."""
+    for number, name in enumerate(FILES):
+        folder.keep(name, FILES[name][: 9 * number])
+    given = frames([(ALICE, b"init r\n"), (ALICE, PUSH)])
+    ran = program.ran("run", "--dir", folder.path, "alice=10000", given=given)
+    checks.same("a push to what lies there", done(framed(b"ok\n") * 2), ran)
+    checks.same("its files", FILES, folder.files())
+    checks.same("its state", SAVED, folder.state())
+    checks.same("check", done(b"sound\n"), program.checked(folder.path))
 
 
 def show_saves(checks: Checks, program, folder, rest, fault):

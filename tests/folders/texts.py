@@ -102,11 +102,13 @@ CONFLICTS = [
 BAD_REFERENCES = [
     *(b"", b"HEAD", b"heads/a", b"refs", b"refs/", b"refs//a", b"refs/heads/", b"Refs/heads/a"),
     *(b"refs/heads/a.lock", b"refs/heads/a.lock/b", b"refs/heads/.a", b"refs/heads/a..b", b"refs/heads/a."),
-    *(b"refs/heads/a" + byte + b"b" for byte in (b" ", b"\t", b"\x7f", b"~", b"^", b":", b"?", b"*", b"[", b"@{", b"\\")),
+    *(b"refs/heads/a" + byte + b"b" for byte in (b" ", b"\t", b"\x7f", b"~", b"^", b":", b"?", b"*", b"[", b"\\")),
+    b"refs/heads/a@{b",
     b"refs/" + b"a" * 251,
 ]
 RIGHT_REFERENCES = [
-    *(OWN + b"refs/heads/a", b"refs/@", b"refs/heads/@", b"refs/heads/a.lockx", b"refs/heads/\x80\xff", b"refs/-a", b"refs/heads/a{"),
+    *(OWN + b"refs/heads/a", b"refs/@", b"refs/-a", b"refs/heads/@", b"refs/heads/a{"),
+    *(b"refs/heads/a.lockx", b"refs/heads/\x80\xff"),
     b"refs/" + b"a" * 250,
 ]
 BAD_SPACES = [

@@ -76,7 +76,7 @@ def is_right(reply, *others):
 
 
 def show_reads(checks: Checks, program, folder):
-    """A file is altered while the host runs. Who sees it is told what it was, or a fault; who sends it is told a fault."""
+    """A file is altered while the host runs. Who sees it is told what it was, or a fault; who sends it, a fault."""
     live = Live(program, "--dir", folder.path, "alice=10000", "bob=10000")
     for who, payload in ((ALICE, b"init r\n"), (ALICE, PUSH), (BOB, b"init r\n")):
         checks.same(repr(payload[:10]), b"ok\n", live.asked(who, payload))

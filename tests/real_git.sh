@@ -3,8 +3,9 @@
 # SHA-256 format: merges, tags of every kind, all modes, odd file names, headers of many lines, empty and large objects.
 # It is pushed in one body and in parts of many sizes, reversed, cut, corrupted and lacking one object; then references
 # are deleted and moved, and what none reaches is pruned. Each object, reference, use and refusal is compared with what
-# Git says. Then histories of many shapes are pushed, walked, and fetched into Git and into other tenants
-# (`real_git/history/check`). It takes some half a minute and no network. Each subject has a file in `real_git`.
+# Git says, in memory and over a folder, whose files are compared with Git's objects. Then histories of many shapes are
+# pushed, walked, and fetched into Git and into other tenants (`real_git/history/check`). It takes some half a minute
+# and no network. Each subject has a file in `real_git`.
 # tests/real_git.sh [PROGRAM]: the program is crates/forkhost/out/forkhost where none is given.
 # The last line is `N passed, M failed`, and the status is 0 where M is 0.
 # shellcheck source-path=SCRIPTDIR
@@ -30,6 +31,7 @@ finish() {
 . "$here/real_git/taken.sh"
 . "$here/real_git/refused.sh"
 . "$here/real_git/pruned.sh"
+. "$here/real_git/kept.sh"
 
 main() {
     local program
@@ -55,6 +57,7 @@ main() {
     later
     pruned mixed
     run_session "$program"
+    in_a_folder
     run_history "$program"
     report
 }

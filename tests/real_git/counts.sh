@@ -22,11 +22,11 @@ add_up() {
     failed=$((failed + BASH_REMATCH[2]))
 }
 
-# Sends all turns to the program.
+# Sends all turns to the program, which is given these words too.
 run_session() {
     local tenants
     mapfile -t tenants < <(cut -f 3 "$work/turns" | sort -u | sed 's/$/=1000000/')
-    add_up < <("$here/session" "$1" "$work/turns" "${tenants[@]}" || true)
+    add_up < <("$here/session" "$1" "$work/turns" "${@:2}" "${tenants[@]}" || true)
 }
 
 # Sends all histories to the program.

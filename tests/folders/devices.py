@@ -1,0 +1,145 @@
+"""What a running host meets in its folder: files that can't be written, that are altered, and that are gone."""
+import os
+import shutil
+
+from cases import B, C, D, FILES, OBJECTS, alone
+from checks import Checks
+from folder import Folder
+from frames import framed, frames
+from live import Live
+from objects import record
+from program import done, ended, failed
+from state_text import Repository, Tenant, spelled
+
+PUSH = b"push r\ncreate refs/heads/main %s\n\n" % D + b"".join(record(*thing) for thing in OBJECTS.values())
+ALICE, BOB = b"alice", b"bob"
+SAVED = alone(OBJECTS, (b"refs/heads/main", D))
+
+
+def homes(folder):
+    return [folder.inside("objects", f"{number:02x}") for number in range(256)]
+
+
+def show_devices(checks, program, work):
+    show_writes(checks, program, Folder(os.path.join(work, "writes")))
+    show_reads(checks, program, Folder(os.path.join(work, "reads")))
+    show_leftovers(checks, program, Folder(os.path.join(work, "leftovers")))
+    show_streams(checks, program, Folder(os.path.join(work, "streams")))
+    for rest, fault in ((b"", "state not saved"), (b"alice", "bad frame")):
+        show_saves(checks, program, Folder(os.path.join(work, f"saves{len(rest)}")), rest, fault)
+
+
+def show_streams(checks: Checks, program, folder):
+    """Standard input or output fails: what was answered before is saved."""
+    made = spelled([Tenant(ALICE, 10000, [Repository(b"r", {})], [])])
+    pushed = frames([(ALICE, b"init r\n"), (ALICE, b"init s\n")])
+    words = ["run", "--dir", folder.path, "alice=10000"]
+    with open("/dev/full", "wb") as full:
+        checks.same("a full device", failed("write", None), ended(program.begun(*words, stdout=full), pushed))
+    checks.same("what was answered", made, folder.state())
+    os.remove(folder.inside("state"))
+    reading, writing = os.pipe()
+    os.close(reading)
+    checks.same("a pipe that nobody reads", failed("write", None), ended(program.begun(*words, stdout=writing), pushed))
+    os.close(writing)
+    checks.same("what was answered", made, folder.state())
+    place = os.open(folder.path, os.O_RDONLY)
+    child = program.begun("run", "--dir", folder.path, stdin=place)
+    checks.same("an input that can't be read", failed("read"), ended(child, None))
+    os.close(place)
+    checks.same("the state stays", made, folder.state())
+
+
+def show_writes(checks: Checks, program, folder):
+    """No object can be written: files lie where folders must be."""
+    live = Live(program, "--dir", folder.path, "alice=10000")
+    checks.same("init", b"ok\n", live.asked(ALICE, b"init r\n"))
+    for home in homes(folder):
+        with open(home, "wb"):
+            pass
+    for _ in range(2):
+        checks.same("a push that can't be written", b"host store\n", live.asked(ALICE, PUSH))
+        checks.same("it changes nothing", b"ok\n0 10000\n", live.asked(ALICE, b"quota\n"))
+        checks.same("no reference is made", b"ok\n", live.asked(ALICE, b"for-each-ref r\n"))
+    for home in homes(folder):
+        os.remove(home)
+    checks.same("the same push later", b"ok\n", live.asked(ALICE, PUSH))
+    checks.same("its end", done(), live.ended())
+    checks.same("its state", SAVED, folder.state())
+    checks.same("its files", FILES, folder.files())
+    checks.same("check", done(b"sound\n"), program.checked(folder.path))
+
+
+def is_right(reply, *others):
+    """The commit's record, or one of these; and never other bytes."""
+    return None if reply in (b"ok\n" + record(*OBJECTS[C]), *others) else reply
+
+
+def show_reads(checks: Checks, program, folder):
+    """A file is altered while the host runs. Who sees it is told what it was, or a fault; who sends it, a fault."""
+    live = Live(program, "--dir", folder.path, "alice=10000", "bob=10000")
+    for who, payload in ((ALICE, b"init r\n"), (ALICE, PUSH), (BOB, b"init r\n")):
+        checks.same(repr(payload[:10]), b"ok\n", live.asked(who, payload))
+    spoil_one(checks, live, folder)
+    checks.same("the same push later", b"ok\n", live.asked(BOB, PUSH))
+    for name in OBJECTS:
+        for who in (ALICE, BOB):
+            wanted = b"ok\n" + record(*OBJECTS[name])
+            checks.same("what is put back", wanted, live.asked(who, b"cat-file %s\n" % name))
+    checks.same("its end", done(), live.ended())
+    checks.same("check", done(b"sound\n"), program.checked(folder.path))
+
+
+def spoil_one(checks, live, folder):
+    """The commit's file is spoiled in some ways, and then put back."""
+    spoiled = [("cut", FILES[C][:-1]), ("empty", b""), ("another's", FILES[B]), ("gone", None), ("a folder", b"")]
+    for label, file in spoiled:
+        os.remove(folder.file_of(C))
+        fault = b"host store\n" if label == "a folder" else b"host damaged\n"
+        if label == "a folder":
+            os.mkdir(folder.file_of(C))
+        elif file is not None:
+            folder.keep(C, file)
+        told = live.asked(ALICE, b"cat-file %s\n" % C)
+        checks.holds(f"a file that is {label}", is_right(told, fault))
+        checks.same(f"a push to one that is {label}", fault, live.asked(BOB, PUSH))
+        checks.same("it changes nothing", b"ok\n0 10000\n", live.asked(BOB, b"quota\n"))
+        checks.same("one who sees none is told so", b"no missing %s\n" % C, live.asked(BOB, b"cat-file %s\n" % C))
+        if label == "a folder":
+            os.rmdir(folder.file_of(C))
+        folder.keep(C, FILES[C])
+
+
+def show_leftovers(checks: Checks, program, folder):
+    """Files that nobody sees and that are not whole are written anew by a push."""
+    for number, name in enumerate(FILES):
+        folder.keep(name, FILES[name][: 9 * number])
+    given = frames([(ALICE, b"init r\n"), (ALICE, PUSH)])
+    ran = program.ran("run", "--dir", folder.path, "alice=10000", given=given)
+    checks.same("a push to what lies there", done(framed(b"ok\n") * 2), ran)
+    checks.same("its files", FILES, folder.files())
+    checks.same("its state", SAVED, folder.state())
+    checks.same("check", done(b"sound\n"), program.checked(folder.path))
+
+
+def show_saves(checks: Checks, program, folder, rest, fault):
+    """The state can't be written: a folder lies where its part must be. The old one stays."""
+    checks.same("the first start", done(), program.ran("run", "--dir", folder.path, "alice=10000"))
+    old = folder.state()
+    live = Live(program, "--dir", folder.path)
+    for payload in (b"init r\n", PUSH):
+        checks.same(repr(payload[:10]), b"ok\n", live.asked(ALICE, payload))
+    os.mkdir(folder.inside("part"))
+    told = b"! bad-frame\n" if rest else b""
+    checks.same("its end", failed(fault, told), live.ended(rest))
+    checks.same("the state stays", old, folder.state())
+    os.rmdir(folder.inside("part"))
+    checks.same("check", done(b"sound\n"), program.checked(folder.path))
+    live = Live(program, "--dir", folder.path)
+    checks.same("nothing is there", b"no no-repository r\n", live.asked(ALICE, b"for-each-ref r\n"))
+    checks.same("no file is seen", b"no missing %s\n" % C, live.asked(ALICE, b"cat-file %s\n" % C))
+    checks.same("the repository is made again", b"ok\n", live.asked(ALICE, b"init r\n"))
+    checks.same("the push again", b"ok\n", live.asked(ALICE, PUSH))
+    checks.same("its end", done(), live.ended())
+    checks.same("its state", SAVED, folder.state())
+    shutil.rmtree(folder.path)

@@ -1,0 +1,172 @@
+"""Processes that are killed: at any moment, and at each call that changes the folder."""
+import os
+import random
+import shutil
+import subprocess
+import time
+
+from asking import History
+from folder import Folder
+from frames import frames, replies
+from objects import whole
+from program import PATIENCE, Ran, done
+
+KILLS = 150
+SAVES = 150
+CALLS = {
+    "rename": "?rename,?renameat,?renameat2",
+    "sync": "?fsync,?fdatasync",
+    "mkdir": "?mkdir,?mkdirat",
+    "write": "?write,?writev,?pwrite64",
+    "close": "?close",
+    "unlink": "?unlink,?unlinkat",
+}
+EACH = 12
+MOST = 2000
+HOST_STORE = b"host store\n"
+
+
+class Killed:
+    """A folder to begin with, a session over it, and the state that the session leaves."""
+
+    def __init__(self, checks, program, work, count):
+        self.checks, self.program, self.work, self.number = checks, program, work, 0
+        history = History(random.Random(count), count)
+        places = [b"init r\n", b"init s\n"]
+        self.first = [(b"alice", payload) for payload in places] + [self.push(history, 0, b"r")]
+        self.turns = [self.push(history, at, b"s") for at in range(1, count)]
+        self.turns += [(b"alice", b"drop r\n"), (b"alice", b"prune\n")]
+        self.base = Folder(os.path.join(work, f"base{count}"))
+        words = ["--dir", self.base.path, "alice=1000000"]
+        checks.same("the session before", b"ok\n" * 3, self.told(program.ran("run", *words, given=frames(self.first))))
+        self.old = self.base.state()
+        folder = self.copy()
+        begun = time.monotonic()
+        ran = program.ran("run", "--dir", folder.path, given=frames(self.turns))
+        self.took = time.monotonic() - begun
+        checks.same("the session", b"ok\n" * len(self.turns), self.told(ran))
+        self.new, self.wanted = folder.state(), ran
+
+    def push(self, history, at, place):
+        """A push of all that one commit leads to, under a name of its own."""
+        tip = history.tips[at]
+        command = b"create refs/heads/%d %s" % (at, tip)
+        return b"alice", b"push %s\n%s" % (place, history.body([command], sorted(history.closure(tip))))
+
+    def told(self, ran):
+        return b"".join(replies(ran.output)[0])
+
+    def copy(self):
+        """The folder to begin with, anew."""
+        self.number += 1
+        path = os.path.join(self.work, f"{os.path.basename(self.base.path)}-{self.number}")
+        shutil.copytree(self.base.path, path)
+        return Folder(path)
+
+    def judge(self, label, folder):
+        """What is left is the old state or the new one, and whole files; and a next start goes on from there."""
+        state = folder.state()
+        if state not in (self.old, self.new):
+            self.checks.same(f"{label}: the state", self.old, state)
+            return
+        torn = [name for name, file in folder.files().items() if not whole(name, file)]
+        self.checks.same(f"{label}: files that are torn", [], torn)
+        self.checks.same(f"{label}: check", done(b"sound\n"), self.program.checked(folder.path))
+        self.checks.same(f"{label}: what was being written", [], folder.parts())
+        if state == self.old:
+            again = self.program.ran("run", "--dir", folder.path, given=frames(self.turns))
+            self.checks.same(f"{label}: the session again", self.wanted, again)
+            self.checks.same(f"{label}: its state", self.new, folder.state())
+        shutil.rmtree(folder.path)
+
+    def kill_within(self, label, wait):
+        """A run that is killed some time behind its start."""
+        folder = self.copy()
+        child = self.program.begun("run", "--dir", folder.path)
+        try:
+            child.communicate(frames(self.turns), timeout=wait)
+        except subprocess.TimeoutExpired:
+            child.kill()
+            child.communicate()
+        self.judge(label, folder)
+
+    def kill_saving(self, label, wait):
+        """A run that is killed some time behind its last reply and the end of its input."""
+        folder = self.copy()
+        child = self.program.begun("run", "--dir", folder.path)
+        child.stdin.write(frames(self.turns))
+        child.stdin.flush()
+        child.stdout.read(len(self.wanted.output))
+        child.stdin.close()
+        time.sleep(wait)
+        child.kill()
+        child.wait()
+        child.stdout.close()
+        child.stderr.close()
+        self.judge(label, folder)
+
+    def traced(self, folder, calls, how):
+        """A run in which the calls meet this, and what comes of it."""
+        words = ["strace", "-f", "-qq", "-o", os.devnull, "-e", f"trace={calls}", "-e", f"inject={calls}:{how}"]
+        words += [self.program.path, "run", "--dir", folder.path]
+        ran = subprocess.run(words, input=frames(self.turns), capture_output=True, timeout=PATIENCE)
+        return Ran(ran.returncode, ran.stdout, ran.stderr)
+
+
+def show_kills(checks, program, work):
+    chance = random.Random(11)
+    killed = Killed(checks, program, work, 40)
+    for number in range(KILLS):
+        killed.kill_within(f"kill {number}", chance.uniform(0, killed.took * 1.1))
+    for number in range(SAVES):
+        killed.kill_saving(f"kill in a save, {number}", chance.uniform(0, killed.took / 5) if number else 0)
+
+
+def some_of(count):
+    """The numbers of some calls: the first, the last, and others between."""
+    return sorted({1 + (count - 1) * at // (EACH - 1) for at in range(EACH)}) if count else []
+
+
+def counted(killed, calls):
+    """How many such calls a run makes."""
+    folder, path = killed.copy(), os.path.join(killed.work, "calls")
+    words = ["strace", "-f", "-qq", "-o", path, "-e", f"trace={calls}", killed.program.path, "run", "--dir"]
+    subprocess.run([*words, folder.path], input=frames(killed.turns), capture_output=True, timeout=PATIENCE)
+    shutil.rmtree(folder.path)
+    with open(path, encoding="utf-8", errors="replace") as file:
+        return min(sum("(" in line for line in file), MOST)
+
+
+def show_injected(checks, program, work):
+    """Where strace is there, the process is killed at each call, and each call fails."""
+    if not shutil.which("strace"):
+        print("no strace here: no calls are injected")
+        return
+    killed = Killed(checks, program, work, 4)
+    for name, calls in CALLS.items():
+        for at in some_of(counted(killed, calls)):
+            folder = killed.copy()
+            killed.traced(folder, calls, f"signal=SIGKILL:when={at}")
+            killed.judge(f"killed at {name} {at}", folder)
+    for name in ("rename", "sync", "mkdir", "unlink"):
+        for at in some_of(counted(killed, CALLS[name])):
+            folder = killed.copy()
+            ran = killed.traced(folder, CALLS[name], f"error=EIO:when={at}")
+            judge_failed(killed, f"{name} {at} fails", folder, ran)
+
+
+def judge_failed(killed, label, folder, ran):
+    """A request was met by `host store`, or the start or the save failed, and that was told; nothing else changed."""
+    told, _ = replies(ran.output)
+    faults = {b"": 0, b"forkhost: store\n": 1, b"forkhost: state not saved\n": 1}
+    killed.checks.same(f"{label}: its end, {ran.fault!r}", faults.get(ran.fault), ran.status)
+    if ran.fault or HOST_STORE not in told:
+        killed.judge(label, folder)
+        return
+    kept = [turn for turn, reply in zip(killed.turns, told) if reply != HOST_STORE]
+    other = killed.copy()
+    again = killed.program.ran("run", "--dir", other.path, given=frames(kept))
+    others = [reply for reply in told if reply != HOST_STORE]
+    killed.checks.same(f"{label}: the other replies", others, replies(again.output)[0])
+    killed.checks.same(f"{label}: the state", other.state(), folder.state())
+    killed.checks.same(f"{label}: check", done(b"sound\n"), killed.program.checked(folder.path))

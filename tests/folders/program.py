@@ -1,0 +1,69 @@
+"""The built program, run with words and an input."""
+import os
+import subprocess
+import sys
+from typing import NamedTuple
+
+HERE = os.path.dirname(os.path.abspath(__file__))
+BUILT = os.path.join(HERE, "../../crates/forkhost/out/forkhost")
+PATIENCE = 60
+
+
+class Ran(NamedTuple):
+    status: int
+    output: bytes
+    fault: bytes
+
+
+def ended(child, given=b""):
+    """How a process ends behind these last bytes of its input; one that does not end is killed."""
+    try:
+        output, fault = child.communicate(given, timeout=PATIENCE)
+    except subprocess.TimeoutExpired:
+        child.kill()
+        output, fault = child.communicate()
+    return Ran(child.returncode, output, fault)
+
+
+def done(output=b""):
+    """A run that ended well."""
+    return Ran(0, output, b"")
+
+
+def failed(fault, output=b""):
+    """A run that ended with this fault."""
+    return Ran(1, output, b"forkhost: " + fault.encode() + b"\n")
+
+
+class Program:
+    def __init__(self, path):
+        self.path, self.running = os.path.abspath(path), []
+
+    def ran(self, *words, given=b""):
+        return ended(self.begun(*words), given)
+
+    def begun(self, *words, stdin=subprocess.PIPE, stdout=subprocess.PIPE):
+        """The program with pipes, or with what is given in their place, still running."""
+        child = subprocess.Popen([self.path, *words], stdin=stdin, stdout=stdout, stderr=subprocess.PIPE)
+        self.running = [other for other in self.running if other.poll() is None] + [child]
+        return child
+
+    def stop(self):
+        """Kills what still runs."""
+        for child in self.running:
+            if child.poll() is None:
+                child.kill()
+                child.wait()
+
+    def checked(self, folder):
+        return self.ran("check", "--dir", folder)
+
+
+def given_program():
+    """The program of the command line, or the built one."""
+    return Program(sys.argv[1] if len(sys.argv) > 1 else BUILT)
+
+
+def of_verdict(text):
+    """What `check` does where it finds this."""
+    return done(b"sound\n") if text == "sound" else failed(text)

@@ -1,6 +1,7 @@
 -- What is put behind the others of a state, in order.
-use Rattle.std.proofs.Common.{◌≡◌, ℕ, ◌&&◌, ◌<◌, ◌≤◌, List, [], ◌∷◌, ◌++◌, Some, refl, sym, ap, subst, ◌∙◌, get_or, length, map, length-append, suc, arith}
+use Rattle.std.proofs.Common.{◌≡◌, ℕ, ◌&&◌, ◌<◌, ◌≤◌, List, [], ◌∷◌, ◌++◌, Some, refl, sym, ap, subst, ◌∙◌, get_or, length, map, length-append, arith}
 use Rattle.std.specs.Prelude.{All, T}
+use Rattle.std.proofs.lemmas.List.{append_assoc, length-map, map-append}
 use Rattle.std.specs.Option.{option_map}
 use Rattle.std.specs.Ordering.{is_lt}
 use Rattle.std.specs.FinMap.{entries, entries_sorted, entries-from_sorted, get, is_sorted, len-entries}
@@ -29,25 +30,17 @@ unfolding IsStrictlySortedBy
 ascend_first [] ys sorted = tt
 ascend_first (x ∷ xs) ys sorted = (each_before _ xs ys sorted.0, ascend_first xs ys sorted.1)
 
-append_append : {A : Type 0} (xs ys zs : List A) → (xs ++ ys) ++ zs ≡ xs ++ (ys ++ zs)
-append_append [] ys zs = refl
-append_append (x ∷ xs) ys zs = ap (λ l. x ∷ l) (append_append xs ys zs)
-
-map_append : {A B : Type 0} (f : A → B) (xs ys : List A) → map f (xs ++ ys) ≡ map f xs ++ map f ys
-map_append f [] ys = refl
-map_append f (x ∷ xs) ys = ap (λ l. f x ∷ l) (map_append f xs ys)
-
 -- of names in order, those at the front stand before the one behind them
 pub before_next : (xs : List (List ℕ)) (x : List ℕ) (ys : List (List ℕ)) → Ascend (xs ++ x ∷ ys) → AreBefore xs x
-before_next xs x ys sorted = before_last xs x (ascend_first (xs ++ x ∷ []) ys (subst Ascend (sym (append_append xs (x ∷ []) ys)) sorted))
+before_next xs x ys sorted = before_last xs x (ascend_first (xs ++ x ∷ []) ys (subst Ascend (sym (append_assoc xs (x ∷ []) ys)) sorted))
 
 -- the same by names of what stands in order
 pub before_next_by : {A : Type 0} (name : A → List ℕ) (xs : List A) (x : A) (ys : List A) → Ascend (map name (xs ++ x ∷ ys)) → AreBefore (map name xs) (name x)
-before_next_by name xs x ys sorted = before_next (map name xs) (name x) (map name ys) (subst Ascend (map_append name xs (x ∷ ys)) sorted)
+before_next_by name xs x ys sorted = before_next (map name xs) (name x) (map name ys) (subst Ascend (map-append name xs (x ∷ ys)) sorted)
 
 -- one of them passes from what is left to what is there
 pub moved : {A : Type 0} (xs : List A) (x : A) (ys : List A) → (xs ++ x ∷ []) ++ ys ≡ xs ++ x ∷ ys
-moved xs x ys = append_append xs (x ∷ []) ys
+moved xs x ys = append_assoc xs (x ∷ []) ys
 
 -- those so far and those that are left are all, where one of these comes next
 pub so_far : {A : Type 0} (xs : List A) (x : A) (ys left all : List A) → left ≡ x ∷ ys → xs ++ left ≡ all → xs ++ x ∷ ys ≡ all
@@ -95,8 +88,7 @@ names_of_states vault [] = refl
 names_of_states vault (e ∷ es) = ap (λ l. e.0 ∷ l) (names_of_states vault es)
 
 as_many : (vault : VaultState) (es : Rows) → length (states_by vault es) ≡ length es
-as_many vault [] = refl
-as_many vault (e ∷ es) = ap (λ n. suc n) (as_many vault es)
+as_many vault es = length-map (map (entry_shown vault) es) kept_of ∙ length-map es (entry_shown vault)
 
 -- the states so far stand before the next account's
 pub states_before : (state : HostState) (es : Rows) (e : List ℕ × Account) (rest : Rows) → es ++ e ∷ rest ≡ entries state.accounts → AreBefore (map (λ t. t.name) (states_by state.vault es)) e.0

@@ -10,3 +10,6 @@ mod saving;
 pub use crate::fault::LoadFault;
 pub use crate::loading::load;
 pub use crate::saving::save;
+
+#[cfg(test)]
+mod tests;

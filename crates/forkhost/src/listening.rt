@@ -19,6 +19,7 @@ pub struct Listening {
 }
 
 impl Listening {
+    /// What connections are accepted from.
     pub fn listener(&self) -> &UnixListener {
         &self.listener
     }

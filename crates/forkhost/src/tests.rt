@@ -2,9 +2,11 @@
 
 mod command_line;
 mod examples;
+mod folders;
 mod isolation;
 mod queries;
 mod runs;
+mod sockets;
 mod turns;
 mod wire;
 

@@ -119,8 +119,8 @@ fn meant(letter: u8) -> &'static [u8] {
     }
 }
 
-// The bytes that a short text stands for.
-fn filled(alloc: Global, text: &str) -> Result<Vec<u8>, Fail> {
+/// The bytes that a short text stands for.
+pub fn filled(alloc: Global, text: &str) -> Result<Vec<u8>, Fail> {
     let mut bytes = Vec::new(alloc);
     let mut is_marked = false;
     for byte in text.as_bytes() {

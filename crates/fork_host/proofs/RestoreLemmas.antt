@@ -50,7 +50,7 @@ pub came_more : (own name : List ℕ) (names : List (List ℕ)) (both : Objects)
 came_more own name names both first old new Whole there asked honest (object, named, whole, is) so_far = record {
   came = so_far.came ++ object ∷ [];
   among = λ other among. by other (Contains-push_cases so_far.came object other among);
-  stages = subst (λ objects. Changes (Stages own objects) first new) (sym (with_one_more both so_far.came object)) (changes_more first old new own (with_objects both so_far.came) object there (ap shape_of is) (λ _. is) honest so_far.stages);
+  stages = subst (λ objects. Changes (Stages own objects) first new) (sym (with_one_more both so_far.came object)) (changes_more first old new own (with_objects both so_far.came) object there is.shape is.exact honest so_far.stages);
 }
   where
     by : (other : Object) → Contains so_far.came other ⊎ (object ≡ other) → Contains names (object_name other)
@@ -59,12 +59,12 @@ came_more own name names both first old new Whole there asked honest (object, na
 came_more own name names both first old new Lost there asked honest stays so_far = record {
   came = so_far.came;
   among = so_far.among;
-  stages = changes_still (Stages own (with_objects both so_far.came)) first old new (ap shape_of stays.0) (λ _. stays.0) honest so_far.stages;
+  stages = changes_still (Stages own (with_objects both so_far.came)) first old new stays.0.shape stays.0.exact honest so_far.stages;
 }
 came_more own name names both first old new Damaged there asked honest stays so_far = record {
   came = so_far.came;
   among = so_far.among;
-  stages = changes_still (Stages own (with_objects both so_far.came)) first old new (ap shape_of stays.0) (λ _. stays.0) honest so_far.stages;
+  stages = changes_still (Stages own (with_objects both so_far.came)) first old new stays.0.shape stays.0.exact honest so_far.stages;
 }
 
 either_false : (a b : Bool) → (a || b) ≡ false → (a ≡ false) × (b ≡ false)

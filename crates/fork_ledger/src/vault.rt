@@ -171,7 +171,8 @@ impl<S: LooseFiles> Vault<S> {
         name: Name,
     ) -> Result<Recalled, VaultFault>
         ensures recalls { IfOk result (Recalls self.old.honest tenant.now name self.old.files self.old.tenants self.new.tenants) }
-        ensures err { OnErr result (self.new.tenants ≡ self.old.tenants) }
+        ensures err { IsTrue self.old.honest → OnErr result (self.new.tenants ≡ self.old.tenants) }
+        ensures kept { OnErr result (shape_of self.new.tenants ≡ shape_of self.old.tenants) }
         ensures files { IsTrue self.old.honest → self.new.files ≡ self.old.files }
         ensures store { AsksStore self.old self.new (fault_in result) }
     {

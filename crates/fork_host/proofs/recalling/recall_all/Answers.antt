@@ -36,7 +36,7 @@ discard-requires g c =
     let first = c.args.own.now in
     let mid = c.recall.new.self in
     let objects = with_objects (both_by first) before.so_far.came in
-    let still = changes_still (Stages first.tenant.now objects) first.vault.now c.loop-name.own.vault.now mid.vault.now (ap shape_of c.in-Err.ensures.err) (λ _. c.in-Err.ensures.err) c.in-Err.ensures.store.honest before.so_far.stages in
+    let still = changes_still (Stages first.tenant.now objects) first.vault.now c.loop-name.own.vault.now mid.vault.now c.in-Err.ensures.kept c.in-Err.ensures.err c.in-Err.ensures.store.honest before.so_far.stages in
     record {
       there = ap (λ r. map.contains_key mid.vault.now.tenants r.now) (c.in-Err.ensures.same.tenant ∙ before.same.tenant) ∙ here_changed first.vault.now mid.vault.now first.tenant.now objects c.requires.there still;
     }
@@ -48,7 +48,7 @@ returns-in-Err-clause-err g c =
     let mid = c.recall.new.self in
     let objects = with_objects (both_by first) before.so_far.came in
     let tenant = c.in-Err.ensures.same.tenant ∙ before.same.tenant in
-    let still = changes_still (Stages first.tenant.now objects) first.vault.now c.loop-name.own.vault.now mid.vault.now (ap shape_of c.in-Err.ensures.err) (λ _. c.in-Err.ensures.err) c.in-Err.ensures.store.honest before.so_far.stages in
+    let still = changes_still (Stages first.tenant.now objects) first.vault.now c.loop-name.own.vault.now mid.vault.now c.in-Err.ensures.kept c.in-Err.ensures.err c.in-Err.ensures.store.honest before.so_far.stages in
     subst (λ r. Changes (Settles r.now (visible_in first.vault.now r.now)) first.vault.now c.discard.new.own.vault.now) tenant
     (c.discard.ensures.settles first.vault.now objects (subst (λ r. Changes (Stages r.now objects) first.vault.now mid.vault.now) (sym tenant) still))
 

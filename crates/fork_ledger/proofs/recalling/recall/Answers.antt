@@ -1,4 +1,4 @@
-use Rattle.std.proofs.Common.{◌≡◌, refl, sym, subst}
+use Rattle.std.proofs.Common.{refl, sym, subst}
 use Rattle.loose_store.specs.Stored.{Whole}
 use Rattle.fork_ledger.proofs.StoredLemmas.{stored_same, stored_staged}
 use Rattle.fork_ledger.specs.Private.{with_staged}

@@ -1,7 +1,6 @@
 use Rattle.std.proofs.Common.{◌≡◌, None, Some, ap, sym, subst, ◌∙◌}
 use Rattle.std.specs.Prelude.{IfOk}
 use Rattle.std.specs.FinMap as map
-use Rattle.git_name.specs.Name.{name_cmp}
 use Rattle.fork_ledger.proofs.UseOfEntries.{keys_of_none}
 use Rattle.fork_ledger.proofs.TenantEntries.{private_found}
 use Rattle.fork_ledger.proofs.private_maps.PrivateMaps.names.Goals as goal

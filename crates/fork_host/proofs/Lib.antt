@@ -8,6 +8,7 @@ pub mod OwnLemmas
 pub mod PushLemmas
 pub mod QueryLemmas
 pub mod ReadLemmas
+pub mod RecallLemmas
 pub mod RefillLemmas
 pub mod RestoreLemmas
 pub mod RowLemmas

@@ -10,6 +10,7 @@ mod both;
 mod host;
 mod items;
 mod keeping;
+mod later;
 mod open_error;
 mod own;
 mod pruning;

@@ -1,4 +1,4 @@
-use Rattle.std.proofs.Common.{◌≡◌, ap, subst, sym, ◌∙◌}
+use Rattle.std.proofs.Common.{◌≡◌, arith, ap, subst, sym, ◌∙◌}
 use Rattle.std.specs.FinMap as map
 use Rattle.fork_reach.specs.Objects.{with_objects}
 use Rattle.fork_ledger.specs.Store.{Recalls}
@@ -7,7 +7,7 @@ use Rattle.fork_host.specs.Handle.{both_by}
 use Rattle.fork_host.specs.Own.{Changes, Settles, Stages, visible_in}
 use Rattle.fork_host.proofs.HandleLemmas.{same_own, same_then}
 use Rattle.fork_host.proofs.OwnLemmas.{changes_none, changes_still, here_changed, stages_none}
-use Rattle.fork_host.proofs.RestoreLemmas.{came_more, came_none}
+use Rattle.fork_host.proofs.RecallLemmas.{came_all, came_more, came_none}
 use Rattle.fork_host.proofs.recalling.recall_all.Goals as goal
 
 pub loop-name-init : goal.loop-name-init
@@ -26,8 +26,8 @@ loop-name-preserved g c =
     let new = c.recall.new.self in
     record {
       same = same_then first old new before.same c.in-Ok.ensures.same;
-      so_far = came_more first.tenant.now c.name-item.result c.args.names.now (both_by first) first.vault.now old.vault.now new.vault.now c.in-Ok.recalled c.requires.there (c.loop-name.name-index, c.loop-name-test.true, sym c.name-item.is) c.in-Ok.ensures.store.honest
-          (subst (λ r. Recalls old.vault.now.honest r.now c.name-item.result old.vault.now.files old.vault.now.tenants new.vault.now.tenants c.in-Ok.recalled) before.same.tenant c.in-Ok.ensures.recalls) before.so_far;
+      so_far = came_more first.tenant.now c.name-item.result c.args.names.now c.loop-name.name-index (both_by first) first.vault.now old.vault.now new.vault.now c.in-Ok.field-0 c.requires.there c.loop-name-test.true c.name-item.is c.in-Ok.ensures.store.honest c.recall.ensures.files
+          (subst (λ r. Recalls old.vault.now.honest r.now c.name-item.result old.vault.now.files old.vault.now.tenants new.vault.now.tenants c.in-Ok.field-0) before.same.tenant c.in-Ok.ensures.recalls) before.so_far;
     }
 
 pub discard-requires : goal.discard-requires
@@ -71,4 +71,14 @@ returns-clause-ok g c =
       among = before.so_far.among;
       changes = subst (λ r. Changes (Settles r.now objects) first.vault.now c.publish.new.own.vault.now) before.same.tenant
           (c.publish.ensures.settles first.vault.now objects (subst (λ r. Changes (Stages r.now objects) first.vault.now mid.vault.now) (sym before.same.tenant) before.so_far.stages));
+      whole = before.so_far.whole;
+      all = came_all first.tenant.now c.args.names.now c.loop-name.name-index (both_by first) first.vault.now mid.vault.now (omega arith) before.so_far;
     }
+
+pub returns-in-Err-clause-files : goal.returns-in-Err-clause-files
+returns-in-Err-clause-files g c = λ h.
+    let before = c.loop-name.invariant.so_far in
+    c.discard.ensures.store.files ∙ c.recall.ensures.files (before.stages.honest ∙ h) ∙ before.files h
+
+pub returns-clause-files : goal.returns-clause-files
+returns-clause-files g c = λ h. c.publish.ensures.store.files ∙ c.loop-name.invariant.so_far.files h

@@ -4,6 +4,7 @@ pub mod FaultLemmas
 pub mod GatherLemmas
 pub mod HandleLemmas
 pub mod KeepingLemmas
+pub mod NamesLemmas
 pub mod OwnLemmas
 pub mod PushLemmas
 pub mod QueryLemmas
@@ -11,6 +12,7 @@ pub mod ReadLemmas
 pub mod RecallLemmas
 pub mod RefillLemmas
 pub mod RestoreLemmas
+pub mod RestoringLemmas
 pub mod RowLemmas
 pub mod SafeLemmas
 pub mod ShapeLemmas

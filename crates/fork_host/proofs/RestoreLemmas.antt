@@ -1,11 +1,11 @@
 -- Objects that a tenant sees again, as they stand on the store and as they are judged.
-use Rattle.std.proofs.Common.{◌≡◌, ◌⊎◌, inl, inr, ℕ, ◌<◌, Bool, true, false, cond, IsTrue, Option, None, Some, List, [], ◌∷◌, refl, sym, ap, subst, ◌∙◌, is_some}
+use Rattle.std.proofs.Common.{◌≡◌, ◌⊎◌, inl, inr, ℕ, ◌<◌, Bool, true, false, Option, None, Some, List, [], ◌∷◌, refl, sym, ap, subst, ◌∙◌, is_some}
 use Rattle.std.specs.Prelude.{Contains, ◌||◌}
 use Rattle.std.specs.Cmp.{eq_by_cmp_equiv}
 use Rattle.std.proofs.lemmas.Map.Views.{Contains-from_any, list_any-from_Contains}
 use Rattle.std.specs.BTreeMap.{is_at}
-use Rattle.std.specs.BTreeSet.{BTreeSet, contains}
-use Rattle.std.specs.List.{find, list_any}
+use Rattle.std.specs.BTreeSet.{BTreeSet}
+use Rattle.std.specs.List.{list_any}
 use Rattle.std.specs.Option.{option_map}
 use Rattle.std.specs.Ordering.{eq_by_cmp}
 use Rattle.std.specs.FinMap.{contains_key, empty, get, get-empty}
@@ -26,7 +26,7 @@ use Rattle.fork_model.proofs.TransferLemmas.{came}
 use Rattle.fork_sound.specs.Sound.{is_bad}
 use Rattle.fork_sound.proofs.SoundLemmas.{all_met, good_found, good_there, none_bad}
 use Rattle.fork_host.specs.Refilled.{IsAgainst, StandsAgainst, bad_in}
-use Rattle.fork_host.specs.Restored.{AreOnStore, OnStore, first_astray, first_bad, is_one_of, target_of}
+use Rattle.fork_host.specs.Restored.{AreOnStore, first_astray, first_bad, is_one_of, target_of}
 use Rattle.fork_host.specs.declared.seeing.Against.{Against}
 use Rattle.fork_host.specs.declared.seeing.Against.TheVariants.{Fault, BadObject, Astray, Limit}
 use Rattle.fork_host.proofs.RecallLemmas.{one_whole}

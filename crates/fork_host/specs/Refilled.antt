@@ -1,5 +1,5 @@
 -- A tenant that sees again what it saw, on the way to a host that is restored.
-use Rattle.std.specs.Prelude.{◌≡◌, ◌⊎◌, ℕ, ◌≤◌, ◌<◌, ◌++◌, ◌∷◌, [], IsTrue, Option, None, Some, Result, Ok, Err, List, Contains}
+use Rattle.std.specs.Prelude.{◌≡◌, ℕ, ◌≤◌, ◌<◌, ◌++◌, ◌∷◌, [], IsTrue, Option, None, Some, Result, Ok, Err, List, Contains}
 use Rattle.std.specs.BTreeSet.{BTreeSet, contains}
 use Rattle.std.specs.FinMap.{entries, insert}
 use Rattle.std.specs.List.{find}
@@ -13,18 +13,17 @@ use Rattle.fork_reach.specs.Objects.{IsNamed, use_of, with_objects}
 use Rattle.fork_reach.specs.Source.{Objects}
 use Rattle.fork_ledger.specs.Tenants.{VaultState}
 use Rattle.fork_model.specs.Sound.{AreRight, IsClosed}
-use Rattle.fork_model.specs.View.{Repositories, View}
+use Rattle.fork_model.specs.View.{View}
 use Rattle.fork_model.specs.World.{World}
-use Rattle.state_text.specs.States.{States, TenantState}
-use Rattle.fork_host.specs.Adding.{new_view}
+use Rattle.state_text.specs.States.{TenantState}
 use Rattle.fork_host.specs.Own.{Changes, Settles, both_in, visible_in}
-use Rattle.fork_host.specs.Restored.{OnStore, TellsBad, first_astray, first_bad}
+use Rattle.fork_host.specs.Restored.{IsFault, OnStore, TellsBad, first_astray, first_bad}
 use Rattle.fork_host.specs.declared.later.Bad.{Bad}
 use Rattle.fork_host.specs.declared.later.Bad.TheVariants.{Unread, Object as Object_of}
 use Rattle.fork_host.specs.declared.later.Later.{Later}
 use Rattle.fork_host.specs.declared.later.Later.TheVariants.{Nothing, Target as LaterTarget, Limit as LaterLimit}
 use Rattle.fork_host.specs.declared.restore_error.RestoreError.{RestoreError}
-use Rattle.fork_host.specs.declared.restore_error.RestoreError.TheVariants.{Unsound, OverLimit, Store, Memory}
+use Rattle.fork_host.specs.declared.restore_error.RestoreError.TheVariants.{Unsound, OverLimit}
 use Rattle.fork_host.specs.declared.seeing.Against.{Against}
 use Rattle.fork_host.specs.declared.seeing.Against.TheVariants.{Fault, BadObject, Astray, Limit}
 
@@ -124,10 +123,6 @@ abbrev pub first_told : Later → Option RestoreError
 first_told Nothing = None
 first_told (LaterTarget target) = Some (Unsound target)
 first_told (LaterLimit tenant) = Some (OverLimit tenant)
-
--- want of memory, or a failing store
-abbrev pub IsFault : RestoreError → Type 0
-IsFault error = (error ≡ Store) ⊎ (error ≡ Memory)
 
 -- how what is told at once is told
 abbrev pub IsWhy : Files → Bad → RestoreError → Type 0

@@ -1,5 +1,5 @@
 -- What a host is restored to, and why it is not: states, judged by what stands on an honest store.
-use Rattle.std.specs.Prelude.{◌≡◌, ℕ, ◌≤◌, ◌<◌, ◌++◌, ◌∷◌, Bool, None, Some, ◌&&◌, ◌||◌, not, is_none, List, Option, Contains, ⊤}
+use Rattle.std.specs.Prelude.{◌≡◌, ◌⊎◌, ℕ, ◌≤◌, ◌<◌, ◌++◌, ◌∷◌, Bool, None, Some, ◌&&◌, ◌||◌, not, is_none, List, Option, Contains, ⊤}
 use Rattle.std.specs.BTreeMap.{is_at}
 use Rattle.std.specs.List.{AllByRecursion, find, flat_map, list_any}
 use Rattle.std.specs.FinMap.{entries, get}
@@ -82,6 +82,10 @@ TellsBad files name (Unsound told) = (told ≡ name) × (object : Object) × Who
 TellsBad files name (OverLimit tenant) = ⊥
 TellsBad files name Store = ⊤
 TellsBad files name Memory = ⊤
+
+-- want of memory, or of the store
+abbrev pub IsFault : RestoreError → Type 0
+IsFault error = (error ≡ Store) ⊎ (error ≡ Memory)
 
 -- why states are refused: first the objects of all tenants, tenant by tenant and name by name; then the targets of all references;
 -- then the limits; and want of memory or a failing store at any time

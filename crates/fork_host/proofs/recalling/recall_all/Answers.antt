@@ -1,8 +1,7 @@
-use Rattle.std.proofs.Common.{◌≡◌, arith, ap, subst, sym, ◌∙◌}
+use Rattle.std.proofs.Common.{arith, ap, subst, sym, ◌∙◌}
 use Rattle.std.specs.FinMap as map
 use Rattle.fork_reach.specs.Objects.{with_objects}
 use Rattle.fork_ledger.specs.Store.{Recalls}
-use Rattle.fork_ledger.specs.Tenants.{shape_of}
 use Rattle.fork_host.specs.Handle.{both_by}
 use Rattle.fork_host.specs.Own.{Changes, Settles, Stages, visible_in}
 use Rattle.fork_host.proofs.HandleLemmas.{same_own, same_then}

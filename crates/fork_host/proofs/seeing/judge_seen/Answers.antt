@@ -1,4 +1,4 @@
-use Rattle.std.proofs.Common.{◌≡◌, IsTrue, None, ap, sym, ◌∙◌}
+use Rattle.std.proofs.Common.{ap, sym, ◌∙◌}
 use Rattle.fork_host.specs.Handle.{visible_by}
 use Rattle.fork_host.specs.Restored.{first_astray}
 use Rattle.fork_host.proofs.RestoreLemmas.{told_target}

@@ -1,9 +1,9 @@
 -- The record of one object, and the lines of names (git-cat-file(1), git-rev-list(1)).
-use Rattle.std.specs.Prelude.{ℕ, List, ◌++◌, Option, None, Some, Result, Ok, Err, codes}
+use Rattle.std.specs.Prelude.{◌≡◌, ℕ, List, ◌++◌, Option, None, Some, Result, Ok, Err, codes}
 use Rattle.std.specs.List.{flat_map}
 use Rattle.std.specs.FinMap.{get}
 use Rattle.hex.specs.Hex.{encode_lower}
-use Rattle.git_name.specs.Object.{Object}
+use Rattle.git_name.specs.Object.{Object, object_name}
 use Rattle.push_stream.specs.Record.{record_of}
 use Rattle.fork_reach.specs.Source.{Objects}
 use Rattle.fork_request.specs.declared.refusal.Refusal.{Refusal}
@@ -16,6 +16,14 @@ record_found name (Some object) = Ok (record_of object)
 
 unfoldable pub object_told : Objects → List ℕ → Result (List ℕ) Refusal
 object_told objects name = record_found name (get objects name)
+
+-- the text is the record of an object of this name
+abbrev pub IsRecordUnder : List ℕ → List ℕ → Type 0
+IsRecordUnder name text = (object : Object) × (object_name object ≡ name) × (text ≡ record_of object)
+
+-- the text is records of objects, each with its object's own name
+abbrev pub AreRecords : List ℕ → Type 0
+AreRecords text = (objects : List Object) × (text ≡ flat_map record_of objects)
 
 -- each name in digits, and LF
 abbrev pub name_line : List ℕ → List ℕ

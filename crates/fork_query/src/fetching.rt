@@ -3,6 +3,7 @@ ghost use Rattle.std.specs.List.{flat_map};
 ghost use Rattle.git_name.specs.Text.{words_of};
 ghost use Rattle.fork_reach.specs.Faults.{IsAsked, fault_in};
 ghost use Rattle.fork_query.specs.Fetch.{fetch_told, fetched, record_at};
+ghost use Rattle.fork_query.specs.Objects.{AreRecords};
 ghost use Rattle.fork_query.specs.Told.{Tells, fault_told};
 
 use crate::query_error::QueryError;
@@ -23,6 +24,7 @@ fn send<S: Source>(
     text: &mut Vec<u8>,
 ) -> Result<(), SourceFault>
     ensures sent { IsTrue (S.state source.old).honest → OnOk result (text.new.items ≡ text.old.items ++ record_at (S.state source.old).objects name) }
+    ensures named { OnOk result (AreRecords text.old.items → AreRecords text.new.items) }
     ensures asked { IsAsked (S.state source.old) (S.state source.new) (fault_in result) }
 {
     let sealed = match source.read(alloc, name) {
@@ -46,6 +48,7 @@ fn send_all<S: Source>(
     names: &BTreeSet<Name>,
 ) -> Result<Vec<u8>, SourceFault>
     ensures sent { IsTrue (S.state source.old).honest → IfOk result (λ text. text.items ≡ flat_map (record_at (S.state source.old).objects) names.now.keys) }
+    ensures named { IfOk result (λ text. AreRecords text.items) }
     ensures asked { IsAsked (S.state source.old) (S.state source.new) (fault_in result) }
 {
     let mut text = Vec::new(alloc);
@@ -63,6 +66,7 @@ fn send_all<S: Source>(
 // ones reach is walked first, and the walk from the wanted ones stops there.
 fn records<S: Source>(alloc: Global, source: &mut S, sides: &Sides) -> Result<Vec<u8>, SourceFault>
     ensures sent { IsTrue (S.state source.old).honest → IfOk result (λ text. text.items ≡ fetched (S.state source.old).objects sides.now.wanted.items sides.now.excluded.items) }
+    ensures named { IfOk result (λ text. AreRecords text.items) }
     ensures asked { IsAsked (S.state source.old) (S.state source.new) (fault_in result) }
 {
     let hidden = match reach(alloc, source, sides.excluded.as_slice()) {
@@ -89,6 +93,7 @@ pub fn fetch<S: Source>(
 ) -> Result<Vec<u8>, QueryError>
     ensures told { IsTrue (S.state source.old).honest → Tells (λ text. text.items) (fetch_told (S.state source.old).objects references.now (words_of items.now)) result }
     // Over any source.
+    ensures named { IfOk result (λ text. AreRecords text.items) }
     ensures asked { IsAsked (S.state source.old) (S.state source.new) (fault_told result) }
 {
     let sides = match select(alloc, Want::Object, source, references, items) {

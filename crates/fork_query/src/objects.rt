@@ -1,6 +1,6 @@
-ghost use Rattle.std.specs.Prelude.{◌≡◌, IsTrue};
+ghost use Rattle.std.specs.Prelude.{◌≡◌, IfOk, IsTrue};
 ghost use Rattle.fork_reach.specs.Faults.{IsAsked};
-ghost use Rattle.fork_query.specs.Objects.{object_told};
+ghost use Rattle.fork_query.specs.Objects.{IsRecordUnder, object_told};
 ghost use Rattle.fork_query.specs.Told.{Tells, fault_told};
 
 use crate::query_error::QueryError;
@@ -15,6 +15,7 @@ use std::alloc::Global;
 pub fn cat_file<S: Source>(alloc: Global, source: &mut S, name: Name) -> Result<Vec<u8>, QueryError>
     ensures told { IsTrue (S.state source.old).honest → Tells (λ text. text.items) (object_told (S.state source.old).objects name) result }
     // Over any source.
+    ensures named { IfOk result (λ text. IsRecordUnder name text.items) }
     ensures asked { IsAsked (S.state source.old) (S.state source.new) (fault_told result) }
 {
     match source.read(alloc, name) {

@@ -1,5 +1,5 @@
 -- The store under a vault (own): what stands on it of what tenants hold, what a call leaves of it, and which faults may come.
-use Rattle.std.specs.Prelude.{◌≡◌, ◌≢◌, ◌⊎◌, ℕ, Bool, true, false, List, IsTrue, Option, None, Some, Result, Ok, Err}
+use Rattle.std.specs.Prelude.{◌≡◌, ◌≢◌, ◌⊎◌, ℕ, Bool, true, List, IsTrue, Option, None, Some, Result, Ok, Err}
 use Rattle.git_name.specs.Object.{Object, object_name}
 use Rattle.fork_reach.specs.Faults.{Rises}
 use Rattle.loose_store.specs.Files.{Files}
@@ -10,7 +10,7 @@ use Rattle.std.specs.FinMap.{get}
 use Rattle.fork_ledger.specs.declared.recalling.Recalled.{Recalled}
 use Rattle.fork_ledger.specs.declared.recalling.Recalled.TheVariants.{Whole as Whole_object, Lost, Damaged as Damaged_object}
 use Rattle.fork_ledger.specs.Private.{Holds, is_held_by, with_staged}
-use Rattle.fork_ledger.specs.Tenants.{Tenants, VaultState, at_tenant, private_of}
+use Rattle.fork_ledger.specs.Tenants.{Tenants, VaultState, at_tenant, private_of, shape_of}
 
 -- each object that a tenant sees or has staged stands whole on the store
 abbrev pub IsStored : Tenants → Files → Type 0
@@ -20,21 +20,22 @@ IsStored tenants files = (tenant name : List ℕ) (object : Object) → Holds (p
 abbrev pub IsTaken : Tenants → List ℕ → Type 0
 IsTaken tenants name = (tenant : List ℕ) × (is_held_by (private_of tenants tenant) name ≡ true)
 
--- no tenant has one
-abbrev pub IsFree : Tenants → List ℕ → Type 0
-IsFree tenants name = (tenant : List ℕ) → is_held_by (private_of tenants tenant) name ≡ false
-
 -- the vault is over a store of these contents, of this honesty and so many failures
 pub record IsOver (contents : Files) (trusted : Bool) (count : ℕ) (vault : VaultState) : Type 0 where
   pub files : IsTrue trusted → vault.files ≡ contents
   pub honest : vault.honest ≡ trusted
   pub failures : vault.failures ≡ count
 
--- the store is not asked
+-- the store is not asked, and the catalogue's names and place stay
 pub record LeavesStore (old new : VaultState) : Type 0 where
   pub files : new.files ≡ old.files
   pub honest : new.honest ≡ old.honest
   pub failures : new.failures ≡ old.failures
+  pub places : new.places ≡ old.places
+
+-- a file stands under this name, and is whole of no object
+abbrev pub IsDamaged : Files → List ℕ → Type 0
+IsDamaged files name = (file : List ℕ) × (get files name ≡ Some file) × ((object : Object) → Whole files name object → ⊥)
 
 -- no other object than this one came to stand whole on the store
 abbrev pub StoresAlone : Object → Files → Files → Type 0
@@ -44,12 +45,17 @@ StoresAlone object old new = (name : List ℕ) (other : Object) → Whole new na
 abbrev pub Meets : Object → Files → Type 0
 Meets object files = (other : Object) × Whole files (object_name object) other × (other ≢ object)
 
+-- private maps came to be these: themselves over an honest store, and over any what no store can change of them
+pub record Becomes (honest : Bool) (tenants new : Tenants) : Type 0 where
+  pub exact : IsTrue honest → new ≡ tenants
+  pub shape : shape_of new ≡ shape_of tenants
+
 -- an object that a tenant saw before: what stands whole on the store is staged, and what is lost or damaged changes nothing
 abbrev pub Recalls : Bool → List ℕ → List ℕ → Files → Tenants → Tenants → Recalled → Type 0
 Recalls honest tenant name files old new Whole_object =
-    (object : Object) × (object_name object ≡ name) × (IsTrue honest → Whole files name object) × (new ≡ at_tenant old tenant (with_staged object))
-Recalls honest tenant name files old new Lost = (new ≡ old) × (IsTrue honest → get files name ≡ None)
-Recalls honest tenant name files old new Damaged_object = (new ≡ old) × (IsTrue honest → (object : Object) → Whole files name object → ⊥)
+    (object : Object) × (object_name object ≡ name) × (IsTrue honest → Whole files name object) × Becomes honest (at_tenant old tenant (with_staged object)) new
+Recalls honest tenant name files old new Lost = Becomes honest old new × (IsTrue honest → get files name ≡ None)
+Recalls honest tenant name files old new Damaged_object = Becomes honest old new × (IsTrue honest → IsDamaged files name)
 
 -- the fault of a result
 abbrev pub fault_in : {A : Type 0} → Result A VaultFault → Option VaultFault

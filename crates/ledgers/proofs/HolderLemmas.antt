@@ -5,7 +5,7 @@ use Rattle.std.specs.Option.{option_and_then, option_map_or}
 use Rattle.std.specs.Ordering.{eq_by_cmp}
 use Rattle.std.specs.Cmp.{eq_by_cmp_equiv}
 use Rattle.std.specs.FinMap.{contains_key, empty, entries, get, get-empty, get-insert, insert, len, len-entries, values}
-use Rattle.std.proofs.lemmas.Bool.{ltb-true}
+use Rattle.std.proofs.lemmas.Bool.{lt-ltb, ltb-true}
 use Rattle.std.proofs.lemmas.List.Sums.{count_by-le-length}
 use Rattle.std.proofs.lemmas.Map.Entries.{length-values_of}
 use Rattle.git_name.specs.declared.kind.Kind.{Kind}
@@ -198,3 +198,11 @@ nobody_has m q none t own here =
 pub someone_has : (m : AllWords) (q : List ℕ) → is_held_in m q ≡ true → (t : List ℕ) × (own : Words) × (get m t ≡ Some own) × (contains_key own q ≡ true)
 unfolding holders_of
 someone_has m q held = (let some = counts_some name_total (has q) m (ltb-true 0 (holders_of m q) held) in (some.0, some.1, some.2, one_of (contains_key some.1 q) some.3))
+
+-- who has a word of the name holds it
+pub held_by : (m : AllWords) (t : List ℕ) (own : Words) (q : List ℕ) → get m t ≡ Some own → contains_key own q ≡ true → is_held_in m q ≡ true
+unfolding holders_of
+held_by m t own q here there =
+    let within = worth_within (has q) m t in
+    let one = ap (worth (has q)) here ∙ ap (λ b. cond b 1 0) there in
+    lt-ltb 0 (holders_of m q) (omega (arith, within, one))

@@ -1,13 +1,14 @@
-ghost use Rattle.std.specs.Prelude.{◌≡◌, ◌<◌, ◌≤◌, ◌+◌, ◌⊎◌, ◌++◌, ◌∷◌, [], ◌||◌, ◌&&◌, not, ℕ, List, length, OnOk, OnErr, IfOk, IfSome, IfNone, true, nat_le, IsPermutation};
+ghost use Rattle.std.specs.Prelude.{◌≡◌, ◌<◌, ◌≤◌, ◌+◌, ◌⊎◌, ◌++◌, ◌∷◌, [], ◌||◌, ◌&&◌, not, ℕ, List, length, OnOk, OnErr, IfOk, IfSome, IfNone, false, true, nat_le, IsPermutation};
 ghost use Rattle.std.specs.BTreeSet.{contains};
 ghost use Rattle.std.specs.FinMap as map;
+ghost use Rattle.std.specs.Option.{option_map_or};
 ghost use Rattle.git_name.specs.Name.{name_cmp};
 ghost use Rattle.looks.specs.Places.{at_start, is_listed, looked_at, same_name};
 ghost use Rattle.catalogue.specs.Counted.{IsNext, count_of, places_of};
 ghost use Rattle.ledgers.specs.Holders.{IsCounting, holders_of, is_held_in};
 ghost use Rattle.ledgers.specs.Ledgers.{at_ledger, ledger_at, with_ledger, word_at};
 ghost use Rattle.ledgers.specs.Totals.{capped, total_of, used_by};
-ghost use Rattle.ledgers.specs.Words.{discarded_words, is_visible, kept_words, published_words, staged_words, words_that};
+ghost use Rattle.ledgers.specs.Words.{discarded_words, is_staged, is_visible, kept_words, published_words, staged_words, words_that};
 
 use crate::ledgers::Ledgers;
 use crate::word::Word;
@@ -70,6 +71,26 @@ impl Holdings {
         ensures { result ≡ word_at self.now.ledgers tenant.now name }
     {
         word_in(&self.ledgers, tenant, name)
+    }
+
+    /// Whether a tenant sees the object of a name.
+    pub fn sees(&self, tenant: &TenantName, name: Name) -> bool
+        ensures { result ≡ option_map_or is_visible (word_at self.now.ledgers tenant.now name) false }
+    {
+        let Some(word) = self.word(tenant, name) else {
+            return false;
+        };
+        word.is_visible()
+    }
+
+    /// Whether a tenant has staged the object of a name.
+    pub fn has_staged(&self, tenant: &TenantName, name: Name) -> bool
+        ensures { result ≡ option_map_or is_staged (word_at self.now.ledgers tenant.now name) false }
+    {
+        let Some(word) = self.word(tenant, name) else {
+            return false;
+        };
+        word.is_staged()
     }
 
     /// The names of what a tenant sees, ascending.

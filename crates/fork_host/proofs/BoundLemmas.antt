@@ -65,9 +65,9 @@ abbrev pub IsQuiet : Reply → Type 0
 IsQuiet reply = (is_host_fault reply ≡ false) ⊎ (reply ≡ Failed Memory)
 
 pub bounded_gains : (sent : List Object) (a b : VaultState) (reply : Reply) → Gains sent a b → IsQuiet reply → IsBounded sent a b reply
-bounded_gains sent a b (Done text) gains quiet = record { counted = gains.failures; undamaged = λ h is. cc; collided = λ h is. absurd (cc); stored = λ h _ _. gains.stored h }
-bounded_gains sent a b (Refused refusal) gains quiet = record { counted = gains.failures; undamaged = λ h is. cc; collided = λ h is. absurd (cc); stored = λ h _ _. gains.stored h }
-bounded_gains sent a b (Failed Memory) gains quiet = record { counted = gains.failures; undamaged = λ h is. cc; collided = λ h is. absurd (cc); stored = λ h _ _. gains.stored h }
+bounded_gains sent a b (Done text) gains quiet = record { honest = gains.honest; counted = gains.failures; undamaged = λ h is. cc; collided = λ h is. absurd (cc); stored = λ h _ _. gains.stored h }
+bounded_gains sent a b (Refused refusal) gains quiet = record { honest = gains.honest; counted = gains.failures; undamaged = λ h is. cc; collided = λ h is. absurd (cc); stored = λ h _ _. gains.stored h }
+bounded_gains sent a b (Failed Memory) gains quiet = record { honest = gains.honest; counted = gains.failures; undamaged = λ h is. cc; collided = λ h is. absurd (cc); stored = λ h _ _. gains.stored h }
 bounded_gains sent a b (Failed Store) gains (inl is) = absurd (cc)
 bounded_gains sent a b (Failed Store) gains (inr is) = absurd (cc)
 bounded_gains sent a b (Failed Damaged) gains (inl is) = absurd (cc)
@@ -86,6 +86,7 @@ quiet_row view new ask reply (Wanting wanting stays) = inr wanting
 -- what came before the call that was answered so
 pub bounded_after : (sent : List Object) (a b c : VaultState) (reply : Reply) → Gains sent a b → IsBounded sent b c reply → IsBounded sent a c reply
 bounded_after sent a b c reply gains bounded = record {
+  honest = bounded.honest ∙ gains.honest;
   counted = subst (λ n. CountsReply n c.failures reply) gains.failures bounded.counted;
   undamaged = λ h. bounded.undamaged (gains.honest ∙ h);
   collided = λ h is. met h (bounded.collided (gains.honest ∙ h) is);
@@ -113,6 +114,7 @@ bounded_after sent a b c reply gains bounded = record {
 -- and what came behind it
 pub bounded_left : (sent : List Object) (a b c : VaultState) (reply : Reply) → IsBounded sent a b reply → LeavesStore b c → IsBounded sent a c reply
 bounded_left sent a b c reply bounded left = record {
+  honest = left.honest ∙ bounded.honest;
   counted = subst (λ n. CountsReply a.failures n reply) (sym left.failures) bounded.counted;
   undamaged = bounded.undamaged;
   collided = bounded.collided;
@@ -121,17 +123,18 @@ bounded_left sent a b c reply bounded left = record {
 
 -- a read that failed
 pub bounded_read : (sent : List Object) (a b : VaultState) (fault : SourceFault) → IsRead a b (Some fault) → IsBounded sent a b (Failed (fault_told fault))
-bounded_read sent a b source.Store read = record { counted = read.counted; undamaged = λ h is. cc; collided = λ h is. absurd (cc); stored = λ h no_store _. absurd (no_store refl) }
-bounded_read sent a b source.Damaged read = record { counted = read.counted; undamaged = λ h is. read.undamaged h refl; collided = λ h is. absurd (cc); stored = λ h _ _. same_files sent (read.files h) }
-bounded_read sent a b source.Memory read = record { counted = read.counted; undamaged = λ h is. cc; collided = λ h is. absurd (cc); stored = λ h _ _. same_files sent (read.files h) }
+bounded_read sent a b source.Store read = record { honest = read.honest; counted = read.counted; undamaged = λ h is. cc; collided = λ h is. absurd (cc); stored = λ h no_store _. absurd (no_store refl) }
+bounded_read sent a b source.Damaged read = record { honest = read.honest; counted = read.counted; undamaged = λ h is. read.undamaged h refl; collided = λ h is. absurd (cc); stored = λ h _ _. same_files sent (read.files h) }
+bounded_read sent a b source.Memory read = record { honest = read.honest; counted = read.counted; undamaged = λ h is. cc; collided = λ h is. absurd (cc); stored = λ h _ _. same_files sent (read.files h) }
 
 -- an object that was not staged
 pub bounded_staged : (sent : List Object) (object : Object) (a b : VaultState) (fault : VaultFault) → Contains sent object → AsksStore a b (Some fault) → (IsTrue a.honest → fault ≡ ledger.Collision → Meets object a.files)
     → (IsTrue a.honest → fault ≡ ledger.Collision → b.files ≡ a.files) → IsBounded sent a b (Failed (vault_told fault))
-bounded_staged sent object a b ledger.Store among asked meets still = record { counted = asked.counted; undamaged = λ h is. cc; collided = λ h is. absurd (cc); stored = λ h no_store _. absurd (no_store refl) }
-bounded_staged sent object a b ledger.Memory among asked meets still = record { counted = asked.counted; undamaged = λ h is. cc; collided = λ h is. absurd (cc); stored = λ h _ no_memory. absurd (no_memory refl) }
-bounded_staged sent object a b ledger.Damaged among asked meets still = record { counted = asked.counted; undamaged = λ h is. asked.undamaged h refl; collided = λ h is. absurd (cc); stored = λ h _ _. absurd (asked.undamaged h refl) }
+bounded_staged sent object a b ledger.Store among asked meets still = record { honest = asked.honest; counted = asked.counted; undamaged = λ h is. cc; collided = λ h is. absurd (cc); stored = λ h no_store _. absurd (no_store refl) }
+bounded_staged sent object a b ledger.Memory among asked meets still = record { honest = asked.honest; counted = asked.counted; undamaged = λ h is. cc; collided = λ h is. absurd (cc); stored = λ h _ no_memory. absurd (no_memory refl) }
+bounded_staged sent object a b ledger.Damaged among asked meets still = record { honest = asked.honest; counted = asked.counted; undamaged = λ h is. asked.undamaged h refl; collided = λ h is. absurd (cc); stored = λ h _ _. absurd (asked.undamaged h refl) }
 bounded_staged sent object a b ledger.Collision among asked meets still = record {
+  honest = asked.honest;
   counted = asked.counted;
   undamaged = λ h is. cc;
   collided = λ h is. (let met = meets h refl in record { object = object; other = met.0; comes = among; met = inr met.1; named = met.1.named; differ = met.2 });

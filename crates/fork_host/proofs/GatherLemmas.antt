@@ -1,40 +1,60 @@
--- Repositories of a list, one after another.
-use Rattle.std.proofs.Common.{◌≡◌, ◌⊎◌, inl, inr, ℕ, ◌+◌, ◌<◌, ◌≤◌, arith, Bool, true, false, cond, List, Option, Some, refl, sym, ap, ◌∙◌, length, get_or, is_some}
-use Rattle.std.specs.Prelude.{Contains}
-use Rattle.std.specs.Ordering.{eq_by_cmp}
-use Rattle.std.specs.FinMap.{contains_key, empty, get, get-empty, get-insert, insert, len, len-empty, len-insert}
-use Rattle.std.proofs.lemmas.List.{get_or_default}
+-- What is gathered of a list whose names ascend, one behind the other.
+use Rattle.std.proofs.Common.{◌≡◌, ℕ, ◌+◌, ◌<◌, List, [], ◌∷◌, ◌++◌, refl, sym, ap, subst, ◌∙◌, arith, length, get_or, take, drop, map, take-append-drop}
+use Rattle.std.proofs.lemmas.List.{drop_more, take_more}
+use Rattle.std.proofs.lemmas.List.Elements.{All-head, All-tail}
+use Rattle.std.specs.BTreeSet.{insert_key}
+use Rattle.std.specs.Ordering.{ordering_reverse}
+use Rattle.std.specs.FinMap.{empty, entries, insert, len-empty, len-entries}
+use Rattle.std.specs.declared.cmp.Ordering.TheVariants.{Less}
 use Rattle.git_name.specs.Name.{name_cmp}
 use Rattle.git_name.proofs.Names.{name_total}
 use Rattle.git_reftx.specs.Transaction.{References}
-use Rattle.fork_reach.proofs.KeptObjects.{at_key, tied_names}
+use Rattle.git_reftx.proofs.PushLemmas.{entries_behind}
 use Rattle.fork_model.specs.View.{Repositories}
+use Rattle.state_text.specs.Adding.{AreBefore}
+use Rattle.state_text.specs.States.{Ascend}
+use Rattle.fork_host.proofs.KeepingLemmas.{before_next_by}
 
--- these are of the list, and so many at the most
-pub record Gathered (list : List (List ℕ × References)) (most : ℕ) (repositories : Repositories) : Type 0 where
-  pub among : (name : List ℕ) (references : References) → get repositories name ≡ Some references → Contains list (name, references)
-  pub few : len repositories ≤ most
+-- those at the front, one of them, and those behind it
+pub parts_at : {A : Type 0} (xs : List A) (i : ℕ) (x : A) → i < length xs → x ≡ get_or xs i x → xs ≡ take i xs ++ x ∷ drop (i + 1) xs
+parts_at xs i x inside is = sym (take-append-drop i xs) ∙ ap (λ back. take i xs ++ back) (drop_more xs i x inside ∙ ap (λ y. y ∷ drop (i + 1) xs) (sym is))
 
-pub gathered_none : (list : List (List ℕ × References)) (repositories : Repositories) → repositories ≡ empty → Gathered list 0 repositories
-gathered_none list repositories none = record {
-  among = λ name references is. absurd (cc (sym (get-empty {X = References} name_cmp name) ∙ sym (ap (λ (m : Repositories). get m name) none) ∙ is));
-  few = (let counted = ap (λ (m : Repositories). len m) none ∙ len-empty name_cmp References in omega (arith, counted));
-}
+pub taken_more : {A : Type 0} (xs : List A) (i : ℕ) (x : A) → i < length xs → x ≡ get_or xs i x → take (i + 1) xs ≡ take i xs ++ x ∷ []
+taken_more xs i x inside is = take_more xs i x inside ∙ ap (λ y. take i xs ++ y ∷ []) (sym is)
 
-pub gathered_more : (list : List (List ℕ × References)) (old new : Repositories) (at : ℕ) (item : List ℕ × References) (name : List ℕ) (references : References) → at < length list → item ≡ get_or list at item → name ≡ item.0 → references ≡ item.1
-    → new ≡ insert old name references → Gathered list at old → Gathered list (at + 1) new
-gathered_more list old new at item name references inside is named same set so_far = record {
-  among = λ q r found. by q r (at_key (eq_by_cmp name_cmp q name) references r (get old q) (sym (get-insert name_total old name references q) ∙ ap (λ (m : Repositories). get m q) (sym set) ∙ found));
-  few = counts (contains_key old name) (ap (λ (m : Repositories). len m) set ∙ len-insert name_total old name references);
-}
+-- where names ascend, those at the front stand before the next
+pub next_by : {A : Type 0} (name : A → List ℕ) (xs : List A) (i : ℕ) (x : A) → Ascend (map name xs) → i < length xs → x ≡ get_or xs i x → AreBefore (map name (take i xs)) (name x)
+next_by name xs i x ascend inside is = before_next_by name (take i xs) x (drop (i + 1) xs) (subst (λ ys. Ascend (map name ys)) (parts_at xs i x inside is) ascend)
+
+-- a name behind the others is put behind them
+set_behind : (names : List (List ℕ)) (name : List ℕ) → AreBefore names name → insert_key name_cmp names name ≡ names ++ name ∷ []
+set_behind [] name before = refl
+set_behind (first ∷ names) name before =
+    let above = name_total.antisymm name first ∙ ap ordering_reverse (All-head (λ other. name_cmp other name ≡ Less) first names before) in
+    rw above (ap (λ ks. first ∷ ks) (set_behind names name (All-tail (λ other. name_cmp other name ≡ Less) first names before)))
+
+same_names : (names : List (List ℕ)) → map (λ name. name) names ≡ names
+same_names [] = refl
+same_names (name ∷ names) = ap (λ ks. name ∷ ks) (same_names names)
+
+-- a set of names that ascend, as the next one is put into it
+pub set_more : (names : List (List ℕ)) (i : ℕ) (name : List ℕ) (old new : List (List ℕ)) → Ascend names → i < length names → name ≡ get_or names i name → new ≡ insert_key name_cmp old name → old ≡ take i names → new ≡ take (i + 1) names
+set_more names i name old new ascend inside is put so_far =
+    let before = subst (λ ks. AreBefore ks name) (same_names (take i names)) (next_by (λ k. k) names i name (subst Ascend (sym (same_names names)) ascend) inside is) in
+    put ∙ ap (λ ks. insert_key name_cmp ks name) so_far ∙ set_behind (take i names) name before ∙ sym (taken_more names i name inside is)
+
+-- repositories of a list, as the next one comes to them
+pub gathered_more : (list : List (List ℕ × References)) (old new : Repositories) (i : ℕ) (item : List ℕ × References) (name : List ℕ) (references : References) → Ascend (map (λ repository. repository.0) list) → i < length list → item ≡ get_or list i item
+    → name ≡ item.0 → references ≡ item.1 → new ≡ insert old name references → entries old ≡ take i list → entries new ≡ take (i + 1) list
+gathered_more list old new i item name references ascend inside is named same set so_far =
+    let before = subst (λ es. AreBefore (map (λ e. e.0) es) name) (sym so_far) (subst (AreBefore (map (λ e. e.0) (take i list))) (sym named) (next_by (λ repository. repository.0) list i item ascend inside is)) in
+    ap (λ (m : Repositories). entries m) set ∙ entries_behind old name references before
+    ∙ ap (λ es. es ++ (name, references) ∷ []) so_far ∙ ap (λ (e : List ℕ × References). take i list ++ e ∷ []) (λ k. (named k, same k))
+    ∙ sym (taken_more list i item inside is)
+
+pub none_gathered : entries (empty {K = List ℕ} {X = References} {R = name_cmp}) ≡ []
+none_gathered = no_elements (entries (empty {K = List ℕ} {X = References} {R = name_cmp})) (sym (len-entries (empty {K = List ℕ} {X = References} {R = name_cmp})) ∙ len-empty name_cmp References)
   where
-    by : (q : List ℕ) (r : References) → ((eq_by_cmp name_cmp q name ≡ true) × (references ≡ r)) ⊎ (get old q ≡ Some r) → Contains list (q, r)
-    by q r (inl here) =
-        let key : item.0 ≡ q = sym named ∙ sym (tied_names q name here.0) in
-        let value : item.1 ≡ r = sym same ∙ here.1 in
-        (at, inside, get_or_default list at (q, r) item inside ∙ sym is ∙ (λ i. (key i, value i)))
-    by q r (inr there) = so_far.among q r there
-
-    counts : (b : Bool) → len new ≡ cond b (len old) (len old + 1) → len new ≤ at + 1
-    counts true is_len = (let few = so_far.few in omega (arith, is_len, few))
-    counts false is_len = (let few = so_far.few in omega (arith, is_len, few))
+    no_elements : {A : Type 0} (xs : List A) → length xs ≡ 0 → xs ≡ []
+    no_elements [] is = refl
+    no_elements (x ∷ xs) is = absurd (omega (arith, is))

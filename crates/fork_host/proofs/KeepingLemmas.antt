@@ -1,11 +1,9 @@
 -- What is put behind the others of a state, in order.
-use Rattle.std.proofs.Common.{◌≡◌, ℕ, ◌&&◌, ◌<◌, ◌≤◌, List, [], ◌∷◌, ◌++◌, Some, refl, sym, ap, subst, ◌∙◌, get_or, length, map, length-append, arith}
+use Rattle.std.proofs.Common.{◌≡◌, ℕ, ◌<◌, ◌≤◌, List, [], ◌∷◌, ◌++◌, Some, refl, sym, ap, subst, ◌∙◌, get_or, length, map, length-append, arith}
 use Rattle.std.specs.Prelude.{All, T}
 use Rattle.std.proofs.lemmas.List.{append_assoc, length-map, map-append}
 use Rattle.std.specs.Option.{option_map}
-use Rattle.std.specs.Ordering.{is_lt}
-use Rattle.std.specs.FinMap.{entries, entries_sorted, entries-from_sorted, get, is_sorted, len-entries}
-use Rattle.std.specs.FinMap.Entries.{below_all}
+use Rattle.std.specs.FinMap.{entries, entries_sorted, entries-from_sorted, get, len-entries}
 use Rattle.std.specs.List.{AllByRecursion}
 use Rattle.std.specs.List.Sorted.{IsStrictlySortedBy}
 use Rattle.git_name.specs.Name.{name_cmp}
@@ -18,7 +16,7 @@ use Rattle.state_text.specs.States.{Ascend, States}
 use Rattle.state_text.proofs.BehindLemmas.{before_last, map_behind}
 use Rattle.fork_ledger.specs.Tenants.{VaultState}
 use Rattle.fork_host.specs.Shown.{Account, HostState, entry_shown, shown, world_of}
-use Rattle.fork_host.proofs.WorldLemmas.{get_world, len_world}
+use Rattle.fork_host.proofs.WorldLemmas.{get_world, len_world, same_sorted}
 
 each_before : {A : Type 0} (P : A → Type 0) (xs ys : List A) → AllByRecursion P (xs ++ ys) → AllByRecursion P xs
 each_before P [] ys each = tt
@@ -61,15 +59,6 @@ all_at {A = A} P xs x ys all = subst P (here xs) (all (length xs) x (let long = 
 abbrev Rows : Type 0
 Rows = List (List ℕ × Account)
 
--- views stand in the order of their accounts
-below_shown : (vault : VaultState) (k : List ℕ) (es : Rows) → below_all name_cmp k (map (entry_shown vault) es) ≡ below_all name_cmp k es
-below_shown vault k [] = refl
-below_shown vault k (e ∷ es) = ap (λ b. is_lt (name_cmp k e.0) && b) (below_shown vault k es)
-
-sorted_shown : (vault : VaultState) (es : Rows) → is_sorted name_cmp (map (entry_shown vault) es) ≡ is_sorted name_cmp es
-sorted_shown vault [] = refl
-sorted_shown vault (e ∷ es) = ap (λ b. b && is_sorted name_cmp (map (entry_shown vault) es)) (below_shown vault e.0 es) ∙ ap (λ b. below_all name_cmp e.0 es && b) (sorted_shown vault es)
-
 -- the states of these accounts
 abbrev pub states_by : VaultState → Rows → States
 states_by vault es = map kept_of (map (entry_shown vault) es)
@@ -77,7 +66,7 @@ states_by vault es = map kept_of (map (entry_shown vault) es)
 -- the world's states are those of its accounts
 pub all_states : (state : HostState) → states_by state.vault (entries state.accounts) ≡ states_of (world_of state)
 unfolding world_of
-all_states state = ap (map kept_of) (sym (entries-from_sorted name_cmp (map (entry_shown state.vault) (entries state.accounts)) (subst T (sym (sorted_shown state.vault (entries state.accounts))) (entries_sorted state.accounts))))
+all_states state = ap (map kept_of) (sym (entries-from_sorted name_cmp (map (entry_shown state.vault) (entries state.accounts)) (subst T (sym (same_sorted state.vault (entries state.accounts))) (entries_sorted state.accounts))))
 
 -- one account more
 pub state_more : (vault : VaultState) (es : Rows) (e : List ℕ × Account) → states_by vault (es ++ e ∷ []) ≡ states_by vault es ++ kept_of (e.0, shown e.1 vault e.0) ∷ []

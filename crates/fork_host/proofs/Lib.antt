@@ -4,12 +4,15 @@ pub mod FaultLemmas
 pub mod GatherLemmas
 pub mod HandleLemmas
 pub mod KeepingLemmas
+pub mod NamesLemmas
 pub mod OwnLemmas
 pub mod PushLemmas
 pub mod QueryLemmas
 pub mod ReadLemmas
+pub mod RecallLemmas
 pub mod RefillLemmas
 pub mod RestoreLemmas
+pub mod RestoringLemmas
 pub mod RowLemmas
 pub mod SafeLemmas
 pub mod ShapeLemmas

@@ -1,39 +1,37 @@
 -- A tenant that is filled again: its view is in order and right, and the state stays whole.
-use Rattle.std.proofs.Common.{◌≡◌, ◌≢◌, ◌⊎◌, inl, inr, ℕ, ◌≤◌, arith, Bool, true, false, cond, not, IsTrue, List, [], ◌∷◌, Option, None, Some, refl, sym, ap, subst, ◌∙◌, length, is_some}
+use Rattle.std.proofs.Common.{◌≡◌, ℕ, ◌≤◌, arith, Bool, true, false, cond, not, IsTrue, List, [], ◌∷◌, Option, None, Some, refl, sym, ap, subst, ◌∙◌, length, is_some}
 use Rattle.std.specs.Prelude.{Contains, ◌&&◌, ◌||◌, is_none}
-use Rattle.std.proofs.lemmas.List.Elements.{Contains-get_or}
 use Rattle.std.proofs.lemmas.List.Folds.{find-append}
 use Rattle.std.proofs.lemmas.Map.Views.{Contains-from_lookup}
 use Rattle.std.specs.List.{AllByRecursion, find, flat_map}
 use Rattle.std.specs.Option.{option_map, option_or, unwrap_or}
 use Rattle.std.specs.Ordering.{eq_by_cmp}
 use Rattle.std.specs.Cmp.{eq_by_cmp_equiv}
-use Rattle.std.specs.FinMap.{contains_key, empty, entries, get, get-entries, get-insert, insert, len}
+use Rattle.std.specs.FinMap.{FinMap, contains_key, entries, get, get-entries, get-insert, insert, keys, len-entries}
 use Rattle.git_name.specs.Name.{name_cmp}
 use Rattle.git_name.specs.Object.{Object}
 use Rattle.git_name.specs.declared.kind.Kind.{Kind}
 use Rattle.git_name.proofs.Names.{name_total}
 use Rattle.git_name.proofs.TreeMaps.{find_is_lookup}
-use Rattle.git_reftx.specs.Known.{Kinds}
 use Rattle.git_reftx.specs.Transaction.{References, is_branch, is_commit}
 use Rattle.push_stream.specs.Upload.{UploadValue}
-use Rattle.fork_reach.specs.Objects.{IsNamed, Measures, measures_of, use_of}
+use Rattle.fork_reach.specs.Objects.{Measures, measures_of}
 use Rattle.fork_reach.specs.Source.{Objects, kind_in}
-use Rattle.fork_reach.proofs.KeptObjects.{at_key, tied_names}
-use Rattle.fork_ledger.specs.Tenants.{VaultState, private_of}
+use Rattle.fork_reach.proofs.KeptObjects.{tied_names}
+use Rattle.fork_ledger.specs.Tenants.{VaultState}
 use Rattle.fork_ledger.proofs.BothLemmas.{none_of}
-use Rattle.fork_model.specs.Sound.{AreReferences, AreRight, IsClosed, IsOrderly, IsOrderlyWorld, IsReference, IsRight, IsRightWorld}
+use Rattle.fork_model.specs.Sound.{AreReferences, IsOrderly, IsRight, IsRightWorld}
 use Rattle.fork_model.specs.View.{View, Repositories}
 use Rattle.fork_model.specs.World.{World}
 use Rattle.fork_model.proofs.ClosedLemmas.{each_of}
-use Rattle.state_text.specs.States.{IsRepository}
-use Rattle.fork_host.specs.Adding.{new_view}
-use Rattle.fork_host.specs.Own.{Changes, IsOwn, Settles, staged_in, visible_in}
-use Rattle.fork_host.specs.Restored.{IsRestored, is_bad_target, references_in}
-use Rattle.fork_host.specs.Shown.{Account, HostState, IsWhole, Trusted, seen_by, shown, uploaded, world_of}
+use Rattle.state_text.specs.States.{IsRepository, TenantState}
+use Rattle.fork_host.specs.Own.{IsOwn, staged_in, visible_in}
+use Rattle.fork_host.specs.Refilled.{IsRefilled, IsRefilledIn}
+use Rattle.fork_host.specs.Restored.{is_bad_target, references_in}
+use Rattle.fork_host.specs.Shown.{Account, HostState, IsWhole, seen_by, shown, uploaded, world_of}
 use Rattle.fork_host.proofs.AddingLemmas.{each_more}
-use Rattle.fork_host.proofs.GatherLemmas.{Gathered}
-use Rattle.fork_host.proofs.OwnLemmas.{own_of, seen_itself, seen_measures}
+use Rattle.fork_host.proofs.NamesLemmas.{same_keys}
+use Rattle.fork_host.proofs.OwnLemmas.{own_of, seen_itself}
 use Rattle.fork_host.proofs.WholeLemmas.{at_other, known_still, orderly_after}
 use Rattle.fork_host.proofs.WorldLemmas.{distinct, get_world, world_set}
 
@@ -121,25 +119,56 @@ refilled repositories limit = record { repositories = repositories; upload = Non
 none_open : (upload : UploadValue) (G : Type 0) → ◌≡◌ {A = Option UploadValue} None (Some upload) → G
 none_open upload G is = absurd (cc)
 
-pub orderly_refilled : (own : List ℕ) (list : List (List ℕ × References)) (repositories : Repositories) (limit : ℕ) (old new : VaultState) → limit ≤ 1099511627776 → length list ≤ 256 → AllByRecursion IsRepository list
-    → Gathered list (length list) repositories → IsRestored own list limit old new → IsOrderly (shown (refilled repositories limit) new own)
-orderly_refilled own list repositories limit old new low few right gathered restored = record {
+-- a repository that was gathered is of the list
+gathered_among : (repositories : Repositories) (list : List (List ℕ × References)) (name : List ℕ) (references : References) → entries repositories ≡ list → get repositories name ≡ Some references → Contains list (name, references)
+gathered_among repositories list name references are here =
+    subst (λ es. Contains es (name, references)) are
+    (Contains-from_lookup {eq = eq_by_cmp name_cmp} tied_names name references (entries repositories) (sym (get-entries repositories name ∙ find_is_lookup name_cmp (entries repositories) name) ∙ here))
+
+pub orderly_refilled : (own : List ℕ) (names : List (List ℕ)) (list : List (List ℕ × References)) (repositories : Repositories) (limit : ℕ) (old new : VaultState) → limit ≤ 1099511627776 → length list ≤ 256 → AllByRecursion IsRepository list
+    → entries repositories ≡ list → IsRefilled own names list limit old new → IsOrderly (shown (refilled repositories limit) new own)
+orderly_refilled own names list repositories limit old new low few right are restored = record {
   upload = λ upload is. none_open upload _ is;
   within_limit = restored.within;
   limit = low;
-  few_repositories = (let some = gathered.few in omega (arith, some, few));
-  repositories = λ name references here. (each_of IsRepository list (name, references) right (gathered.among name references here)).named;
-  references = λ name references here. references_restored (visible_in new own) list name references right restored.targets (gathered.among name references here);
+  few_repositories = (let counted = len-entries repositories in let same = ap (λ (es : List (List ℕ × References)). length es) are in omega (arith, counted, same, few));
+  repositories = λ name references here. (each_of IsRepository list (name, references) right (gathered_among repositories list name references are here)).named;
+  references = λ name references here. references_restored (visible_in new own) list name references right restored.targets (gathered_among repositories list name references are here);
 }
 
-pub right_refilled : (own : List ℕ) (list : List (List ℕ × References)) (repositories : Repositories) (limit : ℕ) (old new : VaultState) → IsTrue old.honest → IsRestored own list limit old new → IsRight (shown (refilled repositories limit) new own)
-right_refilled own list repositories limit old new honest restored =
+pub right_refilled : (own : List ℕ) (names : List (List ℕ)) (list : List (List ℕ × References)) (repositories : Repositories) (limit : ℕ) (old new : VaultState) → IsTrue old.honest → IsRefilled own names list limit old new → IsRight (shown (refilled repositories limit) new own)
+right_refilled own names list repositories limit old new honest restored =
     subst (λ objects. IsRight (seen_by (refilled repositories limit) objects)) (sym (seen_itself old new own restored.objects restored.changes honest)) (record {
       named = restored.named honest;
       right = restored.right honest;
       closed = restored.closed honest;
       upload = λ upload is. none_open upload _ is;
     })
+
+-- a tenant that saw nothing sees again what it saw
+pub refilled_in : (old new : HostState) (tenant : TenantState) (repositories : Repositories) → new.accounts ≡ insert old.accounts tenant.name (refilled repositories tenant.limit) → entries repositories ≡ tenant.repositories → IsTrue old.vault.honest
+    → IsRefilled tenant.name tenant.seen tenant.repositories tenant.limit old.vault new.vault → IsRefilledIn old.vault.files tenant (world_of old) (world_of new)
+refilled_in old new tenant repositories set are honest restored =
+    let own = own_of old.vault new.vault tenant.name restored.objects restored.changes in
+    let stored = restored.stored honest in
+    record {
+      view = shown (refilled repositories tenant.limit) new.vault tenant.name;
+      world = world_set old new tenant.name (refilled repositories tenant.limit) set (own.others honest);
+      repositories = are;
+      limit = refl;
+      upload = refl;
+      stored = record { objects = stored.objects; stored = stored.stored; is = (stored.is.0 ∙ sym (seen_itself old.vault new.vault tenant.name restored.objects restored.changes honest), stored.is.1) };
+      targets = restored.targets;
+      within = restored.within;
+    }
+
+-- the account of a tenant that is there is set: the names stay
+pub keys_set : (accounts : FinMap name_cmp Account) (t : List ℕ) (account after : Account) → get accounts t ≡ Some account → keys (insert accounts t after) ≡ keys accounts
+keys_set accounts t account after here = same_keys (insert accounts t after) accounts (λ q. ap is_some (get-insert name_total accounts t after q) ∙ by q (eq_by_cmp name_cmp q t) refl)
+  where
+    by : (q : List ℕ) (b : Bool) → eq_by_cmp name_cmp q t ≡ b → is_some (cond b (Some after) (get accounts q)) ≡ contains_key accounts q
+    by q true same = sym (ap (contains_key accounts) (tied_names q t same) ∙ ap is_some here)
+    by q false apart = refl
 
 -- the state stays whole where one tenant's account and part of the vault change so
 pub whole_set : (old new : HostState) (t : List ℕ) (account after : Account) → IsWhole old → get old.accounts t ≡ Some account → new.accounts ≡ insert old.accounts t after → IsOwn t old.vault new.vault → after.upload ≡ None
@@ -171,3 +200,11 @@ account_shown state t view is = by (get state.accounts t) (sym (get_world state 
 pub added_there : (world after : World) (t name : List ℕ) (view : View) → name ≡ t → after ≡ insert world name view → get after t ≡ Some view
 added_there world after t name view same added =
     ap (λ (w : World). get w t) (added ∙ ap (λ n. insert world n view) same) ∙ get-insert name_total world t view t ∙ ap (λ b. cond b (Some view) (get world t)) ((eq_by_cmp_equiv name_total).refl t)
+
+-- a tenant by the parts of its state
+pub restored_by : (tenant : TenantState) (own : List ℕ) (names : List (List ℕ)) (list : List (List ℕ × References)) (limit : ℕ) (old new : VaultState) → own ≡ tenant.name → names ≡ tenant.seen → list ≡ tenant.repositories → limit ≡ tenant.limit
+    → IsRefilled own names list limit old new → IsRefilled tenant.name tenant.seen tenant.repositories tenant.limit old new
+restored_by tenant own names list limit old new named seen listed limited restored =
+    subst (λ l. IsRefilled tenant.name tenant.seen tenant.repositories l old new) limited
+    (subst (λ r. IsRefilled tenant.name tenant.seen r limit old new) listed
+    (subst (λ s. IsRefilled tenant.name s list limit old new) seen (subst (λ n. IsRefilled n names list limit old new) named restored)))

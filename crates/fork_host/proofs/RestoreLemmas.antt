@@ -1,130 +1,121 @@
--- Tenants that see again what they saw.
-use Rattle.std.proofs.Common.{◌≡◌, ◌⊎◌, ◌<◌, ◌≤◌, ◌+◌, arith, cond, length, get_or, inl, inr, ℕ, Bool, true, false, IsTrue, None, Some, List, [], ◌∷◌, ◌++◌, refl, sym, ap, subst, ◌∙◌}
+-- Objects that a tenant sees again, as they stand on the store and as they are judged.
+use Rattle.std.proofs.Common.{◌≡◌, ◌⊎◌, inl, inr, ℕ, ◌<◌, Bool, true, false, Option, None, Some, List, [], ◌∷◌, refl, sym, ap, subst, ◌∙◌, is_some}
 use Rattle.std.specs.Prelude.{Contains, ◌||◌}
-use Rattle.std.proofs.lemmas.Bool.{cases_eq}
-use Rattle.std.proofs.lemmas.List.{get_or_default}
 use Rattle.std.specs.Cmp.{eq_by_cmp_equiv}
-use Rattle.git_name.proofs.Names.{name_total}
+use Rattle.std.proofs.lemmas.Map.Views.{Contains-from_any, list_any-from_Contains}
 use Rattle.std.specs.BTreeMap.{is_at}
-use Rattle.std.specs.BTreeSet.{BTreeSet, contains}
-use Rattle.std.specs.List.{find, list_any}
-use Rattle.std.proofs.lemmas.List.Elements.{Contains-push_cases}
+use Rattle.std.specs.BTreeSet.{BTreeSet}
+use Rattle.std.specs.List.{list_any}
+use Rattle.std.specs.Option.{option_map}
+use Rattle.std.specs.Ordering.{eq_by_cmp}
 use Rattle.std.specs.FinMap.{contains_key, empty, get, get-empty}
 use Rattle.git_name.specs.Name.{name_cmp}
-use Rattle.git_object.specs.ObjectIn.{links_in}
+use Rattle.git_name.proofs.Names.{name_total}
 use Rattle.git_name.specs.Object.{Object, object_name}
-use Rattle.fork_reach.specs.Objects.{IsNamed, with_object, with_objects}
+use Rattle.git_object.specs.ObjectIn.{links_in}
+use Rattle.git_reftx.specs.Transaction.{References}
+use Rattle.loose_store.specs.Files.{Files}
+use Rattle.loose_store.specs.Stored.{Whole}
+use Rattle.fork_reach.specs.Objects.{IsNamed, use_of, with_objects}
+use Rattle.fork_reach.specs.Source.{Objects}
 use Rattle.fork_reach.proofs.KeptObjects.{named_all, tied_names}
 use Rattle.fork_model.specs.Provenance.{IsAmong}
 use Rattle.fork_model.specs.Sound.{AreRight, IsClosed}
 use Rattle.fork_model.proofs.ProvenanceLemmas.{among_both}
+use Rattle.fork_model.proofs.TransferLemmas.{came}
 use Rattle.fork_sound.specs.Sound.{is_bad}
 use Rattle.fork_sound.proofs.SoundLemmas.{all_met, good_found, good_there, none_bad}
-use Rattle.fork_reach.specs.Source.{Objects}
-use Rattle.fork_ledger.specs.declared.recalling.Recalled.{Recalled}
-use Rattle.fork_ledger.specs.declared.recalling.Recalled.TheVariants.{Whole, Lost, Damaged}
-use Rattle.fork_ledger.specs.Store.{Recalls}
-use Rattle.fork_ledger.specs.Tenants.{VaultState, shape_of}
-use Rattle.fork_host.specs.Own.{Changes, Stages}
-use Rattle.fork_host.proofs.OwnLemmas.{changes_more, changes_still}
+use Rattle.fork_host.specs.Refilled.{IsAgainst, StandsAgainst, bad_in}
+use Rattle.fork_host.specs.Restored.{AreOnStore, first_astray, first_bad, is_one_of, target_of}
+use Rattle.fork_host.specs.declared.seeing.Against.{Against}
+use Rattle.fork_host.specs.declared.seeing.Against.TheVariants.{Fault, BadObject, Astray, Limit}
+use Rattle.fork_host.proofs.RecallLemmas.{one_whole}
 
-pub with_one_more : (objects : Objects) (came : List Object) (object : Object) → with_objects objects (came ++ object ∷ []) ≡ with_object (with_objects objects came) object
-with_one_more objects [] object = refl
-with_one_more objects (first ∷ came) object = with_one_more (with_object objects first) came object
+-- a name among others
+pub one_of : (names : List (List ℕ)) (name : List ℕ) → Contains names name → is_one_of names name ≡ true
+one_of names name is = list_any-from_Contains (eq_by_cmp_equiv name_total) name names is
 
--- what came so far, all of these names
-pub record Came (own : List ℕ) (names : List (List ℕ)) (both : Objects) (first now : VaultState) : Type 0 where
-  pub came : List Object
-  pub among : (object : Object) → Contains came object → Contains names (object_name object)
-  pub stages : Changes (Stages own (with_objects both came)) first now
-
-pub came_none : (own : List ℕ) (names : List (List ℕ)) (both : Objects) (first : VaultState) → Changes (Stages own both) first first → Came own names both first first
-came_none own names both first changes = record { came = []; among = λ object is. absurd (nothing object is); stages = changes }
-  where
-    nothing : (object : Object) → Contains [] object → ⊥
-    nothing object is = omega (arith, is.1)
-
--- one more name was asked for
-pub came_more : (own name : List ℕ) (names : List (List ℕ)) (both : Objects) (first old new : VaultState) (r : Recalled) → contains_key first.tenants own ≡ true → Contains names name → new.honest ≡ old.honest
-    → Recalls old.honest own name old.files old.tenants new.tenants r → Came own names both first old → Came own names both first new
-came_more own name names both first old new Whole there asked honest (object, named, whole, is) so_far = record {
-  came = so_far.came ++ object ∷ [];
-  among = λ other among. by other (Contains-push_cases so_far.came object other among);
-  stages = subst (λ objects. Changes (Stages own objects) first new) (sym (with_one_more both so_far.came object)) (changes_more first old new own (with_objects both so_far.came) object there (ap shape_of is) (λ _. is) honest so_far.stages);
-}
-  where
-    by : (other : Object) → Contains so_far.came other ⊎ (object ≡ other) → Contains names (object_name other)
-    by other (inl before) = so_far.among other before
-    by other (inr itself) = subst (λ o. Contains names (object_name o)) itself (subst (Contains names) (sym named) asked)
-came_more own name names both first old new Lost there asked honest stays so_far = record {
-  came = so_far.came;
-  among = so_far.among;
-  stages = changes_still (Stages own (with_objects both so_far.came)) first old new (ap shape_of stays.0) (λ _. stays.0) honest so_far.stages;
-}
-came_more own name names both first old new Damaged there asked honest stays so_far = record {
-  came = so_far.came;
-  among = so_far.among;
-  stages = changes_still (Stages own (with_objects both so_far.came)) first old new (ap shape_of stays.0) (λ _. stays.0) honest so_far.stages;
-}
+pub of_one : (names : List (List ℕ)) (name : List ℕ) → is_one_of names name ≡ true → Contains names name
+of_one names name is = Contains-from_any {eq = eq_by_cmp name_cmp} tied_names name names is
 
 either_false : (a b : Bool) → (a || b) ≡ false → (a ≡ false) × (b ≡ false)
 either_false true b is = absurd (cc)
 either_false false b is = (refl, is)
 
-not_bad_in : (bad : List ℕ → Bool) (keys : List (List ℕ)) (name : List ℕ) → list_any bad keys ≡ false → list_any (is_at (name_cmp name)) keys ≡ true → bad name ≡ false
+not_bad_in : (bad : List ℕ → Bool) (names : List (List ℕ)) (name : List ℕ) → list_any bad names ≡ false → is_one_of names name ≡ true → bad name ≡ false
 not_bad_in bad [] name none is = absurd (cc)
-not_bad_in bad (key ∷ keys) name none is =
-    let parts = either_false (bad key) (list_any bad keys) none in
-    by (is_at (name_cmp name) key) refl is parts.0 (not_bad_in bad keys name parts.1)
+not_bad_in bad (key ∷ names) name none is =
+    let parts = either_false (bad key) (list_any bad names) none in
+    by (is_at (name_cmp name) key) refl is parts.0 (not_bad_in bad names name parts.1)
   where
-    by : (b : Bool) → is_at (name_cmp name) key ≡ b → (b || list_any (is_at (name_cmp name)) keys) ≡ true → bad key ≡ false → (list_any (is_at (name_cmp name)) keys ≡ true → bad name ≡ false) → bad name ≡ false
+    by : (b : Bool) → is_at (name_cmp name) key ≡ b → (b || is_one_of names name) ≡ true → bad key ≡ false → (is_one_of names name ≡ true → bad name ≡ false) → bad name ≡ false
     by true tied found good rest = ap bad (tied_names name key tied) ∙ good
     by false apart found good rest = rest found
 
--- where the first bad one of a set is none, none of the set is bad
-pub not_bad : (bad : List ℕ → Bool) (set : BTreeSet (List ℕ)) (name : List ℕ) → find bad set.keys ≡ None → contains name_cmp set name ≡ true → bad name ≡ false
-not_bad bad set name none is = not_bad_in bad set.keys name (none_bad bad set.keys none) is
+-- where none of the names is bad, this one isn't
+pub not_bad : (names : List (List ℕ)) (objects : Objects) (name : List ℕ) → first_bad names objects ≡ None → is_one_of names name ≡ true → is_bad objects (is_one_of names) name ≡ false
+not_bad names objects name none is = not_bad_in (is_bad objects (is_one_of names)) names name (none_bad (is_bad objects (is_one_of names)) names none) is
 
-nothing_empty : IsNamed empty
-nothing_empty name object is = absurd (cc (sym (get-empty {X = Object} name_cmp name) ∙ is))
+nothing_in : (name : List ℕ) (object : Object) (G : Type 0) → get (empty {K = List ℕ} {X = Object} {R = name_cmp}) name ≡ Some object → G
+nothing_in name object G is = absurd (cc (sym (get-empty {X = Object} name_cmp name) ∙ is))
 
 -- objects that came stand under their own names
 pub named_came : (came : List Object) → IsNamed (with_objects empty came)
-named_came came = named_all empty came nothing_empty
+named_came came = named_all empty came (λ name object is. nothing_in name object _ is)
 
--- what came is seen
-pub seen_came : (came : List Object) (names : List (List ℕ)) (seen : List ℕ → Bool) → ((object : Object) → Contains came object → Contains names (object_name object)) → ((name : List ℕ) → Contains names name → seen name ≡ true)
-    → (name : List ℕ) (object : Object) → get (with_objects empty came) name ≡ Some object → seen name ≡ true
-seen_came came names seen among all name object is = by (among_both empty came name object is)
+-- they are those that stand whole on the store
+pub on_store : (files : Files) (names : List (List ℕ)) (arrived : List Object) → ((object : Object) → Contains arrived object → Contains names (object_name object)) → ((object : Object) → Contains arrived object → Whole files (object_name object) object)
+    → ((name : List ℕ) (object : Object) → Contains names name → Whole files name object → Contains arrived object) → AreOnStore files names (with_objects empty arrived)
+on_store files names arrived among whole all = record {
+  among = λ name object is. subst (Contains names) (arrives name object is).named (among object (arrives name object is).sent);
+  whole = stands;
+  all = λ name object asked stored. found name object stored (get (with_objects empty arrived) name) refl (ap (λ n. contains_key (with_objects empty arrived) n) (sym stored.named) ∙ came empty arrived object (all name object asked stored));
+}
   where
-    by : (get (empty {R = name_cmp}) name ≡ Some object) ⊎ IsAmong came name object → seen name ≡ true
-    by (inl there) = absurd (cc (sym (get-empty {X = Object} name_cmp name) ∙ there))
-    by (inr came_one) = subst (λ n. seen n ≡ true) came_one.named (all (object_name object) (among object came_one.sent))
+    arrives : (name : List ℕ) (object : Object) → get (with_objects empty arrived) name ≡ Some object → IsAmong arrived name object
+    arrives name object is = by (among_both empty arrived name object is)
+      where
+        by : (get (empty {K = List ℕ} {X = Object} {R = name_cmp}) name ≡ Some object) ⊎ IsAmong arrived name object → IsAmong arrived name object
+        by (inl there) = nothing_in name object _ there
+        by (inr came_one) = came_one
+
+    stands : (name : List ℕ) (object : Object) → get (with_objects empty arrived) name ≡ Some object → Whole files name object
+    stands name object is = subst (λ n. Whole files n object) (arrives name object is).named (whole object (arrives name object is).sent)
+
+    found : (name : List ℕ) (object : Object) → Whole files name object → (o : Option Object) → get (with_objects empty arrived) name ≡ o → is_some (get (with_objects empty arrived) name) ≡ true → get (with_objects empty arrived) name ≡ Some object
+    found name object stored None is there = absurd (cc (sym (ap is_some is) ∙ there))
+    found name object stored (Some other) is there = is ∙ ap Some (one_whole files name other object (stands name other is) stored)
 
 -- where none of those that are seen is bad, all are in their grammars, and their links are met
-pub right_seen : (objects : Objects) (set : BTreeSet (List ℕ)) → find (is_bad objects (contains name_cmp set)) set.keys ≡ None → ((name : List ℕ) (object : Object) → get objects name ≡ Some object → contains name_cmp set name ≡ true) → AreRight objects
-right_seen objects set none among name object is =
-    (good_found objects (contains name_cmp set) name object (not_bad (is_bad objects (contains name_cmp set)) set name none (among name object is)) is).right
+pub right_seen : (files : Files) (names : List (List ℕ)) (objects : Objects) → ((name : List ℕ) (object : Object) → get objects name ≡ Some object → Contains names name) → first_bad names objects ≡ None → AreRight objects
+right_seen files names objects among none name object is =
+    (good_found objects (is_one_of names) name object (not_bad names objects name none (one_of names name (among name object is))) is).right
 
-pub closed_seen : (objects : Objects) (set : BTreeSet (List ℕ)) → find (is_bad objects (contains name_cmp set)) set.keys ≡ None → ((name : List ℕ) (object : Object) → get objects name ≡ Some object → contains name_cmp set name ≡ true) → IsClosed objects
-closed_seen objects set none among name object is =
-    all_met objects (contains name_cmp set) (links_in object.kind object.bytes)
-    (λ other seen. good_there objects (contains name_cmp set) other (not_bad (is_bad objects (contains name_cmp set)) set other none seen))
-    (good_found objects (contains name_cmp set) name object (not_bad (is_bad objects (contains name_cmp set)) set name none (among name object is)) is).met
+pub closed_seen : (files : Files) (names : List (List ℕ)) (objects : Objects) → ((name : List ℕ) (object : Object) → get objects name ≡ Some object → Contains names name) → first_bad names objects ≡ None → IsClosed objects
+closed_seen files names objects among none name object is =
+    all_met objects (is_one_of names) (links_in object.kind object.bytes)
+    (λ other seen. good_there objects (is_one_of names) other (not_bad names objects other none seen))
+    (good_found objects (is_one_of names) name object (not_bad names objects name none (one_of names name (among name object is))) is).met
 
--- a set of names, as one more is put into it
-pub set_more : (names : List (List ℕ)) (at : ℕ) (name : List ℕ) (old new : List ℕ → Bool) → at < length names → name ≡ get_or names at name → ((q : List ℕ) → new q ≡ cond (is_at (name_cmp name) q) true (old q))
-    → ((i : ℕ) → i < at → old (get_or names i []) ≡ true) → (i : ℕ) → i < at + 1 → new (get_or names i []) ≡ true
-set_more names at name old new inside is updates so_far i lt = by (cases_eq i at)
+-- the first bad one of a set is that of its names
+pub bad_by : (set : BTreeSet (List ℕ)) (names : List (List ℕ)) (objects : Objects) → set.keys ≡ names → bad_in set objects ≡ first_bad names objects
+bad_by set names objects is = ap (λ keys. first_bad keys objects) is
+
+-- what stands against the objects that are seen, by those on the store
+pub stands_against : (files : Files) (names : List (List ℕ)) (set : BTreeSet (List ℕ)) (repositories : List (List ℕ × References)) (limit : ℕ) (visible both objects : Objects) → set.keys ≡ names → visible ≡ objects → both ≡ objects → AreOnStore files names objects
+    → (against : Against) → IsAgainst set repositories limit visible both against → StandsAgainst files names repositories limit against
+stands_against files names set repositories limit visible both objects are seen all stored (Fault error) is = tt
+stands_against files names set repositories limit visible both objects are seen all stored (BadObject name) is =
+    record { objects = objects; stored = stored; is = sym (bad_by set names objects are) ∙ ap (bad_in set) (sym seen) ∙ is }
+stands_against files names set repositories limit visible both objects are seen all stored (Astray target) is =
+    record { objects = objects; stored = stored; is = (sym (bad_by set names objects are) ∙ ap (bad_in set) (sym seen) ∙ is.0, is.1, ap (first_astray repositories) (sym seen) ∙ is.2) }
+stands_against files names set repositories limit visible both objects are seen all stored Limit is =
+    record { objects = objects; stored = stored; is = (sym (bad_by set names objects are) ∙ ap (bad_in set) (sym seen) ∙ is.0, ap (first_astray repositories) (sym seen) ∙ is.1, subst (λ o. limit < use_of o) all is.2) }
+
+-- the reference whose target is told
+pub told_target : (found : Option (List ℕ × List ℕ)) (target : List ℕ) → Some target ≡ option_map target_of found → (reference : List ℕ) × (found ≡ Some (reference, target))
+told_target None target is = absurd (cc)
+told_target (Some (reference, found)) target is = (reference, ap (λ t. Some (reference, t)) (sym (same_target is)))
   where
-    either_true : (b c : Bool) → c ≡ true → cond b true c ≡ true
-    either_true true c is = refl
-    either_true false c is = is
-
-    by : (i ≡ at) ⊎ (i ≡ at → ⊥) → new (get_or names i []) ≡ true
-    by (inl same) = ap (λ k. new (get_or names k [])) same ∙ ap new (get_or_default names at [] name inside ∙ sym is) ∙ updates name ∙ ap (λ b. cond b true (old name)) ((eq_by_cmp_equiv name_total).refl name)
-    by (inr differs) = updates (get_or names i []) ∙ either_true (is_at (name_cmp name) (get_or names i [])) (old (get_or names i [])) (so_far i (omega (arith, lt, differs)))
-
--- all of them are in it
-pub set_all : (names : List (List ℕ)) (at : ℕ) (set : List ℕ → Bool) → length names ≤ at → ((i : ℕ) → i < at → set (get_or names i []) ≡ true) → (name : List ℕ) → Contains names name → set name ≡ true
-set_all names at set whole all name (i, inside, is) = ap set (sym (get_or_default names i [] name inside ∙ is)) ∙ all i (omega (arith, inside, whole))
+    same_target : Some target ≡ Some found → target ≡ found
+    same_target is = cc

@@ -21,7 +21,7 @@ same_below : (vault : VaultState) (k : List ℕ) (es : Rows) → below_all name_
 same_below vault k [] = refl
 same_below vault k (e ∷ es) = ap (λ b. is_lt (name_cmp k e.0) && b) (same_below vault k es)
 
-same_sorted : (vault : VaultState) (es : Rows) → is_sorted name_cmp (map (entry_shown vault) es) ≡ is_sorted name_cmp es
+pub same_sorted : (vault : VaultState) (es : Rows) → is_sorted name_cmp (map (entry_shown vault) es) ≡ is_sorted name_cmp es
 same_sorted vault [] = refl
 same_sorted vault (e ∷ es) = ap (λ b. b && is_sorted name_cmp (map (entry_shown vault) es)) (same_below vault e.0 es) ∙ ap (λ b. below_all name_cmp e.0 es && b) (same_sorted vault es)
 

@@ -34,10 +34,11 @@ pub record IsCollision (sent : List Object) (files : Files) : Type 0 where
 abbrev pub StoresSent : List Object → Files → Files → Type 0
 StoresSent sent old new = (name : List ℕ) (object : Object) → Whole new name object → Whole old name object ⊎ Contains sent object
 
--- the host faults of a step in which these objects were sent: `store` only where the count of failures rose; `damaged` never over
+-- the store stays as honest as it was; and the host faults of a step in which these objects were sent: `store` only where the count of failures rose; `damaged` never over
 -- an honest store; and over an honest store `collision` only where two different objects met. But for a fault of the store or want
 -- of memory, which may leave anything under the one name that was written, an honest store gains nothing that was not sent
 pub record IsBounded (sent : List Object) (old new : VaultState) (reply : Reply) : Type 0 where
+  pub honest : new.honest ≡ old.honest
   pub counted : CountsReply old.failures new.failures reply
   pub undamaged : IsTrue old.honest → reply ≢ Failed Damaged
   pub collided : IsTrue old.honest → reply ≡ Failed Collision → IsCollision sent old.files

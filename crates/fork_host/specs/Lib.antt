@@ -6,6 +6,7 @@ pub mod Handle
 pub mod Keeping
 pub mod Own
 pub mod Pushed
+pub mod Refilled
 pub mod Restored
 pub mod Rows
 pub mod Safe

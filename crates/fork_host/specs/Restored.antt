@@ -1,15 +1,24 @@
--- What a host is restored to: tenants that see again what they saw.
-use Rattle.std.specs.Prelude.{◌≡◌, ℕ, ◌≤◌, Bool, IsTrue, None, ◌&&◌, ◌||◌, not, is_none, List, Contains}
-use Rattle.std.specs.List.{find, flat_map}
-use Rattle.std.specs.FinMap.{entries}
-use Rattle.git_name.specs.Object.{Object, object_name}
+-- What a host is restored to, and why it is not: states, judged by what stands on an honest store.
+use Rattle.std.specs.Prelude.{◌≡◌, ◌⊎◌, ℕ, ◌≤◌, ◌<◌, ◌++◌, ◌∷◌, Bool, None, Some, ◌&&◌, ◌||◌, not, is_none, List, Option, Contains, ⊤}
+use Rattle.std.specs.BTreeMap.{is_at}
+use Rattle.std.specs.List.{AllByRecursion, find, flat_map, list_any}
+use Rattle.std.specs.FinMap.{entries, get}
+use Rattle.git_name.specs.Name.{name_cmp}
+use Rattle.git_name.specs.Object.{Object}
 use Rattle.git_reftx.specs.Known.{Kinds}
 use Rattle.git_reftx.specs.Transaction.{References, is_branch, is_commit}
-use Rattle.fork_reach.specs.Objects.{IsNamed, use_of, with_objects}
+use Rattle.loose_store.specs.Files.{Files}
+use Rattle.loose_store.specs.Stored.{Whole}
+use Rattle.fork_reach.specs.Objects.{use_of}
 use Rattle.fork_reach.specs.Source.{Objects, kind_in}
-use Rattle.fork_ledger.specs.Tenants.{VaultState}
-use Rattle.fork_model.specs.Sound.{AreRight, IsClosed}
-use Rattle.fork_host.specs.Own.{Changes, Settles, both_in, visible_in}
+use Rattle.fork_sound.specs.Sound.{is_bad}
+use Rattle.fork_ledger.specs.Store.{IsDamaged}
+use Rattle.fork_model.specs.View.{View}
+use Rattle.fork_model.specs.World.{World}
+use Rattle.state_text.specs.Kept.{states_of}
+use Rattle.state_text.specs.States.{States, TenantState}
+use Rattle.fork_host.specs.declared.restore_error.RestoreError.{RestoreError}
+use Rattle.fork_host.specs.declared.restore_error.RestoreError.TheVariants.{Lost, Damaged, Unsound, OverLimit, Store, Memory}
 
 -- the references of a repository, and the target of one
 abbrev pub references_in : List ℕ × References → List (List ℕ × List ℕ)
@@ -22,19 +31,76 @@ target_of reference = reference.1
 abbrev pub is_bad_target : Kinds → List ℕ × List ℕ → Bool
 is_bad_target kinds (reference, target) = is_none (kinds target) || (is_branch reference && not (is_commit (kinds target)))
 
--- objects of some of these names came to what a tenant sees and has staged, and all of it is seen
-pub record SeesAgain (own : List ℕ) (names : List (List ℕ)) (old new : VaultState) : Type 0 where
-  pub came : List Object
-  pub among : (object : Object) → Contains came object → Contains names (object_name object)
-  pub changes : Changes (Settles own (with_objects (both_in old own) came)) old new
+-- whether this is one of the names
+abbrev pub is_one_of : List (List ℕ) → List ℕ → Bool
+is_one_of names name = list_any (is_at (name_cmp name)) names
 
--- what a tenant of these references and this limit sees again: over an honest store each object under its own name, in its grammar,
--- its links met; over any store each reference at an object that is seen, a branch at a commit, and no more use than the limit
-pub record IsRestored (own : List ℕ) (repositories : List (List ℕ × References)) (limit : ℕ) (old new : VaultState) : Type 0 where
+-- of these names the first whose object isn't there, isn't in its grammar, or has a link that isn't met among them
+abbrev pub first_bad : List (List ℕ) → Objects → Option (List ℕ)
+first_bad names objects = find (is_bad objects (is_one_of names)) names
+
+-- of the references of these repositories the first whose target isn't there, or is no commit where it is a branch
+abbrev pub first_astray : List (List ℕ × References) → Objects → Option (List ℕ × List ℕ)
+first_astray repositories objects = find (is_bad_target (kind_in objects)) (flat_map references_in repositories)
+
+-- these are the objects of these names that stand whole on the store
+pub record AreOnStore (files : Files) (names : List (List ℕ)) (objects : Objects) : Type 0 where
+  pub among : (name : List ℕ) (object : Object) → get objects name ≡ Some object → Contains names name
+  pub whole : (name : List ℕ) (object : Object) → get objects name ≡ Some object → Whole files name object
+  pub all : (name : List ℕ) (object : Object) → Contains names name → Whole files name object → get objects name ≡ Some object
+
+-- so it is with the objects of these names that stand whole on the store
+pub record OnStore (files : Files) (names : List (List ℕ)) (Is : Objects → Type 0) : Type 0 where
   pub objects : Objects
-  pub changes : Changes (Settles own objects) old new
-  pub named : IsTrue old.honest → IsNamed objects
-  pub right : IsTrue old.honest → AreRight objects
-  pub closed : IsTrue old.honest → IsClosed objects
-  pub targets : find (is_bad_target (kind_in (visible_in new own))) (flat_map references_in repositories) ≡ None
-  pub within : use_of (visible_in new own) ≤ limit
+  pub stored : AreOnStore files names objects
+  pub is : Is objects
+
+-- the store has the objects that a tenant sees, all sound
+abbrev pub HasObjects : Files → TenantState → Type 0
+HasObjects files tenant = OnStore files tenant.seen (λ objects. first_bad tenant.seen objects ≡ None)
+
+-- what its references point at, it sees; branches point at commits
+abbrev pub HasTargets : Files → TenantState → Type 0
+HasTargets files tenant = OnStore files tenant.seen (λ objects. first_astray tenant.repositories objects ≡ None)
+
+-- what it sees is of no more use than its limit
+abbrev pub KeepsLimit : Files → TenantState → Type 0
+KeepsLimit files tenant = OnStore files tenant.seen (λ objects. use_of objects ≤ tenant.limit)
+
+-- the tenant is one of these, and so it is with each before it
+pub record IsFirst (Is : TenantState → Type 0) (states : States) (tenant : TenantState) : Type 0 where
+  pub front : States
+  pub back : States
+  pub parts : states ≡ front ++ tenant ∷ back
+  pub before : AllByRecursion Is front
+
+-- how a bad object is told: no file, a file that is whole of no object, or an object that breaks a rule; unless it can't be read again
+abbrev pub TellsBad : Files → List ℕ → RestoreError → Type 0
+TellsBad files name (Lost told) = (told ≡ name) × (get files name ≡ None)
+TellsBad files name (Damaged told) = (told ≡ name) × IsDamaged files name
+TellsBad files name (Unsound told) = (told ≡ name) × (object : Object) × Whole files name object
+TellsBad files name (OverLimit tenant) = ⊥
+TellsBad files name Store = ⊤
+TellsBad files name Memory = ⊤
+
+-- want of memory, or of the store
+abbrev pub IsFault : RestoreError → Type 0
+IsFault error = (error ≡ Store) ⊎ (error ≡ Memory)
+
+-- why states are refused: first the objects of all tenants, tenant by tenant and name by name; then the targets of all references;
+-- then the limits; and want of memory or a failing store at any time
+pub data IsRefused (files : Files) (states : States) : RestoreError → Type 0 where
+  ByObject : (tenant : TenantState) (name : List ℕ) (error : RestoreError) → IsFirst (HasObjects files) states tenant
+      → OnStore files tenant.seen (λ objects. first_bad tenant.seen objects ≡ Some name) → TellsBad files name error → IsRefused files states error
+  ByTarget : (tenant : TenantState) (reference target : List ℕ) → AllByRecursion (HasObjects files) states → IsFirst (HasTargets files) states tenant
+      → OnStore files tenant.seen (λ objects. first_astray tenant.repositories objects ≡ Some (reference, target)) → IsRefused files states (Unsound target)
+  ByLimit : (tenant : TenantState) → AllByRecursion (HasObjects files) states → AllByRecursion (HasTargets files) states → IsFirst (KeepsLimit files) states tenant
+      → OnStore files tenant.seen (λ objects. tenant.limit < use_of objects) → IsRefused files states (OverLimit tenant.name)
+  WantsMemory : IsRefused files states Memory
+  WantsStore : IsRefused files states Store
+
+-- the world is the one that these states tell: no upload is open, and each object is the one on the store
+pub record IsShownAgain (files : Files) (told : States) (world : World) : Type 0 where
+  pub states : states_of world ≡ told
+  pub quiet : (tenant : List ℕ) (view : View) → get world tenant ≡ Some view → view.upload ≡ None
+  pub whole : (tenant : List ℕ) (view : View) (name : List ℕ) (object : Object) → get world tenant ≡ Some view → get view.objects name ≡ Some object → Whole files name object

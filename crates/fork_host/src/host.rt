@@ -112,6 +112,7 @@ impl<S: LooseFiles> Host<S> {
         ensures cause { IfErr result (λ error. error ≢ AddError.Memory → refusal_to_add (world_of self.old) name limit ≡ Some error) }
         ensures err { OnErr result (self.new ≡ self.old) }
         ensures trusted { Trusted self.old → Trusted self.new }
+        ensures store { LeavesStore self.old.vault self.new.vault }
     {
         // Only for its clause: the bytes are a tenant's name.
         let _bytes = name.as_bytes();

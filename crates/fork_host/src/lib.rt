@@ -10,6 +10,8 @@ mod both;
 mod host;
 mod items;
 mod keeping;
+mod later;
+mod laws;
 mod open_error;
 mod own;
 mod pruning;
@@ -30,6 +32,7 @@ mod visible;
 
 pub use crate::add_error::AddError;
 pub use crate::host::{Host, NoMemory};
+pub use crate::laws::faults_of_a_run_have_a_cause;
 pub use crate::open_error::OpenError;
 pub use crate::restore_error::RestoreError;
 pub use crate::step::HostStep;

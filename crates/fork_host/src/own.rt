@@ -91,7 +91,8 @@ impl<'a, S: LooseFiles> Own<'a, S> {
     // Stages the object of this name, where the store has it.
     pub(crate) fn recall(&mut self, alloc: Global, name: Name) -> Result<Recalled, VaultFault>
         ensures recalls { IfOk result (Recalls self.old.vault.now.honest self.old.tenant.now name self.old.vault.now.files self.old.vault.now.tenants self.new.vault.now.tenants) }
-        ensures err { OnErr result (self.new.vault.now.tenants ≡ self.old.vault.now.tenants) }
+        ensures err { IsTrue self.old.vault.now.honest → OnErr result (self.new.vault.now.tenants ≡ self.old.vault.now.tenants) }
+        ensures kept { OnErr result (shape_of self.new.vault.now.tenants ≡ shape_of self.old.vault.now.tenants) }
         ensures files { IsTrue self.old.vault.now.honest → self.new.vault.now.files ≡ self.old.vault.now.files }
         ensures store { AsksStore self.old.vault.now self.new.vault.now (fault_in result) }
         ensures same { IsSame self.old self.new }

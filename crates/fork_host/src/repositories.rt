@@ -1,4 +1,4 @@
-ghost use Rattle.std.specs.Prelude.{◌≡◌, ◌≤◌, ◌++◌, ℕ, List, [], Contains, length, OnOk, OnErr, IfOk, IfErr, Ok, Err, Some, true};
+ghost use Rattle.std.specs.Prelude.{◌≡◌, ◌≤◌, ◌++◌, ℕ, List, [], Contains, map as mapped, OnOk, OnErr, IfOk, IfErr, Ok, Err, Some, true};
 ghost use Rattle.std.specs.Option.{option_copied};
 ghost use Rattle.std.specs.FinMap as map;
 ghost use Rattle.std.specs.BTreeMap.{IsUnchanged, Updates};
@@ -7,6 +7,7 @@ ghost use Rattle.git_reftx.specs.Transaction.{References, transacted};
 ghost use Rattle.git_reftx.specs.Judging.{TellsTransacted};
 ghost use Rattle.fork_model.specs.Answer.{targets_of};
 ghost use Rattle.fork_model.specs.declared.limits.TheConstants.{MAX_REPOSITORIES};
+ghost use Rattle.state_text.specs.States.{Ascend};
 ghost use Rattle.fork_host.specs.Keeping.{with_repositories};
 
 use crate::keeping::keep_repository;
@@ -46,13 +47,13 @@ impl Repositories {
         }
     }
 
-    // The repositories of this list.
+    // The repositories of this list, whose names ascend.
     pub(crate) fn gather(
         alloc: Global,
         list: &[(RepositoryName, Refs)],
     ) -> Result<Repositories, AllocError>
-        ensures among { IfOk result (λ gathered. (name : List ℕ) (references : References) → map.get gathered name ≡ Some references → Contains list.now (name, references)) }
-        ensures few { IfOk result (λ gathered. map.len gathered ≤ length list.now) }
+        requires { Ascend (mapped (λ repository. repository.0) list.now) }
+        ensures { IfOk result (λ gathered. map.entries gathered ≡ list.now) }
     {
         let mut repositories = Repositories::new(alloc);
         for (name, references) in list {

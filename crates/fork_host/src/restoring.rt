@@ -1,29 +1,124 @@
 // Hosts as they were.
-ghost use Rattle.std.specs.Prelude.{◌≡◌, ◌≤◌, IfOk, IsTrue, length, OnErr, OnOk, Some, true};
-ghost use Rattle.std.specs.List.{AllByRecursion};
+ghost use Rattle.std.specs.Prelude.{◌≡◌, ◌<◌, IfErr, IfOk, IsTrue, OnErr, OnOk, None, Some, true};
 ghost use Rattle.std.specs.FinMap as map;
 ghost use Rattle.fork_ledger.specs.Private.{nothing};
+ghost use Rattle.fork_ledger.specs.Store.{LeavesStore};
 ghost use Rattle.fork_ledger.specs.Tenants.{private_of};
+ghost use Rattle.fork_model.specs.declared.limits.TheConstants.{MAX_TENANTS};
 ghost use Rattle.fork_host.specs.Own.{Changes, Settles};
-ghost use Rattle.fork_host.specs.Adding.{new_view};
-ghost use Rattle.fork_host.specs.Restored.{IsRestored};
+ghost use Rattle.fork_host.specs.Adding.{new_view, refusal_to_add};
+ghost use Rattle.fork_host.specs.Refilled.{IsBehind, IsJudged, IsRefilled, IsWhy, StandsAgainst};
+ghost use Rattle.fork_host.specs.Restored.{IsFault, IsRefused, IsShownAgain, TellsBad};
 ghost use Rattle.fork_host.specs.Shown.{Trusted, world_of};
-ghost use Rattle.state_text.specs.States.{IsRepository};
+ghost use Rattle.state_text.specs.Adding.{AreBefore};
+ghost use Rattle.state_text.specs.States.{Ascend};
 
+use crate::add_error::AddError;
 use crate::host::Host;
+use crate::later::{Bad, Later};
 use crate::open_error::OpenError;
 use crate::own::Own;
 use crate::repositories::Repositories;
 use crate::restore_error::RestoreError;
 use crate::seeing::{Against, see_again};
 use fork_ledger::Vault;
-use fork_model::MAX_REPOSITORIES;
 use fork_request::{RepositoryName, TenantName};
 use git_name::Name;
 use git_reftx::Refs;
-use loose_store::LooseFiles;
+use loose_store::{LooseFiles, StoreFault, read_checked};
 use state_text::{States, TenantState};
-use std::alloc::Global;
+use std::alloc::{AllocError, Global};
+
+impl<S: LooseFiles + Drop> Host<S> {
+    /// A host that shows these states, over the store that holds their objects. What stands against it is
+    /// told in this order: the objects of all tenants; the targets of all references; the limits. Each
+    /// object that a tenant sees is read from the store once for that tenant.
+    pub fn restore(alloc: Global, files: S, states: States) -> Result<Host<S>, RestoreError>
+        ensures trusted { IfOk result (λ host. IsTrue (S.honest files) → Trusted host) }
+        ensures shown { IfOk result (λ host. IsTrue (S.honest files) → IsShownAgain (S.contents files) states (world_of host)) }
+        ensures refused { IfErr result (λ error. IsTrue (S.honest files) → IsRefused (S.contents files) states error) }
+    {
+        let mut host = match Host::new(alloc, files) {
+            Ok(host) => host,
+            Err(error) => return Err(of_open(error)),
+        };
+        let mut later = Later::Nothing;
+        for state in states.as_slice() {
+            let judged = host.restore_tenant(alloc, state);
+            if let Some(bad) = later.note(state.name(), judged) {
+                return Err(why(alloc, host.close(), bad));
+            }
+        }
+        match later.told() {
+            Some(error) => Err(error),
+            None => Ok(host),
+        }
+    }
+}
+
+impl<S: LooseFiles> Host<S> {
+    // Adds a tenant behind the others, which sees again what it saw.
+    fn restore_tenant(&mut self, alloc: Global, state: &TenantState) -> Result<(), Against>
+        requires before { AreBefore (map.keys self.old.accounts) state.now.name }
+        requires few { map.len self.old.accounts < MAX_TENANTS }
+        ensures judged { Trusted self.old → IsJudged self.old.vault.files state.now (world_of self.old) (world_of self.new) result }
+        ensures trusted { Trusted self.old → Trusted self.new }
+        ensures files { Trusted self.old → self.new.vault.files ≡ self.old.vault.files }
+        ensures behind { IsBehind state.now.name (map.keys self.old.accounts) (map.keys self.new.accounts) result }
+    {
+        let Ok(()) = self.add_behind(alloc, state.name().copy(), state.limit()) else {
+            return Err(Against::Fault(OpenError::Memory));
+        };
+        self.refill(alloc, state)
+    }
+    // Adds a tenant that nothing but want of memory may refuse.
+    fn add_behind(
+        &mut self,
+        alloc: Global,
+        name: TenantName,
+        limit: u64,
+    ) -> Result<(), AllocError>
+        requires { refusal_to_add (world_of self.old) name limit ≡ None }
+        ensures ok { OnOk result (world_of self.new ≡ map.insert (world_of self.old) name (new_view limit)) }
+        ensures trusted { Trusted self.old → Trusted self.new }
+        ensures store { LeavesStore self.old.vault self.new.vault }
+    {
+        match self.add_tenant(alloc, name, limit) {
+            Ok(()) => Ok(()),
+            Err(AddError::Memory) => Err(AllocError),
+            Err(_) => unreachable!(),
+        }
+    }
+
+    // A tenant that sees nothing sees again what it saw. Where it fails, it sees nothing.
+    fn refill(&mut self, alloc: Global, state: &TenantState) -> Result<(), Against>
+        requires fresh { map.get (world_of self.old) state.now.name ≡ Some (new_view state.now.limit) }
+        ensures judged { Trusted self.old → IsJudged self.old.vault.files state.now (world_of self.old) (world_of self.new) result }
+        ensures trusted { Trusted self.old → Trusted self.new }
+        ensures files { Trusted self.old → self.new.vault.files ≡ self.old.vault.files }
+        ensures keys { map.keys self.new.accounts ≡ map.keys self.old.accounts }
+    {
+        // For its clause too: the state is in order.
+        let name = state.name();
+        let Ok(gathered) = Repositories::gather(alloc, state.repositories()) else {
+            return Err(Against::Fault(OpenError::Memory));
+        };
+        match see_in(
+            alloc,
+            &mut self.vault,
+            name,
+            state.seen(),
+            state.repositories(),
+            state.limit(),
+        ) {
+            Ok(()) => {
+                self.accounts.settle(name, gathered);
+                Ok(())
+            }
+            Err(against) => Err(against),
+        }
+    }
+}
 
 // Lets a tenant of the vault that has nothing see again what it saw.
 pub(crate) fn see_in<S: LooseFiles>(
@@ -36,132 +131,45 @@ pub(crate) fn see_in<S: LooseFiles>(
 ) -> Result<(), Against>
     requires there { map.contains_key vault.old.tenants name.now ≡ true }
     requires nothing { private_of vault.old.tenants name.now ≡ nothing }
-    ensures ok { OnOk result (IsRestored name.now repositories.now limit vault.old vault.new) }
+    requires ascend { Ascend seen.now }
+    ensures ok { OnOk result (IsRefilled name.now seen.now repositories.now limit vault.old vault.new) }
     ensures err { OnErr result (Changes (Settles name.now map.empty) vault.old vault.new) }
+    ensures against { IsTrue vault.old.honest → IfErr result (StandsAgainst vault.old.files seen.now repositories.now limit) }
+    ensures files { IsTrue vault.old.honest → vault.new.files ≡ vault.old.files }
 {
     let mut own = Own::new(vault, name);
     see_again(alloc, &mut own, seen, repositories, limit)
 }
 
-impl<S: LooseFiles> Host<S> {
-    // A tenant that sees nothing sees again what it saw. Where it fails, it sees nothing.
-    fn refill(
-        &mut self,
-        alloc: Global,
-        name: &TenantName,
-        limit: u64,
-        repositories: &[(RepositoryName, Refs)],
-        seen: &[Name],
-    ) -> Result<(), Against>
-        requires fresh { map.get (world_of self.old) name.now ≡ Some (new_view limit) }
-        requires few { length repositories.now ≤ MAX_REPOSITORIES }
-        requires right { AllByRecursion IsRepository repositories.now }
-        ensures trusted { Trusted self.old → Trusted self.new }
-    {
-        let Ok(gathered) = Repositories::gather(alloc, repositories) else {
-            return Err(Against::Objects(RestoreError::Memory));
-        };
-        match see_in(alloc, &mut self.vault, name, seen, repositories, limit) {
-            Ok(()) => {
-                self.accounts.settle(name, gathered);
-                Ok(())
-            }
-            Err(against) => Err(against),
-        }
+// How what is bad is told.
+fn why<S: LooseFiles + Drop>(alloc: Global, files: S, bad: Bad) -> RestoreError
+    ensures { IsTrue (S.honest files) → IsWhy (S.contents files) bad result }
+{
+    match bad {
+        Bad::Unread(error) => of_open(error),
+        Bad::Object(name) => why_bad(alloc, files, name),
     }
 }
 
-impl<S: LooseFiles + Drop> Host<S> {
-    /// A host that shows these states, over the store that holds their objects. What stands against it is
-    /// told in this order: the objects of all tenants; the targets of all references; the limits. Each
-    /// object that a tenant sees is read from the store once for that tenant.
-    pub fn restore(alloc: Global, files: S, states: States) -> Result<Host<S>, RestoreError>
-        ensures trusted { IfOk result (λ host. IsTrue (S.honest files) → Trusted host) }
-    {
-        let mut host = match Host::new(alloc, files) {
-            Ok(host) => host,
-            Err(OpenError::Store) => return Err(RestoreError::Store),
-            Err(OpenError::Memory) => return Err(RestoreError::Memory),
-        };
-        let mut later = Later::new();
-        for state in states.into_vec() {
-            if let Err(error) = host.restore_tenant(alloc, state, &mut later) {
-                return Err(error);
-            }
-        }
-        match later.first() {
-            Some(error) => Err(error),
-            None => Ok(host),
-        }
-    }
-
-    // Adds a tenant that sees again what it saw. What stands against its references or its limit is noted.
-    fn restore_tenant(
-        &mut self,
-        alloc: Global,
-        state: TenantState,
-        later: &mut Later,
-    ) -> Result<(), RestoreError>
-        ensures trusted { Trusted self.old → Trusted self.new }
-    {
-        // Only for its clause: the state is in order.
-        let _name = state.name();
-        let (name, limit, repositories, seen) = state.into_parts();
-        let Ok(()) = self.add_tenant(alloc, name.copy(), limit) else {
-            return Err(RestoreError::Memory);
-        };
-        match self.refill(
-            alloc,
-            &name,
-            limit,
-            repositories.as_slice(),
-            seen.as_slice(),
-        ) {
-            Ok(()) => Ok(()),
-            Err(Against::Objects(error)) => Err(error),
-            Err(Against::Targets(error)) => {
-                later.note_target(error);
-                Ok(())
-            }
-            Err(Against::Limit) => {
-                later.note_limit(RestoreError::OverLimit(name));
-                Ok(())
-            }
-        }
+// Why the object of this name is bad.
+fn why_bad<S: LooseFiles + Drop>(alloc: Global, files: S, name: Name) -> RestoreError
+    ensures { IsTrue (S.honest files) → TellsBad (S.contents files) name result }
+{
+    let mut files = files;
+    match read_checked(alloc, &mut files, name) {
+        Ok(Some(_)) => RestoreError::Unsound(name),
+        Ok(None) => RestoreError::Lost(name),
+        Err(StoreFault::Damaged) => RestoreError::Damaged(name),
+        Err(StoreFault::Device) => RestoreError::Store,
+        Err(StoreFault::Memory) => RestoreError::Memory,
     }
 }
 
-// What stands against references and limits, which is told behind what stands against objects.
-#[derive(Drop)]
-struct Later {
-    target: Option<RestoreError>,
-    limit: Option<RestoreError>,
-}
-
-impl Later {
-    fn new() -> Later {
-        Later {
-            target: None,
-            limit: None,
-        }
-    }
-
-    fn note_target(&mut self, error: RestoreError) {
-        if self.target.is_none() {
-            self.target = Some(error);
-        }
-    }
-
-    fn note_limit(&mut self, error: RestoreError) {
-        if self.limit.is_none() {
-            self.limit = Some(error);
-        }
-    }
-
-    fn first(self) -> Option<RestoreError> {
-        if self.target.is_some() {
-            return self.target;
-        }
-        self.limit
+fn of_open(error: OpenError) -> RestoreError
+    ensures { IsFault result }
+{
+    match error {
+        OpenError::Store => RestoreError::Store,
+        OpenError::Memory => RestoreError::Memory,
     }
 }

@@ -1,21 +1,18 @@
 // A tenant that sees again what it saw.
-ghost use Rattle.std.specs.Prelude.{◌≡◌, ◌≤◌, Contains, IfOk, IsTrue, List, ℕ, None, OnErr, OnOk, true};
-ghost use Rattle.std.specs.BTreeSet.{contains};
-ghost use Rattle.std.specs.List.{find, flat_map};
+ghost use Rattle.std.specs.Prelude.{◌≡◌, ◌≤◌, IfErr, IfOk, IsTrue, None, OnErr, OnOk, true};
 ghost use Rattle.std.specs.FinMap as map;
-ghost use Rattle.git_name.specs.Name.{name_cmp};
 ghost use Rattle.fork_reach.specs.Objects.{use_of};
-ghost use Rattle.fork_reach.specs.Source.{kind_in};
-ghost use Rattle.fork_sound.specs.Sound.{is_bad};
 ghost use Rattle.fork_ledger.specs.Private.{nothing};
 ghost use Rattle.fork_ledger.specs.Tenants.{private_of, shape_of};
 ghost use Rattle.fork_host.specs.Handle.{IsSame, both_by, visible_by};
 ghost use Rattle.fork_host.specs.Own.{Changes, Settles};
-ghost use Rattle.fork_host.specs.Restored.{IsRestored, is_bad_target, references_in};
+ghost use Rattle.fork_host.specs.Refilled.{IsAgainst, IsRefilled, StandsAgainst, bad_in};
+ghost use Rattle.fork_host.specs.Restored.{first_astray};
+ghost use Rattle.state_text.specs.States.{Ascend};
 
+use crate::open_error::OpenError;
 use crate::own::Own;
-use crate::recalling::{Loss, recall_all};
-use crate::restore_error::RestoreError;
+use crate::recalling::recall_all;
 use crate::targets::first_bad_target;
 use fork_ledger::VaultFault;
 use fork_reach::SourceFault;
@@ -27,11 +24,16 @@ use loose_store::LooseFiles;
 use std::alloc::{AllocError, Global};
 use std::collections::BTreeSet;
 
-// What stands against what a tenant saw: its objects, the target of a reference, or its limit.
+// What stands against what a tenant saw.
 #[derive(Drop)]
 pub(crate) enum Against {
-    Objects(RestoreError),
-    Targets(RestoreError),
+    // It could not be read.
+    Fault(OpenError),
+    // The object of this name is not there whole, or not sound.
+    BadObject(Name),
+    // A reference points at this name, and may not.
+    Astray(Name),
+    // It is of more use than the limit allows.
     Limit,
 }
 
@@ -46,18 +48,21 @@ pub(crate) fn see_again<S: LooseFiles>(
 ) -> Result<(), Against>
     requires there { map.contains_key own.old.vault.now.tenants own.old.tenant.now ≡ true }
     requires nothing { private_of own.old.vault.now.tenants own.old.tenant.now ≡ nothing }
-    ensures ok { OnOk result (IsRestored own.old.tenant.now repositories.now limit own.old.vault.now own.new.vault.now) }
+    requires ascend { Ascend seen.now }
+    ensures ok { OnOk result (IsRefilled own.old.tenant.now seen.now repositories.now limit own.old.vault.now own.new.vault.now) }
     ensures err { OnErr result (Changes (Settles own.old.tenant.now map.empty) own.old.vault.now own.new.vault.now) }
+    ensures against { IsTrue own.old.vault.now.honest → IfErr result (StandsAgainst own.old.vault.now.files seen.now repositories.now limit) }
+    ensures files { IsTrue own.old.vault.now.honest → own.new.vault.now.files ≡ own.old.vault.now.files }
     ensures same { IsSame own.old own.new }
 {
     let Ok(names) = set_of(alloc, seen) else {
-        return Err(Against::Objects(RestoreError::Memory));
+        return Err(Against::Fault(OpenError::Memory));
     };
-    let loss = match recall_all(alloc, own, seen) {
-        Ok(loss) => loss,
-        Err(fault) => return Err(Against::Objects(of_vault(fault))),
-    };
-    match judge_seen(alloc, own, &names, loss, repositories, limit) {
+    match recall_all(alloc, own, seen) {
+        Ok(()) => {}
+        Err(fault) => return Err(Against::Fault(of_vault(fault))),
+    }
+    match judge_seen(alloc, own, &names, repositories, limit) {
         Ok(()) => Ok(()),
         Err(against) => {
             own.keep_only(&BTreeSet::new(alloc));
@@ -66,9 +71,10 @@ pub(crate) fn see_again<S: LooseFiles>(
     }
 }
 
-// These names as a set.
+// These names, which ascend, as a set.
 fn set_of(alloc: Global, names: &[Name]) -> Result<BTreeSet<Name>, AllocError>
-    ensures { IfOk result (λ set. (name : List ℕ) → Contains names.now name → contains name_cmp set name ≡ true) }
+    requires { Ascend names.now }
+    ensures { IfOk result (λ set. set.keys ≡ names.now) }
 {
     let mut set = BTreeSet::new(alloc);
     for name in names {
@@ -77,30 +83,31 @@ fn set_of(alloc: Global, names: &[Name]) -> Result<BTreeSet<Name>, AllocError>
     Ok(set)
 }
 
-// Judges what a tenant sees: these are the names that it saw, and this is the first loss among them.
+// Judges what a tenant sees, where these are the names that it saw.
 pub(crate) fn judge_seen<S: LooseFiles>(
     alloc: Global,
     own: &mut Own<'_, S>,
     names: &BTreeSet<Name>,
-    loss: Option<Loss>,
     repositories: &[(RepositoryName, Refs)],
     limit: u64,
 ) -> Result<(), Against>
-    ensures sound { IsTrue own.old.vault.now.honest → OnOk result (find (is_bad (visible_by own.old) (contains name_cmp names.now)) names.now.keys ≡ None) }
-    ensures targets { OnOk result (find (is_bad_target (kind_in (visible_by own.new))) (flat_map references_in repositories.now) ≡ None) }
+    ensures sound { IsTrue own.old.vault.now.honest → OnOk result (bad_in names.now (visible_by own.old) ≡ None) }
+    ensures targets { OnOk result (first_astray repositories.now (visible_by own.new) ≡ None) }
     ensures within { OnOk result (use_of (both_by own.new) ≤ limit) }
+    ensures against { IsTrue own.old.vault.now.honest → IfErr result (IsAgainst names.now repositories.now limit (visible_by own.old) (both_by own.old)) }
     ensures kept { IsTrue own.old.vault.now.honest → own.new.vault.now.tenants ≡ own.old.vault.now.tenants }
+    ensures files { IsTrue own.old.vault.now.honest → own.new.vault.now.files ≡ own.old.vault.now.files }
     ensures shape { shape_of own.new.vault.now.tenants ≡ shape_of own.old.vault.now.tenants }
     ensures honest { own.new.vault.now.honest ≡ own.old.vault.now.honest }
     ensures same { IsSame own.old own.new }
 {
     match first_bad(alloc, own, names) {
         Ok(None) => {}
-        Ok(Some(name)) => return Err(Against::Objects(Loss::why(loss, name))),
-        Err(fault) => return Err(Against::Objects(of_source(fault))),
+        Ok(Some(name)) => return Err(Against::BadObject(name)),
+        Err(fault) => return Err(Against::Fault(of_source(fault))),
     }
     if let Some(target) = first_bad_target(own, repositories) {
-        return Err(Against::Targets(RestoreError::Unsound(target)));
+        return Err(Against::Astray(target));
     }
     if !own.is_within(limit) {
         return Err(Against::Limit);
@@ -108,16 +115,16 @@ pub(crate) fn judge_seen<S: LooseFiles>(
     Ok(())
 }
 
-fn of_vault(fault: VaultFault) -> RestoreError {
+fn of_vault(fault: VaultFault) -> OpenError {
     match fault {
-        VaultFault::Memory => RestoreError::Memory,
-        _ => RestoreError::Store,
+        VaultFault::Memory => OpenError::Memory,
+        _ => OpenError::Store,
     }
 }
 
-fn of_source(fault: SourceFault) -> RestoreError {
+fn of_source(fault: SourceFault) -> OpenError {
     match fault {
-        SourceFault::Memory => RestoreError::Memory,
-        SourceFault::Store | SourceFault::Damaged => RestoreError::Store,
+        SourceFault::Memory => OpenError::Memory,
+        SourceFault::Store | SourceFault::Damaged => OpenError::Store,
     }
 }

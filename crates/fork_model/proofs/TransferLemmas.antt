@@ -37,7 +37,7 @@ came_one objects object = by (contains_key objects (object_name object)) refl
         ap is_some (get-insert name_total objects (object_name object) object (object_name object))
         ∙ ap (λ order. is_some (cond (is_eq order) (Some object) (get objects (object_name object)))) (tied_itself name_total (object_name object))
 
-came : (objects : Objects) (sent : List Object) (object : Object) → Contains sent object → contains_key (with_objects objects sent) (object_name object) ≡ true
+pub came : (objects : Objects) (sent : List Object) (object : Object) → Contains sent object → contains_key (with_objects objects sent) (object_name object) ≡ true
 came objects [] object at = absurd (omega arith)
 came objects (more ∷ sent) object (zero, few, is) =
     let there : contains_key (with_object objects more) (object_name object) ≡ true = ap (λ (o : Object). contains_key (with_object objects more) (object_name o)) (sym is) ∙ came_one objects more in

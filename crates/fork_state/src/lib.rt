@@ -4,10 +4,12 @@
 #![tactic(auto)]
 
 mod fault;
+mod law;
 mod loading;
 mod saving;
 
 pub use crate::fault::LoadFault;
+pub use crate::law::what_is_saved_is_loaded;
 pub use crate::loading::load;
 pub use crate::saving::save;
 

@@ -2,7 +2,8 @@ ghost use Rattle.std.specs.Prelude.{◌≡◌, IfErr, IfOk, IsTrue, ℕ};
 ghost use Rattle.state_text.specs.Fault.{IsWrongLine};
 ghost use Rattle.state_text.specs.States.{States};
 ghost use Rattle.state_text.specs.Text.{IsStateText};
-ghost use Rattle.fork_host.specs.Shown.{Trusted};
+ghost use Rattle.fork_host.specs.Shown.{Trusted, world_of};
+ghost use Rattle.fork_state.specs.Loaded.{IsLoadFault, IsLoaded, load_fault};
 
 use crate::fault::LoadFault;
 use fork_host::{Host, RestoreError};
@@ -17,6 +18,10 @@ pub fn load<S: LooseFiles + Drop>(
     text: &[u8],
     files: S,
 ) -> Result<Host<S>, LoadFault>
+    ensures loaded { IsTrue (S.honest files) → IfOk result (λ host. IsLoaded (S.contents files) text.now (world_of host)) }
+    ensures refused { IsTrue (S.honest files) → IfErr result (IsLoadFault (S.contents files) text.now) }
+
+    // Over any store.
     ensures text { IfOk result (λ host. (states : States) × IsStateText states text.now) }
     ensures line { IfErr result (λ fault. (number : ℕ) → fault ≡ LoadFault.Line number → IsWrongLine text.now number) }
     ensures trusted { IfOk result (λ host. IsTrue (S.honest files) → Trusted host) }
@@ -34,7 +39,7 @@ pub fn load<S: LooseFiles + Drop>(
 
 // How what stands against a restored host is told.
 fn of_restore(error: RestoreError) -> LoadFault
-    ensures { (number : ℕ) → result ≡ LoadFault.Line number → ⊥ }
+    ensures { result ≡ load_fault error }
 {
     match error {
         RestoreError::Lost(name) => LoadFault::Lost(name),

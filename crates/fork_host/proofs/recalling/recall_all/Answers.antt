@@ -1,13 +1,12 @@
-use Rattle.std.proofs.Common.{◌≡◌, ap, subst, sym, ◌∙◌}
+use Rattle.std.proofs.Common.{arith, ap, subst, sym, ◌∙◌}
 use Rattle.std.specs.FinMap as map
 use Rattle.fork_reach.specs.Objects.{with_objects}
 use Rattle.fork_ledger.specs.Store.{Recalls}
-use Rattle.fork_ledger.specs.Tenants.{shape_of}
 use Rattle.fork_host.specs.Handle.{both_by}
 use Rattle.fork_host.specs.Own.{Changes, Settles, Stages, visible_in}
 use Rattle.fork_host.proofs.HandleLemmas.{same_own, same_then}
 use Rattle.fork_host.proofs.OwnLemmas.{changes_none, changes_still, here_changed, stages_none}
-use Rattle.fork_host.proofs.RestoreLemmas.{came_more, came_none}
+use Rattle.fork_host.proofs.RecallLemmas.{came_all, came_more, came_none}
 use Rattle.fork_host.proofs.recalling.recall_all.Goals as goal
 
 pub loop-name-init : goal.loop-name-init
@@ -26,8 +25,8 @@ loop-name-preserved g c =
     let new = c.recall.new.self in
     record {
       same = same_then first old new before.same c.in-Ok.ensures.same;
-      so_far = came_more first.tenant.now c.name-item.result c.args.names.now (both_by first) first.vault.now old.vault.now new.vault.now c.in-Ok.recalled c.requires.there (c.loop-name.name-index, c.loop-name-test.true, sym c.name-item.is) c.in-Ok.ensures.store.honest
-          (subst (λ r. Recalls old.vault.now.honest r.now c.name-item.result old.vault.now.files old.vault.now.tenants new.vault.now.tenants c.in-Ok.recalled) before.same.tenant c.in-Ok.ensures.recalls) before.so_far;
+      so_far = came_more first.tenant.now c.name-item.result c.args.names.now c.loop-name.name-index (both_by first) first.vault.now old.vault.now new.vault.now c.in-Ok.field-0 c.requires.there c.loop-name-test.true c.name-item.is c.in-Ok.ensures.store.honest c.recall.ensures.files
+          (subst (λ r. Recalls old.vault.now.honest r.now c.name-item.result old.vault.now.files old.vault.now.tenants new.vault.now.tenants c.in-Ok.field-0) before.same.tenant c.in-Ok.ensures.recalls) before.so_far;
     }
 
 pub discard-requires : goal.discard-requires
@@ -36,7 +35,7 @@ discard-requires g c =
     let first = c.args.own.now in
     let mid = c.recall.new.self in
     let objects = with_objects (both_by first) before.so_far.came in
-    let still = changes_still (Stages first.tenant.now objects) first.vault.now c.loop-name.own.vault.now mid.vault.now (ap shape_of c.in-Err.ensures.err) (λ _. c.in-Err.ensures.err) c.in-Err.ensures.store.honest before.so_far.stages in
+    let still = changes_still (Stages first.tenant.now objects) first.vault.now c.loop-name.own.vault.now mid.vault.now c.in-Err.ensures.kept c.in-Err.ensures.err c.in-Err.ensures.store.honest before.so_far.stages in
     record {
       there = ap (λ r. map.contains_key mid.vault.now.tenants r.now) (c.in-Err.ensures.same.tenant ∙ before.same.tenant) ∙ here_changed first.vault.now mid.vault.now first.tenant.now objects c.requires.there still;
     }
@@ -48,7 +47,7 @@ returns-in-Err-clause-err g c =
     let mid = c.recall.new.self in
     let objects = with_objects (both_by first) before.so_far.came in
     let tenant = c.in-Err.ensures.same.tenant ∙ before.same.tenant in
-    let still = changes_still (Stages first.tenant.now objects) first.vault.now c.loop-name.own.vault.now mid.vault.now (ap shape_of c.in-Err.ensures.err) (λ _. c.in-Err.ensures.err) c.in-Err.ensures.store.honest before.so_far.stages in
+    let still = changes_still (Stages first.tenant.now objects) first.vault.now c.loop-name.own.vault.now mid.vault.now c.in-Err.ensures.kept c.in-Err.ensures.err c.in-Err.ensures.store.honest before.so_far.stages in
     subst (λ r. Changes (Settles r.now (visible_in first.vault.now r.now)) first.vault.now c.discard.new.own.vault.now) tenant
     (c.discard.ensures.settles first.vault.now objects (subst (λ r. Changes (Stages r.now objects) first.vault.now mid.vault.now) (sym tenant) still))
 
@@ -71,4 +70,14 @@ returns-clause-ok g c =
       among = before.so_far.among;
       changes = subst (λ r. Changes (Settles r.now objects) first.vault.now c.publish.new.own.vault.now) before.same.tenant
           (c.publish.ensures.settles first.vault.now objects (subst (λ r. Changes (Stages r.now objects) first.vault.now mid.vault.now) (sym before.same.tenant) before.so_far.stages));
+      whole = before.so_far.whole;
+      all = came_all first.tenant.now c.args.names.now c.loop-name.name-index (both_by first) first.vault.now mid.vault.now (omega arith) before.so_far;
     }
+
+pub returns-in-Err-clause-files : goal.returns-in-Err-clause-files
+returns-in-Err-clause-files g c = λ h.
+    let before = c.loop-name.invariant.so_far in
+    c.discard.ensures.store.files ∙ c.recall.ensures.files (before.stages.honest ∙ h) ∙ before.files h
+
+pub returns-clause-files : goal.returns-clause-files
+returns-clause-files g c = λ h. c.publish.ensures.store.files ∙ c.loop-name.invariant.so_far.files h

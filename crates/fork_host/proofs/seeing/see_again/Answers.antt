@@ -1,22 +1,38 @@
-use Rattle.std.proofs.Common.{◌≡◌, ◌≤◌, ℕ, IsTrue, None, Some, refl, ap, subst, sym, ◌∙◌, List}
-use Rattle.std.specs.BTreeSet.{BTreeSet, contains}
+use Rattle.std.proofs.Common.{◌≡◌, ◌≤◌, ℕ, IsTrue, refl, ap, subst, sym, ◌∙◌, List}
 use Rattle.std.specs.BTreeMap.{is_at}
-use Rattle.std.specs.List.{find, flat_map, list_any}
+use Rattle.std.specs.BTreeSet.{contains}
+use Rattle.std.specs.List.{list_any}
 use Rattle.std.specs.FinMap as map
 use Rattle.git_name.specs.Name.{name_cmp}
-use Rattle.git_name.specs.Object.{Object}
 use Rattle.fork_reach.specs.Objects.{use_of, with_objects}
-use Rattle.fork_reach.specs.Source.{kind_in}
 use Rattle.fork_ledger.specs.Private.{both_of, nothing, with_kept}
 use Rattle.fork_ledger.specs.Tenants.{at_tenant, private_of}
 use Rattle.fork_ledger.proofs.BothLemmas.{both_quiet}
-use Rattle.fork_sound.specs.Sound.{is_bad}
+use Rattle.fork_host.specs.Handle.{both_by, visible_by}
 use Rattle.fork_host.specs.Own.{Changes, Settles, both_in, visible_in}
-use Rattle.fork_host.specs.Restored.{is_bad_target, references_in}
-use Rattle.fork_host.proofs.HandleLemmas.{same_then}
+use Rattle.fork_host.specs.Refilled.{SeesAgain, bad_in}
+use Rattle.fork_host.specs.Restored.{AreOnStore, first_astray}
+use Rattle.fork_host.specs.declared.own.Own.{Own}
 use Rattle.fork_host.proofs.OwnLemmas.{changes_none, changes_still, emptied, leaves_all, own_of, seen_itself}
-use Rattle.fork_host.proofs.RestoreLemmas.{closed_seen, named_came, right_seen, seen_came}
+use Rattle.fork_host.proofs.RestoreLemmas.{bad_by, closed_seen, named_came, on_store, right_seen, stands_against}
 use Rattle.fork_host.proofs.seeing.see_again.Goals as goal
+
+-- what came to a tenant that had nothing
+came_of : {S : Type 0} (first mid : Own S) (names : List (List ℕ)) → private_of first.vault.now.tenants first.tenant.now ≡ nothing → (told : SeesAgain first.tenant.now names first.vault.now mid.vault.now)
+    → Changes (Settles first.tenant.now (with_objects map.empty told.came)) first.vault.now mid.vault.now
+came_of first mid names none told =
+    let base : both_in first.vault.now first.tenant.now ≡ map.empty = ap both_of none ∙ both_quiet nothing refl in
+    subst (λ b. Changes (Settles first.tenant.now (with_objects b told.came)) first.vault.now mid.vault.now) base told.changes
+
+-- is what it sees, over an honest store
+seen_of : {S : Type 0} (first mid : Own S) (names : List (List ℕ)) → private_of first.vault.now.tenants first.tenant.now ≡ nothing → mid.tenant ≡ first.tenant → (told : SeesAgain first.tenant.now names first.vault.now mid.vault.now)
+    → IsTrue first.vault.now.honest → visible_by mid ≡ with_objects map.empty told.came
+seen_of first mid names none tenant told h =
+    ap (λ r. visible_in mid.vault.now r.now) tenant ∙ seen_itself first.vault.now mid.vault.now first.tenant.now (with_objects map.empty told.came) (came_of first mid names none told) h
+
+-- and stands on it
+stored_of : {S : Type 0} (first mid : Own S) (names : List (List ℕ)) (told : SeesAgain first.tenant.now names first.vault.now mid.vault.now) → IsTrue first.vault.now.honest → AreOnStore first.vault.now.files names (with_objects map.empty told.came)
+stored_of first mid names told h = on_store first.vault.now.files names told.came told.among (told.whole h) (told.all h)
 
 pub returns-in_default-clause-err : goal.returns-in_default-clause-err
 returns-in_default-clause-err g c =
@@ -30,27 +46,42 @@ returns-in-Ok-judge_seen-clause-ok g c =
     let mid = c.recall_all.new.own in
     let new = c.judge_seen.new.own in
     let t = first.tenant.now in
+    let names = c.args.seen.now in
     let set = c.in-Ok.names in
     let told = c.in-Ok-recall_all.ensures.ok in
     let judged = c.in-Ok-judge_seen.ensures in
     let objects = with_objects map.empty told.came in
-    let base : both_in first.vault.now t ≡ map.empty = ap both_of c.requires.nothing ∙ both_quiet nothing refl in
-    let came = subst (λ b. Changes (Settles t (with_objects b told.came)) first.vault.now mid.vault.now) base told.changes in
-    let changes = changes_still (Settles t objects) first.vault.now mid.vault.now new.vault.now judged.shape judged.kept judged.honest came in
+    let changes = changes_still (Settles t objects) first.vault.now mid.vault.now new.vault.now judged.shape judged.kept judged.honest (came_of first mid names c.requires.nothing told) in
     let tenant = c.in-Ok-recall_all.ensures.same.tenant in
     let last = judged.same.tenant ∙ tenant in
-    let among = seen_came told.came c.args.seen.now (contains name_cmp set) told.among c.in-Ok.ensures in
-    let shown = λ (h : IsTrue first.vault.now.honest). ap (λ r. visible_in mid.vault.now r.now) tenant ∙ seen_itself first.vault.now mid.vault.now t objects came h in
-    let none = λ (h : IsTrue first.vault.now.honest). ap (λ o. find (is_bad o (contains name_cmp set)) set.keys) (sym (shown h)) ∙ judged.sound (came.honest ∙ h) in
+    let stored = stored_of first mid names told in
+    let none = λ (h : IsTrue first.vault.now.honest). sym (bad_by set names objects c.in-Ok.ensures) ∙ ap (bad_in set) (sym (seen_of first mid names c.requires.nothing tenant told h)) ∙ judged.sound (told.changes.honest ∙ h) in
     record {
       objects = objects;
       changes = changes;
       named = λ h. named_came told.came;
-      right = λ h. right_seen objects set (none h) among;
-      closed = λ h. closed_seen objects set (none h) among;
-      targets = ap (λ r. find (is_bad_target (kind_in (visible_in new.vault.now r.now))) (flat_map references_in c.args.repositories.now)) (sym last) ∙ judged.targets;
+      right = λ h. right_seen first.vault.now.files names objects (stored h).among (none h);
+      closed = λ h. closed_seen first.vault.now.files names objects (stored h).among (none h);
+      stored = λ h. record { objects = objects; stored = stored h; is = (refl, none h) };
+      targets = ap (λ r. first_astray c.args.repositories.now (visible_in new.vault.now r.now)) (sym last) ∙ judged.targets;
       within = subst (λ o. use_of o ≤ c.args.limit) (ap (λ r. both_in new.vault.now r.now) last ∙ both_quiet (private_of new.vault.now.tenants t) (own_of first.vault.now new.vault.now t objects changes).quiet) judged.within;
     }
+
+pub returns-clause-against : goal.returns-clause-against
+returns-clause-against g c = λ h.
+    let first = c.args.own.now in
+    let mid = c.recall_all.new.own in
+    let t = first.tenant.now in
+    let names = c.args.seen.now in
+    let told = c.in-Ok-recall_all.ensures.ok in
+    let objects = with_objects map.empty told.came in
+    let tenant = c.in-Ok-recall_all.ensures.same.tenant in
+    let came = came_of first mid names c.requires.nothing told in
+    let seen = seen_of first mid names c.requires.nothing tenant told h in
+    let quiet = ap (λ r. both_in mid.vault.now r.now) tenant ∙ both_quiet (private_of mid.vault.now.tenants t) (own_of first.vault.now mid.vault.now t objects came).quiet in
+    let all = quiet ∙ seen_itself first.vault.now mid.vault.now t objects came h in
+    stands_against first.vault.now.files names c.in-Ok.names c.args.repositories.now c.args.limit (visible_by mid) (both_by mid) objects c.in-Ok.ensures seen all (stored_of first mid names told h) c.in-Err-judge_seen.against
+    (c.in-Err-judge_seen.ensures.against (told.changes.honest ∙ h))
 
 pub returns-clause-err : goal.returns-clause-err
 returns-clause-err g c =

@@ -1,59 +1,90 @@
-use Rattle.std.proofs.Common.{◌≡◌, is_some, refl, ap, subst, sym, ◌∙◌}
+use Rattle.std.proofs.Common.{◌≡◌, is_some, Some, refl, ap, subst, sym, ◌∙◌}
 use Rattle.std.specs.FinMap as map
 use Rattle.fork_ledger.proofs.UpdateLemmas.{insert_same}
 use Rattle.fork_ledger.proofs.BothLemmas.{none_of}
 use Rattle.fork_model.specs.Sound.{IsOrderly, IsRight}
 use Rattle.fork_host.specs.Adding.{new_view}
-use Rattle.fork_host.specs.Own.{visible_in}
-use Rattle.fork_host.specs.Shown.{HostState, seen_by, shown, state_of, world_of}
+use Rattle.fork_host.specs.Own.{Changes, Settles, staged_in, visible_in}
+use Rattle.fork_host.specs.Refilled.{IsRefilled, IsRefilledIn}
+use Rattle.fork_host.specs.Shown.{Account, Accounts, HostState, seen_by, shown, state_of, world_of}
 use Rattle.fork_host.proofs.AddingLemmas.{orderly_new_view, right_new_view}
 use Rattle.fork_host.proofs.OwnLemmas.{own_of, seen_measures}
-use Rattle.fork_host.proofs.RefillLemmas.{account_shown, orderly_refilled, refilled, right_refilled, whole_set}
+use Rattle.fork_host.proofs.RefillLemmas.{account_shown, keys_set, orderly_refilled, refilled, refilled_in, restored_by, right_refilled, whole_set}
+use Rattle.fork_host.proofs.host.Host.refill.Given as given
 use Rattle.fork_host.proofs.host.Host.refill.Goals as goal
 
 pub see_in-requires-clause-there : goal.see_in-requires-clause-there
 see_in-requires-clause-there g c =
     let state = state_of c.self.inside.accounts c.self.inside.vault in
-    let found = account_shown state c.args.name.now (new_view c.args.limit) (ap (λ (s : HostState). map.get (world_of s) c.args.name.now) c.self.view_is ∙ c.requires.fresh) in
-    c.self.invariant.there c.args.name.now ∙ ap is_some found.1
+    let t = c.args.state.now.name in
+    let found = account_shown state t (new_view c.args.state.now.limit) (ap (λ (s : HostState). map.get (world_of s) t) c.self.view_is ∙ c.requires.fresh) in
+    ap (map.contains_key c.self.inside.vault.tenants) c.name-name.ensures.name ∙ c.self.invariant.there t ∙ ap is_some found.1
 
 pub see_in-requires-clause-nothing : goal.see_in-requires-clause-nothing
 see_in-requires-clause-nothing g c =
     let state = state_of c.self.inside.accounts c.self.inside.vault in
-    let found = account_shown state c.args.name.now (new_view c.args.limit) (ap (λ (s : HostState). map.get (world_of s) c.args.name.now) c.self.view_is ∙ c.requires.fresh) in
-    let visible = ap (λ v. v.objects) found.2 in
-    let staged = c.self.invariant.staged c.args.name.now found.0 found.1 in
+    let t = c.args.state.now.name in
+    let found = account_shown state t (new_view c.args.state.now.limit) (ap (λ (s : HostState). map.get (world_of s) t) c.self.view_is ∙ c.requires.fresh) in
+    let visible = ap (visible_in c.self.inside.vault) c.name-name.ensures.name ∙ ap (λ v. v.objects) found.2 in
+    let staged = ap (staged_in c.self.inside.vault) c.name-name.ensures.name ∙ c.self.invariant.staged t found.0 found.1 in
     λ i. record { visible = visible i; staged = staged i }
+
+-- the account that it had
+account_of : (g : given.Over) (c : goal.After-settle g) → (account : Account) × (map.get c.self.inside.accounts c.args.state.now.name ≡ Some account) × (shown account c.self.inside.vault c.args.state.now.name ≡ new_view c.args.state.now.limit)
+account_of g c =
+    account_shown (state_of c.self.inside.accounts c.self.inside.vault) c.args.state.now.name (new_view c.args.state.now.limit) (ap (λ (s : HostState). map.get (world_of s) c.args.state.now.name) c.self.view_is ∙ c.requires.fresh)
+
+-- and the one that it has
+set_to : (g : given.Over) (c : goal.After-settle g) → c.settle.new.self ≡ map.insert c.self.inside.accounts c.args.state.now.name (refilled c.in-Ok.gathered c.args.state.now.limit)
+set_to g c =
+    let found = account_of g c in
+    let upload = ap (λ v. v.upload) found.2 in
+    let low = ap (λ v. v.limit) found.2 in
+    c.settle.ensures found.0 (ap (map.get c.self.inside.accounts) c.name-name.ensures.name ∙ found.1)
+    ∙ ap (λ t. map.insert c.self.inside.accounts t (record { repositories = c.in-Ok.gathered; upload = found.0.upload; limit = found.0.limit })) c.name-name.ensures.name
+    ∙ ap (map.insert c.self.inside.accounts c.args.state.now.name) (λ i. record { repositories = c.in-Ok.gathered; upload = upload i; limit = low i })
+
+-- what it sees again
+restored_to : (g : given.Over) (c : goal.After-settle g) → IsRefilled c.args.state.now.name c.args.state.now.seen c.args.state.now.repositories c.args.state.now.limit c.self.inside.vault c.see_in.new.vault
+restored_to g c =
+    restored_by c.args.state.now c.name-name.result.now c.seen.result.now c.repositories-2.result.now c.limit.result c.self.inside.vault c.see_in.new.vault c.name-name.ensures.name c.seen.ensures c.repositories-2.ensures c.limit.ensures c.in-Ok-see_in.ensures.ok
 
 pub invariant_of-self : goal.invariant_of-self
 invariant_of-self g c =
-    let t = c.args.name.now in
-    let limit = c.args.limit in
+    let tenant = c.args.state.now in
+    let sound = c.name-name.ensures.sound in
     let old = state_of c.self.inside.accounts c.self.inside.vault in
     let new = state_of c.settle.new.self c.see_in.new.vault in
-    let fresh = ap (λ (s : HostState). map.get (world_of s) t) c.self.view_is ∙ c.requires.fresh in
-    let found = account_shown old t (new_view limit) fresh in
-    let gathered = c.in-Ok.gathered in
-    let restored = c.in-Ok-see_in.ensures.ok in
-    let upload = ap (λ v. v.upload) found.2 in
-    let low = ap (λ v. v.limit) found.2 in
-    let after = refilled gathered limit in
-    let set = c.settle.ensures found.0 found.1 ∙ ap (map.insert c.self.inside.accounts t) (λ i. record { repositories = gathered; upload = upload i; limit = low i }) in
-    whole_set old new t found.0 after c.self.invariant found.1 set (own_of old.vault new.vault t restored.objects restored.changes) refl
-    (orderly_refilled t c.args.repositories.now gathered limit old.vault new.vault (c.self.invariant.orderly.views t (new_view limit) fresh).limit c.requires.few c.requires.right (record { among = c.in-Ok.ensures.among; few = c.in-Ok.ensures.few }) restored)
-    (λ honest. right_refilled t c.args.repositories.now gathered limit old.vault new.vault (sym restored.changes.honest ∙ honest) restored)
+    let found = account_of g c in
+    let restored = restored_to g c in
+    let gathered = c.in-Ok.ensures ∙ c.repositories.ensures in
+    whole_set old new tenant.name found.0 (refilled c.in-Ok.gathered tenant.limit) c.self.invariant found.1 (set_to g c) (own_of old.vault new.vault tenant.name restored.objects restored.changes) refl
+    (orderly_refilled tenant.name tenant.seen tenant.repositories c.in-Ok.gathered tenant.limit old.vault new.vault sound.limit sound.few sound.repositories gathered restored)
+    (λ honest. right_refilled tenant.name tenant.seen tenant.repositories c.in-Ok.gathered tenant.limit old.vault new.vault (sym restored.changes.honest ∙ honest) restored)
 
 pub invariant_of-self-in-Err-see_in : goal.invariant_of-self-in-Err-see_in
 invariant_of-self-in-Err-see_in g c =
-    let t = c.args.name.now in
-    let limit = c.args.limit in
+    let t = c.args.state.now.name in
+    let limit = c.args.state.now.limit in
     let old = state_of c.self.inside.accounts c.self.inside.vault in
     let new = state_of c.self.inside.accounts c.see_in.new.vault in
     let fresh = ap (λ (s : HostState). map.get (world_of s) t) c.self.view_is ∙ c.requires.fresh in
     let found = account_shown old t (new_view limit) fresh in
-    let changes = c.in-Err.ensures.err in
+    let changes = subst (λ n. Changes (Settles n map.empty) old.vault new.vault) c.name-name.ensures.name c.in-Err.ensures.err in
     let seen : visible_in new.vault t ≡ map.empty = none_of (visible_in new.vault t) (seen_measures old.vault new.vault t map.empty changes) in
     let view = ap (seen_by found.0) (seen ∙ sym (ap (λ v. v.objects) found.2)) ∙ found.2 in
     whole_set old new t found.0 found.0 c.self.invariant found.1 (sym (insert_same c.self.inside.accounts t found.0 found.1)) (own_of old.vault new.vault t map.empty changes) (ap (λ v. v.upload) found.2)
     (subst IsOrderly (sym view) (orderly_new_view limit (c.self.invariant.orderly.views t (new_view limit) fresh).limit))
     (λ honest. subst IsRight (sym view) (right_new_view limit))
+
+pub returns-in-Ok-see_in-clause-judged : goal.returns-in-Ok-see_in-clause-judged
+returns-in-Ok-see_in-clause-judged g c = λ trusted.
+    let old = state_of c.self.inside.accounts c.self.inside.vault in
+    let new = state_of c.settle.new.self c.see_in.new.vault in
+    subst (λ (s : HostState). IsRefilledIn s.vault.files c.args.state.now (world_of s) (world_of new)) c.self.view_is
+    (refilled_in old new c.args.state.now c.in-Ok.gathered (set_to g c) (c.in-Ok.ensures ∙ c.repositories.ensures) (ap (λ s. s.vault.honest) c.self.view_is ∙ trusted) (restored_to g c))
+
+pub returns-in-Ok-see_in-clause-keys : goal.returns-in-Ok-see_in-clause-keys
+returns-in-Ok-see_in-clause-keys g c =
+    let found = account_of g c in
+    ap (λ (m : Accounts). map.keys m) (set_to g c) ∙ keys_set c.self.inside.accounts c.args.state.now.name found.0 (refilled c.in-Ok.gathered c.args.state.now.limit) found.1 ∙ ap (λ (s : HostState). map.keys s.accounts) c.self.view_is

@@ -1,6 +1,7 @@
-use Rattle.fork_host.proofs.GatherLemmas.{Gathered}
+use Rattle.std.proofs.Common.{◌≡◌, take}
+use Rattle.std.specs.FinMap.{entries}
 use Rattle.fork_host.proofs.repositories.Repositories.gather.Given as goal
 
--- those so far are of the list, and as many at the most
+-- those so far are gathered
 abbrev pub invariant-loop-name : goal.invariant-loop-name
-invariant-loop-name l = Gathered l.list l.name-index l.repositories
+invariant-loop-name l = entries l.repositories ≡ take l.name-index l.list

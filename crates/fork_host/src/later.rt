@@ -1,0 +1,86 @@
+// What stands against states, tenant by tenant: objects are told at once, targets and limits at the end.
+ghost use Rattle.std.specs.Prelude.{◌≡◌, Err};
+ghost use Rattle.fork_host.specs.Refilled.{first_told, told_at_once, with_judged, with_limit, with_target};
+
+use crate::open_error::OpenError;
+use crate::restore_error::RestoreError;
+use crate::seeing::Against;
+use fork_request::TenantName;
+use git_name::Name;
+
+// What is told at once.
+#[derive(Drop)]
+pub(crate) enum Bad {
+    // The store could not be read.
+    Unread(OpenError),
+    // The object of this name is not there whole, or not sound.
+    Object(Name),
+}
+
+// What is told at the end: a target before a limit, and of each the first.
+#[derive(Drop)]
+pub(crate) enum Later {
+    Nothing,
+    Target(Name),
+    Limit(TenantName),
+}
+
+impl Later {
+    // Notes what is told at the end of how this tenant was judged, and gives what is told at once.
+    pub(crate) fn note(&mut self, tenant: &TenantName, judged: Result<(), Against>) -> Option<Bad>
+        ensures noted { self.new ≡ with_judged self.old tenant.now judged }
+        ensures told { result ≡ told_at_once judged }
+    {
+        match judged {
+            Ok(()) => None,
+            Err(against) => self.note_against(tenant, against),
+        }
+    }
+
+    fn note_against(&mut self, tenant: &TenantName, against: Against) -> Option<Bad>
+        ensures noted { self.new ≡ with_judged self.old tenant.now (Err against) }
+        ensures told { result ≡ told_at_once (Err against) }
+    {
+        match against {
+            Against::Fault(error) => Some(Bad::Unread(error)),
+            Against::BadObject(name) => Some(Bad::Object(name)),
+            Against::Astray(target) => {
+                self.note_target(target);
+                None
+            }
+            Against::Limit => {
+                self.note_limit(tenant.copy());
+                None
+            }
+        }
+    }
+
+    fn note_target(&mut self, target: Name)
+        ensures { self.new ≡ with_target self.old target }
+    {
+        match self {
+            Later::Target(_) => {}
+            _ => *self = Later::Target(target),
+        }
+    }
+
+    fn note_limit(&mut self, tenant: TenantName)
+        ensures { self.new ≡ with_limit self.old tenant }
+    {
+        match self {
+            Later::Nothing => *self = Later::Limit(tenant),
+            _ => {}
+        }
+    }
+
+    // How it is told.
+    pub(crate) fn told(self) -> Option<RestoreError>
+        ensures { result ≡ first_told self }
+    {
+        match self {
+            Later::Nothing => None,
+            Later::Target(target) => Some(RestoreError::Unsound(target)),
+            Later::Limit(tenant) => Some(RestoreError::OverLimit(tenant)),
+        }
+    }
+}

@@ -1,51 +1,81 @@
--- Of what is seen some names are kept, and what is staged stays.
-use Rattle.std.proofs.Common.{◌≡◌, ◌&&◌, ◌||◌, ℕ, Bool, true, false, cond, not, List, Option, None, is_some, refl, sym, ap, ◌∙◌}
-use Rattle.std.specs.BTreeSet.{BTreeSet, contains}
-use Rattle.std.specs.FinMap.{contains_key, get, retain_keys, same_map}
-use Rattle.git_name.specs.Name.{name_cmp}
-use Rattle.git_name.specs.Object.{Object}
+-- Files that change under names that nobody holds change nothing that is shown.
+use Rattle.std.proofs.Common.{◌≡◌, ℕ, List, Bool, true, false, ◌||◌, Option, Some, None, is_some, refl, sym, ap, subst, ◌∙◌}
+use Rattle.std.specs.Prelude.{if◌then◌else◌}
+use Rattle.std.specs.Option.{option_map}
+use Rattle.std.specs.FinMap.{contains_key, get, same_map}
 use Rattle.git_name.proofs.Names.{name_total, name_exact}
-use Rattle.fork_reach.specs.Source.{Objects}
-use Rattle.fork_ledger.specs.Staged.{is_hidden, seen}
-use Rattle.fork_ledger.proofs.SeenLemmas.{get_kept, get_without}
+use Rattle.looks.specs.Places.{Places}
+use Rattle.ledgers.specs.Holders.{is_held_in}
+use Rattle.ledgers.specs.Ledgers.{AllWords}
+use Rattle.ledgers.specs.Words.{Words, is_staged, is_visible}
+use Rattle.ledgers.specs.declared.word.Word.{Word}
+use Rattle.ledgers.proofs.HolderLemmas.{held_by}
+use Rattle.loose_store.specs.Files.{Files, SameBut}
+use Rattle.fork_ledger.specs.Kept.{Covers, IsKept, KeepsHeld}
+use Rattle.fork_ledger.specs.Private.{Awaits, Holds, Private, Sees, is_held_by}
+use Rattle.fork_ledger.specs.Shown.{object_at, own_of, part, tenants_of}
+use Rattle.fork_ledger.specs.Store.{IsStored}
+use Rattle.fork_ledger.specs.Tenants.{private_of}
+use Rattle.fork_ledger.proofs.ShownLemmas.{get_part, get_tenant, same_at, same_private, shown_at}
+use Rattle.fork_ledger.proofs.TakenLemmas.{taken_held}
 
-seen_of : (n s g h : Bool) (o : Option Object) → h ≡ (n && g) → cond (not (s && not h)) (cond (n || s) o None) None ≡ cond n (cond (not (s && not g)) o None) None
-seen_of true true g h o is = ap (λ b. cond (not (not b)) o None) is
-seen_of true false g h o is = refl
-seen_of false true g h o is = ap (λ b. cond (not (not b)) o None) is
-seen_of false false g h o is = refl
+part_keeps : (p : Word → Bool) (old new : Files) (words : Words) → ((q : List ℕ) → contains_key words q ≡ true → get new q ≡ get old q) → part p new words ≡ part p old words
+part_keeps p old new words keeps = same_map name_total name_exact _ _ (λ q. get_part p new words q ∙ by q (get words q) refl ∙ sym (get_part p old words q))
+  where
+    by : (q : List ℕ) (o : Option Word) → get words q ≡ o → shown_at p new q (get words q) ≡ shown_at p old q (get words q)
+    by q None here = ap (shown_at p new q) here ∙ ap (shown_at p old q) (sym here)
+    by q (Some word) here = ap (shown_at p new q) here ∙ at (p word) ∙ ap (shown_at p old q) (sym here)
+      where
+        at : (b : Bool) → (if b then Some (object_at new q word) else None) ≡ (if b then Some (object_at old q word) else None)
+        at true = ap Some (same_at old new q word (keeps q (ap is_some here)))
+        at false = refl
 
--- what is then seen is what was seen of the names; what is seen again is so of the names alone
-pub visible_kept : (objects : Objects) (names : List ℕ → Bool) (staged again kept : BTreeSet (List ℕ)) → ((q : List ℕ) → contains name_cmp kept q ≡ (names q && contains name_cmp again q))
-    → seen staged kept (retain_keys objects (λ name. names name || contains name_cmp staged name)) ≡ retain_keys (seen staged again objects) names
-visible_kept objects names staged again kept is = same_map name_total name_exact _ _ (λ q.
-    get_without (retain_keys objects (λ name. names name || contains name_cmp staged name)) (is_hidden staged kept) q
-    ∙ ap (λ o. cond (not (is_hidden staged kept q)) o None) (get_kept objects (λ name. names name || contains name_cmp staged name) q)
-    ∙ seen_of (names q) (contains name_cmp staged q) (contains name_cmp again q) (contains name_cmp kept q) (get objects q) (is q)
-    ∙ ap (λ o. cond (names q) o None) (sym (get_without objects (is_hidden staged again) q))
-    ∙ sym (get_kept (seen staged again objects) names q))
+own_keeps : (old new : Files) (words : Words) → ((q : List ℕ) → contains_key words q ≡ true → get new q ≡ get old q) → own_of new words ≡ own_of old words
+own_keeps old new words keeps = same_private _ _ (part_keeps is_visible old new words keeps) (part_keeps is_staged old new words keeps)
 
-staged_of : (n s : Bool) (o : Option Object) → cond s (cond (n || s) o None) None ≡ cond s o None
-staged_of true true o = refl
-staged_of false true o = refl
-staged_of n false o = refl
+-- files that agree under held names show the same
+pub tenants_keep : (m : AllWords) (old new : Files) → KeepsHeld m old new → tenants_of new m ≡ tenants_of old m
+tenants_keep m old new keeps = same_map name_total name_exact _ _ (λ t. get_tenant new m t ∙ by t (get m t) refl ∙ sym (get_tenant old m t))
+  where
+    by : (t : List ℕ) (o : Option Words) → get m t ≡ o → option_map (own_of new) (get m t) ≡ option_map (own_of old) (get m t)
+    by t None here = ap (option_map (own_of new)) here ∙ ap (option_map (own_of old)) (sym here)
+    by t (Some words) here =
+        ap (option_map (own_of new)) here ∙ ap Some (own_keeps old new words (λ q has. keeps q (held_by m t words q here has)))
+        ∙ ap (option_map (own_of old)) (sym here)
 
--- what is staged stays
-pub staged_kept : (objects : Objects) (names staged : List ℕ → Bool) → retain_keys (retain_keys objects (λ name. names name || staged name)) staged ≡ retain_keys objects staged
-staged_kept objects names staged = same_map name_total name_exact _ _ (λ q.
-    get_kept (retain_keys objects (λ name. names name || staged name)) staged q
-    ∙ ap (λ o. cond (staged q) o None) (get_kept objects (λ name. names name || staged name) q)
-    ∙ staged_of (names q) (staged q) (get objects q) ∙ sym (get_kept objects staged q))
+contrary : (b : Bool) → b ≡ true → b ≡ false → ⊥
+contrary b is apart = (let differs : true ≡ false = sym is ∙ apart in let bad : ⊥ = cc in bad)
 
-kept_of : (n s : Bool) (o : Option Object) → s ≡ true → is_some o ≡ true → is_some (cond (n || s) o None) ≡ true
-kept_of true s o is there = there
-kept_of false true o is there = there
-kept_of false false o is there = absurd (cc)
+-- one file changes: either nobody holds its name, or no file changed
+pub keeps_but : (m : AllWords) (name : List ℕ) (old new : Files) (b : Bool) → is_held_in m name ≡ b → SameBut name old new → (b ≡ true → new ≡ old) → KeepsHeld m old new
+keeps_but m name old new true is but same q held = ap (λ files. get files q) (same refl)
+keeps_but m name old new false is but same q held = but q (λ here. contrary (is_held_in m name) (ap (is_held_in m) (sym here) ∙ held) is)
 
--- the objects of staged names are there still
-pub still_there : (objects : Objects) (names staged : List ℕ → Bool) (q : List ℕ) → staged q ≡ true → contains_key objects q ≡ true → contains_key (retain_keys objects (λ name. names name || staged name)) q ≡ true
-still_there objects names staged q is there = ap is_some (get_kept objects (λ name. names name || staged name) q) ∙ kept_of (names q) (staged q) (get objects q) is there
+-- files that did not change
+pub keeps_same : (m : AllWords) (old new : Files) → new ≡ old → KeepsHeld m old new
+keeps_same m old new same q held = ap (λ files. get files q) same
 
-pub again_before : (n g h : Bool) → h ≡ (n && g) → h ≡ true → g ≡ true
-again_before true g h is kept = sym is ∙ kept
-again_before false g h is kept = absurd (cc)
+pub keeps_more : (m k : AllWords) (a b c : Files) → k ≡ m → KeepsHeld m a b → KeepsHeld k b c → KeepsHeld m a c
+keeps_more m k a b c same first next q held = next q (ap (λ x. is_held_in x q) same ∙ held) ∙ first q held
+
+-- what is held stands whole as before
+pub stored_keeps : (m : AllWords) (old new : Files) → KeepsHeld m old new → IsStored (tenants_of old m) old → IsStored (tenants_of new m) new
+stored_keeps m old new keeps stored tenant name object holds =
+    let before = subst (λ tenants. Holds (private_of tenants tenant) name object) (tenants_keep m old new keeps) holds in
+    let whole = stored tenant name object before in
+    record { file = keeps name (taken_held old m name (tenant, taken (private_of (tenants_of old m) tenant) before)) ∙ whole.file; named = whole.named }
+  where
+    taken : (own : Private) → Holds own name object → is_held_by own name ≡ true
+    taken own (Sees is) = ap (λ o. is_some o || contains_key own.staged name) is
+    taken own (Awaits is) = at (contains_key own.visible name) (contains_key own.staged name) (ap is_some is)
+      where
+        at : (b c : Bool) → c ≡ true → (b || c) ≡ true
+        at true c is = refl
+        at false c is = is
+
+-- what is kept, where held files stay and the catalogue still covers them
+pub kept_after : (old new : Files) (m n : AllWords) (first last : Places) → n ≡ m → KeepsHeld m old new → (Covers old first → Covers new last) → IsKept m old first → IsKept n new last
+kept_after old new m n first last same keeps covers kept = record {
+  stored = subst (λ x. IsStored (tenants_of new x) new) (sym same) (stored_keeps m old new keeps kept.stored);
+  covers = covers kept.covers;
+}

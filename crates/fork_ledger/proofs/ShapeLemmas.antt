@@ -92,7 +92,12 @@ measure_standing a b object same =
     ∙ ap (λ o. unwrap_or o (measure_of object)) (sym (get_map_values name_total measure_of a.visible (object_name object)) ∙ ap (λ m. get m (object_name object)) same ∙ get_map_values name_total measure_of b.visible (object_name object))
     ∙ sym (standing_measured (get b.visible (object_name object)) object)
 
-measures_under : (m n : Objects) (name : List ℕ) (x y : Object) → measures_of m ≡ measures_of n → measure_of x ≡ measure_of y → measures_of (with_under m name x) ≡ measures_of (with_under n name y)
+-- what stands under a name, seen or itself, by its measure
+pub measure_standing_in : (seen : Option Object) (x y : Object) → measure_of x ≡ measure_of y → measure_of (unwrap_or seen x) ≡ measure_of (unwrap_or seen y)
+measure_standing_in None x y same = same
+measure_standing_in (Some object) x y same = refl
+
+pub measures_under : (m n : Objects) (name : List ℕ) (x y : Object) → measures_of m ≡ measures_of n → measure_of x ≡ measure_of y → measures_of (with_under m name x) ≡ measures_of (with_under n name y)
 measures_under m n name x y same alike = by (contains_key m name) (contains_key n name) (same_there m n name same)
   where
     by : (b d : Bool) → b ≡ d → measures_of (cond b m (insert m name x)) ≡ measures_of (cond d n (insert n name y))

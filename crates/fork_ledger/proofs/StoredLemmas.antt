@@ -1,22 +1,19 @@
 -- What stands on the store of what tenants hold, as private maps change.
-use Rattle.std.proofs.Common.{◌&&◌, ◌≡◌, ◌⊎◌, ℕ, Bool, true, false, cond, not, inl, inr, List, Option, None, Some, refl, sym, ap, subst, ◌∙◌, is_some}
+use Rattle.std.proofs.Common.{◌≡◌, ◌⊎◌, ℕ, Bool, true, false, cond, inl, inr, List, Option, None, Some, refl, sym, ap, subst, ◌∙◌, is_some}
 use Rattle.std.specs.Prelude.{◌||◌, OnErr, OnOk, Result, Ok, Err}
 use Rattle.std.specs.Cmp.{eq_by_cmp_equiv}
 use Rattle.std.specs.Option.{option_or, unwrap_or}
 use Rattle.std.specs.Ordering.{eq_by_cmp}
-use Rattle.std.specs.BTreeSet.{BTreeSet, contains}
 use Rattle.std.specs.FinMap.{contains_key, empty, get, get-empty, get-insert, insert}
 use Rattle.git_name.specs.Name.{name_cmp}
 use Rattle.git_name.specs.Object.{Object, object_name}
 use Rattle.git_name.proofs.MapLemmas.{get_joined}
 use Rattle.git_name.proofs.Names.{name_total}
-use Rattle.fork_reach.specs.Source.{Objects}
 use Rattle.fork_reach.proofs.KeptObjects.{tied_names}
 use Rattle.loose_store.specs.Files.{Files, SameBut}
 use Rattle.loose_store.specs.Stored.{Whole}
 use Rattle.loose_store.proofs.TypedLemmas.{one_object}
 use Rattle.fork_ledger.specs.Private.{Holds, Sees, Awaits, Private, is_held_by, nothing, standing, with_discarded, with_kept, with_published, with_staged}
-use Rattle.fork_ledger.specs.Staged.{awaiting, is_hidden, seen}
 use Rattle.fork_ledger.specs.Store.{IsStored, IsTaken, StoresAlone}
 use Rattle.fork_ledger.specs.Tenants.{Tenants, at_tenant, private_of, with_tenant}
 use Rattle.fork_ledger.proofs.SeenLemmas.{get_kept}
@@ -151,20 +148,6 @@ never_damaged tenants files name stored taken none = by (get own.visible name) (
     by (Some object) waits is waiting there = none object (stored taken.0 name object (Sees is))
     by None (Some object) is waiting there = none object (stored taken.0 name object (Awaits waiting))
     by None None is waiting there = absurd (cc)
-
-one_side : (b c : Bool) (o : Option Object) → is_some o ≡ (is_some (cond (not (b && not c)) o None) || is_some (cond b o None))
-one_side true true (Some object) = refl
-one_side true true None = refl
-one_side true false (Some object) = refl
-one_side true false None = refl
-one_side false c (Some object) = refl
-one_side false c None = refl
-
--- an object that is there is seen or staged
-pub held_either : (objects : Objects) (staged again : BTreeSet (List ℕ)) (name : List ℕ) → contains_key objects name ≡ (contains_key (seen staged again objects) name || contains_key (awaiting staged objects) name)
-held_either objects staged again name =
-    one_side (contains name_cmp staged name) (contains name_cmp again name) (get objects name)
-    ∙ sym (ap (λ o. is_some o || contains_key (awaiting staged objects) name) (get_kept objects (λ q. not (is_hidden staged again q)) name) ∙ ap (λ o. is_some (cond (not (is_hidden staged again name)) (get objects name) None) || is_some o) (get_kept objects (contains name_cmp staged) name))
 
 -- an object whose file is whole comes alone, where the other files stay
 pub stores_alone : (object : Object) (old new : Files) → Whole new (object_name object) object → SameBut (object_name object) old new → StoresAlone object old new

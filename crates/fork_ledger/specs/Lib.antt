@@ -1,5 +1,9 @@
+pub mod Kept
 pub mod Private
-pub mod Staged
+pub mod Shown
 pub mod Store
+pub mod Swept
+pub mod Taken
 pub mod Tenants
 pub mod Used
+pub mod Words

@@ -1,5 +1,5 @@
 -- The store under a vault (own): what stands on it of what tenants hold, what a call leaves of it, and which faults may come.
-use Rattle.std.specs.Prelude.{◌≡◌, ◌≢◌, ◌⊎◌, ℕ, Bool, true, false, List, IsTrue, Option, None, Some, Result, Ok, Err}
+use Rattle.std.specs.Prelude.{◌≡◌, ◌≢◌, ◌⊎◌, ℕ, Bool, true, List, IsTrue, Option, None, Some, Result, Ok, Err}
 use Rattle.git_name.specs.Object.{Object, object_name}
 use Rattle.fork_reach.specs.Faults.{Rises}
 use Rattle.loose_store.specs.Files.{Files}
@@ -20,21 +20,18 @@ IsStored tenants files = (tenant name : List ℕ) (object : Object) → Holds (p
 abbrev pub IsTaken : Tenants → List ℕ → Type 0
 IsTaken tenants name = (tenant : List ℕ) × (is_held_by (private_of tenants tenant) name ≡ true)
 
--- no tenant has one
-abbrev pub IsFree : Tenants → List ℕ → Type 0
-IsFree tenants name = (tenant : List ℕ) → is_held_by (private_of tenants tenant) name ≡ false
-
 -- the vault is over a store of these contents, of this honesty and so many failures
 pub record IsOver (contents : Files) (trusted : Bool) (count : ℕ) (vault : VaultState) : Type 0 where
   pub files : IsTrue trusted → vault.files ≡ contents
   pub honest : vault.honest ≡ trusted
   pub failures : vault.failures ≡ count
 
--- the store is not asked
+-- the store is not asked, and the catalogue's names and place stay
 pub record LeavesStore (old new : VaultState) : Type 0 where
   pub files : new.files ≡ old.files
   pub honest : new.honest ≡ old.honest
   pub failures : new.failures ≡ old.failures
+  pub places : new.places ≡ old.places
 
 -- a file stands under this name, and is whole of no object
 abbrev pub IsDamaged : Files → List ℕ → Type 0

@@ -3,10 +3,9 @@ ghost use Rattle.std.specs.Prelude.{◌≡◌, ◌≢◌, true, false, IsTrue, I
 ghost use Rattle.git_name.specs.Object.{Object, object_name};
 ghost use Rattle.loose_store.specs.Files.{SameBut};
 ghost use Rattle.loose_store.specs.Stored.{Whole};
-ghost use Rattle.fork_ledger.specs.Store.{CountsFault, IsTaken, Meets, fault_in};
+ghost use Rattle.fork_ledger.specs.Store.{CountsFault, Meets, fault_in};
 
 use crate::fault::VaultFault;
-use crate::private_maps::PrivateMaps;
 use git_name::Sealed;
 use loose_store::{FileFault, LooseFiles, StoreFault, file_of, read_checked};
 use std::alloc::Global;
@@ -27,14 +26,14 @@ pub(crate) fn store_fault(fault: FileFault) -> VaultFault
 pub(crate) fn arrive<S: LooseFiles>(
     alloc: Global,
     files: &mut S,
-    maps: &PrivateMaps,
+    is_held: bool,
     sealed: &Sealed,
 ) -> Result<(), VaultFault>
     ensures whole { IsTrue (S.honest files.old) → OnOk result (Whole (S.contents files.new) (object_name sealed.now) sealed.now) }
     ensures others { IsTrue (S.honest files.old) → SameBut (object_name sealed.now) (S.contents files.old) (S.contents files.new) }
-    ensures held { IsTrue (S.honest files.old) → IsTaken maps.now (object_name sealed.now) → S.contents files.new ≡ S.contents files.old }
+    ensures held { IsTrue (S.honest files.old) → is_held ≡ true → S.contents files.new ≡ S.contents files.old }
     ensures damaged { IsTrue (S.honest files.old) → IfErr result (λ fault. fault ≡ VaultFault.Damaged
-        → IsTaken maps.now (object_name sealed.now) × ((object : Object) → Whole (S.contents files.old) (object_name sealed.now) object → ⊥)) }
+        → (is_held ≡ true) × ((object : Object) → Whole (S.contents files.old) (object_name sealed.now) object → ⊥)) }
     ensures collision { IsTrue (S.honest files.old) → IfErr result (λ fault. fault ≡ VaultFault.Collision → Meets sealed.now (S.contents files.old)) }
     ensures still { IsTrue (S.honest files.old) → IfErr result (λ fault. fault ≡ VaultFault.Collision → S.contents files.new ≡ S.contents files.old) }
     ensures honest { S.honest files.new ≡ S.honest files.old }
@@ -50,7 +49,7 @@ pub(crate) fn arrive<S: LooseFiles>(
             }
         }
         Ok(None) | Err(StoreFault::Damaged) => {
-            if maps.is_held(name) {
+            if is_held {
                 Err(VaultFault::Damaged)
             } else {
                 put_whole(alloc, files, sealed)

@@ -1,4 +1,8 @@
+ghost use Rattle.std.specs.Prelude.{◌≡◌, option_map};
+ghost use Rattle.fork_ledger.specs.Words.{held_of_word};
+
 use git_name::Kind;
+use ledgers::Word;
 
 /// What is known of an object without its bytes: its kind, the bytes of its content, and whether its
 /// tenant sees it and whether it has staged it; an object may be both.
@@ -8,4 +12,19 @@ pub struct Held {
     pub length: u64,
     pub visible: bool,
     pub staged: bool,
+}
+
+// What a ledger's word tells of an object.
+pub(crate) fn held_of(word: Option<Word>) -> Option<Held>
+    ensures { result ≡ option_map held_of_word word }
+{
+    let Some(word) = word else {
+        return None;
+    };
+    Some(Held {
+        kind: word.kind,
+        length: word.length,
+        visible: word.is_visible(),
+        staged: word.is_staged(),
+    })
 }

@@ -1,19 +1,22 @@
-//! Each tenant's own objects: those that it sees, and those that it has staged beside them.
-//! A call for one tenant reads and changes no other's, and a call that fails changes none.
+//! Each tenant's own objects over one store that keeps each object once: those that it sees, and those
+//! that it has staged beside them.
+//! A call for one tenant reads and changes no other's, a call that fails changes none, and a sweep
+//! removes just what nobody holds.
 #![tactic(auto)]
 
 mod arrival;
 mod fault;
 mod held;
-mod hidden;
-mod object_map;
-mod private;
-mod private_maps;
+mod laws;
+mod looking;
+mod reading;
 mod recalling;
 mod staging;
+mod sweeping;
 mod vault;
 
 pub use crate::fault::VaultFault;
 pub use crate::held::Held;
+pub use crate::laws::sharp_slices;
 pub use crate::recalling::Recalled;
 pub use crate::vault::Vault;

@@ -1,68 +1,91 @@
-ghost use Rattle.std.specs.Prelude.{◌≡◌, ◌≢◌, ◌⊎◌, IsTrue, OnOk, OnErr, IfOk, IfErr, IfSome, is_some, nat_le};
+ghost use Rattle.std.specs.Prelude.{◌≡◌, ◌≢◌, ◌⊎◌, ◌≤◌, ◌<◌, ◌+◌, ℕ, List, true, length, IsTrue, OnOk, OnErr, IfOk, IfErr, IfSome, is_some, nat_le};
 ghost use Rattle.std.specs.FinMap as map;
 ghost use Rattle.std.specs.BTreeSet.{contains};
 ghost use Rattle.git_name.specs.Name.{name_cmp};
 ghost use Rattle.git_name.specs.Object.{object_name};
 ghost use Rattle.fork_reach.specs.Objects.{use_of};
+ghost use Rattle.looks.specs.Looks.{Looks, Walks};
+ghost use Rattle.looks.specs.Places.{at_start, is_listed};
+ghost use Rattle.looks.specs.Slices.{Collects, Sweeps};
+ghost use Rattle.fork_ledger.specs.Kept.{IsExact};
 ghost use Rattle.fork_ledger.specs.Private.{both_of, held_in, with_discarded, with_kept, with_published, with_staged};
 ghost use Rattle.fork_ledger.specs.Store.{AsksStore, IsOver, LeavesStore, Meets, Recalls, StoresAlone, fault_in};
+ghost use Rattle.fork_ledger.specs.Swept.{IsAccounted};
+ghost use Rattle.fork_ledger.specs.Taken.{is_taken};
 ghost use Rattle.fork_ledger.specs.Tenants.{at_tenant, private_of, shape_of, with_tenant};
 ghost use Rattle.fork_ledger.specs.Used.{capped};
 
 use crate::arrival::store_fault;
 use crate::fault::VaultFault;
-use crate::held::Held;
-use crate::private_maps::PrivateMaps;
+use crate::held::{Held, held_of};
+use crate::reading::read_held;
 use crate::recalling::{Recalled, recall};
 use crate::staging::stage_whole;
+use crate::sweeping::{collect, sweep};
+use catalogue::Catalogue;
 use fork_request::TenantName;
 use git_name::{Name, Sealed};
+use ledgers::Holdings;
+use looks::sharp_collection;
 use loose_store::LooseFiles;
 use std::alloc::{AllocError, Global};
 use std::collections::BTreeSet;
 use std::marker::Model;
 
-/// The objects of many tenants, each tenant's its own, over one store. What a tenant stages stands
-/// beside what it sees, until it is published or discarded; an object may be both.
+/// The objects of many tenants, each tenant's its own, over one store that keeps each of them once. What
+/// a tenant stages stands beside what it sees, until it is published or discarded; an object may be
+/// both. Beside the store stand what is known of each tenant's objects without their bytes, and the
+/// catalogue of all names that may be on the store.
 ///
 /// Clauses with the premise that the store is honest tell objects; those without it, which speak of
 /// names, kinds and lengths, hold over any store.
 #[derive(Drop)]
 pub struct Vault<S: LooseFiles> {
     files: S,
-    maps: PrivateMaps,
+    holdings: Holdings,
 }
 
 impl<S: LooseFiles> Model for Vault<S> {
     ghost use Rattle.std.specs.Prelude.{IsTrue};
-    ghost use Rattle.fork_ledger.specs.Store.{IsStored};
+    ghost use Rattle.catalogue.specs.Counted.{places_of};
+    ghost use Rattle.fork_ledger.specs.Kept.{IsKept};
+    ghost use Rattle.fork_ledger.specs.Shown.{tenants_of};
     ghost use Rattle.fork_ledger.specs.Tenants.{VaultState, vault_code};
 
     ghost Value = { VaultState };
 
     ghost coded = { vault_code };
 
-    ghost view = { λ a. record { tenants = a.maps; files = S.contents a.files; honest = S.honest a.files; failures = S.failures a.files } };
+    ghost view = { λ a. record {
+      tenants = tenants_of (S.contents a.files) a.holdings.ledgers;
+      files = S.contents a.files;
+      honest = S.honest a.files;
+      failures = S.failures a.files;
+      places = places_of a.holdings.catalogue;
+    } };
 
-    ghost invariant = { λ a. IsTrue (S.honest a.files) → IsStored a.maps (S.contents a.files) };
+    ghost invariant = { λ a. IsTrue (S.honest a.files) → IsKept a.holdings.ledgers (S.contents a.files) (places_of a.holdings.catalogue) };
 }
 
 impl<S: LooseFiles + Drop> Vault<S> {
-    /// Over this store, with no tenants. The store is asked for its names, so that one that cannot be
-    /// read is told at once.
+    /// Over this store, with no tenants. Each stored name is catalogued, ascending, and nobody holds it.
     pub fn open(alloc: Global, files: S) -> Result<Vault<S>, VaultFault>
         ensures empty { IfOk result (λ vault. vault.tenants ≡ map.empty) }
         ensures store { IfOk result (λ vault. IsOver (S.contents files) (S.honest files) (S.failures files) vault) }
+        ensures catalogued { IsTrue (S.honest files) → IfOk result (λ vault. (name : List ℕ) → is_listed vault.places.names name ≡ map.contains_key (S.contents files) name) }
+        ensures place { IfOk result (λ vault. vault.places.place ≡ 0) }
         ensures cause { IfErr result (λ fault. (fault ≡ VaultFault.Store) ⊎ (fault ≡ VaultFault.Memory)) }
     {
         let mut files = files;
-        match files.names(alloc) {
-            Ok(_) => Ok(Vault {
-                files,
-                maps: PrivateMaps::new(alloc),
-            }),
-            Err(fault) => Err(store_fault(fault)),
-        }
+        let names = match files.names(alloc) {
+            Ok(names) => names,
+            Err(fault) => return Err(store_fault(fault)),
+        };
+        let Ok(catalogue) = Catalogue::of(alloc, names.as_slice()) else {
+            return Err(VaultFault::Memory);
+        };
+        let holdings = Holdings::new(alloc, catalogue);
+        Ok(Vault { files, holdings })
     }
 }
 
@@ -80,14 +103,14 @@ impl<S: LooseFiles> Vault<S> {
         ensures err { OnErr result (self.new.tenants ≡ self.old.tenants) }
         ensures store { LeavesStore self.old self.new }
     {
-        self.maps.add(alloc, tenant)
+        self.holdings.add(alloc, tenant)
     }
 
     /// Whether this tenant is there.
     pub fn contains(&self, tenant: &TenantName) -> bool
         ensures { result ≡ map.contains_key self.now.tenants tenant.now }
     {
-        self.maps.contains(tenant)
+        self.holdings.contains(tenant)
     }
 
     /// The object that a tenant sees under this name, as a copy.
@@ -106,9 +129,13 @@ impl<S: LooseFiles> Vault<S> {
         ensures named { IfOk result (λ found. IfSome found (λ object. object_name object ≡ name)) }
         ensures shape { shape_of self.new.tenants ≡ shape_of self.old.tenants }
         ensures store { AsksStore self.old self.new (fault_in result) }
+        ensures places { self.new.places ≡ self.old.places }
         ensures apart { IfErr result (λ fault. fault ≢ VaultFault.Collision) }
     {
-        self.maps.get(alloc, tenant, name)
+        if !self.holdings.sees(tenant, name) {
+            return Ok(None);
+        }
+        read_held(alloc, &mut self.files, name)
     }
 
     /// The object that a tenant has staged under this name, as a copy.
@@ -127,16 +154,20 @@ impl<S: LooseFiles> Vault<S> {
         ensures named { IfOk result (λ found. IfSome found (λ object. object_name object ≡ name)) }
         ensures shape { shape_of self.new.tenants ≡ shape_of self.old.tenants }
         ensures store { AsksStore self.old self.new (fault_in result) }
+        ensures places { self.new.places ≡ self.old.places }
         ensures apart { IfErr result (λ fault. fault ≢ VaultFault.Collision) }
     {
-        self.maps.get_staged(alloc, tenant, name)
+        if !self.holdings.has_staged(tenant, name) {
+            return Ok(None);
+        }
+        read_held(alloc, &mut self.files, name)
     }
 
     /// What is known of the object that a tenant sees or has staged under this name. It asks no store.
     pub fn kind_of(&self, tenant: &TenantName, name: Name) -> Option<Held>
         ensures { result ≡ held_in (private_of self.now.tenants tenant.now) name }
     {
-        self.maps.kind_of(tenant, name)
+        held_of(self.holdings.word(tenant, name))
     }
 
     /// Stages an object for a tenant. Where the tenant has staged one of its name, that one stays;
@@ -154,13 +185,14 @@ impl<S: LooseFiles> Vault<S> {
         ensures stored { IsTrue self.old.honest → OnOk result (StoresAlone sealed self.old.files self.new.files) }
         ensures collision { IsTrue self.old.honest → IfErr result (λ fault. fault ≡ VaultFault.Collision → Meets sealed self.old.files) }
         ensures still { IsTrue self.old.honest → IfErr result (λ fault. fault ≡ VaultFault.Collision → self.new.files ≡ self.old.files) }
+        ensures exact { IsTrue self.old.honest → OnOk result (IsExact self.old.files self.old.places → IsExact self.new.files self.new.places) }
 
         // Over any store.
         ensures shape { OnOk result (shape_of self.new.tenants ≡ shape_of (at_tenant self.old.tenants tenant.now (with_staged sealed))) }
         ensures kept { OnErr result (shape_of self.new.tenants ≡ shape_of self.old.tenants) }
         ensures store { AsksStore self.old self.new (fault_in result) }
     {
-        stage_whole(alloc, &mut self.files, &mut self.maps, tenant, sealed)
+        stage_whole(alloc, &mut self.files, &mut self.holdings, tenant, sealed)
     }
 
     /// Stages the object of this name for a tenant that saw it before, where the store has it.
@@ -174,16 +206,17 @@ impl<S: LooseFiles> Vault<S> {
         ensures err { IsTrue self.old.honest → OnErr result (self.new.tenants ≡ self.old.tenants) }
         ensures kept { OnErr result (shape_of self.new.tenants ≡ shape_of self.old.tenants) }
         ensures files { IsTrue self.old.honest → self.new.files ≡ self.old.files }
+        ensures exact { IsTrue self.old.honest → IsExact self.old.files self.old.places → IsExact self.new.files self.new.places }
         ensures store { AsksStore self.old self.new (fault_in result) }
     {
-        recall(alloc, &mut self.files, &mut self.maps, tenant, name)
+        recall(alloc, &mut self.files, &mut self.holdings, tenant, name)
     }
 
     /// The names of what a tenant sees, ascending.
     pub fn names(&self, alloc: Global, tenant: &TenantName) -> Result<Vec<Name>, AllocError>
         ensures { IfOk result (λ names. names.items ≡ map.keys (private_of self.now.tenants tenant.now).visible) }
     {
-        self.maps.names(alloc, tenant)
+        self.holdings.names(alloc, tenant)
     }
 
     /// What a tenant has staged becomes visible to it. It takes no memory, and asks no store.
@@ -191,7 +224,7 @@ impl<S: LooseFiles> Vault<S> {
         ensures tenants { self.new.tenants ≡ at_tenant self.old.tenants tenant.now with_published }
         ensures store { LeavesStore self.old self.new }
     {
-        self.maps.publish(tenant);
+        self.holdings.publish(tenant);
     }
 
     /// What a tenant has staged goes. It takes no memory, and asks no store.
@@ -199,7 +232,7 @@ impl<S: LooseFiles> Vault<S> {
         ensures tenants { self.new.tenants ≡ at_tenant self.old.tenants tenant.now with_discarded }
         ensures store { LeavesStore self.old self.new }
     {
-        self.maps.discard(tenant);
+        self.holdings.discard(tenant);
     }
 
     /// Of what a tenant sees, keeps the objects of these names alone. It takes no memory, and asks no
@@ -208,14 +241,14 @@ impl<S: LooseFiles> Vault<S> {
         ensures tenants { self.new.tenants ≡ at_tenant self.old.tenants tenant.now (with_kept (λ name. contains name_cmp names.now name)) }
         ensures store { LeavesStore self.old self.new }
     {
-        self.maps.keep_only(tenant, names);
+        self.holdings.keep_only(tenant, names);
     }
 
     /// The bytes of use of what a tenant sees, in constant time behind the look-up of the tenant.
     pub fn used(&self, tenant: &TenantName) -> u128
         ensures { result ≡ capped (use_of (private_of self.now.tenants tenant.now).visible) }
     {
-        self.maps.used(tenant)
+        self.holdings.used(tenant)
     }
 
     /// Whether what a tenant sees and has staged is of so many bytes of use at the most, in constant
@@ -223,6 +256,56 @@ impl<S: LooseFiles> Vault<S> {
     pub fn is_within(&self, tenant: &TenantName, limit: u64) -> bool
         ensures { result ≡ nat_le (use_of (both_of (private_of self.now.tenants tenant.now))) limit }
     {
-        self.maps.is_within(tenant, limit)
+        self.holdings.is_within(tenant, limit)
+    }
+
+    /// Looks at so many places of the catalogue at the most, and takes away the files of names that
+    /// nobody holds. Answers how many names left. A fault leaves what was taken away until then away.
+    pub fn sweep(&mut self, alloc: Global, most: u64) -> Result<u64, VaultFault>
+        ensures kept { IsTrue self.old.honest → self.new.tenants ≡ self.old.tenants }
+        ensures stays { IsTrue self.old.honest → (name : List ℕ) → is_taken self.old.tenants name ≡ true → map.get self.new.files name ≡ map.get self.old.files name }
+        ensures accounted { IsTrue self.old.honest → IsAccounted self.new }
+        ensures exact { IsTrue self.old.honest → OnOk result (IsExact self.old.files self.old.places → IsExact self.new.files self.new.places) }
+
+        // Over any store.
+        ensures sweeps { OnOk result (Sweeps (is_taken self.old.tenants) most self.old.places self.new.places) }
+        ensures fault { OnErr result ((n : ℕ) × (n < most) × Looks (is_taken self.old.tenants) n self.old.places self.new.places) }
+        ensures count { IfOk result (λ count. length self.new.places.names + count ≡ length self.old.places.names) }
+        ensures place { self.old.places.place ≤ length self.old.places.names }
+        ensures shape { shape_of self.new.tenants ≡ shape_of self.old.tenants }
+        ensures store { AsksStore self.old self.new (fault_in result) }
+    {
+        let _place = self.holdings.place();
+        sweep(alloc, &mut self.files, &mut self.holdings, most)
+    }
+
+    /// Looks at each place of the catalogue, from the beginning until the end is reached, and takes away
+    /// the files of names that nobody holds. Answers how many names left. A fault leaves what was taken
+    /// away until then away.
+    pub fn collect(&mut self, alloc: Global) -> Result<u64, VaultFault>
+        ensures kept { IsTrue self.old.honest → self.new.tenants ≡ self.old.tenants }
+        ensures stays { IsTrue self.old.honest → (name : List ℕ) → is_taken self.old.tenants name ≡ true → map.get self.new.files name ≡ map.get self.old.files name }
+        ensures sharp { IsTrue self.old.honest → OnOk result ((name : List ℕ) → map.contains_key self.new.files name ≡ is_taken self.new.tenants name) }
+        ensures exact { IsTrue self.old.honest → OnOk result ((name : List ℕ) → is_listed self.new.places.names name ≡ map.contains_key self.new.files name) }
+
+        // Over any store.
+        ensures collects { OnOk result (Collects (is_taken self.old.tenants) self.old.places self.new.places) }
+        ensures fault { OnErr result ((n : ℕ) × Walks (is_taken self.old.tenants) n (at_start self.old.places) self.new.places) }
+        ensures count { IfOk result (λ count. length self.new.places.names + count ≡ length self.old.places.names) }
+        ensures shape { shape_of self.new.tenants ≡ shape_of self.old.tenants }
+        ensures store { AsksStore self.old self.new (fault_in result) }
+    {
+        sharp_collection();
+        collect(alloc, &mut self.files, &mut self.holdings)
+    }
+
+    /// How many names are catalogued.
+    pub fn census(&self) -> u64
+        ensures names { result ≡ length self.now.places.names }
+        ensures place { self.now.places.place ≤ length self.now.places.names }
+        ensures accounted { IsTrue self.now.honest → IsAccounted self.now }
+    {
+        let _place = self.holdings.place();
+        self.holdings.len() as u64
     }
 }

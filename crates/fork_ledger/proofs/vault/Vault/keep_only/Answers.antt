@@ -1,12 +1,29 @@
-use Rattle.std.proofs.Common.{sym, subst}
+use Rattle.std.proofs.Common.{ap, sym, subst, ◌∙◌}
 use Rattle.std.specs.BTreeSet.{contains}
 use Rattle.git_name.specs.Name.{name_cmp}
+use Rattle.ledgers.specs.Words.{kept_words}
+use Rattle.fork_ledger.specs.Kept.{Covers}
 use Rattle.fork_ledger.specs.Private.{with_kept}
+use Rattle.fork_ledger.specs.Shown.{tenants_of}
 use Rattle.fork_ledger.specs.Store.{IsStored}
+use Rattle.fork_ledger.specs.Tenants.{at_tenant}
+use Rattle.fork_ledger.proofs.OwnLemmas.{kept_own}
+use Rattle.fork_ledger.proofs.ShownLemmas.{changed_shown}
 use Rattle.fork_ledger.proofs.StoredLemmas.{brings_kept, stored_at}
 use Rattle.fork_ledger.proofs.vault.Vault.keep_only.Goals as goal
 
 pub invariant_of-self : goal.invariant_of-self
 invariant_of-self g c = λ h.
     let files = g.S.LooseFiles.contents c.self.inside.files in
-    subst (λ m. IsStored m files) (sym c.keep_only.ensures) (stored_at c.self.inside.maps c.args.tenant.now files (with_kept (λ name. contains name_cmp c.args.names.now name)) (brings_kept (λ name. contains name_cmp c.args.names.now name)) (c.self.invariant h))
+    let kept = c.self.invariant h in
+    let is = ap (tenants_of files) c.keep_only.ensures.ledgers ∙ changed_shown files c.self.inside.holdings.ledgers c.args.tenant.now (kept_words (λ name. contains name_cmp c.args.names.now name)) (with_kept (λ name. contains name_cmp c.args.names.now name)) (kept_own (λ name. contains name_cmp c.args.names.now name) files) in
+    record {
+      stored = subst (λ m. IsStored m files) (sym is) (stored_at (tenants_of files c.self.inside.holdings.ledgers) c.args.tenant.now files (with_kept (λ name. contains name_cmp c.args.names.now name)) (brings_kept (λ name. contains name_cmp c.args.names.now name)) kept.stored);
+      covers = subst (λ p. Covers files p) (sym c.keep_only.ensures.places) kept.covers;
+    }
+
+pub returns-clause-tenants : goal.returns-clause-tenants
+returns-clause-tenants g c =
+    let files = g.S.LooseFiles.contents c.self.inside.files in
+    ap (tenants_of files) c.keep_only.ensures.ledgers ∙ changed_shown files c.self.inside.holdings.ledgers c.args.tenant.now (kept_words (λ name. contains name_cmp c.args.names.now name)) (with_kept (λ name. contains name_cmp c.args.names.now name)) (kept_own (λ name. contains name_cmp c.args.names.now name) files)
+    ∙ ap (λ s. at_tenant s.tenants c.args.tenant.now (with_kept (λ name. contains name_cmp c.args.names.now name))) c.self.view_is

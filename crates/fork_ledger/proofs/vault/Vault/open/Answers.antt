@@ -1,9 +1,33 @@
-use Rattle.std.proofs.Common.{sym, subst}
+use Rattle.std.proofs.Common.{ap, sym, subst, ◌∙◌}
+use Rattle.std.specs.FinMap as map
+use Rattle.git_name.proofs.MapLemmas.{map_values_empty}
+use Rattle.git_name.proofs.Names.{name_total, name_exact}
+use Rattle.looks.specs.Places.{is_listed}
+use Rattle.catalogue.specs.Counted.{Counted, places_of}
+use Rattle.fork_ledger.specs.Shown.{own_of, tenants_of}
 use Rattle.fork_ledger.specs.Store.{IsStored}
+use Rattle.fork_ledger.proofs.CoverLemmas.{keys_listed}
 use Rattle.fork_ledger.proofs.StoredLemmas.{stored_none}
 use Rattle.fork_ledger.proofs.vault.Vault.open.Goals as goal
 
 pub invariant_of-result : goal.invariant_of-result
 invariant_of-result g c = λ h.
+    let was = sym c.names.ensures.honest ∙ h in
     let files = g.S.LooseFiles.contents c.names.new.self in
-    subst (λ m. IsStored m files) (sym c.new.ensures) (stored_none files)
+    record {
+      stored = subst (λ m. IsStored m files) (sym (ap (tenants_of files) c.new-holdings.ensures.ledgers ∙ map_values_empty name_total name_exact (own_of files))) (stored_none files);
+      covers = λ q there.
+          ap (λ (s : Counted). is_listed (places_of s).names q) c.new-holdings.ensures.catalogue ∙ c.in-Ok-of.ensures.listed q
+          ∙ ap (λ names. is_listed names q) (c.as_slice.ensures.value ∙ c.in-Ok.ensures.found was) ∙ keys_listed (g.S.LooseFiles.contents c.args.files) q
+          ∙ ap (λ m. map.contains_key m q) (sym (c.names.ensures.kept was)) ∙ there;
+    }
+
+pub returns-clause-empty : goal.returns-clause-empty
+returns-clause-empty g c =
+    let files = g.S.LooseFiles.contents c.names.new.self in
+    ap (tenants_of files) c.new-holdings.ensures.ledgers ∙ map_values_empty name_total name_exact (own_of files)
+
+pub returns-clause-catalogued : goal.returns-clause-catalogued
+returns-clause-catalogued g c = λ h q.
+    ap (λ (s : Counted). is_listed (places_of s).names q) c.new-holdings.ensures.catalogue ∙ c.in-Ok-of.ensures.listed q
+    ∙ ap (λ names. is_listed names q) (c.as_slice.ensures.value ∙ c.in-Ok.ensures.found h) ∙ keys_listed (g.S.LooseFiles.contents c.args.files) q

@@ -1,10 +1,28 @@
-use Rattle.std.proofs.Common.{sym, subst}
+use Rattle.std.proofs.Common.{ap, sym, subst, ◌∙◌}
+use Rattle.catalogue.specs.Counted.{places_of}
+use Rattle.ledgers.specs.Words.{published_words}
+use Rattle.fork_ledger.specs.Kept.{Covers}
 use Rattle.fork_ledger.specs.Private.{with_published}
+use Rattle.fork_ledger.specs.Shown.{tenants_of}
 use Rattle.fork_ledger.specs.Store.{IsStored}
+use Rattle.fork_ledger.specs.Tenants.{at_tenant}
+use Rattle.fork_ledger.proofs.OwnLemmas.{published_own}
+use Rattle.fork_ledger.proofs.ShownLemmas.{changed_shown}
 use Rattle.fork_ledger.proofs.StoredLemmas.{brings_published, stored_at}
 use Rattle.fork_ledger.proofs.vault.Vault.publish.Goals as goal
 
 pub invariant_of-self : goal.invariant_of-self
 invariant_of-self g c = λ h.
     let files = g.S.LooseFiles.contents c.self.inside.files in
-    subst (λ m. IsStored m files) (sym c.publish.ensures) (stored_at c.self.inside.maps c.args.tenant.now files with_published brings_published (c.self.invariant h))
+    let kept = c.self.invariant h in
+    let is = ap (tenants_of files) c.publish.ensures.ledgers ∙ changed_shown files c.self.inside.holdings.ledgers c.args.tenant.now published_words with_published (published_own files) in
+    record {
+      stored = subst (λ m. IsStored m files) (sym is) (stored_at (tenants_of files c.self.inside.holdings.ledgers) c.args.tenant.now files with_published brings_published kept.stored);
+      covers = subst (λ catalogue. Covers files (places_of catalogue)) (sym c.publish.ensures.catalogue) kept.covers;
+    }
+
+pub returns-clause-tenants : goal.returns-clause-tenants
+returns-clause-tenants g c =
+    let files = g.S.LooseFiles.contents c.self.inside.files in
+    ap (tenants_of files) c.publish.ensures.ledgers ∙ changed_shown files c.self.inside.holdings.ledgers c.args.tenant.now published_words with_published (published_own files)
+    ∙ ap (λ s. at_tenant s.tenants c.args.tenant.now with_published) c.self.view_is

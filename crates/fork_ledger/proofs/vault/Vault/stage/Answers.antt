@@ -1,12 +1,68 @@
 use Rattle.std.proofs.Common.{ap, sym, subst, ◌∙◌}
-use Rattle.fork_ledger.specs.Store.{CountsFault, fault_in}
+use Rattle.std.proofs.lemmas.Result.{on_err_weaker, on_ok_weaker}
+use Rattle.git_name.specs.Object.{object_name}
+use Rattle.fork_ledger.specs.Kept.{IsExact}
+use Rattle.fork_ledger.specs.Private.{with_staged}
+use Rattle.fork_ledger.specs.Shown.{tenants_of}
+use Rattle.fork_ledger.specs.Store.{CountsFault, IsStored, fault_in}
+use Rattle.fork_ledger.specs.Tenants.{VaultState, at_tenant, shape_of}
+use Rattle.fork_ledger.proofs.KeepingLemmas.{stored_keeps, tenants_keep}
+use Rattle.fork_ledger.proofs.ShownShapes.{shape_any, staged_shape}
+use Rattle.fork_ledger.proofs.StagedLemmas.{ok_both, staged_stored, staged_tenants, staged_undamaged}
 use Rattle.fork_ledger.proofs.StoreLemmas.{undamaged_in}
+use Rattle.fork_ledger.proofs.StoredLemmas.{whichever}
 use Rattle.fork_ledger.proofs.vault.Vault.stage.Goals as goal
 
 pub invariant_of-self : goal.invariant_of-self
 invariant_of-self g c = λ h.
     let was = sym c.stage_whole.ensures.honest ∙ h in
-    c.stage_whole.ensures.stored was (c.self.invariant was)
+    let m = c.self.inside.holdings.ledgers in
+    let old = g.S.LooseFiles.contents c.self.inside.files in
+    let new = g.S.LooseFiles.contents c.stage_whole.new.files in
+    let keeps = c.stage_whole.ensures.keeps was in
+    let kept = c.self.invariant was in
+    record {
+      stored = whichever (IsStored (tenants_of new c.stage_whole.new.holdings.ledgers) new) c.stage_whole.result (ok_both _ _ c.stage_whole.result (c.stage_whole.ensures.whole was) c.stage_whole.ensures.ok) c.stage_whole.ensures.err
+          (λ both. subst (λ x. IsStored (tenants_of new x) new) (sym both.1) (staged_stored old new m c.args.tenant.now c.args.sealed keeps both.0 kept.stored))
+          (λ same. subst (λ x. IsStored (tenants_of new x) new) (sym same) (stored_keeps m old new keeps kept.stored));
+      covers = c.stage_whole.ensures.covers was kept.covers;
+    }
+
+pub returns-clause-ok : goal.returns-clause-ok
+returns-clause-ok g c = λ h.
+    let was = ap (λ s. s.honest) c.self.view_is ∙ h in
+    let old = g.S.LooseFiles.contents c.self.inside.files in
+    let new = g.S.LooseFiles.contents c.stage_whole.new.files in
+    on_ok_weaker c.stage_whole.result (λ both.
+    ap (tenants_of new) both.1 ∙ staged_tenants old new c.self.inside.holdings.ledgers c.args.tenant.now c.args.sealed (c.stage_whole.ensures.keeps was) both.0
+    ∙ ap (λ s. at_tenant s.tenants c.args.tenant.now (with_staged c.args.sealed)) c.self.view_is)
+    (ok_both _ _ c.stage_whole.result (c.stage_whole.ensures.whole was) c.stage_whole.ensures.ok)
+
+pub returns-clause-err : goal.returns-clause-err
+returns-clause-err g c = λ h.
+    let was = ap (λ s. s.honest) c.self.view_is ∙ h in
+    let new = g.S.LooseFiles.contents c.stage_whole.new.files in
+    on_err_weaker c.stage_whole.result (λ same.
+    ap (tenants_of new) same ∙ tenants_keep c.self.inside.holdings.ledgers (g.S.LooseFiles.contents c.self.inside.files) new (c.stage_whole.ensures.keeps was) ∙ ap (λ s. s.tenants) c.self.view_is) c.stage_whole.ensures.err
+
+pub returns-clause-exact : goal.returns-clause-exact
+returns-clause-exact g c = λ h.
+    let was = ap (λ s. s.honest) c.self.view_is ∙ h in
+    on_ok_weaker c.stage_whole.result (λ keeps exact. keeps (subst (λ (s : VaultState). IsExact s.files s.places) (sym c.self.view_is) exact)) (c.stage_whole.ensures.exact was)
+
+pub returns-clause-shape : goal.returns-clause-shape
+returns-clause-shape g c =
+    let old = g.S.LooseFiles.contents c.self.inside.files in
+    let new = g.S.LooseFiles.contents c.stage_whole.new.files in
+    on_ok_weaker c.stage_whole.result (λ is.
+    ap (λ m. shape_of (tenants_of new m)) is ∙ staged_shape old new c.self.inside.holdings.ledgers c.args.tenant.now c.args.sealed
+    ∙ ap (λ s. shape_of (at_tenant s.tenants c.args.tenant.now (with_staged c.args.sealed))) c.self.view_is) c.stage_whole.ensures.ok
+
+pub returns-clause-kept : goal.returns-clause-kept
+returns-clause-kept g c =
+    let old = g.S.LooseFiles.contents c.self.inside.files in
+    let new = g.S.LooseFiles.contents c.stage_whole.new.files in
+    on_err_weaker c.stage_whole.result (λ same. ap (λ m. shape_of (tenants_of new m)) same ∙ shape_any old new c.self.inside.holdings.ledgers ∙ ap (λ s. shape_of s.tenants) c.self.view_is) c.stage_whole.ensures.err
 
 pub returns-clause-store : goal.returns-clause-store
 returns-clause-store g c = record {
@@ -14,5 +70,5 @@ returns-clause-store g c = record {
   counted = subst (λ n. CountsFault n (g.S.LooseFiles.failures c.stage_whole.new.files) (fault_in c.stage_whole.result)) (ap (λ s. s.failures) c.self.view_is) c.stage_whole.ensures.cause;
   undamaged = λ h.
       let was = ap (λ s. s.honest) c.self.view_is ∙ h in
-      undamaged_in c.stage_whole.result (c.stage_whole.ensures.undamaged was (c.self.invariant was));
+      undamaged_in c.stage_whole.result (staged_undamaged c.stage_whole.result (g.S.LooseFiles.contents c.self.inside.files) c.self.inside.holdings.ledgers (object_name c.args.sealed) (c.self.invariant was).stored (c.stage_whole.ensures.damaged was));
 }

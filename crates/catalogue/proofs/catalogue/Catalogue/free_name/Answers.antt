@@ -1,0 +1,28 @@
+use Rattle.std.proofs.Common.{◌≡◌, ◌<◌, inl, inr, [], List, ℕ, sym, subst, ap, ◌∙◌, arith}
+use Rattle.std.specs.Prelude.{nat_lt, if◌then◌else◌}
+use Rattle.std.specs.Map.{keys_of}
+use Rattle.catalogue.proofs.PlaceLemmas.{nothing_next, next_of, count_at, looked_is}
+use Rattle.catalogue.specs.Counted.{Counted, count_of, IsNext, places_of}
+use Rattle.catalogue.proofs.catalogue.Catalogue.free_name.Goals as goal
+
+pub returns-in_default-clause-none : goal.returns-in_default-clause-none
+returns-in_default-clause-none c =
+    let inside : Counted = record { entries = c.self.inside.holders.entries; place = c.self.inside.place } in
+    let at = c.looked_place-at.ensures ∙ ap (λ n. if nat_lt inside.place n then inside.place else 0) c.len.ensures.len in
+    inl (subst (λ (s : Counted). keys_of s.entries ≡ []) c.self.view_is (nothing_next inside c.looked_place-at.result at (sym c.entry_at.ensures ∙ c.in_default.is)))
+
+pub returns-then-entry-gt0-clause-none : goal.returns-then-entry-gt0-clause-none
+returns-then-entry-gt0-clause-none c =
+    let inside : Counted = record { entries = c.self.inside.holders.entries; place = c.self.inside.place } in
+    let at = c.looked_place-at.ensures ∙ ap (λ n. if nat_lt inside.place n then inside.place else 0) c.len.ensures.len in
+    let counted = count_at inside.entries c.looked_place-at.result c.in-Some.entry c.self.invariant.distinct (sym c.in-Some.ensures) in
+    inr (subst (λ (s : Counted). (name : List ℕ) × IsNext (places_of s) name × (0 < count_of s name)) c.self.view_is
+    (c.in-Some.entry.0, next_of inside c.looked_place-at.result c.in-Some.entry (sym c.in-Some.ensures) (looked_is inside c.looked_place-at.result at), subst (λ n. 0 < n) (sym counted) c.if-entry-gt0.true))
+
+pub returns-else-entry-gt0-clause-some : goal.returns-else-entry-gt0-clause-some
+returns-else-entry-gt0-clause-some c =
+    let inside : Counted = record { entries = c.self.inside.holders.entries; place = c.self.inside.place } in
+    let at = c.looked_place-at.ensures ∙ ap (λ n. if nat_lt inside.place n then inside.place else 0) c.len.ensures.len in
+    let counted = count_at inside.entries c.looked_place-at.result c.in-Some.entry c.self.invariant.distinct (sym c.in-Some.ensures) in
+    subst (λ (s : Counted). IsNext (places_of s) c.in-Some.entry.0 × (count_of s c.in-Some.entry.0 ≡ 0)) c.self.view_is
+    (next_of inside c.looked_place-at.result c.in-Some.entry (sym c.in-Some.ensures) (looked_is inside c.looked_place-at.result at), omega (arith, counted, c.if-entry-gt0.false))

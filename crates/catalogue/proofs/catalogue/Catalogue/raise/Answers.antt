@@ -1,0 +1,10 @@
+use Rattle.std.proofs.Common.{◌∙◌, sym, ap}
+use Rattle.std.specs.Map.{keys_of}
+use Rattle.looks.specs.Places.{is_listed}
+use Rattle.catalogue.specs.Counted.{Counted}
+use Rattle.catalogue.proofs.PlaceLemmas.{listed_lookup}
+use Rattle.catalogue.proofs.catalogue.Catalogue.raise.Goals as goal
+
+pub set_count-requires : goal.set_count-requires
+set_count-requires c =
+    sym (listed_lookup c.self.inside.holders.entries c.args.name) ∙ ap (λ (s : Counted). is_listed (keys_of s.entries) c.args.name) c.self.view_is ∙ c.requires.listed

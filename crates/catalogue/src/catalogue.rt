@@ -1,0 +1,159 @@
+ghost use Rattle.std.specs.Prelude.{◌≡◌, ◌≤◌, ◌<◌, ◌+◌, ◌^◌, ◌++◌, ◌∷◌, [], ◌⊎◌, ◌&&◌, ◌||◌, true, not, ℕ, List, OnOk, OnErr, IfOk, IfSome, IfNone, length, IsPermutation};
+ghost use Rattle.looks.specs.Places.{is_listed, looked_at, same_name};
+ghost use Rattle.catalogue.specs.Counted.{IsNext, count_of, one_if, places_of};
+
+use crate::holders::{entry_at, insert_into, looked_place, set_count, take_out};
+use git_name::Name;
+use indexmap::IndexMap;
+use std::alloc::{AllocError, Global};
+use std::marker::Model;
+
+/// Names in places, each with its number of holders, and the place of the next look.
+#[derive(Drop)]
+pub struct Catalogue {
+    holders: IndexMap<Name, usize>,
+    place: usize,
+}
+
+impl Model for Catalogue {
+    ghost use Rattle.catalogue.specs.Counted.{Counted, IsCatalogue, counted_code};
+
+    ghost Value = { Counted };
+
+    ghost coded = { counted_code };
+
+    ghost view = { λ a. record { entries = a.holders.entries; place = a.place } };
+
+    ghost invariant = { λ a. IsCatalogue (record { entries = a.holders.entries; place = a.place }) };
+}
+
+impl Catalogue {
+    /// No names.
+    pub fn new(alloc: Global) -> Catalogue
+        ensures entries { result.entries ≡ [] }
+        ensures place { result.place ≡ 0 }
+    {
+        Catalogue {
+            holders: IndexMap::new(alloc),
+            place: 0,
+        }
+    }
+
+    /// These names in their order, which nobody holds.
+    pub fn of(alloc: Global, names: &[Name]) -> Result<Catalogue, AllocError>
+        ensures listed { IfOk result (λ c. (q : List ℕ) → is_listed (places_of c).names q ≡ is_listed names.now q) }
+        ensures counts { IfOk result (λ c. (q : List ℕ) → count_of c q ≡ 0) }
+        ensures place { IfOk result (λ c. c.place ≡ 0) }
+    {
+        let mut catalogue = Catalogue::new(alloc);
+        for name in names {
+            catalogue.enter(*name)?;
+        }
+        Ok(catalogue)
+    }
+
+    /// How many names there are.
+    pub fn len(&self) -> usize
+        ensures { result ≡ length (places_of self.now).names }
+    {
+        self.holders.len()
+    }
+
+    /// How many holders a name has. One that is not there has none.
+    pub fn count(&self, name: Name) -> usize
+        ensures { result ≡ count_of self.now name }
+    {
+        match self.holders.get(&name) {
+            Some(count) => *count,
+            None => 0,
+        }
+    }
+
+    /// Enters a name at the last place, held by nobody, unless it is there.
+    pub fn enter(&mut self, name: Name) -> Result<(), AllocError>
+        ensures listed { OnOk result ((q : List ℕ) → is_listed (places_of self.new).names q ≡ (same_name name q || is_listed (places_of self.old).names q)) }
+        ensures counts { (q : List ℕ) → count_of self.new q ≡ count_of self.old q }
+        ensures place { self.new.place ≡ self.old.place }
+        ensures err { OnErr result (self.new ≡ self.old) }
+    {
+        if self.holders.contains_key(&name) {
+            return Ok(());
+        }
+        insert_into(&mut self.holders, name)
+    }
+
+    /// One holder more of a name that is there. It takes no memory.
+    pub fn raise(&mut self, name: Name)
+        requires listed { is_listed (places_of self.old).names name ≡ true }
+        requires fits { count_of self.old name + 1 < 2 ^ 64 }
+        ensures places { places_of self.new ≡ places_of self.old }
+        ensures counts { (q : List ℕ) → count_of self.new q ≡ count_of self.old q + one_if (same_name name q) }
+    {
+        let count = self.count(name) + 1;
+        set_count(&mut self.holders, name, count);
+    }
+
+    /// One holder less of a name that has one. It takes no memory.
+    pub fn lower(&mut self, name: Name)
+        requires held { 0 < count_of self.old name }
+        ensures places { places_of self.new ≡ places_of self.old }
+        ensures counts { (q : List ℕ) → count_of self.new q + one_if (same_name name q) ≡ count_of self.old q }
+    {
+        let count = self.count(name) - 1;
+        set_count(&mut self.holders, name, count);
+    }
+
+    /// The name that the next look falls at, if nobody holds it.
+    pub fn free_name(&self) -> Option<Name>
+        ensures some { IfSome result (λ name. IsNext (places_of self.now) name × (count_of self.now name ≡ 0)) }
+        ensures none { IfNone result (((places_of self.now).names ≡ []) ⊎ ((name : List ℕ) × IsNext (places_of self.now) name × (0 < count_of self.now name))) }
+    {
+        let at = looked_place(self.place, self.holders.len());
+        let Some(entry) = entry_at(&self.holders, at) else {
+            return None;
+        };
+        if entry.1 > 0 { None } else { Some(entry.0) }
+    }
+
+    /// Passes over the name that the next look falls at.
+    pub fn pass(&mut self)
+        requires { 0 < length (places_of self.old).names }
+        ensures entries { self.new.entries ≡ self.old.entries }
+        ensures place { self.new.place ≡ looked_at (places_of self.old) + 1 }
+    {
+        self.place = looked_place(self.place, self.holders.len()) + 1;
+    }
+
+    /// Takes out the name that the next look falls at. The last name takes its place, which the next
+    /// look falls at again.
+    pub fn leave(&mut self, name: Name)
+        requires next { IsNext (places_of self.old) name }
+        requires free { count_of self.old name ≡ 0 }
+        ensures left { (front back : List (List ℕ)) → (places_of self.old).names ≡ front ++ name ∷ back → length front ≡ looked_at (places_of self.old)
+            → (left : List (List ℕ)) × ((places_of self.new).names ≡ front ++ left) × IsPermutation back left }
+        ensures place { self.new.place ≡ looked_at (places_of self.old) }
+        ensures counts { (q : List ℕ) → count_of self.new q ≡ count_of self.old q }
+        ensures listed { (q : List ℕ) → is_listed (places_of self.new).names q ≡ (not (same_name name q) && is_listed (places_of self.old).names q) }
+    {
+        let at = looked_place(self.place, self.holders.len());
+        take_out(&mut self.holders, at);
+        self.place = at;
+    }
+
+    /// Sets the place to the beginning.
+    pub fn restart(&mut self)
+        ensures entries { self.new.entries ≡ self.old.entries }
+        ensures place { self.new.place ≡ 0 }
+    {
+        let _count = self.holders.len();
+        self.place = 0;
+    }
+
+    /// The place of the next look.
+    pub fn place(&self) -> usize
+        ensures place { result ≡ self.now.place }
+        ensures within { result ≤ length (places_of self.now).names }
+    {
+        self.place
+    }
+}

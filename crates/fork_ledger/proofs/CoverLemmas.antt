@@ -1,0 +1,76 @@
+-- The catalogue's names and the files, as one name comes or leaves.
+use Rattle.std.proofs.Common.{◌≡◌, ◌≢◌, ℕ, List, [], ◌∷◌, ◌++◌, ◌||◌, ◌&&◌, not, Bool, true, false, None, cond, is_some, refl, sym, ap, ◌∙◌}
+use Rattle.std.specs.Cmp.{eq_by_cmp_equiv}
+use Rattle.std.specs.FinMap.{contains_key, contains_key-keys, get, get-remove, keys, remove}
+use Rattle.std.specs.List.{list_any}
+use Rattle.std.specs.Ordering.{eq_by_cmp}
+use Rattle.std.proofs.lemmas.Cmp.{nat_list_eq_equiv}
+use Rattle.git_name.specs.Name.{name_cmp}
+use Rattle.git_name.proofs.Names.{name_total}
+use Rattle.looks.specs.Places.{Places, is_listed, same_name}
+use Rattle.catalogue.specs.Counted.{IsNext}
+use Rattle.catalogue.proofs.PlaceLemmas.{one_name, own_name}
+use Rattle.ledgers.proofs.HolderLemmas.{same_tests}
+use Rattle.loose_store.specs.Files.{Files, SameBut}
+use Rattle.fork_ledger.specs.Kept.{Covers, IsExact}
+
+pub false_is_true : (G : Type 0) → false ≡ true → G
+false_is_true G is = (let differs : ⊥ = cc in absurd differs)
+
+by_name : (G : Type 0) (name q : List ℕ) → (name ≡ q → G) → (q ≢ name → same_name name q ≡ false → G) → G
+by_name G name q f g = go (same_name name q) refl
+  where
+    go : (b : Bool) → same_name name q ≡ b → G
+    go true is = f (one_name name q is)
+    go false apart = g (λ same. false_is_true ⊥ (sym apart ∙ ap (same_name name) same ∙ own_name name)) apart
+
+-- a name is entered, and then one file changes
+pub covers_entered : (files after : Files) (old new : Places) (name : List ℕ) → Covers files old → ((q : List ℕ) → is_listed new.names q ≡ (same_name name q || is_listed old.names q)) → SameBut name files after → Covers after new
+covers_entered files after old new name cover listed but q there = by_name _ name q
+    (λ same. listed q ∙ ap (λ x. same_name name x || is_listed old.names x) (sym same) ∙ ap (λ b. b || is_listed old.names name) (own_name name))
+    (λ apart differs. listed q ∙ ap (λ b. b || is_listed old.names q) differs ∙ cover q (ap is_some (sym (but q apart)) ∙ there))
+
+-- a file is taken away, and then its name
+pub covers_left : (files after : Files) (old new : Places) (name : List ℕ) → Covers files old → ((q : List ℕ) → is_listed new.names q ≡ (not (same_name name q) && is_listed old.names q)) → SameBut name files after → get after name ≡ None
+    → Covers after new
+covers_left files after old new name cover listed but gone q there = by_name _ name q
+    (λ same. false_is_true _ (sym (ap is_some (ap (get after) (sym same) ∙ gone)) ∙ there))
+    (λ apart differs. listed q ∙ ap (λ b. not b && is_listed old.names q) differs ∙ cover q (ap is_some (sym (but q apart)) ∙ there))
+
+next_any : (front back : List (List ℕ)) (name : List ℕ) → is_listed (front ++ name ∷ back) name ≡ true
+next_any [] back name = ap (λ b. b || is_listed back name) (own_name name)
+next_any (x ∷ front) back name = ap (λ b. same_name name x || b) (next_any front back name) ∙ or_true (same_name name x)
+  where
+    or_true : (b : Bool) → (b || true) ≡ true
+    or_true true = refl
+    or_true false = refl
+
+-- a file may be gone, and its name stays
+pub covers_failed : (files after : Files) (places : Places) (name : List ℕ) → Covers files places → IsNext places name → SameBut name files after → Covers after places
+covers_failed files after places name cover next but q there = by_name _ name q
+    (λ here. ap (is_listed places.names) (sym here) ∙ ap (λ xs. is_listed xs name) next.whole ∙ next_any next.front next.back name)
+    (λ apart differs. cover q (ap is_some (sym (but q apart)) ∙ there))
+
+-- a file and then its name are gone
+pub exact_left : (files after : Files) (old new : Places) (name : List ℕ) → ((q : List ℕ) → is_listed new.names q ≡ (not (same_name name q) && is_listed old.names q)) → SameBut name files after → IsExact files old → IsExact after new
+exact_left files after old new name listed but exact q there = by_name _ name q
+    (λ same. false_is_true _ (sym (listed q ∙ ap (λ x. not (same_name name x) && is_listed old.names x) (sym same) ∙ ap (λ b. not b && is_listed old.names name) (own_name name)) ∙ there))
+    (λ apart differs. ap is_some (but q apart) ∙ exact q (sym (listed q ∙ ap (λ b. not b && is_listed old.names q) differs) ∙ there))
+
+-- a name is entered, and then its file is there
+pub exact_entered : (files after : Files) (old new : Places) (name : List ℕ) → ((q : List ℕ) → is_listed new.names q ≡ (same_name name q || is_listed old.names q)) → SameBut name files after → contains_key after name ≡ true → IsExact files old
+    → IsExact after new
+exact_entered files after old new name listed but there exact q is = by_name _ name q
+    (λ same. ap (contains_key after) (sym same) ∙ there)
+    (λ apart differs. ap is_some (but q apart) ∙ exact q (sym (listed q ∙ ap (λ b. b || is_listed old.names q) differs) ∙ is))
+
+pub removed_none : (files : Files) (name : List ℕ) → get (remove files name) name ≡ None
+removed_none files name = get-remove name_total files name name ∙ ap (λ b. cond b None (get files name)) ((eq_by_cmp_equiv name_total).refl name)
+
+-- ---- the names of all files
+listed_alike : (names : List (List ℕ)) (q : List ℕ) → list_any (eq_by_cmp name_cmp q) names ≡ is_listed names q
+listed_alike [] q = refl
+listed_alike (name ∷ names) q = ap (λ b. b || list_any (eq_by_cmp name_cmp q) names) (same_tests q name ∙ nat_list_eq_equiv.symm name q) ∙ ap (λ b. same_name q name || b) (listed_alike names q)
+
+pub keys_listed : (files : Files) (q : List ℕ) → is_listed (keys files) q ≡ contains_key files q
+keys_listed files q = sym (contains_key-keys files q ∙ listed_alike (keys files) q)

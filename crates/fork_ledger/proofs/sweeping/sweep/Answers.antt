@@ -1,0 +1,39 @@
+use Rattle.std.proofs.Common.{◌∙◌, subst, Some, arith}
+use Rattle.catalogue.specs.Counted.{places_of}
+use Rattle.ledgers.specs.Holders.{is_held_in}
+use Rattle.fork_ledger.specs.Store.{CountsFault}
+use Rattle.fork_ledger.proofs.KeepingLemmas.{keeps_more}
+use Rattle.fork_ledger.proofs.LookLemmas.{looks_more, one_most, same_look}
+use Rattle.fork_ledger.proofs.sweeping.sweep.Goals as goal
+
+pub returns-in-Err-clause-keeps : goal.returns-in-Err-clause-keeps
+returns-in-Err-clause-keeps g c = λ h.
+    keeps_more c.args.holdings.now.ledgers c.loop-done.holdings.ledgers (g.S.LooseFiles.contents c.args.files.now) (g.S.LooseFiles.contents c.loop-done.files) (g.S.LooseFiles.contents c.look_once.new.files)
+    c.loop-done.invariant.ledgers (c.loop-done.invariant.keeps h) (c.look_once.ensures.keeps (c.loop-done.invariant.honest ∙ h))
+
+pub returns-in-Err-clause-cause : goal.returns-in-Err-clause-cause
+returns-in-Err-clause-cause g c = subst (λ n. CountsFault n (g.S.LooseFiles.failures c.look_once.new.files) (Some c.in-Err.fault)) c.loop-done.invariant.failures c.in-Err.ensures.cause
+
+pub loop-done-preserved : goal.loop-done-preserved
+loop-done-preserved g c =
+    let held = is_held_in c.args.holdings.now.ledgers in
+    let first = places_of c.args.holdings.now.catalogue in
+    let mid = places_of c.loop-done.holdings.catalogue in
+    let last = places_of c.look_once.new.holdings.catalogue in
+    let look = same_look c.args.holdings.now.ledgers c.loop-done.holdings.ledgers mid last c.loop-done.invariant.ledgers c.in-Ok.ensures.look in
+    let n = c.number_of-count.ensures in
+    let k = c.in-Ok.ensures.count in
+    let i = c.loop-done.invariant.count in
+    let e = c.loop-done.invariant.even in
+    record {
+      looks = looks_more held c.loop-done.done first mid last c.loop-done.invariant.looks look;
+      even = omega (arith, e, one_most c.in-Ok.left c.number_of-count.result n);
+      count = omega (arith, n, k, i);
+      ledgers = c.look_once.ensures.ledgers ∙ c.loop-done.invariant.ledgers;
+      keeps = λ h. keeps_more c.args.holdings.now.ledgers c.loop-done.holdings.ledgers (g.S.LooseFiles.contents c.args.files.now) (g.S.LooseFiles.contents c.loop-done.files) (g.S.LooseFiles.contents c.look_once.new.files)
+          c.loop-done.invariant.ledgers (c.loop-done.invariant.keeps h) (c.look_once.ensures.keeps (c.loop-done.invariant.honest ∙ h));
+      covers = λ h cover. c.look_once.ensures.covers (c.loop-done.invariant.honest ∙ h) (c.loop-done.invariant.covers h cover);
+      exact = λ h exact. c.in-Ok.ensures.exact (c.loop-done.invariant.honest ∙ h) (c.loop-done.invariant.exact h exact);
+      honest = c.look_once.ensures.honest ∙ c.loop-done.invariant.honest;
+      failures = c.in-Ok.ensures.cause ∙ c.loop-done.invariant.failures;
+    }

@@ -1,0 +1,14 @@
+use Rattle.std.proofs.Common.{ap, sym, ◌∙◌}
+use Rattle.fork_reach.specs.Objects.{use_of}
+use Rattle.ledgers.specs.Ledgers.{ledger_at}
+use Rattle.fork_ledger.specs.Tenants.{private_of}
+use Rattle.fork_ledger.specs.Used.{capped}
+use Rattle.fork_ledger.proofs.ShownLemmas.{private_shown}
+use Rattle.fork_ledger.proofs.ToldLemmas.{used_shown}
+use Rattle.fork_ledger.proofs.vault.Vault.used.Goals as goal
+
+pub returns : goal.returns
+returns g c =
+    let files = g.S.LooseFiles.contents c.self.inside.files in
+    c.used.ensures ∙ ap capped (used_shown files (ledger_at c.self.inside.holdings.ledgers c.args.tenant.now) ∙ ap (λ own. use_of own.visible) (sym (private_shown files c.self.inside.holdings.ledgers c.args.tenant.now))
+    ∙ ap (λ s. use_of (private_of s.tenants c.args.tenant.now).visible) c.self.view_is)

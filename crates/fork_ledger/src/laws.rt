@@ -1,0 +1,16 @@
+ghost use Rattle.std.specs.Prelude.{◌≡◌, ◌≤◌, ◌*◌, ℕ, List, length, sum};
+ghost use Rattle.std.specs.FinMap.{contains_key};
+ghost use Rattle.fork_ledger.specs.Swept.{AreSwept, IsAccounted};
+ghost use Rattle.fork_ledger.specs.Taken.{is_taken};
+ghost use Rattle.fork_ledger.specs.Tenants.{VaultState};
+
+use looks::sharp_sweeps;
+
+/// After slices that add up to at least twice the number of names that were catalogued, with no other
+/// call between, an honest store has files of just the names of which some tenant has an object.
+pub fn sharp_slices()
+    ensures { (slices : List ℕ) (old new : VaultState) → AreSwept slices old new → old.places.place ≤ length old.places.names → 2 * length old.places.names ≤ sum slices
+        → IsAccounted new → (name : List ℕ) → contains_key new.files name ≡ is_taken new.tenants name }
+{
+    sharp_sweeps();
+}

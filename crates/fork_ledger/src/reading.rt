@@ -1,0 +1,33 @@
+ghost use Rattle.std.specs.Prelude.{◌≡◌, ◌≢◌, true, is_some, Some, IsTrue, IfErr, IfOk, IfSome};
+ghost use Rattle.git_name.specs.Object.{Object, object_name};
+ghost use Rattle.loose_store.specs.Stored.{Whole};
+ghost use Rattle.fork_ledger.specs.Store.{CountsFault, fault_in};
+
+use crate::fault::VaultFault;
+use git_name::{Name, Sealed};
+use loose_store::{LooseFiles, StoreFault, read_checked};
+use std::alloc::Global;
+
+// The object of a name that some tenant holds. Where its file is lost or damaged, that is told.
+pub(crate) fn read_held<S: LooseFiles>(
+    alloc: Global,
+    files: &mut S,
+    name: Name,
+) -> Result<Option<Sealed>, VaultFault>
+    ensures whole { IsTrue (S.honest files.old) → IfOk result (λ found. (object : Object) × (found ≡ Some object) × Whole (S.contents files.old) name object) }
+    ensures damaged { IsTrue (S.honest files.old) → IfErr result (λ fault. fault ≡ VaultFault.Damaged → (object : Object) → Whole (S.contents files.old) name object → ⊥) }
+    ensures kept { IsTrue (S.honest files.old) → S.contents files.new ≡ S.contents files.old }
+    ensures there { IfOk result (λ found. is_some found ≡ true) }
+    ensures named { IfOk result (λ found. IfSome found (λ object. object_name object ≡ name)) }
+    ensures honest { S.honest files.new ≡ S.honest files.old }
+    ensures cause { CountsFault (S.failures files.old) (S.failures files.new) (fault_in result) }
+    ensures apart { IfErr result (λ fault. fault ≢ VaultFault.Collision) }
+{
+    match read_checked(alloc, files, name) {
+        Ok(Some(sealed)) => Ok(Some(sealed)),
+        Ok(None) => Err(VaultFault::Damaged),
+        Err(StoreFault::Device) => Err(VaultFault::Store),
+        Err(StoreFault::Damaged) => Err(VaultFault::Damaged),
+        Err(StoreFault::Memory) => Err(VaultFault::Memory),
+    }
+}

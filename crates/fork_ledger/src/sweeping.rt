@@ -1,0 +1,84 @@
+// Slices and whole rounds of looks.
+ghost use Rattle.std.specs.Prelude.{◌≡◌, ◌≢◌, ◌<◌, ◌+◌, ℕ, IsTrue, IfErr, IfOk, OnOk, OnErr, length, if◌then◌else◌};
+ghost use Rattle.looks.specs.Looks.{Looks, Walks};
+ghost use Rattle.looks.specs.Places.{at_start};
+ghost use Rattle.looks.specs.Slices.{Collects, Sweeps};
+ghost use Rattle.catalogue.specs.Counted.{places_of};
+ghost use Rattle.ledgers.specs.Holders.{is_held_in};
+ghost use Rattle.fork_ledger.specs.Kept.{Covers, IsExact, KeepsHeld};
+ghost use Rattle.fork_ledger.specs.Store.{CountsFault, fault_in};
+
+use crate::fault::VaultFault;
+use crate::looking::look_once;
+use ledgers::Holdings;
+use loose_store::LooseFiles;
+use std::alloc::Global;
+
+fn number_of(left: bool) -> u64
+    ensures { result ≡ (if left then 1 else 0) }
+{
+    if left { 1 } else { 0 }
+}
+
+// So many looks at the most, and fewer only where nothing is left to look at. Answers how many names
+// left.
+pub(crate) fn sweep<S: LooseFiles>(
+    alloc: Global,
+    files: &mut S,
+    holdings: &mut Holdings,
+    most: u64,
+) -> Result<u64, VaultFault>
+    ensures sweeps { OnOk result (Sweeps (is_held_in holdings.old.ledgers) most (places_of holdings.old.catalogue) (places_of holdings.new.catalogue)) }
+    ensures fault { OnErr result ((n : ℕ) × (n < most) × Looks (is_held_in holdings.old.ledgers) n (places_of holdings.old.catalogue) (places_of holdings.new.catalogue)) }
+    ensures count { IfOk result (λ count. length (places_of holdings.new.catalogue).names + count ≡ length (places_of holdings.old.catalogue).names) }
+    ensures ledgers { holdings.new.ledgers ≡ holdings.old.ledgers }
+    ensures keeps { IsTrue (S.honest files.old) → KeepsHeld holdings.old.ledgers (S.contents files.old) (S.contents files.new) }
+    ensures covers { IsTrue (S.honest files.old) → Covers (S.contents files.old) (places_of holdings.old.catalogue) → Covers (S.contents files.new) (places_of holdings.new.catalogue) }
+    ensures exact { IsTrue (S.honest files.old) → OnOk result (IsExact (S.contents files.old) (places_of holdings.old.catalogue) → IsExact (S.contents files.new) (places_of holdings.new.catalogue)) }
+    ensures honest { S.honest files.new ≡ S.honest files.old }
+    ensures cause { CountsFault (S.failures files.old) (S.failures files.new) (fault_in result) }
+    ensures undamaged { IfErr result (λ fault. fault ≢ VaultFault.Damaged) }
+{
+    let mut count = 0;
+    for done in 0..most {
+        if holdings.len() == 0 {
+            return Ok(count);
+        }
+        let left = match look_once(alloc, files, holdings) {
+            Ok(left) => left,
+            Err(fault) => return Err(fault),
+        };
+        count += number_of(left);
+    }
+    Ok(count)
+}
+
+// One whole round, from the beginning until the end is reached. Answers how many names left.
+pub(crate) fn collect<S: LooseFiles>(
+    alloc: Global,
+    files: &mut S,
+    holdings: &mut Holdings,
+) -> Result<u64, VaultFault>
+    ensures collects { OnOk result (Collects (is_held_in holdings.old.ledgers) (places_of holdings.old.catalogue) (places_of holdings.new.catalogue)) }
+    ensures fault { OnErr result ((n : ℕ) × Walks (is_held_in holdings.old.ledgers) n (at_start (places_of holdings.old.catalogue)) (places_of holdings.new.catalogue)) }
+    ensures count { IfOk result (λ count. length (places_of holdings.new.catalogue).names + count ≡ length (places_of holdings.old.catalogue).names) }
+    ensures ledgers { holdings.new.ledgers ≡ holdings.old.ledgers }
+    ensures keeps { IsTrue (S.honest files.old) → KeepsHeld holdings.old.ledgers (S.contents files.old) (S.contents files.new) }
+    ensures covers { IsTrue (S.honest files.old) → Covers (S.contents files.old) (places_of holdings.old.catalogue) → Covers (S.contents files.new) (places_of holdings.new.catalogue) }
+    ensures exact { IsTrue (S.honest files.old) → OnOk result (IsExact (S.contents files.old) (places_of holdings.old.catalogue) → IsExact (S.contents files.new) (places_of holdings.new.catalogue)) }
+    ensures honest { S.honest files.new ≡ S.honest files.old }
+    ensures cause { CountsFault (S.failures files.old) (S.failures files.new) (fault_in result) }
+    ensures undamaged { IfErr result (λ fault. fault ≢ VaultFault.Damaged) }
+{
+    holdings.restart();
+    let mut count = 0;
+    for done in 0..holdings.len() {
+        let left = match look_once(alloc, files, holdings) {
+            Ok(left) => left,
+            Err(fault) => return Err(fault),
+        };
+        count += number_of(left);
+    }
+    holdings.restart();
+    Ok(count)
+}

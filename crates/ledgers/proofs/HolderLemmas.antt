@@ -1,0 +1,208 @@
+-- Who holds a name, as ledgers change.
+use Rattle.std.proofs.Common.{◌≡◌, ℕ, ◌+◌, ◌<◌, ◌≤◌, List, Bool, true, false, not, Option, Some, None, cond, is_some, refl, sym, ap, ◌∙◌, arith}
+use Rattle.std.specs.Prelude.{count_by}
+use Rattle.std.specs.Option.{option_and_then, option_map_or}
+use Rattle.std.specs.Ordering.{eq_by_cmp}
+use Rattle.std.specs.Cmp.{eq_by_cmp_equiv}
+use Rattle.std.specs.FinMap.{contains_key, empty, entries, get, get-empty, get-insert, insert, len, len-entries, values}
+use Rattle.std.proofs.lemmas.Bool.{lt-ltb, ltb-true}
+use Rattle.std.proofs.lemmas.List.Sums.{count_by-le-length}
+use Rattle.std.proofs.lemmas.Map.Entries.{length-values_of}
+use Rattle.git_name.specs.declared.kind.Kind.{Kind}
+use Rattle.git_name.specs.Name.{name_cmp}
+use Rattle.git_name.proofs.Names.{name_total, name_exact}
+use Rattle.looks.specs.Places.{same_name}
+use Rattle.catalogue.specs.Counted.{one_if}
+use Rattle.catalogue.proofs.PlaceLemmas.{one_name, own_name}
+use Rattle.ledgers.specs.declared.word.Word.{Word}
+use Rattle.ledgers.specs.Due.{due_at, leaves_discarded, leaves_kept}
+use Rattle.ledgers.specs.Holders.{holders_of, is_held_in}
+use Rattle.ledgers.specs.Ledgers.{AllWords, at_ledger, with_ledger}
+use Rattle.ledgers.specs.Words.{Words, discarded_words, is_visible, kept_as, kept_word, kept_words, published_words, seen_word, staged_over, staged_words, unstaged_word}
+use Rattle.ledgers.proofs.ChosenLemmas.{get_chosen, one_key}
+use Rattle.ledgers.proofs.SumLemmas.{counts_some, sum_empty, sum_insert, worth, worth_within}
+use Rattle.ledgers.proofs.TenantEntries.{changed_at, unchanged_at}
+
+-- one, if a ledger has a word of the name
+abbrev pub has : List ℕ → Words → ℕ
+has q words = cond (contains_key words q) 1 0
+
+-- ---- one ledger is set
+holders_set : (m : AllWords) (t : List ℕ) (own after : Words) (q : List ℕ) → get m t ≡ Some own → holders_of (insert m t after) q + has q own ≡ holders_of m q + has q after
+unfolding holders_of
+holders_set m t own after q here = ap (λ o. count_by (λ words. contains_key words q) (values (insert m t after)) + worth (has q) o) (sym here) ∙ sum_insert name_total (has q) m t after
+
+holders_new : (m : AllWords) (t : List ℕ) (after : Words) (q : List ℕ) → get m t ≡ None → holders_of (insert m t after) q ≡ holders_of m q + has q after
+unfolding holders_of
+holders_new m t after q none =
+    let set = sum_insert name_total (has q) m t after in
+    let nothing = ap (worth (has q)) none in
+    omega (arith, set, nothing)
+
+pub by_ledger : (G : Type 0) (o : Option Words) → (o ≡ None → G) → ((words : Words) → o ≡ Some words → G) → G
+by_ledger G None f g = f refl
+by_ledger G (Some words) f g = g words refl
+
+-- the same names, the same holders
+same_holders : (m : AllWords) (t : List ℕ) (change : Words → Words) (q : List ℕ) → ((words : Words) → contains_key (change words) q ≡ contains_key words q) → holders_of (at_ledger m t change) q ≡ holders_of m q
+same_holders m t change q same = by_ledger _ (get m t)
+    (λ none. ap (λ x. holders_of x q) (unchanged_at m t change none))
+    (λ own here.
+    let set = holders_set m t own (change own) q here in
+    let at = ap (λ x. holders_of x q) (changed_at m t own change here) in
+    let alike = ap one_if (same own) in
+    omega (arith, set, at, alike))
+
+-- ---- publish
+published_there : (o : Option Word) → is_some (option_and_then (λ word. Some (seen_word word)) o) ≡ is_some o
+published_there None = refl
+published_there (Some word) = refl
+
+pub published_holders : (m : AllWords) (t q : List ℕ) → holders_of (at_ledger m t published_words) q ≡ holders_of m q
+published_holders m t q = same_holders m t published_words q (λ words.
+    ap is_some (get_chosen name_total name_exact (λ _ word. Some (seen_word word)) words q) ∙ published_there (get words q))
+
+-- ---- discard and keep: the names that leave are due
+left_of : (o : Option Word) (f : Word → Option Word) (leaves : Word → Bool) → ((word : Word) → leaves word ≡ not (is_some (f word)))
+    → one_if (is_some (option_and_then f o)) + one_if (option_map_or leaves o false) ≡ one_if (is_some o)
+left_of None f leaves is = refl
+left_of (Some word) f leaves is = ap (λ b. one_if (is_some (f word)) + one_if b) (is word) ∙ by (is_some (f word))
+  where
+    by : (b : Bool) → one_if b + one_if (not b) ≡ 1
+    by true = refl
+    by false = refl
+
+left_holders : (m : AllWords) (t : List ℕ) (own : Words) (q : List ℕ) (change : Words → Words) (due : ℕ) → get m t ≡ Some own → one_if (contains_key (change own) q) + due ≡ one_if (contains_key own q)
+    → holders_of (at_ledger m t change) q + due ≡ holders_of m q
+left_holders m t own q change due here left =
+    let set = holders_set m t own (change own) q here in
+    let at = ap (λ x. holders_of x q) (changed_at m t own change here) in
+    omega (arith, set, at, left)
+
+unstaged_there : (word : Word) → not (is_visible word) ≡ not (is_some (unstaged_word word))
+unstaged_there word = by (is_visible word)
+  where
+    by : (b : Bool) → not b ≡ not (is_some (kept_as b (seen_word word)))
+    by true = refl
+    by false = refl
+
+pub discarded_holders : (m : AllWords) (t : List ℕ) (own : Words) (q : List ℕ) → get m t ≡ Some own → holders_of (at_ledger m t discarded_words) q + due_at leaves_discarded own q ≡ holders_of m q
+discarded_holders m t own q here = left_holders m t own q discarded_words (due_at leaves_discarded own q) here
+    (ap (λ o. one_if (is_some o) + due_at leaves_discarded own q) (get_chosen name_total name_exact (λ _ word. unstaged_word word) own q)
+    ∙ left_of (get own q) unstaged_word (leaves_discarded q) unstaged_there)
+
+pub kept_holders : (keep : List ℕ → Bool) (m : AllWords) (t : List ℕ) (own : Words) (q : List ℕ) → get m t ≡ Some own → holders_of (at_ledger m t (kept_words keep)) q + due_at (leaves_kept keep) own q ≡ holders_of m q
+kept_holders keep m t own q here = left_holders m t own q (kept_words keep) (due_at (leaves_kept keep) own q) here
+    (ap (λ o. one_if (is_some o) + due_at (leaves_kept keep) own q) (get_chosen name_total name_exact (λ name word. kept_word (keep name) word) own q)
+    ∙ left_of (get own q) (kept_word (keep q)) (leaves_kept keep q) (λ word. refl))
+
+-- ---- stage
+same_bool : (b c : Bool) → (b ≡ true → c ≡ true) → (c ≡ true → b ≡ true) → b ≡ c
+same_bool true c f g = sym (f refl)
+same_bool false true f g = g refl
+same_bool false false f g = refl
+
+-- the two tests of names are one
+pub same_tests : (q name : List ℕ) → eq_by_cmp name_cmp q name ≡ same_name name q
+same_tests q name = same_bool _ _
+    (λ e. ap (same_name name) (one_key {R = name_cmp} name_exact q name e) ∙ own_name name)
+    (λ e. ap (λ x. eq_by_cmp name_cmp q x) (one_name name q e) ∙ (eq_by_cmp_equiv name_total).refl q)
+
+set_there : (words : Words) (name : List ℕ) (word : Word) (q : List ℕ) → contains_key (insert words name word) q ≡ cond (same_name name q) true (contains_key words q)
+set_there words name word q = ap is_some (get-insert name_total words name word q) ∙ ap (λ b. is_some (cond b (Some word) (get words q))) (same_tests q name) ∙ by (same_name name q)
+  where
+    by : (b : Bool) → is_some (cond b (Some word) (get words q)) ≡ cond b true (is_some (get words q))
+    by true = refl
+    by false = refl
+
+-- a name of which there is a word already
+pub staged_again : (m : AllWords) (t : List ℕ) (own : Words) (name : List ℕ) (kind : Kind) (n : ℕ) (q : List ℕ) → get m t ≡ Some own → contains_key own name ≡ true
+    → holders_of (at_ledger m t (staged_words name kind n)) q ≡ holders_of m q
+staged_again m t own name kind n q here there =
+    let set = holders_set m t own (staged_words name kind n own) q here in
+    let at = ap (λ x. holders_of x q) (changed_at m t own (staged_words name kind n) here) in
+    let alike = ap one_if (set_there own name (staged_over kind n (get own name)) q ∙ by (same_name name q) refl) in
+    omega (arith, set, at, alike)
+  where
+    by : (b : Bool) → same_name name q ≡ b → cond b true (contains_key own q) ≡ contains_key own q
+    by true e = sym (ap (contains_key own) (sym (one_name name q e)) ∙ there)
+    by false e = refl
+
+-- a new one
+pub staged_fresh : (m : AllWords) (t : List ℕ) (own : Words) (name : List ℕ) (kind : Kind) (n : ℕ) (q : List ℕ) → get m t ≡ Some own → contains_key own name ≡ false
+    → holders_of (at_ledger m t (staged_words name kind n)) q ≡ holders_of m q + one_if (same_name name q)
+staged_fresh m t own name kind n q here lacks =
+    let set = holders_set m t own (staged_words name kind n own) q here in
+    let at = ap (λ x. holders_of x q) (changed_at m t own (staged_words name kind n) here) in
+    let more = ap one_if (set_there own name (staged_over kind n (get own name)) q) ∙ by (same_name name q) refl in
+    omega (arith, set, at, more)
+  where
+    nothing_more : (i : ℕ) → i + 0 ≡ i
+    nothing_more i = omega arith
+
+    by : (b : Bool) → same_name name q ≡ b → one_if (cond b true (contains_key own q)) ≡ one_if (contains_key own q) + one_if b
+    by true e = ap (λ c. one_if c + 1) (sym (ap (contains_key own) (sym (one_name name q e)) ∙ lacks))
+    by false e = sym (nothing_more (one_if (contains_key own q)))
+
+-- there are no more holders than tenants
+pub few_holders : (m : AllWords) (q : List ℕ) → holders_of m q ≤ len m
+unfolding holders_of
+few_holders m q =
+    let few = count_by-le-length (λ words. contains_key words q) (values m) in
+    let many = length-values_of (entries m) in
+    let all = len-entries m in
+    omega (arith, few, many, all)
+
+pub raise_fits : (m after : AllWords) (t : List ℕ) (own : Words) (name : List ℕ) (kind : Kind) (n : ℕ) → get m t ≡ Some own → contains_key own name ≡ false → after ≡ at_ledger m t (staged_words name kind n)
+    → holders_of m name + 1 ≤ len after
+raise_fits m after t own name kind n here lacks is =
+    let more = ap (λ x. holders_of x name) is ∙ staged_fresh m t own name kind n name here lacks ∙ ap (λ b. holders_of m name + one_if b) (own_name name) in
+    let few = few_holders after name in
+    omega (arith, more, few)
+
+-- ---- add
+no_words : (q : List ℕ) → has q empty ≡ 0
+no_words q = ap (λ (o : Option Word). one_if (is_some o)) (get-empty name_cmp q)
+
+pub no_holders : (q : List ℕ) → holders_of empty q ≡ 0
+unfolding holders_of
+no_holders q = sum_empty name_cmp (has q)
+
+pub added_holders : (m : AllWords) (t q : List ℕ) → holders_of (with_ledger m t) q ≡ holders_of m q
+added_holders m t q = by_ledger _ (get m t)
+    (λ none. ap (λ o. holders_of (cond (is_some o) m (insert m t empty)) q) none ∙ fresh none)
+    (λ own here. ap (λ o. holders_of (cond (is_some o) m (insert m t empty)) q) here)
+  where
+    fresh : get m t ≡ None → holders_of (insert m t empty) q ≡ holders_of m q
+    fresh none =
+        let set = holders_new m t empty q none in
+        let nothing = no_words q in
+        omega (arith, set, nothing)
+
+-- ---- whether anyone holds a name
+one_of : (b : Bool) → 0 < cond b 1 0 → b ≡ true
+one_of true h = refl
+one_of false h = absurd (omega (arith, h))
+
+none_of_one : (b : Bool) → cond b 1 0 ≤ 0 → b ≡ false
+none_of_one true h = absurd (omega (arith, h))
+none_of_one false h = refl
+
+pub nobody_has : (m : AllWords) (q : List ℕ) → holders_of m q ≡ 0 → (t : List ℕ) (own : Words) → get m t ≡ Some own → contains_key own q ≡ false
+unfolding holders_of
+nobody_has m q none t own here =
+    let within = worth_within (has q) m t in
+    let here_is = ap (worth (has q)) here in
+    none_of_one (contains_key own q) (omega (arith, within, here_is, none))
+
+pub someone_has : (m : AllWords) (q : List ℕ) → is_held_in m q ≡ true → (t : List ℕ) × (own : Words) × (get m t ≡ Some own) × (contains_key own q ≡ true)
+unfolding holders_of
+someone_has m q held = (let some = counts_some name_total (has q) m (ltb-true 0 (holders_of m q) held) in (some.0, some.1, some.2, one_of (contains_key some.1 q) some.3))
+
+-- who has a word of the name holds it
+pub held_by : (m : AllWords) (t : List ℕ) (own : Words) (q : List ℕ) → get m t ≡ Some own → contains_key own q ≡ true → is_held_in m q ≡ true
+unfolding holders_of
+held_by m t own q here there =
+    let within = worth_within (has q) m t in
+    let one = ap (worth (has q)) here ∙ ap (λ b. cond b 1 0) there in
+    lt-ltb 0 (holders_of m q) (omega (arith, within, one))

@@ -1,0 +1,53 @@
+-- A tree of tenants' ledgers, seen as the finite map that it is.
+use Rattle.std.proofs.Common.{◌≡◌, ℕ, Bool, true, false, cond, List, Option, None, Some, refl, sym, ap, ◌∙◌, is_some}
+use Rattle.std.specs.Option.{unwrap_or}
+use Rattle.std.specs.Map.{lookup}
+use Rattle.std.specs.BTreeMap.{is_at}
+use Rattle.std.specs.FinMap.{contains_key, empty, from_entries, get, insert}
+use Rattle.git_name.specs.Name.{name_cmp}
+use Rattle.ledgers.specs.Words.{Words}
+use Rattle.ledgers.specs.Ledgers.{AllWords, at_ledger, ledger_at, with_ledger}
+use Rattle.ledgers.proofs.UpdateLemmas.{found_in, written_back, insert_same}
+
+-- a tenant that is there
+pub changed_at : (ledgers : AllWords) (t : List ℕ) (own : Words) (change : Words → Words) → get ledgers t ≡ Some own → at_ledger ledgers t change ≡ insert ledgers t (change own)
+changed_at ledgers t own change here = ap (λ o. cond (is_some o) (insert ledgers t (change (unwrap_or o empty))) ledgers) here
+
+-- one that is not
+pub unchanged_at : (ledgers : AllWords) (t : List ℕ) (change : Words → Words) → get ledgers t ≡ None → at_ledger ledgers t change ≡ ledgers
+unchanged_at ledgers t change none = ap (λ o. cond (is_some o) (insert ledgers t (change (unwrap_or o empty))) ledgers) none
+
+-- what is found is the tenant's
+pub ledger_found : (ledgers : AllWords) (es : List (List ℕ × Words)) (t : List ℕ) (o : Option Words) → from_entries es ≡ ledgers → o ≡ lookup (is_at (name_cmp t)) es → ledger_at ledgers t ≡ unwrap_or o empty
+ledger_found ledgers es t o is here = ap (λ found. unwrap_or found empty) (found_in ledgers es t o is here)
+
+-- whether one is found
+pub there_is : (ledgers : AllWords) (es : List (List ℕ × Words)) (t : List ℕ) (b : Bool) → from_entries es ≡ ledgers → b ≡ is_some (lookup (is_at (name_cmp t)) es) → b ≡ contains_key ledgers t
+there_is ledgers es t b is found = found ∙ sym (ap is_some (found_in ledgers es t (lookup (is_at (name_cmp t)) es) is refl))
+
+-- the tenant's ledger is written back
+pub changed_is : (ledgers : AllWords) (es fs : List (List ℕ × Words)) (t : List ℕ) (own after : Words) (change : Words → Words) → from_entries es ≡ ledgers → Some own ≡ lookup (is_at (name_cmp t)) es
+    → ((q : List ℕ) → lookup (is_at (name_cmp q)) fs ≡ cond (is_at (name_cmp t) q) (Some after) (lookup (is_at (name_cmp q)) es)) → after ≡ change own → from_entries fs ≡ at_ledger ledgers t change
+changed_is ledgers es fs t own after change is here set changed =
+    written_back ledgers es fs t after is set ∙ ap (insert ledgers t) changed ∙ sym (changed_at ledgers t own change (found_in ledgers es t (Some own) is here))
+
+-- it is written back as it was
+pub same_is : (ledgers : AllWords) (es fs : List (List ℕ × Words)) (t : List ℕ) (own after : Words) → from_entries es ≡ ledgers → Some own ≡ lookup (is_at (name_cmp t)) es
+    → ((q : List ℕ) → lookup (is_at (name_cmp q)) fs ≡ cond (is_at (name_cmp t) q) (Some after) (lookup (is_at (name_cmp q)) es)) → after ≡ own → from_entries fs ≡ ledgers
+same_is ledgers es fs t own after is here set same =
+    written_back ledgers es fs t after is set ∙ ap (insert ledgers t) same ∙ insert_same ledgers t own (found_in ledgers es t (Some own) is here)
+
+-- none is found, and empty is written
+pub unknown_is : (ledgers : AllWords) (es : List (List ℕ × Words)) (t : List ℕ) (change : Words → Words) → from_entries es ≡ ledgers → None ≡ lookup (is_at (name_cmp t)) es → from_entries es ≡ at_ledger ledgers t change
+unknown_is ledgers es t change is none = is ∙ sym (unchanged_at ledgers t change (found_in ledgers es t None is none))
+
+-- a new ledger is put in
+pub added_is : (ledgers : AllWords) (es fs : List (List ℕ × Words)) (t : List ℕ) (own : Words) (b : Bool) → from_entries es ≡ ledgers → b ≡ is_some (lookup (is_at (name_cmp t)) es) → b ≡ false
+    → ((q : List ℕ) → lookup (is_at (name_cmp q)) fs ≡ cond (is_at (name_cmp t) q) (Some own) (lookup (is_at (name_cmp q)) es)) → own ≡ empty → from_entries fs ≡ with_ledger ledgers t
+added_is ledgers es fs t own b is found absent set none =
+    written_back ledgers es fs t own is set ∙ ap (insert ledgers t) none
+    ∙ ap (λ c. cond c ledgers (insert ledgers t empty)) (sym absent ∙ there_is ledgers es t b is found)
+
+-- one that is there already stays
+pub there_already : (ledgers : AllWords) (es : List (List ℕ × Words)) (t : List ℕ) (b : Bool) → from_entries es ≡ ledgers → b ≡ is_some (lookup (is_at (name_cmp t)) es) → b ≡ true → ledgers ≡ with_ledger ledgers t
+there_already ledgers es t b is found there = ap (λ c. cond c ledgers (insert ledgers t empty)) (sym there ∙ there_is ledgers es t b is found)

@@ -1,0 +1,13 @@
+use Rattle.std.proofs.Common.{rules}
+use Rattle.ledgers.specs.Words.{published_words}
+use Rattle.ledgers.proofs.TenantEntries.{changed_is, unknown_is}
+use Rattle.ledgers.proofs.ledgers.Ledgers.publish.Goals as goal
+
+pub returns-in_default : goal.returns-in_default
+returns-in_default c =
+    rw c.get_mut.follows.holds-at-none (unknown_is c.args.self.now c.self.inside.tenants.entries c.args.tenant.now published_words c.self.view_is c.in_default.ensures.value)
+
+pub returns : goal.returns
+returns c =
+    let stays = (c.get_mut.follows.holds c.publish.new.self).3 (search rules) in
+    changed_is c.args.self.now c.self.inside.tenants.entries (c.get_mut.follows.lender c.publish.new.self).entries c.args.tenant.now c.in-Some.own.now c.publish.new.self published_words c.self.view_is c.in-Some.ensures.value stays.0 c.publish.ensures

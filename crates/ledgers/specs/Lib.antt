@@ -1,0 +1,6 @@
+pub mod Chosen
+pub mod Due
+pub mod Holders
+pub mod Ledgers
+pub mod Totals
+pub mod Words

@@ -1,0 +1,144 @@
+ghost use Rattle.std.specs.Prelude.{◌≡◌, ◌≤◌, ◌+◌, List, ℕ, OnOk, OnErr, IfOk, nat_le};
+ghost use Rattle.std.specs.BTreeSet.{contains};
+ghost use Rattle.std.specs.FinMap as map;
+ghost use Rattle.git_name.specs.Name.{name_cmp};
+ghost use Rattle.catalogue.specs.Counted.{count_of, places_of};
+ghost use Rattle.ledgers.specs.Due.{due_at, leaves_discarded, leaves_kept};
+ghost use Rattle.ledgers.specs.Totals.{capped, total_of, used_by};
+ghost use Rattle.ledgers.specs.Words.{discarded_words, is_visible, kept_words, published_words, staged_words, words_that};
+
+use crate::counting::{lower_left, lower_unseen};
+use crate::word::{Word, word_over};
+use crate::words::{keep_among, put, see_all, seen_names, size_of, unstage_all, uses};
+use catalogue::Catalogue;
+use git_name::{Kind, Name};
+use std::alloc::{AllocError, Global};
+use std::collections::{BTreeMap, BTreeSet};
+use std::marker::Model;
+
+/// What is known of one tenant's objects without their bytes, and what they use, those that it sees
+/// and all of them.
+#[derive(Drop)]
+pub struct Ledger {
+    words: BTreeMap<Name, Word>,
+    used: u128,
+    total: u128,
+}
+
+impl Model for Ledger {
+    ghost use Rattle.std.specs.FinMap.{from_entries};
+    ghost use Rattle.ledgers.specs.Totals.{IsTotalled};
+    ghost use Rattle.ledgers.specs.Words.{Words, words_code};
+
+    ghost Value = { Words };
+
+    ghost coded = { words_code };
+
+    ghost view = { λ a. from_entries a.words.entries };
+
+    ghost invariant = { λ a. IsTotalled (from_entries a.words.entries) a.used a.total };
+}
+
+impl Ledger {
+    /// No words.
+    pub fn new(alloc: Global) -> Ledger
+        ensures { result ≡ map.empty }
+    {
+        Ledger {
+            words: BTreeMap::new(alloc),
+            used: 0,
+            total: 0,
+        }
+    }
+
+    /// The word of a name.
+    pub fn get(&self, name: Name) -> Option<Word>
+        ensures { result ≡ map.get self.now name }
+    {
+        self.words.get(&name).copied()
+    }
+
+    /// The names of what the tenant sees, ascending.
+    pub fn names(&self, alloc: Global) -> Result<Vec<Name>, AllocError>
+        ensures { IfOk result (λ names. names.items ≡ map.keys (words_that is_visible self.now)) }
+    {
+        seen_names(alloc, &self.words)
+    }
+
+    /// What the objects use that the tenant sees, in constant time.
+    pub fn used(&self) -> u128
+        ensures { result ≡ capped (used_by self.now) }
+    {
+        self.used
+    }
+
+    /// Whether all objects use so much at the most, in constant time.
+    pub fn is_within(&self, limit: u64) -> bool
+        ensures { result ≡ nat_le (total_of self.now) limit }
+    {
+        self.total <= limit as u128
+    }
+
+    /// Stages an object. Where there is a word of its name, that one's kind and length stay.
+    pub fn stage(&mut self, name: Name, kind: Kind, length: u64) -> Result<(), AllocError>
+        ensures ok { OnOk result (self.new ≡ staged_words name kind length self.old) }
+        ensures err { OnErr result (self.new ≡ self.old) }
+    {
+        let before = self.get(name);
+        let word = word_over(kind, length, before);
+        let Ok(()) = put(&mut self.words, name, word) else {
+            return Err(AllocError);
+        };
+        if before.is_some() {
+            return Ok(());
+        }
+        self.total = self.total.saturating_add(size_of(length));
+        Ok(())
+    }
+
+    /// What is staged becomes visible. It takes no memory.
+    pub fn publish(&mut self)
+        ensures { self.new ≡ published_words self.old }
+    {
+        see_all(&mut self.words);
+        self.used = self.total;
+    }
+
+    /// What is staged goes. It takes no memory.
+    pub fn discard(&mut self)
+        ensures { self.new ≡ discarded_words self.old }
+    {
+        unstage_all(&mut self.words);
+        self.total = self.used;
+    }
+
+    /// Of what is visible keeps these names alone. It takes no memory.
+    pub fn keep_only(&mut self, names: &BTreeSet<Name>)
+        ensures { self.new ≡ kept_words (λ name. contains name_cmp names.now name) self.old }
+    {
+        keep_among(&mut self.words, names);
+        let (used, total) = uses(&self.words);
+        self.used = used;
+        self.total = total;
+    }
+
+    /// Lowers the numbers of the names that leave by `discard`. It takes no memory.
+    pub fn lower_staged(&self, catalogue: &mut Catalogue)
+        requires { (q : List ℕ) → due_at leaves_discarded self.now q ≤ count_of catalogue.old q }
+        ensures places { places_of catalogue.new ≡ places_of catalogue.old }
+        ensures counts { (q : List ℕ) → count_of catalogue.new q + due_at leaves_discarded self.now q ≡ count_of catalogue.old q }
+    {
+        let _count = self.words.len();
+        lower_unseen(&self.words, catalogue);
+    }
+
+    /// Lowers the numbers of the names that leave by `keep_only`. It takes no memory.
+    pub fn lower_others(&self, names: &BTreeSet<Name>, catalogue: &mut Catalogue)
+        requires { (q : List ℕ) → due_at (leaves_kept (contains name_cmp names.now)) self.now q ≤ count_of catalogue.old q }
+        ensures places { places_of catalogue.new ≡ places_of catalogue.old }
+        ensures counts { (q : List ℕ) → count_of catalogue.new q + due_at (leaves_kept (contains name_cmp names.now)) self.now q ≡ count_of catalogue.old q }
+    {
+        let _count = self.words.len();
+        lower_left(&self.words, names, catalogue);
+    }
+}

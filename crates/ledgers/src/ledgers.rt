@@ -1,0 +1,120 @@
+ghost use Rattle.std.specs.Prelude.{◌≡◌, OnOk, OnErr};
+ghost use Rattle.std.specs.BTreeSet.{contains};
+ghost use Rattle.std.specs.FinMap as map;
+ghost use Rattle.std.specs.Option.{option_copied};
+ghost use Rattle.git_name.specs.Name.{name_cmp};
+ghost use Rattle.ledgers.specs.Ledgers.{at_ledger, with_ledger};
+ghost use Rattle.ledgers.specs.Words.{discarded_words, kept_words, published_words, staged_words};
+
+use crate::ledger::Ledger;
+use fork_request::TenantName;
+use git_name::{Kind, Name};
+use std::alloc::{AllocError, Global};
+use std::collections::{BTreeMap, BTreeSet};
+use std::marker::Model;
+
+/// The ledgers of all tenants.
+#[derive(Drop)]
+pub struct Ledgers {
+    tenants: BTreeMap<TenantName, Ledger>,
+}
+
+impl Model for Ledgers {
+    ghost use Rattle.std.specs.FinMap.{from_entries};
+    ghost use Rattle.ledgers.specs.Ledgers.{AllWords, ledgers_code};
+
+    ghost Value = { AllWords };
+
+    ghost coded = { ledgers_code };
+
+    ghost view = { λ a. from_entries a.tenants.entries };
+}
+
+impl Ledgers {
+    /// No tenants.
+    pub fn new(alloc: Global) -> Ledgers
+        ensures { result ≡ map.empty }
+    {
+        Ledgers {
+            tenants: BTreeMap::new(alloc),
+        }
+    }
+
+    /// How many tenants there are.
+    pub fn len(&self) -> usize
+        ensures { result ≡ map.len self.now }
+    {
+        self.tenants.len()
+    }
+
+    /// A tenant's ledger.
+    pub fn get(&self, tenant: &TenantName) -> Option<&Ledger>
+        ensures { option_copied result ≡ map.get self.now tenant.now }
+    {
+        self.tenants.get(tenant)
+    }
+
+    /// Adds a tenant whose ledger has no words, unless it is there.
+    pub fn add(&mut self, alloc: Global, tenant: TenantName) -> Result<(), AllocError>
+        ensures ok { OnOk result (self.new ≡ with_ledger self.old tenant) }
+        ensures err { OnErr result (self.new ≡ self.old) }
+    {
+        if self.tenants.contains_key(&tenant) {
+            return Ok(());
+        }
+        match self.tenants.insert(tenant, Ledger::new(alloc)) {
+            Ok(_) => Ok(()),
+            Err(_) => Err(AllocError),
+        }
+    }
+
+    /// Stages an object for a tenant.
+    pub fn stage(
+        &mut self,
+        tenant: &TenantName,
+        name: Name,
+        kind: Kind,
+        length: u64,
+    ) -> Result<(), AllocError>
+        ensures ok { OnOk result (self.new ≡ at_ledger self.old tenant.now (staged_words name kind length)) }
+        ensures err { OnErr result (self.new ≡ self.old) }
+    {
+        let Some(own) = self.tenants.get_mut(tenant) else {
+            return Ok(());
+        };
+        let Ok(()) = own.stage(name, kind, length) else {
+            return Err(AllocError);
+        };
+        Ok(())
+    }
+
+    /// What a tenant has staged becomes visible to it. It takes no memory.
+    pub fn publish(&mut self, tenant: &TenantName)
+        ensures { self.new ≡ at_ledger self.old tenant.now published_words }
+    {
+        let Some(own) = self.tenants.get_mut(tenant) else {
+            return;
+        };
+        own.publish();
+    }
+
+    /// What a tenant has staged goes. It takes no memory.
+    pub fn discard(&mut self, tenant: &TenantName)
+        ensures { self.new ≡ at_ledger self.old tenant.now discarded_words }
+    {
+        let Some(own) = self.tenants.get_mut(tenant) else {
+            return;
+        };
+        own.discard();
+    }
+
+    /// Of what a tenant sees, keeps these names alone. It takes no memory.
+    pub fn keep_only(&mut self, tenant: &TenantName, names: &BTreeSet<Name>)
+        ensures { self.new ≡ at_ledger self.old tenant.now (kept_words (λ name. contains name_cmp names.now name)) }
+    {
+        let Some(own) = self.tenants.get_mut(tenant) else {
+            return;
+        };
+        own.keep_only(names);
+    }
+}

@@ -1,0 +1,131 @@
+ghost use Rattle.std.specs.Prelude.{◌≡◌, Some, is_some, not, if◌then◌else◌};
+ghost use Rattle.ledgers.specs.Words.{is_staged, is_visible, kept_as, kept_word, seen_word, staged_over, staged_too, unstaged_word};
+
+use git_name::Kind;
+
+/// Whether a tenant sees an object, has staged it, or both.
+#[derive(Clone, Copy, Debug, PartialEq, Eq)]
+pub enum Standing {
+    Visible,
+    Staged,
+    Both,
+}
+
+/// What a ledger says of an object: its kind, the bytes of its content, and how it stands with the
+/// tenant.
+#[derive(Clone, Copy, Debug, PartialEq, Eq)]
+pub struct Word {
+    pub kind: Kind,
+    pub length: u64,
+    pub standing: Standing,
+}
+
+impl Word {
+    /// Whether the tenant sees the object.
+    pub fn is_visible(&self) -> bool
+        ensures { result ≡ is_visible self.now }
+    {
+        match self.standing {
+            Standing::Visible => true,
+            Standing::Staged => false,
+            Standing::Both => true,
+        }
+    }
+
+    /// Whether the tenant has staged the object.
+    pub fn is_staged(&self) -> bool
+        ensures { result ≡ is_staged self.now }
+    {
+        match self.standing {
+            Standing::Visible => false,
+            Standing::Staged => true,
+            Standing::Both => true,
+        }
+    }
+}
+
+// How an object stands that is staged beside what it was.
+fn staged_beside(standing: Standing) -> Standing
+    ensures { result ≡ staged_too standing }
+{
+    match standing {
+        Standing::Visible => Standing::Both,
+        Standing::Staged => Standing::Staged,
+        Standing::Both => Standing::Both,
+    }
+}
+
+// The word of an object that is staged now, where its ledger said this of it before.
+pub(crate) fn word_over(kind: Kind, length: u64, before: Option<Word>) -> Word
+    ensures { result ≡ staged_over kind length before }
+{
+    match before {
+        Some(word) => Word {
+            kind: word.kind,
+            length: word.length,
+            standing: staged_beside(word.standing),
+        },
+        None => Word {
+            kind,
+            length,
+            standing: Standing::Staged,
+        },
+    }
+}
+
+// What is staged is seen. Answers that the word stays.
+pub(crate) fn see(word: &mut Word) -> bool
+    ensures { kept_as result word.new ≡ Some (seen_word word.old) }
+{
+    word.standing = Standing::Visible;
+    true
+}
+
+// What is staged is staged no more. Answers whether the word stays.
+pub(crate) fn unstage(word: &mut Word) -> bool
+    ensures { kept_as result word.new ≡ unstaged_word word.old }
+{
+    match word.standing {
+        Standing::Visible => true,
+        Standing::Staged => false,
+        Standing::Both => {
+            word.standing = Standing::Visible;
+            true
+        }
+    }
+}
+
+// What is seen goes, unless it is among what is kept. Answers whether the word stays.
+pub(crate) fn keep(word: &mut Word, is_kept: bool) -> bool
+    ensures { kept_as result word.new ≡ kept_word is_kept word.old }
+{
+    match word.standing {
+        Standing::Visible => is_kept,
+        Standing::Staged => true,
+        Standing::Both => {
+            word.standing = both_or_staged(is_kept);
+            true
+        }
+    }
+}
+
+fn both_or_staged(is_kept: bool) -> Standing
+    ensures { result ≡ (if is_kept then Standing.Both else Standing.Staged) }
+{
+    if is_kept {
+        Standing::Both
+    } else {
+        Standing::Staged
+    }
+}
+
+// Whether a word goes as only what is kept stays visible.
+pub(crate) fn goes(word: &Word, is_kept: bool) -> bool
+    ensures { result ≡ not (is_some (kept_word is_kept word.now)) }
+{
+    match word.standing {
+        Standing::Visible => !is_kept,
+        Standing::Staged => false,
+        Standing::Both => false,
+    }
+}

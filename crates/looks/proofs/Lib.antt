@@ -1,0 +1,4 @@
+pub mod ComeLemmas
+pub mod HeldLemmas
+pub mod RoundLemmas
+pub mod SliceLemmas

@@ -1,5 +1,8 @@
 -- What holds of an answer over any store, also over one that does not give what it was given.
-use Rattle.std.specs.Prelude.{◌≡◌, false}
+use Rattle.std.specs.Prelude.{◌≡◌, ℕ, false, List, ⊤}
+use Rattle.fork_query.specs.Objects.{AreRecords, IsRecordUnder}
+use Rattle.fork_request.specs.Asked.{Ask, AsksObject, Fetches}
+use Rattle.fork_request.specs.declared.reply.Reply.TheVariants.{Done}
 use Rattle.fork_request.specs.Told.{is_done}
 use Rattle.fork_request.specs.declared.reply.Reply.{Reply}
 use Rattle.fork_model.specs.Sound.{IsOrderly}
@@ -11,3 +14,13 @@ pub record IsSafe (Within : Reply → Type 0) (old : View) (reply : Reply) (new 
   pub orderly : IsOrderly old → IsOrderly new
   pub kept : is_done reply ≡ false → shape_of new ≡ shape_of old
   pub faults : Within reply
+
+-- what is answered under a name has that name: the record that `cat-file` gives is of an object of the name that was asked for, and
+-- those that `fetch` gives are each of an object under its own name
+abbrev pub IsNamedText : Ask → List ℕ → Type 0
+IsNamedText (AsksObject name) text = IsRecordUnder name text
+IsNamedText (Fetches repository items) text = AreRecords text
+IsNamedText ask text = ⊤
+
+abbrev pub IsNamedReply : Ask → Reply → Type 0
+IsNamedReply ask reply = (text : List ℕ) → reply ≡ Done text → IsNamedText ask text

@@ -13,7 +13,7 @@ ghost use Rattle.fork_host.specs.Bounds.{IsBounded};
 ghost use Rattle.fork_model.specs.Answer.{answer};
 ghost use Rattle.fork_host.specs.Own.{IsOwn, IsReady};
 ghost use Rattle.fork_host.specs.Rows.{YieldsOver};
-ghost use Rattle.fork_host.specs.Safe.{IsSafe};
+ghost use Rattle.fork_host.specs.Safe.{IsNamedReply, IsSafe};
 ghost use Rattle.fork_host.specs.Sent.{sent_by, sent_in_world};
 ghost use Rattle.fork_host.specs.Shape.{SameShape};
 ghost use Rattle.fork_host.specs.Shown.{Account, IsWhole, Trusted, shown, state_of, world_of};
@@ -136,6 +136,7 @@ impl Accounts {
         // Over any store.
         ensures kept { is_done result ≡ false → (tenant : List ℕ) → SameShape tenant (world_of (state_of self.old vault.old)) (world_of (state_of self.new vault.new)) }
         ensures others { (tenant : List ℕ) → tenant ≢ name.now → SameShape tenant (world_of (state_of self.old vault.old)) (world_of (state_of self.new vault.new)) }
+        ensures named { IsNamedReply (ask_of request.entry) result }
         ensures faults { IsBounded (sent_in_world (world_of (state_of self.old vault.old)) name.now (ask_of request.entry)) vault.old vault.new result }
     {
         let Some(tenant) = self.tenants.get_mut(name) else {
@@ -156,6 +157,7 @@ fn answer_from<S: LooseFiles>(
     requires ready { IsReady vault.old name.now tenant.old.limit }
     ensures row { YieldsOver vault.old.honest (answer (shown tenant.old vault.old name.now) (ask_of request.entry)) (shown tenant.old vault.old name.now) result (shown tenant.new vault.new name.now) }
     ensures safe { IsSafe (IsBounded (sent_by (shown tenant.old vault.old name.now) (ask_of request.entry)) vault.old vault.new) (shown tenant.old vault.old name.now) result (shown tenant.new vault.new name.now) }
+    ensures named { IsNamedReply (ask_of request.entry) result }
     ensures own { IsOwn name.now vault.old vault.new }
 {
     let mut own = Own::new(vault, name);

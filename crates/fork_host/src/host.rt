@@ -13,6 +13,7 @@ ghost use Rattle.fork_ledger.specs.Store.{IsOver, LeavesStore};
 ghost use Rattle.fork_ledger.specs.Tenants.{with_tenant};
 ghost use Rattle.fork_host.specs.Adding.{new_account, new_view, refusal_to_add};
 ghost use Rattle.fork_host.specs.Faults.{FaultsAlong, FaultsWithin};
+ghost use Rattle.fork_host.specs.Safe.{IsNamedReply};
 ghost use Rattle.fork_host.specs.Shape.{SameShape};
 ghost use Rattle.fork_host.specs.Shown.{Trusted, world_of};
 
@@ -142,7 +143,8 @@ impl<S: LooseFiles> Host<S> {
         ensures kept { is_done result ≡ false → (tenant : List ℕ) → SameShape tenant (world_of self.old) (world_of self.new) }
         ensures others { (tenant : List ℕ) → tenant ≢ name.now → SameShape tenant (world_of self.old) (world_of self.new) }
 
-        // Which host faults may come.
+        // Over any store too: what is answered under a name has that name, and which host faults may come.
+        ensures named { IsNamedReply (ask_of request.entry) result }
         ensures faults { FaultsWithin self.old (Asks name.now (ask_of request.entry)) result self.new }
     {
         self.accounts.answer(alloc, &mut self.vault, name, request)

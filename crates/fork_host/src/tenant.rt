@@ -5,7 +5,7 @@ ghost use Rattle.fork_host.specs.Adding.{new_account};
 ghost use Rattle.fork_host.specs.Bounds.{IsBounded};
 ghost use Rattle.fork_host.specs.Handle.{Ready, Uses, shown_by};
 ghost use Rattle.fork_host.specs.Rows.{YieldsOver};
-ghost use Rattle.fork_host.specs.Safe.{IsSafe};
+ghost use Rattle.fork_host.specs.Safe.{IsNamedReply, IsSafe};
 ghost use Rattle.fork_host.specs.Sent.{sent_by};
 ghost use Rattle.fork_host.specs.Shown.{shown};
 
@@ -74,6 +74,7 @@ impl Tenant {
         requires ready { Ready own.old self.old.limit }
         ensures row { YieldsOver own.old.vault.now.honest (answer (shown_by self.old own.old) (ask_of request.entry)) (shown_by self.old own.old) result (shown self.new own.new.vault.now own.old.tenant.now) }
         ensures safe { IsSafe (IsBounded (sent_by (shown_by self.old own.old) (ask_of request.entry)) own.old.vault.now own.new.vault.now) (shown_by self.old own.old) result (shown self.new own.new.vault.now own.old.tenant.now) }
+        ensures named { IsNamedReply (ask_of request.entry) result }
         ensures own { Uses own.old own.new }
     {
         match request {

@@ -5,7 +5,8 @@ ghost use Rattle.fork_model.specs.Answer.{cat_file_answer, fetch_answer, ls_tree
 ghost use Rattle.fork_host.specs.Bounds.{IsBounded};
 ghost use Rattle.fork_host.specs.Handle.{Ready, Uses, shown_by};
 ghost use Rattle.fork_host.specs.Rows.{Yields};
-ghost use Rattle.fork_host.specs.Safe.{IsSafe};
+ghost use Rattle.fork_host.specs.Safe.{IsNamedReply, IsSafe};
+ghost use Rattle.fork_request.specs.Asked.{AsksObject, Fetches};
 ghost use Rattle.fork_host.specs.Shown.{shown};
 
 use crate::items::has_many;
@@ -29,6 +30,7 @@ impl Tenant {
     ) -> Reply
         requires ready { Ready own.old self.now.limit }
         ensures row { IsTrue own.old.vault.now.honest → Yields (cat_file_answer (shown_by self.now own.old) name) (shown_by self.now own.old) result (shown self.now own.new.vault.now own.old.tenant.now) }
+        ensures named { IsNamedReply (AsksObject name) result }
         ensures safe { IsSafe (IsBounded [] own.old.vault.now own.new.vault.now) (shown_by self.now own.old) result (shown self.now own.new.vault.now own.old.tenant.now) }
         ensures own { Uses own.old own.new }
     {
@@ -112,6 +114,7 @@ impl Tenant {
     ) -> Reply
         requires ready { Ready own.old self.now.limit }
         ensures row { IsTrue own.old.vault.now.honest → Yields (fetch_answer (shown_by self.now own.old) word.now (words_of items.now)) (shown_by self.now own.old) result (shown self.now own.new.vault.now own.old.tenant.now) }
+        ensures named { IsNamedReply (Fetches word.now (words_of items.now)) result }
         ensures safe { IsSafe (IsBounded [] own.old.vault.now own.new.vault.now) (shown_by self.now own.old) result (shown self.now own.new.vault.now own.old.tenant.now) }
         ensures own { Uses own.old own.new }
     {

@@ -11,12 +11,12 @@ pub enum Standing {
     Both,
 }
 
-/// What a ledger says of an object: its kind, the bytes of its content, and how it stands with the
-/// tenant.
+/// What a ledger says of an object: the bytes of its content, its kind, and how it stands with the
+/// tenant. The length stands first, so that a word takes 16 bytes.
 #[derive(Clone, Copy, Debug, PartialEq, Eq)]
 pub struct Word {
-    pub kind: Kind,
     pub length: u64,
+    pub kind: Kind,
     pub standing: Standing,
 }
 

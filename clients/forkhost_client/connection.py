@@ -3,7 +3,7 @@ import socket
 import threading
 from typing import Callable, Optional
 
-from .faults import Fatal
+from .faults import Fatal, Lost
 from .frames import DONE, LONGEST_HEAD, MAX_PAYLOAD, bytes_of, frame, length_of, not_done, text_of
 
 # Seconds without a first reply, after which a person is told that the host serves somebody else.
@@ -73,10 +73,10 @@ class Connection:
             self.stream.sendall(frame(self.tenant, bytes_of(line) + b"\n" + body))
             head = self.reader.readline(LONGEST_HEAD)
         except OSError as fault:
-            raise Fatal(f"the host ended the connection: {fault.strerror or fault}") from fault
+            raise Lost(f"the host ended the connection: {fault.strerror or fault}") from fault
         self.timer.cancel()
         if not head:
-            raise Fatal("the host ended the connection")
+            raise Lost("the host ended the connection")
         return self.answer(length_of(head))
 
     def answer(self, length: int) -> Data:
@@ -85,7 +85,7 @@ class Connection:
             self.data = Data(self.reader, length - len(begun))
             return self.data
         if length > LONGEST_REFUSAL:
-            raise Fatal("what was read is no reply of a forkhost")
+            raise Lost("what was read is no reply of a forkhost")
         raise not_done(begun + exactly(self.reader, length - len(begun)))
 
     def text(self, line: str) -> str:
@@ -97,7 +97,7 @@ def exactly(reader, count: int) -> bytes:
     try:
         data = reader.read(count)
     except OSError as fault:
-        raise Fatal(f"the host ended the connection: {fault.strerror or fault}") from fault
+        raise Lost(f"the host ended the connection: {fault.strerror or fault}") from fault
     if len(data) != count:
-        raise Fatal("the host ended the connection within a reply")
+        raise Lost("the host ended the connection within a reply")
     return data

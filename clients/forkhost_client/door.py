@@ -6,7 +6,7 @@ import signal
 import socket
 from typing import BinaryIO, Optional, Tuple
 
-from .faults import Fatal
+from .faults import Lost
 from .frames import BAD_FRAME, LONGEST_HEAD, MAX_PAYLOAD, bytes_of, frame, framed, length_of
 
 # Seconds without a byte from the user, after which the process ends, and the host is free for the next one.
@@ -61,13 +61,13 @@ class Host:
         self.stream.sendall(given)
         head = self.reader.readline(LONGEST_HEAD)
         if not head:
-            raise Fatal("the host ended the connection")
+            raise Lost("the host ended the connection")
         left = length_of(head)
         sink.write(head)
         while left:
             piece = self.reader.read1(min(left, PIECE))
             if not piece:
-                raise Fatal("the host ended the connection")
+                raise Lost("the host ended the connection")
             sink.write(piece)
             left -= len(piece)
         sink.flush()

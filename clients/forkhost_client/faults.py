@@ -5,6 +5,10 @@ class Fatal(Exception):
     """The work can not go on; the text says why, for a person."""
 
 
+class Lost(Fatal):
+    """A reply was not read, so whether the request was carried out is not known."""
+
+
 class HostFault(Fatal):
     """The host failed at a request, and changed nothing by it."""
 

@@ -1,5 +1,5 @@
 """A fetch: what Git wants, in few requests, in one pack."""
-from typing import List, Optional
+from typing import Dict, List, Optional
 
 from .listing import Listing
 from .negotiation import MAX_EXCLUDED, MAX_ITEMS, common
@@ -16,11 +16,17 @@ class Fetch:
     def __init__(self, repository: Repository, remote: Remote, listing: Listing, options: Options, pack: Pack):
         self.repository, self.remote, self.pack = repository, remote, pack
         self.listing, self.options = listing, options
-        # All that these commits lead to is here. In a repository that was cut short, nothing is known to be whole.
-        is_whole = not options.refetch and not repository.is_shallow()
-        self.history = repository.history() if is_whole else {}
+        self.history: Dict[str, List[str]] = {}
+
+    def is_whole(self, wanted: List[str]) -> bool:
+        """Whether all that the history here leads to is here, or need not be.
+
+        Not so where it was cut short; and not where objects are elsewhere, and one of them is wanted by its name."""
+        is_listed = set(self.listing.refs.values()).issuperset(wanted)
+        return not self.options.refetch and not self.repository.is_shallow() and (is_listed or not self.repository.is_partial())
 
     def carry_out(self, wanted: List[str]) -> None:
+        self.history = self.repository.history() if self.is_whole(wanted) else {}
         targets = [name for name in self.targets(wanted) if name not in self.history]
         commits = [name for name in targets if self.listing.kind(name) == "commit"]
         listed = self.listing.refs.values()

@@ -2,7 +2,7 @@
 import re
 from typing import Iterable, List, Tuple
 
-from .faults import Fatal, HostFault, Refused
+from .faults import Fatal, HostFault, Lost, Refused
 
 MAX_PAYLOAD = 1_048_576
 DONE = b"ok\n"
@@ -54,7 +54,7 @@ def length_of(head: bytes) -> int:
         raise Fatal("the host took the request for no frame, and ended the connection")
     found = LENGTH.fullmatch(head)
     if not found:
-        raise Fatal("what was read is no reply of a forkhost")
+        raise Lost("what was read is no reply of a forkhost")
     return int(found[1])
 
 
@@ -65,4 +65,4 @@ def not_done(reply: bytes) -> Exception:
         return Refused(refusal[1].decode(), text_of(refusal[2] or b""))
     if fault:
         return HostFault(fault[1].decode())
-    return Fatal("what was read is no reply of a forkhost")
+    return Lost("what was read is no reply of a forkhost")

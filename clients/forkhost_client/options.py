@@ -1,5 +1,5 @@
 """What Git asks of the helper by `option` lines."""
-from typing import Callable, Dict
+from typing import Callable, Dict, Set
 
 # Said by Git, and of no meaning here.
 PASSED_OVER = ("check-connectivity", "cloning", "family", "force", "servpath")
@@ -20,6 +20,7 @@ class Options:
         self.warn = warn
         self.verbosity, self.object_format = 1, False
         self.progress = self.dry_run = self.atomic = self.followtags = self.refetch = False
+        self.ignored: Set[str] = set()
         # Of each reference that is pushed with a lease, the target that it must have.
         self.leases: Dict[str, str] = {}
 
@@ -37,11 +38,17 @@ class Options:
             ref, _, target = value.rpartition(":")
             self.leases[ref] = target
         elif name in IGNORED:
-            self.warn(f"{IGNORED[name]}: all of the history comes, whole")
+            self.ignore(name)
             return "unsupported"
         elif name not in PASSED_OVER:
             return "unsupported"
         return "ok"
+
+    def ignore(self, name: str) -> None:
+        """Says it once; Git may ask twice."""
+        if name not in self.ignored:
+            self.warn(f"{IGNORED[name]}: all of the history comes, whole")
+        self.ignored.add(name)
 
     def take_truth(self, name: str, value: str) -> str:
         if value not in TRUTHS:

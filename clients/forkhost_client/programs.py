@@ -25,6 +25,11 @@ def leave_signals() -> None:
     signal.signal(signal.SIGINT, signal.SIG_DFL)
 
 
+def nobody_reads() -> None:
+    """Whoever read standard output is gone: what is left of it goes nowhere."""
+    os.dup2(os.open(os.devnull, os.O_WRONLY), sys.stdout.fileno())
+
+
 def remote_helper(words: List[str]) -> int:
     """`git-remote-forkhost REMOTE URL`."""
     leave_signals()
@@ -40,6 +45,7 @@ def remote_helper(words: List[str]) -> int:
         say(str(fault))
         return FATAL
     except BrokenPipeError:
+        nobody_reads()
         return FATAL
 
 
@@ -69,6 +75,7 @@ def ask(words: List[str]) -> int:
         sys.stderr.buffer.write(b"forkhost-ask: " + bytes_of(str(fault)) + b"\n")
         return FAULT
     except BrokenPipeError:
+        nobody_reads()
         return FAULT
 
 
@@ -82,6 +89,9 @@ def door(words: List[str]) -> int:
         return DONE
     except Fatal as fault:
         print(f"forkhost-door: {fault}", file=sys.stderr)
+    except BrokenPipeError:
+        nobody_reads()
+        return DONE
     except OSError as fault:
         print(f"forkhost-door: {fault.strerror or fault}", file=sys.stderr)
     return FAULT

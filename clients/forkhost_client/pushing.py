@@ -2,7 +2,7 @@
 from typing import List
 
 from .address import Address
-from .faults import Fatal, Refused
+from .faults import Fatal, Lost, Refused
 from .listing import Listing
 from .options import Options
 from .plan import Plan, plan, too_large
@@ -29,6 +29,8 @@ class Push:
         try:
             for at in range(0, len(due), MAX_COMMANDS):
                 self.transact(due[at : at + MAX_COMMANDS])
+        except Lost as fault:
+            refuse(due, f"{fault}; whether it is done is not known, so fetch and look")
         except Fatal as fault:
             refuse(due, str(fault))
 

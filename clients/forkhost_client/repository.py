@@ -44,6 +44,10 @@ class Repository:
     def is_shallow(self) -> bool:
         return self.answer("rev-parse", "--is-shallow-repository") == "true"
 
+    def is_partial(self) -> bool:
+        """Whether objects that references lead to may be elsewhere."""
+        return self.answer("config", "--get-regexp", r"^(extensions\.partialclone|remote\..*\.promisor)$") is not None
+
     def objects_folder(self) -> str:
         return os.path.abspath(self.output("rev-parse", "--git-path", "objects").rstrip("\n"))
 

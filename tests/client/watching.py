@@ -66,8 +66,8 @@ class Watcher:
                 line = payload.partition(b"\n")[0].decode("utf-8", "surrogateescape")
                 self.asked.append(Asked(self.connections, line, len(payload), len(reply)))
                 given = self.meddle(line, reply) if self.meddle else reply
-                stream.sendall(reply if given is None else given)
-                if given is None or given != reply:
+                stream.sendall(given or b"")
+                if given != reply:
                     return
 
     def taken(self):

@@ -78,10 +78,10 @@ class World:
         child = self.begun(*words, at=at, more=more)
         return ended(child, given)
 
-    def begun(self, *words, at=None, more=None):
-        pipe = subprocess.PIPE
-        where, outer = self.path(at or ""), {**self.environment, **(more or {})}
-        return subprocess.Popen(words, cwd=where, env=outer, stdin=pipe, stdout=pipe, stderr=pipe)
+    def begun(self, *words, at=None, more=None, alone=False):
+        """A command that runs; where it is alone, it and all that it begins can be ended at once."""
+        pipe, where, outer = subprocess.PIPE, self.path(at or ""), {**self.environment, **(more or {})}
+        return subprocess.Popen(words, cwd=where, env=outer, stdin=pipe, stdout=pipe, stderr=pipe, start_new_session=alone)
 
     def git(self, at, *words, given=b"", more=None):
         return self.ran("git", *words, at=at, given=given, more=more)

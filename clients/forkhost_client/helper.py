@@ -12,7 +12,7 @@ from .progress import say
 from .pushing import Push, chosen
 from .remote import Remote
 from .repository import Repository
-from .updates import read_update
+from .updates import read_updates
 from .words import told
 
 CAPABILITIES = ["fetch", "push", "option", "object-format"]
@@ -97,7 +97,7 @@ class Helper:
     def push(self, batch: List[str]) -> Iterator[str]:
         self.want_format()
         listing = self.listing or self.listed(True)
-        updates = [read_update(line, listing, self.options.leases, self.repository) for line in batch]
+        updates = read_updates(batch, listing, self.options.leases, self.repository)
         good = chosen(updates, self.repository, self.options.atomic)
         if good:
             with self.connect() as remote:

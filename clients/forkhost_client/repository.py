@@ -1,5 +1,6 @@
 """The repository that Git works in, asked by Git's own commands."""
 import os
+import re
 import subprocess
 import threading
 from typing import BinaryIO, Dict, Iterable, Iterator, List, Mapping, Optional, Tuple
@@ -10,6 +11,7 @@ from .records import Size
 
 # Set in the children of a helper, so that a helper which a child starts can tell.
 NESTED = "FORKHOST_HELPER"
+NAME = re.compile("[0-9a-f]{64}")
 
 
 def environment(outer: Mapping[str, str]) -> Dict[str, str]:
@@ -56,9 +58,13 @@ class Repository:
         values = (self.answer("config", f"--type={kind}", name) for name in names)
         return next((value for value in values if value is not None), None)
 
-    def resolve(self, revision: str) -> Optional[str]:
-        """The name of an object by a revision. A whole name stands for itself, also where its object is not here."""
-        return self.answer("rev-parse", "-q", "--verify", "--end-of-options", revision)
+    def resolve(self, revisions: List[str]) -> List[Optional[str]]:
+        """The names of objects here by revisions, each in its place; None for what names none."""
+        given = lines(revisions)
+        if not given:
+            return []
+        rows = self.output("cat-file", "--batch-check=%(objectname)", "--buffer", given=given).split("\n")
+        return [row if NAME.fullmatch(row) else None for row in rows[: len(revisions)]]
 
     def present(self, names: Iterable[str]) -> Dict[str, Size]:
         """Those of the names whose objects are here."""
@@ -74,21 +80,17 @@ class Repository:
         rows = self.output("for-each-ref", "--sort=-committerdate", f"--format={form}").splitlines()
         pairs = [row.split(" ") for row in rows]
         found = [row[at] for row in pairs for at in (0, 2) if row[at + 1 : at + 2] == ["commit"]]
-        head = self.answer("rev-parse", "-q", "--verify", "HEAD^{commit}")
+        head = self.head()
         return list(dict.fromkeys(found + ([head] if head else [])))
+
+    def head(self) -> Optional[str]:
+        return self.answer("rev-parse", "-q", "--verify", "HEAD^{commit}")
 
     def history(self) -> Dict[str, List[str]]:
         """Each commit that references and HEAD lead to, with its parents."""
-        tips = ["--all", *(["HEAD"] if self.resolve("HEAD") else [])]
+        tips = ["--all", *(["HEAD"] if self.head() else [])]
         rows = (row.split(" ") for row in self.output("rev-list", "--parents", *tips).splitlines())
         return {name: parents for name, *parents in rows}
-
-    def is_commit(self, name: str) -> bool:
-        """Whether this is a commit, or a tag of one."""
-        return self.resolve(name + "^{commit}") is not None
-
-    def is_ancestor(self, old: str, new: str) -> bool:
-        return self.answer("merge-base", "--is-ancestor", old, new) is not None
 
     def reached(self, wanted: Iterable[str], excluded: Iterable[str]) -> Dict[str, str]:
         """Names that links lead to, each with a path at which it stands, or nothing; commits behind their parents."""

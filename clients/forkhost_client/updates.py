@@ -1,9 +1,8 @@
 """Changes of references that Git asks for, and what stands against each before the host is asked."""
-from typing import Dict, Iterable, List, Mapping, Optional
+from typing import List, Mapping, Optional
 
 from .listing import Listing
-from .records import Size
-from .repository import Repository
+from .repository import NAME, Repository
 
 ABSENT = "0" * 64
 # The host takes no longer names; a line with one could be too long to be told apart.
@@ -33,40 +32,43 @@ class Update:
         return f"error {self.ref} {self.refusal}" if self.refusal else f"ok {self.ref}"
 
 
-def read_update(row: str, listing: Listing, leases: Mapping[str, str], repository: Repository) -> Update:
-    """The update that a line `push [+]SOURCE:REF` asks for. A lease is a forced one that names the old target itself."""
-    source, _, ref = row[len("push ") :].rpartition(":")
-    forced, source = source.startswith("+") or ref in leases, source.lstrip("+")
-    new = (repository.resolve(source) or "") if source else ABSENT
-    update = Update(ref, source, leases.get(ref, listing.refs.get(ref, ABSENT)), new, forced)
-    if len(ref.encode("utf-8", "surrogateescape")) > LONGEST_REF:
-        update.refusal = f"the host takes names of references of at most {LONGEST_REF} bytes"
-    elif not new:
-        update.refusal = f"'{source}' names nothing here"
-    elif new == update.old == ABSENT:
-        update.refusal = "remote ref does not exist"
-    return update
+def read_updates(rows: List[str], listing: Listing, leases: Mapping[str, str], repository: Repository) -> List[Update]:
+    """The updates that lines `push [+]SOURCE:REF` ask for; with no source, deletions.
+
+    A lease is a forced update that names the old target itself. A whole name stands for itself wherever its object is."""
+    parts = [row[len("push ") :].rpartition(":") for row in rows]
+    sources = [source.lstrip("+") for source, _, _ in parts]
+    names = repository.resolve([source or ABSENT for source in sources])
+    updates = []
+    for (given, _, ref), source, name in zip(parts, sources, names):
+        new = (name or (source if NAME.fullmatch(source) else "")) if source else ABSENT
+        old = leases.get(ref, listing.refs.get(ref, ABSENT))
+        updates.append(Update(ref, source, old, new, given.startswith("+") or ref in leases))
+    return updates
 
 
-def why_not_forward(update: Update, here: Mapping[str, Size], repository: Repository) -> Optional[str]:
-    """Why an update that is not forced must not be made, in words that Git knows."""
-    if update.forced or ABSENT in (update.old, update.new):
-        return None
-    if update.ref.startswith("refs/tags/"):
-        return "already exists"
-    if update.old not in here:
-        return "fetch first"
-    if any(name in here and not repository.is_commit(name) for name in (update.old, update.new)):
-        return "needs force"
-    return None if repository.is_ancestor(update.old, update.new) else "non-fast forward"
+def why_not(update: Update) -> Optional[str]:
+    """What stands against an update by itself."""
+    if len(update.ref.encode("utf-8", "surrogateescape")) > LONGEST_REF:
+        return f"the host takes names of references of at most {LONGEST_REF} bytes"
+    if not update.new:
+        return f"'{update.source}' names nothing here"
+    return "remote ref does not exist" if update.new == update.old == ABSENT else None
 
 
-def judge(updates: Iterable[Update], repository: Repository) -> None:
-    """Git has judged the rows of the list; what has changed since, and what it leaves to the helper, is judged here."""
-    due = [update for update in updates if not update.refusal]
-    here: Dict[str, Size] = repository.present(name for update in due for name in (update.old, update.new))
-    for update in due:
-        update.refusal = why_not_forward(update, here, repository)
+def judge(updates: List[Update], repository: Repository) -> None:
+    """Git has judged each update by the list, and leaves two of its answers to the helper, in words that it knows."""
+    for update in updates:
+        update.refusal = why_not(update)
+    due = [one for one in updates if not one.refusal and not one.forced and ABSENT not in (one.old, one.new)]
+    due = [one for one in due if not one.ref.startswith("refs/tags/")]
+    here = repository.present(one.old for one in due)
+    commits = repository.resolve([f"{name}^{{commit}}" for one in due for name in (one.old, one.new)])
+    for at, update in enumerate(due):
+        if update.old not in here:
+            update.refusal = "fetch first"
+        elif None in commits[2 * at : 2 * at + 2]:
+            update.refusal = "needs force"
 
 
 def blamed(updates: List[Update], word: str, detail: str) -> List[Update]:

@@ -44,7 +44,8 @@ def show_asking(checks, program, folder):
     ]
     for words, given, wanted in turns:
         words = [os.fsencode(word) for word in words]
-        checks.same(f"by hand: {words}", wanted, world.ask(*words, given=given))
+        ran = world.ran("forkhost-ask", world.host.socket, *words, given=given)
+        checks.same(f"by hand: {words}", wanted, ran)
     for words in ([], ["alice"], ["alice", ""], ["alice", "init r"], ["alice", "quota\n"], ["", "quota"], ["a b", "quota"]):
         ran = world.ran("forkhost-ask", world.host.socket, *words)
         checks.same(f"by hand: {words} is no request", (2, b"", True), (*ran[:2], b"usage: forkhost-ask" in ran.fault))

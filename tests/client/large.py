@@ -51,8 +51,8 @@ def show_edges(checks, program, folder):
         checks.same(f"a frame and {over}: its requests", wanted, [one.word() for one in asked])
         if over <= 0:
             checks.same(f"a frame and {over}: its length", MAX_PAYLOAD + over, asked[0].length)
-    for over in (-1, 0, 1):
-        ref = f"refs/tags/upload{over + 1}"
+    for over in (0, 1):
+        ref = f"refs/tags/upload{over}"
         tree, length = filled(world, pushed, ref, MAX_UPLOAD + over)
         asked = pushed.words(f"an upload and {over}", f"{tree}:{ref}")
         words = [one.word() for one in asked]
@@ -61,7 +61,7 @@ def show_edges(checks, program, folder):
         if over <= 0:
             checks.same(f"an upload and {over}: its length", MAX_UPLOAD + over, sizes)
     copy = world.cloned("all of it", "r", "--mirror")
-    checks.same("all objects", 3 + 3 * 5, len(world.objects(copy)))
+    checks.same("all objects", 3 + 2 * 5, len(world.objects(copy)))
     world.host.ends_well(checks, "after edges")
 
 

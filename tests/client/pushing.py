@@ -10,17 +10,20 @@ class Both:
     """One source, a bare repository in a folder and one of the host, which have the same references."""
 
     def __init__(self, world, label, refs):
-        """They begin with these references, by revisions of the source."""
+        """They begin with these references, by revisions of the source, and with their objects."""
         self.world, self.checks, self.label = world, world.checks, label
+        names = [world.output("source", "rev-parse", revision) for revision in refs.values()]
         world.remove("bare")
         world.output(None, "init", "-q", "--bare", "--object-format=sha256", "bare")
-        world.ask("alice", "drop", "r")
-        world.ask("alice", "init", "r")
+        for words in (["drop", "r"], ["prune"], ["init", "r"]):
+            world.ask("alice", *words)
         self.urls = [world.path("bare"), world.url("r")]
-        for url in self.urls:
-            if refs:
-                rows = [f"+{world.output('source', 'rev-parse', rev)}:{ref}" for ref, rev in refs.items()]
-                world.output("source", "push", "-q", url, *rows)
+        reached = world.output("source", "rev-list", "--objects", "--no-object-names", "--stdin", given="\n".join(names).encode())
+        records = world.git("source", "cat-file", "--batch", given=reached.encode()).output if names else b""
+        commands = "".join(f"create {ref} {name}\n" for ref, name in zip(refs, names)).encode()
+        self.checks.same(f"{label}: what is there before", 0, world.ask("alice", "push", "r", given=commands + b"\n" + records).status)
+        if names:
+            world.output("source", "push", "-q", self.urls[0], *(f"{name}:{ref}" for ref, name in zip(refs, names)))
 
     def push(self, *words, at="source"):
         """A push to both. The rows that Git prints of each reference are the same, and so is what is there then."""

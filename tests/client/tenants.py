@@ -92,7 +92,7 @@ def alice(world):
     commit(world, "source", "secret", "main", files={"secret": "nobody knows\n"})
     world.output("source", "tag", "-a", "-m", "x", "v1", "main")
     world.succeeds("alice pushes", world.git("source", "push", "-q", "--mirror", world.url("secret")))
-    world.succeeds("alice leaves an upload open", world.ask("alice", "part", "-", given=b"\n"))
+    world.succeeds("alice leaves an upload open", world.ask("alice", "part", given=b"\n"))
     revisions = {"commit": "main", "parent": "main~1", "tree": "main^{tree}", "blob": "main:secret", "tag": "v1"}
     return {kind: world.output("source", "rev-parse", revision) for kind, revision in revisions.items()}
 

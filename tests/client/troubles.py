@@ -20,7 +20,7 @@ def killed(child):
     return ended(child)
 
 
-def great(world, name, chance, count=30):
+def great(world, name, chance, count=12):
     """A commit of so many great objects, under a branch."""
     blobs = [("100644", f"f{at:02}", hashed(world, "source", "blob", chance.randbytes(PART))) for at in range(count)]
     tip = commit_of(world, "source", tree_of(world, "source", *blobs))
@@ -29,37 +29,71 @@ def great(world, name, chance, count=30):
 
 
 def show_kills(checks, program, folder):
-    """A push is killed at moments by chance, and at each of its first requests; the next one goes on."""
+    """A push is killed at moments by chance, and at each kind of its requests; the next one goes on."""
     world = World(checks, program, folder)
     world.init("alice", "r")
     world.repository("source")
     chance = random.Random(3)
-    tip = great(world, "main", chance)
+    great(world, "main", chance)
     words = ["git", "push", "-q", world.url("r"), "main"]
     begun = time.monotonic()
     world.succeeds("a push that is not killed", world.ran(*words, at="source"))
     took = time.monotonic() - begun
-    open_ones = 0
     for number in range(KILLS):
-        world.ask("alice", "drop", "r")
-        world.ask("alice", "prune")
-        world.init("alice", "r")
+        anew(world)
         child = world.begun(*words, at="source", alone=True)
         time.sleep(took * chance.uniform(0.2, 1))
         killed(child)
-        checks.same(f"kill {number}: the branch is there, or not", True, world.kept("r") in ([], [f"{tip} refs/heads/main"]))
-        ran = world.succeeds(f"kill {number}: the next push", world.ran("git", "push", world.url("r"), "main", at="source"))
-        open_ones += b"forkhost: dropped an upload that was left open\n" in ran.fault
-        checks.same(f"kill {number}: all is there", [f"{tip} refs/heads/main"], world.kept("r"))
-    checks.same("some left an upload open", True, open_ones > 0)
+        goes_on(world, f"kill {number}")
+    show_kills_at(world)
     world.same_mirror("after kills", "source", "r")
     show_left_open(world)
     world.host.ends_well(checks, "after kills")
 
 
+def anew(world):
+    for words in (["drop", "r"], ["prune"], ["init", "r"]):
+        world.ask("alice", *words)
+
+
+def goes_on(world, label):
+    """Whatever a killed push has left, the branch is there or not, and the next push brings it; what that says."""
+    rows = [f"{world.output('source', 'rev-parse', 'main')} refs/heads/main"]
+    world.checks.same(f"{label}: the branch is there, or not", True, world.kept("r") in ([], rows))
+    ran = world.succeeds(f"{label}: the next push", world.git("source", "push", world.url("r"), "main"))
+    world.checks.same(f"{label}: all is there", rows, world.kept("r"))
+    return ran.fault
+
+
+# The request behind whose answer by the host a push is killed, which of that kind it is, and whether an upload is open.
+MOMENTS = [("for-each-ref", 1, False), ("part-drop", 1, False), ("part", 1, True), ("part", 7, True), ("part-end", 1, False)]
+
+
+def show_kills_at(world):
+    for word, count, is_open in MOMENTS:
+        anew(world)
+        seen, running = [], []
+
+        def meddle(line, reply):
+            seen.append(line.split(" ")[0])
+            if seen.count(word) == count and seen[-1] == word:
+                os.killpg(running[0].pid, signal.SIGKILL)
+                return None
+            return reply
+
+        watcher = Watcher(world.path(f"{word}{count}"), world.host.socket, meddle)
+        url = f"forkhost::{watcher.path}/alice/r"
+        running.append(world.begun("git", "push", "-q", url, "main", at="source", alone=True))
+        label = f"killed behind {word} {count}"
+        world.checks.same(f"{label}: it is killed", -signal.SIGKILL, ended(running[0]).status)
+        said = goes_on(world, label)
+        dropped = b"forkhost: dropped an upload that was left open\n" in said
+        world.checks.same(f"{label}: an upload was open", is_open, dropped)
+
+
 def show_left_open(world):
     """An upload that is left open stands in the way of nothing that Git does."""
-    world.succeeds("a part is left", world.ask("alice", "part", "-", given=b"create refs/heads/x "))
+    world.succeeds("a part is left", world.ask("alice", "part", given=b"create refs/heads/x "))
     tip = world.output("source", "rev-parse", "main")
     ran = world.git("source", "push", world.url("r"), "main:refs/heads/small")
     world.checks.same("a small push goes", (0, True), (ran.status, b"dropped an upload" in ran.fault))
@@ -128,6 +162,10 @@ CUTS = {
 }
 
 
+# Replies to these are cut in every way, and others in some.
+WHOLE, SOME = ("for-each-ref", "fetch", "push"), ("no reply", "half", "a host fault")
+
+
 def show_cuts(checks, program, folder):
     """Each reply in turn is cut, or is something else: told in words, without a trace of the program's own."""
     world = World(checks, program, folder)
@@ -150,7 +188,8 @@ def show_cuts(checks, program, folder):
     }
     line(world, world.repository("other"), "else")
     for word, words in tries.items():
-        for label, (way, text) in CUTS.items():
+        for label in CUTS if word in WHOLE else SOME:
+            way, text = CUTS[label]
             world.output("source", "push", "-q", "--force", world.url("r"), f"{first}:refs/heads/main")
             at["word"], at["way"] = word, way
             where = "other" if words[0] == "fetch" else "source"

@@ -4,6 +4,8 @@ import shutil
 import socket
 import subprocess
 
+from forkhost_client.connection import Connection
+from forkhost_client.faults import Refused
 from live import Serving
 from program import PATIENCE, Ran, done, ended
 
@@ -99,7 +101,12 @@ class World:
         return ran
 
     def ask(self, tenant, *words, given=b""):
-        return self.ran("forkhost-ask", self.host.socket, tenant, *words, given=given)
+        """One request, without a program between; it ends as `forkhost-ask` does."""
+        try:
+            with Connection(self.host.socket, tenant) as connection:
+                return done(connection.ask(" ".join(words), given).rest())
+        except Refused as refusal:
+            return Ran(1, b"", f"forkhost-ask: {refusal}\n".encode())
 
     def init(self, tenant, *repositories):
         for repository in repositories:

@@ -13,7 +13,9 @@ RAW = 32
 
 def quoted(path: str) -> str:
     """A path for a person, on one line whatever its bytes are."""
-    return "'" + path.encode("utf-8", "surrogateescape").decode("utf-8", "backslashreplace").replace("\n", "\\n") + "'"
+    text = path.encode("utf-8", "surrogateescape").decode("utf-8", "backslashreplace")
+    shown = (letter if letter.isprintable() else letter.encode("unicode_escape").decode() for letter in text)
+    return "'" + "".join(shown) + "'"
 
 
 def entry_fault(tree: bytes, path: str) -> Optional[str]:

@@ -22,8 +22,9 @@ class Fetch:
         """Whether all that the history here leads to is here, or need not be.
 
         Not so where it was cut short; and not where objects are elsewhere, and one of them is wanted by its name."""
-        is_listed = set(self.listing.refs.values()).issuperset(wanted)
-        return not self.options.refetch and not self.repository.is_shallow() and (is_listed or not self.repository.is_partial())
+        if self.options.refetch or self.repository.is_shallow():
+            return False
+        return set(self.listing.refs.values()).issuperset(wanted) or not self.repository.is_partial()
 
     def carry_out(self, wanted: List[str]) -> None:
         self.history = self.repository.history() if self.is_whole(wanted) else {}

@@ -71,7 +71,8 @@ class Repository:
         given = lines(dict.fromkeys(names))
         if not given:
             return {}
-        rows = (row.split(" ") for row in self.output("cat-file", "--batch-check", "--buffer", given=given).splitlines())
+        told = self.output("cat-file", "--batch-check", "--buffer", given=given)
+        rows = (row.split(" ") for row in told.splitlines())
         return {row[0]: Size(row[0], row[1], int(row[2])) for row in rows if len(row) == 3}
 
     def tips(self) -> List[str]:

@@ -1,10 +1,12 @@
 """Changes of references that Git asks for, and what stands against each before the host is asked."""
+import re
 from typing import List, Mapping, Optional
 
 from .listing import Listing
 from .repository import NAME, Repository
 
 ABSENT = "0" * 64
+FORM = re.compile("push ([+]?)(.*):(.*)")
 # The host takes no longer names; a line with one could be too long to be told apart.
 LONGEST_REF = 255
 
@@ -35,15 +37,14 @@ class Update:
 def read_updates(rows: List[str], listing: Listing, leases: Mapping[str, str], repository: Repository) -> List[Update]:
     """The updates that lines `push [+]SOURCE:REF` ask for; with no source, deletions.
 
-    A lease is a forced update that names the old target itself. A whole name stands for itself wherever its object is."""
-    parts = [row[len("push ") :].rpartition(":") for row in rows]
-    sources = [source.lstrip("+") for source, _, _ in parts]
-    names = repository.resolve([source or ABSENT for source in sources])
+    A lease is forced, and names the old target itself. A whole name stands for itself, wherever its object is."""
+    parts = [FORM.fullmatch(row).groups() for row in rows]
+    names = repository.resolve([source or ABSENT for _, source, _ in parts])
     updates = []
-    for (given, _, ref), source, name in zip(parts, sources, names):
+    for (sign, source, ref), name in zip(parts, names):
         new = (name or (source if NAME.fullmatch(source) else "")) if source else ABSENT
         old = leases.get(ref, listing.refs.get(ref, ABSENT))
-        updates.append(Update(ref, source, old, new, given.startswith("+") or ref in leases))
+        updates.append(Update(ref, source, old, new, sign == "+" or ref in leases))
     return updates
 
 

@@ -46,7 +46,8 @@ def show_asking(checks, program, folder):
         words = [os.fsencode(word) for word in words]
         ran = world.ran("forkhost-ask", world.host.socket, *words, given=given)
         checks.same(f"by hand: {words}", wanted, ran)
-    for words in ([], ["alice"], ["alice", ""], ["alice", "init r"], ["alice", "quota\n"], ["", "quota"], ["a b", "quota"]):
+    wrong = ([], ["alice"], ["alice", ""], ["alice", "init r"], ["alice", "quota\n"], ["", "quota"], ["a b", "quota"])
+    for words in wrong:
         ran = world.ran("forkhost-ask", world.host.socket, *words)
         checks.same(f"by hand: {words} is no request", (2, b"", True), (*ran[:2], b"usage: forkhost-ask" in ran.fault))
     ran = world.ran("forkhost-ask", world.path("nothing"), "alice", "quota")
@@ -75,8 +76,8 @@ class StandIn:
             except OSError:
                 return
             with stream:
-                words = ["sh", "-c", self.command]
-                self.children.append(subprocess.Popen(words, stdin=stream, stdout=stream, stderr=subprocess.PIPE, env=outer))
+                streams = {"stdin": stream, "stdout": stream, "stderr": subprocess.PIPE}
+                self.children.append(subprocess.Popen(["sh", "-c", self.command], env=outer, **streams))
 
     def told(self, given):
         with socket.socket(socket.AF_UNIX) as stream:
@@ -126,7 +127,8 @@ def show_door(checks, program, folder):
         checks.same(f"{who} is nobody here", wanted, ran)
         ran = world.git("source", "push", url(who, "r"), "+main~1:main")
         checks.same(f"a push as {who}", 128, ran.status)
-    checks.same("nor is the operator", refused("unknown-tenant"), world.ran("forkhost-ask", door.path, "@host", "census"))
+    ran = world.ran("forkhost-ask", door.path, "@host", "census")
+    checks.same("nor is the operator", refused("unknown-tenant"), ran)
     checks.same("bob's has not changed", world.references("source"), world.kept("r", "bob"))
     show_frames(checks, world, door)
     checks.same("each command ended well", {0}, set(door.end()))

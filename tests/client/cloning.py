@@ -15,13 +15,14 @@ def show_clones(checks, program, folder):
     world.same_mirror("all of it", source, "r")
     told = world.git(None, "ls-remote", world.url("r"))
     checks.same("ls-remote is as that of a folder", world.git(None, "ls-remote", world.path(source)), told)
-    for words in (["--heads"], ["--tags"], ["--refs"], ["--symref"], ["--sort=-v:refname"], ["--exit-code", "."]):
-        pair = [world.git(None, "ls-remote", *words[:1], url, *words[1:]) for url in (world.path(source), world.url("r"))]
-        checks.same(f"ls-remote {words[0]}", pair[0].output, pair[1].output)
+    for words in (["--heads"], ["--tags"], ["--refs"], ["--symref"], ["--sort=-v:refname"]):
+        wanted, told = (world.git(None, "ls-remote", *words, url) for url in (world.path(source), world.url("r")))
+        checks.same(f"ls-remote {words[0]}", wanted.output, told.output)
     copy = world.cloned("a plain clone", "r")
     checks.same("its branch", "refs/heads/main", world.output(copy, "symbolic-ref", "HEAD"))
     checks.same("its work tree", "", world.output(copy, "status", "--porcelain"))
-    checks.same("its remote HEAD", "refs/remotes/origin/main", world.output(copy, "symbolic-ref", "refs/remotes/origin/HEAD"))
+    head = world.output(copy, "symbolic-ref", "refs/remotes/origin/HEAD")
+    checks.same("its remote HEAD", "refs/remotes/origin/main", head)
     tags = [row for row in world.references(source) if "refs/tags/" in row]
     checks.same("its tags", tags, [row for row in world.references(copy) if "refs/tags/" in row])
     show_chosen(world, source)
@@ -33,8 +34,8 @@ def show_clones(checks, program, folder):
 
 def show_chosen(world, source):
     """Clones of a part are as those of a folder."""
-    chosen = (["--single-branch"], ["--branch=topic/side"], ["--branch=v1"], ["--no-tags"], ["--bare"], ["-n", "-b", "x"])
-    for words in chosen:
+    branches = (["-b", "topic/side"], ["-b", "v1"], ["-n", "-b", "x"])
+    for words in (["--single-branch"], *branches, ["--no-tags"], ["--bare"]):
         label = f"clone {' '.join(words)}"
         copy = world.cloned(label, "r", *words)
         world.remove("other")
@@ -80,7 +81,8 @@ def show_empty(checks, program, folder):
     world.succeeds("is pushed", world.git("second", "push", "-q", "origin", "main"))
     checks.same("and is there", [f"{tip} refs/heads/main"], world.kept("r"))
     listed = world.git("copy", "ls-remote", "origin")
-    checks.same("a repository of the other format lists", (0, f"{tip}\tHEAD\n{tip}\trefs/heads/main\n".encode()), listed[:2])
+    rows = f"{tip}\tHEAD\n{tip}\trefs/heads/main\n".encode()
+    checks.same("a repository of the other format lists", (0, rows), listed[:2])
     fetched = world.git("copy", "fetch", "origin")
     checks.same("it can not fetch", (128, b""), fetched[:2])
     checks.same("and is told why", True, b"object format of this repository is sha1" in fetched.fault)
@@ -131,7 +133,7 @@ def show_ways(checks, program, folder):
     world.succeeds("a clone that checks", world.git(None, *strict, "clone", "-q", world.url("many"), "copy"))
     world.succeeds("a remote of a name", world.git("source", "remote", "add", "host", world.url("many")))
     world.succeeds("is fetched", world.git("source", "fetch", "-q", "host"))
-    checks.same("into its place", world.output("long", "rev-parse", "main"), world.output("source", "rev-parse", "host/main"))
+    checks.same("into its place", world.name("long", "main"), world.name("source", "host/main"))
     wrong = ["forkhost::/alice/r", "forkhost::socket/alice/r", f"forkhost::{world.host.socket}/Alice/r"]
     for url in wrong:
         ran = world.git(None, "ls-remote", url)

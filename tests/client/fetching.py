@@ -37,8 +37,8 @@ class Pair:
 
     def arrived(self, label, *branches):
         for branch in branches:
-            pair = [self.world.output(at, "rev-parse", ref) for at, ref in (("source", branch), ("copy", f"origin/{branch}"))]
-            self.world.checks.same(f"{label}: {branch}", *pair)
+            wanted, told = self.world.name("source", branch), self.world.name("copy", f"origin/{branch}")
+            self.world.checks.same(f"{label}: {branch}", wanted, told)
 
 
 def show_fetches(checks, program, folder):
@@ -49,7 +49,7 @@ def show_fetches(checks, program, folder):
     first = commit(world, "source", "great", files=great)
     line(world, "source", "one", "two", parent=first)
     pair.clone()
-    line(world, "source", "three", parent=world.output("source", "rev-parse", "main"))
+    line(world, "source", "three", parent=world.name("source", "main"))
     fetched = pair.fetch("one more commit")
     pair.arrived("one more commit", "main")
     checks.same("one request, which is told little", (1, True), (len(fetched), fetched[0].told < 2000))
@@ -75,7 +75,7 @@ def show_fetches(checks, program, folder):
 
 def show_tags(world, pair):
     """Tags of what comes, or is there, follow by themselves."""
-    tip = world.output("source", "rev-parse", "main")
+    tip = world.name("source", "main")
     world.output("source", "tag", "-a", "-m", "of what is there", "there", "main~1")
     world.output("source", "tag", "light", "main~2")
     pair.fetch("tags of what is there")
@@ -87,16 +87,17 @@ def show_tags(world, pair):
     tags = world.output("copy", "tag", "-l").splitlines()
     world.checks.same("tags follow", ["comes", "light", "there", "tree", "twice"], tags)
     pair.fetch("all tags", "--tags")
-    world.checks.same("all tags are there", world.output("source", "show-ref", "--tags"), world.output("copy", "show-ref", "--tags"))
+    tags = [world.output(at, "show-ref", "--tags") for at in ("source", "copy")]
+    world.checks.same("all tags are there", *tags)
 
 
 def show_by_name(world, pair, first):
     """An object by its name, which no reference points at."""
     pair.publish()
-    blob = world.output("source", "rev-parse", f"{first}:great")
+    blob = world.name("source", f"{first}:great")
     world.remove("empty")
     world.repository("empty")
-    for label, name in (("a commit", first), ("a tree", world.output("source", "rev-parse", "main^{tree}")), ("a blob", blob)):
+    for label, name in (("a commit", first), ("a tree", world.name("source", "main^{tree}")), ("a blob", blob)):
         world.succeeds(f"{label} by its name", world.git("empty", "fetch", "-q", world.url("r"), name))
         world.succeeds(f"{label} is there", world.git("empty", "cat-file", "-e", name))
     absent = "ab" * 32
@@ -117,14 +118,14 @@ def show_aside(checks, program, folder):
     checks.same("what is common does not come", True, sum(one.told for one in fetched) < 2000)
     world.succeeds("a pull merges", world.git("copy", "pull", "-q", "--no-rebase", "--no-edit"))
     world.succeeds("and is pushed", world.git("copy", "push", "-q", "origin", "main"))
-    checks.same("it is the host's", [f"{world.output('copy', 'rev-parse', 'main')} refs/heads/main"], world.kept("r"))
+    checks.same("it is the host's", [f"{world.name('copy', 'main')} refs/heads/main"], world.kept("r"))
     world.succeeds("the source takes it", world.git("source", "pull", "-q", world.url("r"), "main"))
-    line(world, "source", "later", parent=world.output("source", "rev-parse", "main"))
-    line(world, "copy", "more", parent=world.output("copy", "rev-parse", "main"))
+    line(world, "source", "later", parent=world.name("source", "main"))
+    line(world, "copy", "more", parent=world.name("copy", "main"))
     world.output("copy", "reset", "-q", "--hard")
     pair.publish()
     world.succeeds("a pull rebases", world.git("copy", "pull", "-q", "--rebase"))
-    checks.same("onto what came", world.output("source", "rev-parse", "main"), world.output("copy", "rev-parse", "main~1"))
+    checks.same("onto what came", world.name("source", "main"), world.name("copy", "main~1"))
     show_beside(world, pair)
     show_shallow(world)
     world.host.ends_well(checks, "after both went on")
@@ -135,14 +136,14 @@ def show_beside(world, pair):
     world.output("copy", "push", "-q", "origin", "main")
     world.output("source", "fetch", "-q", world.url("r"), "main")
     world.output("source", "reset", "-q", "--hard", "FETCH_HEAD")
-    tip = world.output("source", "rev-parse", "main")
+    tip = world.name("source", "main")
     commit(world, "source", "giant", tip, files={"giant": "y" * 400_000})
     pair.publish()
     world.output("copy", "pull", "-q", "--ff-only")
-    line(world, "copy", "apart", parent=world.output("copy", "rev-parse", "main"))
+    line(world, "copy", "apart", parent=world.name("copy", "main"))
     for ref in ("refs/remotes/origin/main", "refs/remotes/origin/HEAD"):
         world.output("copy", "update-ref", "-d", "--no-deref", ref)
-    line(world, "source", "onward", parent=world.output("source", "rev-parse", "main"))
+    line(world, "source", "onward", parent=world.name("source", "main"))
     pair.watcher.taken()
     fetched = pair.fetch("the host's tips are no tips here")
     told = sum(one.told for one in fetched)
@@ -155,7 +156,7 @@ def show_shallow(world):
     world.remove("short")
     world.output(None, "clone", "-q", "--depth=1", f"file://{world.path('source')}", "short")
     world.checks.same("it is cut short", "true", world.output("short", "rev-parse", "--is-shallow-repository"))
-    line(world, "source", "longer", parent=world.output("source", "rev-parse", "main"))
+    line(world, "source", "longer", parent=world.name("source", "main"))
     world.output("source", "push", "-q", "--mirror", world.url("r"))
     world.succeeds("a fetch into it", world.git("short", "fetch", "-q", world.url("r"), "main:new"))
     os.remove(world.path("short", ".git", "shallow"))
@@ -167,15 +168,17 @@ def show_many(checks, program, folder):
     world = World(checks, program, folder)
     pair = Pair(world)
     roots = [f"refs/heads/b{at:03}" for at in range(150)]
-    stream = "".join(f"commit {ref}\ncommitter A <a@x> 1 +0000\ndata 1\nx\nM 160000 {at + 1:064} f\n" for at, ref in enumerate(roots))
+    lines = "committer A <a@x> 1 +0000\ndata 1\nx\nM 160000"
+    stream = "".join(f"commit {ref}\n{lines} {at + 1:064} f\n" for at, ref in enumerate(roots))
     world.output("source", "fast-import", "--quiet", given=stream.encode())
     world.output("source", "symbolic-ref", "HEAD", "refs/heads/b000")
     pair.clone()
     world.same_mirror("150 roots", "source", "r")
-    stream = "".join(f"tag t{at:03}\nfrom {name}\ntagger A <a@x> 1 +0000\ndata 1\nx\n" for at, name in enumerate(roots * 2))
+    lines = "tagger A <a@x> 1 +0000\ndata 1\nx"
+    stream = "".join(f"tag t{at:03}\nfrom {name}\n{lines}\n" for at, name in enumerate(roots * 2))
     world.output("source", "fast-import", "--quiet", given=stream.encode())
     fetched = pair.fetch("300 tags")
     checks.same("what they name is not asked for again", [], fetched)
-    checks.same("they are there", world.output("source", "show-ref", "--tags"), world.output("copy", "show-ref", "--tags"))
+    checks.same("they are there", *(world.output(at, "show-ref", "--tags") for at in ("source", "copy")))
     world.same_mirror("150 roots and 300 tags", "source", "r")
     world.host.ends_well(checks, "after many")

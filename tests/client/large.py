@@ -57,7 +57,8 @@ def show_edges(checks, program, folder):
         asked = pushed.words(f"an upload and {over}", f"{tree}:{ref}")
         words = [one.word() for one in asked]
         sizes = sum(one.length - len("part\n") for one in asked if one.word() == "part")
-        checks.same(f"an upload and {over}: how many", 1 if over <= 0 else 2, words.count("part-end") + words.count("push"))
+        ends = words.count("part-end") + words.count("push")
+        checks.same(f"an upload and {over}: how many", 1 if over <= 0 else 2, ends)
         if over <= 0:
             checks.same(f"an upload and {over}: its length", MAX_UPLOAD + over, sizes)
     copy = world.cloned("all of it", "r", "--mirror")
@@ -112,7 +113,7 @@ def show_uploads(checks, program, folder):
     first = commit_of(world, "source", top)
     stream = b"".join(messages(chance, first, 36, 1_000_000))
     world.output("source", "fast-import", "--quiet", given=stream)
-    chain = tags(world, chance, world.output("source", "rev-parse", "long"), 34, 1_000_000)
+    chain = tags(world, chance, world.name("source", "long"), 34, 1_000_000)
     world.output("source", "update-ref", "refs/tags/chain", chain)
     asked = pushed.words("a long push", "--mirror")
     words = [one.word() for one in asked]

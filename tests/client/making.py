@@ -17,7 +17,7 @@ def commit(world, at, label, *parents, branch="main", files=None):
     for path, content in (files or {f"{label}.txt": f"{label}\n"}).items():
         stream.append(f"M 100644 inline {path}\ndata {len(content)}\n{content}\n")
     world.output(at, "fast-import", "--quiet", "--force", given="".join(stream).encode("utf-8", "surrogateescape"))
-    return world.output(at, "rev-parse", f"refs/heads/{branch}")
+    return world.name(at, f"refs/heads/{branch}")
 
 
 def seconds(world):

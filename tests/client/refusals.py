@@ -57,7 +57,7 @@ def show_objects(world, here):
     tree = tree_of(world, "source", ("100644", "b", here.blob), ("100644", "a", here.blob))
     here.branch(tree)
     here.refused("an order", f"the host does not take the order of tree {tree} at '.'", wrong)
-    tree = world.output("source", "rev-parse", "main^{tree}")
+    tree = world.name("source", "main^{tree}")
     name = here.branch(tree, author=WRONG_IDENT)
     text = f"commit {name}: the host does not take its line 'author {WRONG_IDENT}'"
     here.refused("an ident", text, wrong)
@@ -70,8 +70,9 @@ def show_objects(world, here):
     here.branch(tree_of(world, "source", ("40000", "dir", tree_of(world, "source", ("100644", "large", large)))))
     here.refused("a size", "'dir/large' has 8388609 bytes, and the host takes 8388608 at the most", wrong)
     most = hashed(world, "source", "blob", b"x" * 8_388_608)
-    world.output("source", "update-ref", "refs/heads/most", here.branch(tree_of(world, "source", ("100644", "most", most))))
-    world.succeeds("the greatest object", world.git("source", "push", "-q", world.url("r"), "most"))
+    here.branch(tree_of(world, "source", ("100644", "most", most)))
+    world.succeeds("the greatest object", world.git("source", "push", "-q", world.url("r"), wrong))
+    world.succeeds("it goes", world.git("source", "push", "-q", world.url("r"), ":refs/heads/wrong"))
 
 
 def show_references(world, here):
@@ -85,14 +86,15 @@ def show_references(world, here):
     here.refused("a long name", "the host takes names of references of at most 255 bytes", f"main:{long}")
     world.succeeds("the longest", world.git("source", "push", "-q", world.url("r"), f"main:{long[:-1]}"))
     here.refused("an absent one is deleted", "remote ref does not exist", ":refs/heads/nothing")
-    here.refused("what nobody has", f"neither this repository nor the host has object {'ab' * 32}", f"{'ab' * 32}:refs/x/y")
-    text = "atomic push failed"
-    ran = world.git("source", "push", "--porcelain", "--atomic", world.url("r"), "main:refs/heads/main/x", "main:refs/heads/y")
+    absent = "ab" * 32
+    here.refused("what nobody has", f"neither this repository nor the host has object {absent}", f"{absent}:refs/x/y")
+    text, both = "[remote rejected] (atomic push failed)", ["main:refs/heads/main/x", "main:refs/heads/y"]
+    ran = world.git("source", "push", "--porcelain", "--atomic", world.url("r"), *both)
     rows = sorted(row.split("\t")[2] for row in ran.output.decode().splitlines() if row[:1] == "!")
     checks = world.checks
-    checks.same("all or none: both", (1, True, f"[remote rejected] ({text})"), (ran.status, "below it" in rows[1], rows[0]))
+    checks.same("all or none: both", (1, True, text), (ran.status, "below it" in rows[1], rows[0]))
     before = world.kept("r")
-    ran = world.git("source", "push", "--porcelain", world.url("r"), "main:refs/heads/main/x", "main:refs/heads/y")
+    ran = world.git("source", "push", "--porcelain", world.url("r"), *both)
     checks.same("without it the other one goes", (1, 1), (ran.status, len(world.kept("r")) - len(before)))
     world.output("source", "push", "-q", world.url("r"), "main:refs/heads/d")
     ran = world.git("source", "push", "-q", world.url("r"), ":refs/heads/d", "main:refs/heads/d/e")
@@ -101,12 +103,12 @@ def show_references(world, here):
 
 def show_nobody(world):
     """Who and what is not there."""
-    socket = world.host.socket
+    socket, none = world.host.socket, "No such file or directory"
     hint = f"; 'forkhost-ask {socket} alice init none' makes it"
     told = {
         world.url("none"): f"fatal: forkhost: repository 'none' of tenant 'alice' not found{hint}\n",
         world.url("r", "carol"): "fatal: forkhost: the host has no tenant 'carol'\n",
-        f"forkhost::{socket}x/alice/r": f"fatal: forkhost: can not reach a host at '{socket}x': No such file or directory\n",
+        f"forkhost::{socket}x/alice/r": f"fatal: forkhost: can not reach a host at '{socket}x': {none}\n",
     }
     for url, text in told.items():
         for words in (["ls-remote", url], ["fetch", "-q", url], ["push", "-q", url, "main"]):
@@ -132,7 +134,7 @@ def show_quota(checks, program, folder):
     told = [row.split("\t")[2] for row in ran.output.decode().splitlines() if row[:1] == "!"]
     checks.same("over quota", (1, [text, text]), (ran.status, told))
     checks.same("nothing is used by it", f"{used} 3000\n".encode(), world.ask("alice", "quota").output)
-    old = world.output("source", "rev-parse", "main~1")
+    old = world.name("source", "main~1")
     checks.same("and nothing has changed", [f"{old} refs/heads/main"], world.kept("r"))
     world.succeeds("what fits still goes", world.git("source", "push", "-q", world.url("r"), "main~1:refs/heads/old"))
     world.host.ends_well(checks, "after quota")

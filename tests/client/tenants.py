@@ -94,7 +94,7 @@ def alice(world):
     world.succeeds("alice pushes", world.git("source", "push", "-q", "--mirror", world.url("secret")))
     world.succeeds("alice leaves an upload open", world.ask("alice", "part", given=b"\n"))
     revisions = {"commit": "main", "parent": "main~1", "tree": "main^{tree}", "blob": "main:secret", "tag": "v1"}
-    return {kind: world.output("source", "rev-parse", revision) for kind, revision in revisions.items()}
+    return {kind: world.name("source", revision) for kind, revision in revisions.items()}
 
 
 def show_tenants(checks, program, folder):
@@ -109,9 +109,22 @@ def show_tenants(checks, program, folder):
     checks.same("as many things are told", len(alone), len(beside))
     for number, (wanted, told) in enumerate(zip(alone, beside)):
         checks.same(f"bob, {number}: {wanted[0]}", wanted, told)
-    refused = sum(one[1].status != 0 for one in alone if isinstance(one[1], Ran))
-    checks.same("nearly all of it is refused", True, refused > 60)
+    show_refused(checks, names["commit"], [one[1] for one in alone if isinstance(one[1], Ran)])
     world.host.ends_well(checks, "without alice")
+
+
+def show_refused(checks, name, told):
+    """What bob was told is that there is nothing, each in the host's own answer."""
+    said = b"".join(ran.fault + ran.output for ran in told).decode()
+    for text in (
+        f"fatal: forkhost: tenant 'bob' sees no object {name}\n",
+        f"{name}:refs/tags/commit\t[remote rejected] (neither this repository nor the host has object {name})\n",
+        f"top:refs/heads/top\t[remote rejected] (neither this repository nor the host has object {name})\n",
+        f"forkhost-ask: missing {name}\n",
+        "fatal: forkhost: repository 'secret' of tenant 'bob' not found",
+    ):
+        checks.same(f"bob is told: {text}", True, text in said)
+    checks.same("nearly all of it is refused", True, sum(ran.status != 0 for ran in told) > 60)
 
 
 def show_own(checks, program, folder):
@@ -128,7 +141,7 @@ def show_own(checks, program, folder):
     world.succeeds("she prunes", world.ask("alice", "prune"))
     checks.same("she has nothing", b"0 100000\n", world.ask("alice", "quota").output)
     world.same_mirror("bob has all", "source", "r", tenant="bob")
-    tip = world.output("source", "rev-parse", "main")
+    tip = world.name("source", "main")
     ran = world.git(world.repository("empty"), "fetch", world.url("r"), tip)
     told = f"fatal: forkhost: tenant 'alice' sees no object {tip}\n".encode()
     checks.same("alice can not fetch what she had", (128, b"", told), ran)
@@ -142,7 +155,7 @@ def show_fork(world):
     world.succeeds("a fork", world.ask("bob", "fork", "r", "s"))
     world.same_mirror("the fork", "source", "s", tenant="bob")
     copy = world.cloned("a clone of it", "s", tenant="bob")
-    line(world, copy, "three", parent=world.output(copy, "rev-parse", "main"))
+    line(world, copy, "three", parent=world.name(copy, "main"))
     world.succeeds("it goes on", world.git(copy, "push", "-q", "origin", "main"))
-    checks.same("the fork has moved", [f"{world.output(copy, 'rev-parse', 'main')} refs/heads/main"], world.kept("s", "bob"))
+    checks.same("the fork has moved", [f"{world.name(copy, 'main')} refs/heads/main"], world.kept("s", "bob"))
     checks.same("what it is of has not", world.references("source"), world.kept("r", "bob"))

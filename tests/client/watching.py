@@ -35,7 +35,7 @@ class Watcher:
     """Connections to `path` are carried on to the host at `target`, one after another."""
 
     def __init__(self, path, target, meddle=None):
-        """`meddle` is given a request's line and its reply's frame, and gives what the client reads; or None: it ends."""
+        """`meddle` is given a request's line and its reply's frame, and gives what the client reads; None is an end."""
         self.path, self.target, self.meddle = path, target, meddle
         self.asked, self.connections = [], 0
         self.listener = socket.socket(socket.AF_UNIX)

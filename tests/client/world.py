@@ -82,8 +82,9 @@ class World:
 
     def begun(self, *words, at=None, more=None, alone=False):
         """A command that runs; where it is alone, it and all that it begins can be ended at once."""
-        pipe, where, outer = subprocess.PIPE, self.path(at or ""), {**self.environment, **(more or {})}
-        return subprocess.Popen(words, cwd=where, env=outer, stdin=pipe, stdout=pipe, stderr=pipe, start_new_session=alone)
+        pipes = dict.fromkeys(["stdin", "stdout", "stderr"], subprocess.PIPE)
+        where, outer = self.path(at or ""), {**self.environment, **(more or {})}
+        return subprocess.Popen(words, cwd=where, env=outer, start_new_session=alone, **pipes)
 
     def git(self, at, *words, given=b"", more=None):
         return self.ran("git", *words, at=at, given=given, more=more)
@@ -94,6 +95,10 @@ class World:
         if ran.status:
             raise ValueError(f"git {' '.join(words)}: {ran}")
         return ran.output.decode("utf-8", "surrogateescape").rstrip("\n")
+
+    def name(self, at, revision):
+        """The name of an object by a revision."""
+        return self.output(at, "rev-parse", revision)
 
     def succeeds(self, label, ran):
         """One check: a command ended with status 0; what it said."""
@@ -147,7 +152,8 @@ class World:
         ran = self.git(at, "fsck", "--strict", "--full", "--no-dangling", "--no-progress")
         self.checks.same(f"{label}: fsck", done(), ran._replace(fault=ran.fault.replace(UNBORN, b"")))
         folder = self.path(at, self.output(at, "rev-parse", "--git-path", "objects"))
-        left = [name for _, _, names in os.walk(folder) for name in names if name.startswith("tmp") or name.endswith(".keep")]
+        names = [name for _, _, names in os.walk(folder) for name in names]
+        left = [name for name in names if name.startswith("tmp") or name.endswith(".keep")]
         self.checks.same(f"{label}: nothing is left over", [], left)
 
     def cloned(self, label, repository, *words, tenant="alice", name="copy"):

@@ -110,7 +110,7 @@ def authorized_line(socket_path, tenant, key):
 
 def show_door(checks, program, folder):
     """A forced command gives each key its tenant: Git works through it, and nothing of another tenant's is told."""
-    world = World(checks, program, folder, "alice=1000000", "bob=1000000")
+    world = World(checks, program, folder, "alice=1000000", "alice2=1000000", "bob=1000000")
     world.init("bob", "r")
     line(world, world.repository("source"), "one", "two")
     world.succeeds("bob pushes", world.git("source", "push", "-q", world.url("r", "bob"), "main"))

@@ -120,6 +120,9 @@ def show_first(checks, program, folder):
     both.label = "fetch first"
     status, rows = both.push("URL", "three:main")
     checks.same("fetch first is said", (1, True), (status, "[rejected] (fetch first)" in rows[0]))
+    both.label = "a lease on what is not here"
+    status, _ = both.push("--dry-run", f"--force-with-lease=main:{tip}", "URL", "three:main")
+    checks.same("a lease on what is not here is enough", 0, status)
     world.succeeds("it is fetched", world.git("source", "fetch", "-q", world.url("r"), "main"))
     both.label = "non-fast-forward"
     status, rows = both.push("URL", "three:main")

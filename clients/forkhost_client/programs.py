@@ -30,6 +30,12 @@ def nobody_reads() -> None:
     os.dup2(os.open(os.devnull, os.O_WRONLY), sys.stdout.fileno())
 
 
+def fatal(text: str) -> int:
+    print("fatal: ", end="", file=sys.stderr)
+    say(text)
+    return FATAL
+
+
 def remote_helper(words: List[str]) -> int:
     """`git-remote-forkhost REMOTE URL`."""
     leave_signals()
@@ -41,12 +47,12 @@ def remote_helper(words: List[str]) -> int:
         Helper(read_address(words[1]), os.environ).serve(sys.stdin.buffer, sys.stdout.buffer)
         return DONE
     except Fatal as fault:
-        print("fatal: ", end="", file=sys.stderr)
-        say(str(fault))
-        return FATAL
+        return fatal(str(fault))
     except BrokenPipeError:
         nobody_reads()
         return FATAL
+    except OSError as fault:
+        return fatal(fault.strerror or str(fault))
 
 
 def is_word(word: str) -> bool:
@@ -76,6 +82,9 @@ def ask(words: List[str]) -> int:
         return FAULT
     except BrokenPipeError:
         nobody_reads()
+        return FAULT
+    except OSError as fault:
+        sys.stderr.buffer.write(bytes_of(f"forkhost-ask: {fault.strerror or fault}\n"))
         return FAULT
 
 

@@ -1,13 +1,26 @@
 """A repository of the host, over one connection: each request that the helper makes, by its name."""
-from typing import Iterable, Iterator, List, Optional, Tuple
+import re
+from typing import Iterable, Iterator, List, Match, Optional, Pattern, Tuple
 
 from .connection import Connection
-from .faults import Fatal, Refused
+from .faults import Fatal, Lost, Refused
 from .frames import MAX_PAYLOAD
 from .records import Record, read_record, records
 
 # What fits into one part of an upload.
 MAX_PART = MAX_PAYLOAD - len("part\n")
+ROW = re.compile("([0-9a-f]{64}) (blob|tree|commit|tag)\t([^ \n]+)")
+HEAD = re.compile("(refs/heads/[^ \n]+)(?: [0-9a-f]{64})?\n")
+NAMES = re.compile("(?:[0-9a-f]{64}\n)*")
+QUOTA = re.compile("([0-9]+) ([0-9]+)\n")
+
+
+def matched(form: Pattern, text: str, word: str) -> Match:
+    """The text of a reply in its form."""
+    found = form.fullmatch(text)
+    if not found:
+        raise Fatal(f"the host's reply to {word} is of no known form")
+    return found
 
 
 class Remote:
@@ -26,16 +39,13 @@ class Remote:
     def references(self) -> Iterator[Tuple[str, str, str]]:
         """Each reference's name, its target, and the target's type."""
         for row in self.connection.text(f"for-each-ref {self.name}").split("\n")[:-1]:
-            target, _, ref = row.partition("\t")
-            name, _, kind = target.partition(" ")
-            if not ref or not kind:
-                raise Fatal("a row of references of the host is none")
+            name, kind, ref = matched(ROW, row, "for-each-ref").groups()
             yield ref, name, kind
 
     def head(self) -> Optional[str]:
         """The repository's HEAD, or None of a host that keeps none."""
         try:
-            return self.connection.text(f"head {self.name}").split()[0]
+            return matched(HEAD, self.connection.text(f"head {self.name}"), "head")[1]
         except Refused as refusal:
             if refusal.word != "bad-request":
                 raise
@@ -56,7 +66,7 @@ class Remote:
 
     def revisions(self, wanted: Iterable[str], excluded: Iterable[str]) -> List[str]:
         """The commits that some names lead to, and others do not."""
-        return self.connection.text(self.items("rev-list", wanted, excluded)).split()
+        return matched(NAMES, self.connection.text(self.items("rev-list", wanted, excluded)), "rev-list")[0].split()
 
     def reached(self, wanted: Iterable[str], excluded: Iterable[str]) -> Iterator[Record]:
         """The objects that some names lead to, and others do not."""
@@ -64,26 +74,31 @@ class Remote:
 
     def quota(self) -> Tuple[int, int]:
         """The tenant's use and its limit, in bytes."""
-        used, limit = self.connection.text("quota").split()
+        used, limit = matched(QUOTA, self.connection.text("quota"), "quota").groups()
         return int(used), int(limit)
+
+    def change(self, line: str, body: bytes = b"") -> None:
+        """A request whose reply has no data."""
+        if self.connection.ask(line, body).left:
+            raise Lost(f"the host's reply to {line.split(' ')[0]} is of no known form")
 
     def fits(self, length: int) -> bool:
         """Whether a body of this length is a push in one frame."""
         return len(f"push {self.name}\n") + length <= MAX_PAYLOAD
 
     def push(self, body: bytes) -> None:
-        self.connection.ask(f"push {self.name}", body)
+        self.change(f"push {self.name}", body)
 
     def part(self, piece: bytes) -> None:
-        self.connection.ask("part", piece)
+        self.change("part", piece)
 
     def end_upload(self) -> None:
-        self.connection.ask(f"part-end {self.name}")
+        self.change(f"part-end {self.name}")
 
     def drop_upload(self) -> bool:
         """Takes away the upload of the tenant that is open; whether one was."""
         try:
-            self.connection.ask("part-drop")
+            self.change("part-drop")
             return True
         except Refused as refusal:
             if refusal.word != "no-upload":

@@ -2,6 +2,7 @@
 import socket
 import time
 
+from forkhost_client.frames import framed
 from making import commit, line
 from program import Ran, ended
 from watching import Watcher
@@ -62,7 +63,7 @@ def show_cuts(checks, program, folder):
     first, _ = line(world, world.repository("source"), "one", "two")
     world.output("source", "tag", "-a", "-m", "x", "v", "main")
     world.succeeds("a push", world.git("source", "push", "-q", world.url("r"), f"{first}:refs/heads/main", "v"))
-    at = {"word": None, "way": None}
+    at = {"word": None, "way": None, "first": first}
     meddle = lambda line, reply: at["way"](reply) if line.split(" ")[0] == at["word"] else reply
     watcher = Watcher(world.path("watched"), world.host.socket, meddle)
     url = f"forkhost::{watcher.path}/alice/r"
@@ -79,7 +80,7 @@ def show_cuts(checks, program, folder):
     for word, words in tries.items():
         for label in CUTS if word in WHOLE else SOME:
             way, text = CUTS[label]
-            world.output("source", "push", "-q", "--force", world.url("r"), f"{first}:refs/heads/main")
+            world.ask("alice", "update-refs", "r", given=f"update refs/heads/main {first}\n".encode())
             at["word"], at["way"] = word, way
             where = "other" if words[0] == "fetch" else "source"
             ran = world.git(where, *words)
@@ -94,8 +95,22 @@ def show_cuts(checks, program, folder):
                 checks.same(f"{word}: {label}: the host is as before", f"{first} refs/heads/main", world.kept("r")[0])
         if word in ("for-each-ref", "fetch"):
             world.sound(f"after {word}", "other")
+    show_forms(world, at, tries)
     show_hand_cuts(world, watcher, at)
     world.host.ends_well(checks, "after cuts")
+
+
+def show_forms(world, at, tries):
+    """A reply is done, and its data is none that belongs there."""
+    forms = [b"something else\n", b"\n", b"x" * 100, b"\xff\n", b"ab" * 32 + b"\n", b"ab" * 32 + b" blob 9\n\n"]
+    for word, words in tries.items():
+        for data in forms:
+            world.ask("alice", "update-refs", "r", given=f"update refs/heads/main {at['first']}\n".encode())
+            at["word"], at["way"] = word, lambda reply: framed(b"ok\n" + data)
+            ran = world.git("other" if words[0] == "fetch" else "source", *words)
+            said = (ran.fault + ran.output).decode()
+            is_told = "forkhost: " in said or "[remote rejected] (" in said
+            world.checks.same(f"{word}: {data!r}", (True, True, False), (ran.status != 0, is_told, "Traceback" in said))
 
 
 def show_hand_cuts(world, watcher, at):

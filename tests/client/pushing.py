@@ -120,6 +120,11 @@ def show_first(checks, program, folder):
     both.label = "fetch first"
     status, rows = both.push("URL", "three:main")
     checks.same("fetch first is said", (1, True), (status, "[rejected] (fetch first)" in rows[0]))
+    ran = world.git("source", "push", "--porcelain", "--atomic", world.url("r"), "three:main", "side:refs/heads/x")
+    told = sorted(row.split("\t")[2] for row in ran.output.decode().splitlines() if row[:1] == "!")
+    wanted = ["[rejected] (fetch first)", "[remote rejected] (atomic push failed)"]
+    checks.same("fetch first, all or none", (1, wanted), (ran.status, told))
+    checks.same("and none it is", [f"{tip} refs/heads/main"], world.kept("r"))
     both.label = "a lease on what is not here"
     status, _ = both.push("--dry-run", f"--force-with-lease=main:{tip}", "URL", "three:main")
     checks.same("a lease on what is not here is enough", 0, status)

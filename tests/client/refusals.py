@@ -88,11 +88,12 @@ def show_references(world, here):
     here.refused("an absent one is deleted", "remote ref does not exist", ":refs/heads/nothing")
     absent = "ab" * 32
     here.refused("what nobody has", f"neither this repository nor the host has object {absent}", f"{absent}:refs/x/y")
-    text, both = "[remote rejected] (atomic push failed)", ["main:refs/heads/main/x", "main:refs/heads/y"]
+    both = ["main:refs/heads/main/x", "main:refs/heads/y"]
     ran = world.git("source", "push", "--porcelain", "--atomic", world.url("r"), *both)
     rows = sorted(row.split("\t")[2] for row in ran.output.decode().splitlines() if row[:1] == "!")
     checks = world.checks
-    checks.same("all or none: both", (1, True, text), (ran.status, "below it" in rows[1], rows[0]))
+    wanted = ["[remote rejected] (atomic push failed)", f"[remote rejected] ({text})"]
+    checks.same("all or none: both", (1, wanted), (ran.status, rows))
     before = world.kept("r")
     ran = world.git("source", "push", "--porcelain", world.url("r"), *both)
     checks.same("without it the other one goes", (1, 1), (ran.status, len(world.kept("r")) - len(before)))

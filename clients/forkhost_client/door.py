@@ -14,7 +14,8 @@ PATIENCE = 30
 PIECE = 1 << 16
 # A frame's first line: a tenant's name or `@host`, a length, and LF.
 LONGEST_LINE = 41
-LINE = re.compile(rb"([a-z0-9][a-z0-9_-]{0,31}|@host) (0|[1-9][0-9]{0,6})\n")
+WHO = "[a-z0-9][a-z0-9_-]{0,31}|@host"
+LINE = re.compile(b"(%s) (0|[1-9][0-9]{0,6})\n" % WHO.encode())
 # To this user there are no other tenants.
 NOBODY = framed(b"no unknown-tenant\n")
 

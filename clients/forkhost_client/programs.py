@@ -1,12 +1,13 @@
 """The programs: words and the standard streams in, an exit status out."""
 import os
+import re
 import signal
 import sys
 from typing import List
 
 from .address import read_address
 from .connection import Connection
-from .door import serve
+from .door import WHO, serve
 from .faults import Fatal, Refused
 from .frames import bytes_of
 from .helper import Helper
@@ -92,7 +93,7 @@ def door(words: List[str]) -> int:
     """`forkhost-door SOCKET TENANT`: frames of one tenant from standard input, replies to standard output."""
     leave_signals()
     try:
-        if len(words) != 2 or not words[1].strip("@"):
+        if len(words) != 2 or not re.fullmatch(WHO, words[1]):
             raise Fatal(DOOR_USAGE)
         serve(words[0], words[1], sys.stdin.buffer, sys.stdout.buffer)
         return DONE

@@ -1,7 +1,7 @@
 """Sends objects and commands: in one frame, in one upload, or in several of which the last has the commands."""
 from typing import List
 
-from .faults import Refused
+from .faults import Fatal, Refused
 from .plan import MAX_UPLOAD, Plan
 from .progress import Progress, say
 from .records import Size
@@ -45,7 +45,7 @@ def send_all(repository: Repository, remote: Remote, plan: Plan, commands: bytes
         is_last = at == len(uploads) - 1
         try:
             send(repository, remote, objects, commands if is_last else b"", progress)
-        except Refused:
+        except (Fatal, Refused):
             if at:
                 say(f"objects of {at} of {len(uploads)} uploads stay in use at the host until a prune")
             raise

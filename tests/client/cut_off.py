@@ -4,9 +4,9 @@ import time
 
 from forkhost_client.frames import framed
 from making import commit, line
-from program import Ran, ended
+from program import Ran
 from watching import Watcher
-from world import World
+from world import World, finished
 
 
 def show_held(checks, program, folder):
@@ -25,7 +25,7 @@ def show_held(checks, program, folder):
         checks.same("they wait", [None] * 4, [child.poll() for child in children])
         time.sleep(3.5)
         checks.same("and wait on", [None] * 4, [child.poll() for child in children])
-    told = [ended(child) for child in children]
+    told = [finished(child) for child in children]
     checks.same("then they are served", [0] * 4, [ran.status for ran in told])
     checks.same("who is not to be silent said it", [True, True], [waiting in ran.fault for ran in told[2:]])
     checks.same("each once", True, all(ran.fault.count(waiting) <= 2 for ran in told))

@@ -5,18 +5,11 @@ import signal
 import time
 
 from making import commit, commit_of, hashed, history, imported, tree_of
-from program import ended
 from watching import Watcher
-from world import World
+from world import World, finished, killed
 
 KILLS = 6
 PART = 1_000_000
-
-
-def killed(child):
-    """Ends a command of Git and all that it began, at once."""
-    os.killpg(child.pid, signal.SIGKILL)
-    return ended(child)
 
 
 def great(world, name, chance, count=12):
@@ -40,7 +33,7 @@ def show_kills(checks, program, folder):
     took = time.monotonic() - begun
     for number in range(KILLS):
         anew(world)
-        child = world.begun(*words, at="source", alone=True)
+        child = world.begun(*words, at="source")
         time.sleep(took * chance.uniform(0.2, 1))
         killed(child)
         goes_on(world, f"kill {number}")
@@ -83,9 +76,9 @@ def show_kills_at(world):
 
         watcher = Watcher(world.path(f"{word}{count}"), world.host.socket, meddle)
         url = f"forkhost::{watcher.path}/alice/r"
-        running.append(world.begun("git", "push", "-q", url, "main", at="source", alone=True))
+        running.append(world.begun("git", "push", "-q", url, "main", at="source"))
         label = f"killed behind {word} {count}"
-        world.checks.same(f"{label}: it is killed", -signal.SIGKILL, ended(running[0]).status)
+        world.checks.same(f"{label}: it is killed", -signal.SIGKILL, finished(running[0]).status)
         said = goes_on(world, label)
         dropped = b"forkhost: dropped an upload that was left open\n" in said
         world.checks.same(f"{label}: an upload was open", is_open, dropped)
@@ -111,7 +104,7 @@ def show_killed_fetches(checks, program, folder):
     world.succeeds("a push", world.git("source", "push", "-q", world.url("r"), "main"))
     world.repository("copy")
     for number in range(6):
-        child = world.begun("git", "fetch", "-q", world.url("r"), "main:got", at="copy", alone=True)
+        child = world.begun("git", "fetch", "-q", world.url("r"), "main:got", at="copy")
         time.sleep(chance.uniform(0.1, 0.5))
         killed(child)
         checks.same(f"kill {number}: the host serves", 0, world.ask("alice", "quota").status)

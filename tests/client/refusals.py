@@ -1,5 +1,5 @@
 """What a person is told where the host refuses: in which words, with which status, and that nothing has changed."""
-from making import IDENT, commit, commit_of, hashed, line, tree_of
+from making import commit, commit_of, hashed, line, tree_of
 from watching import Watcher
 from world import World
 

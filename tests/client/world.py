@@ -1,11 +1,12 @@
 """A host that serves, tenants' work folders, and Git as a person runs it, all in one folder of a test."""
 import os
 import shutil
+import signal
 import socket
 import subprocess
 
 from forkhost_client.connection import Connection
-from forkhost_client.faults import Refused
+from forkhost_client.faults import Fatal, Refused
 from live import Serving
 from program import PATIENCE, Ran, done, ended
 
@@ -28,6 +29,22 @@ def environment(home):
     fixed = {"GIT_CONFIG_GLOBAL": os.devnull, "GIT_CONFIG_NOSYSTEM": "1", "GIT_TERMINAL_PROMPT": "0", "LC_ALL": "C"}
     path = os.pathsep.join([CLIENTS, os.environ["PATH"]])
     return {**settings, **people, **fixed, "HOME": home, "TMPDIR": home, "PATH": path, "PYTHONDONTWRITEBYTECODE": "1"}
+
+
+def finished(child, given=b""):
+    """How a command ends, and all that it began; one that does not end is killed with them."""
+    try:
+        output, fault = child.communicate(given, timeout=PATIENCE)
+    except subprocess.TimeoutExpired:
+        return killed(child)
+    return Ran(child.returncode, output, fault)
+
+
+def killed(child):
+    """Ends a command and all that it began, at once."""
+    os.killpg(child.pid, signal.SIGKILL)
+    output, fault = child.communicate()
+    return Ran(child.returncode, output, fault)
 
 
 class Host:
@@ -77,14 +94,13 @@ class World:
 
     def ran(self, *words, at=None, given=b"", more=None):
         """A command, run in the folder or in one below it."""
-        child = self.begun(*words, at=at, more=more)
-        return ended(child, given)
+        return finished(self.begun(*words, at=at, more=more), given)
 
-    def begun(self, *words, at=None, more=None, alone=False):
-        """A command that runs; where it is alone, it and all that it begins can be ended at once."""
+    def begun(self, *words, at=None, more=None):
+        """A command that runs."""
         pipes = dict.fromkeys(["stdin", "stdout", "stderr"], subprocess.PIPE)
         where, outer = self.path(at or ""), {**self.environment, **(more or {})}
-        return subprocess.Popen(words, cwd=where, env=outer, start_new_session=alone, **pipes)
+        return subprocess.Popen(words, cwd=where, env=outer, start_new_session=True, **pipes)
 
     def git(self, at, *words, given=b"", more=None):
         return self.ran("git", *words, at=at, given=given, more=more)
@@ -109,9 +125,12 @@ class World:
         """One request, without a program between; it ends as `forkhost-ask` does."""
         try:
             with Connection(self.host.socket, tenant) as connection:
+                connection.stream.settimeout(PATIENCE)
                 return done(connection.ask(" ".join(words), given).rest())
         except Refused as refusal:
             return Ran(1, b"", f"forkhost-ask: {refusal}\n".encode())
+        except Fatal as fault:
+            raise ValueError(f"{tenant} asks {words}: {fault}") from fault
 
     def init(self, tenant, *repositories):
         for repository in repositories:

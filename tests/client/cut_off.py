@@ -23,7 +23,7 @@ def show_held(checks, program, folder):
         children.append(world.begun("forkhost-ask", world.host.socket, "alice", "quota"))
         time.sleep(3)
         checks.same("they wait", [None] * 4, [child.poll() for child in children])
-        time.sleep(3.5)
+        time.sleep(5)
         checks.same("and wait on", [None] * 4, [child.poll() for child in children])
     told = [finished(child) for child in children]
     checks.same("then they are served", [0] * 4, [ran.status for ran in told])

@@ -28,6 +28,11 @@ class Checks:
         self.same(label, None, why)
 
     def show(self, shows, program):
+        """Shows each subject, and ends."""
+        self.run(shows, program)
+        self.end()
+
+    def run(self, shows, program):
         """Shows each subject in a folder of its own; one that breaks off counts as a failure."""
         with tempfile.TemporaryDirectory() as work:
             for show in shows:
@@ -38,7 +43,6 @@ class Checks:
                 except (OSError, ValueError) as error:
                     self.same(show.__name__, "an end", repr(error))
                 program.stop()
-        self.end()
 
     def end(self):
         print(f"{self.passed} passed, {self.failed} failed")

@@ -5,7 +5,7 @@ import threading
 import time
 
 from cases import B, D, OBJECTS
-from frames import frame, framed, frames
+from forkhost_client.frames import frame, framed, frames
 from live import Serving, to_end
 from objects import name_of, record
 from program import done

@@ -5,7 +5,7 @@ import shutil
 from cases import B, C, D, FILES, OBJECTS, alone
 from checks import Checks
 from folder import Folder
-from frames import framed, frames
+from forkhost_client.frames import framed, frames
 from live import Live
 from objects import record
 from program import done, ended, failed

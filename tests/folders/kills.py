@@ -7,7 +7,7 @@ import time
 
 from asking import History
 from folder import Folder
-from frames import frames, replies
+from forkhost_client.frames import frames, replies
 from objects import whole
 from program import PATIENCE, Ran, done
 

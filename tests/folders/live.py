@@ -3,7 +3,7 @@ import os
 import socket
 import time
 
-from frames import frame
+from forkhost_client.frames import frame
 from program import PATIENCE, ended
 
 

@@ -7,7 +7,7 @@ import threading
 from cases import B, D, FILES, OBJECTS, alone
 from clients import ALICE, BOB, PUSH, QUOTA, TENANTS, TOLD
 from folder import Folder, content, write
-from frames import frame, framed, frames
+from forkhost_client.frames import frame, framed, frames
 from live import Live, Serving
 from objects import record
 from program import done, failed

@@ -1,6 +1,8 @@
 """A session with the program over pipes: one frame at a time, and its reply."""
 import subprocess
 
+from forkhost_client.frames import frame
+
 LIMIT = 1_000_000_000
 
 
@@ -11,7 +13,7 @@ class Host:
 
     def asked(self, who, payload):
         """The reply to a request of this tenant's."""
-        self.child.stdin.write(b"%s %d\n%s" % (who.encode(), len(payload), payload))
+        self.child.stdin.write(frame(who.encode(), payload))
         self.child.stdin.flush()
         return self.child.stdout.read(int(self.child.stdout.readline()))
 

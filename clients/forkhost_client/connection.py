@@ -1,0 +1,103 @@
+"""One connection to a host. The host serves one at a time, so it is held for one batch of requests alone."""
+import socket
+import threading
+from typing import Callable, Optional
+
+from .faults import Fatal, Lost
+from .frames import DONE, LONGEST_HEAD, MAX_PAYLOAD, bytes_of, frame, length_of, not_done, text_of
+
+# Seconds without a first reply, after which a person is told that the host serves somebody else.
+PATIENCE = 5
+# A refusal's detail is at most a word of a payload.
+LONGEST_REFUSAL = MAX_PAYLOAD + 64
+PIECE = 1 << 16
+
+
+class Data:
+    """What stands behind `ok` in a reply, read as it comes."""
+
+    def __init__(self, reader, left: int):
+        self.reader, self.left = reader, left
+
+    def read(self, count: int) -> bytes:
+        """So many bytes, all of which the reply has."""
+        if count > self.left:
+            raise Fatal("a reply of the host ends too early")
+        self.left -= count
+        return exactly(self.reader, count)
+
+    def line(self, longest: int) -> bytes:
+        """The bytes up to a line feed, without it."""
+        found = self.reader.readline(min(self.left, longest + 1))
+        self.left -= len(found)
+        if not found.endswith(b"\n"):
+            raise Fatal("a reply of the host has no line where one belongs")
+        return found[:-1]
+
+    def rest(self) -> bytes:
+        return self.read(self.left)
+
+
+class Connection:
+    """Requests of one tenant, each answered before the next is sent; a `with` statement ends it."""
+
+    def __init__(self, path: str, tenant: str, on_wait: Optional[Callable[[], None]] = None):
+        self.tenant = bytes_of(tenant)
+        self.timer = threading.Timer(PATIENCE, on_wait or (lambda: None))
+        self.timer.daemon = True
+        self.stream = socket.socket(socket.AF_UNIX)
+        self.reader, self.data = self.stream.makefile("rb", PIECE), None
+        self.timer.start()
+        try:
+            self.stream.connect(path)
+        except OSError as fault:
+            self.close()
+            raise Fatal(f"can not reach a host at '{path}': {fault.strerror or fault}") from fault
+
+    def __enter__(self) -> "Connection":
+        return self
+
+    def __exit__(self, *_) -> None:
+        self.close()
+
+    def close(self) -> None:
+        self.timer.cancel()
+        self.reader.close()
+        self.stream.close()
+
+    def ask(self, line: str, body: bytes = b"") -> Data:
+        """The data of the reply, which is read before the next request; or `Refused`, or `HostFault`."""
+        while self.data and self.data.left:
+            self.data.read(min(self.data.left, PIECE))
+        try:
+            self.stream.sendall(frame(self.tenant, bytes_of(line) + b"\n" + body))
+            head = self.reader.readline(LONGEST_HEAD)
+        except OSError as fault:
+            raise Lost(f"the host ended the connection: {fault.strerror or fault}") from fault
+        self.timer.cancel()
+        if not head:
+            raise Lost("the host ended the connection")
+        return self.answer(length_of(head))
+
+    def answer(self, length: int) -> Data:
+        begun = exactly(self.reader, min(length, len(DONE)))
+        if begun == DONE:
+            self.data = Data(self.reader, length - len(begun))
+            return self.data
+        if length > LONGEST_REFUSAL:
+            raise Lost("what was read is no reply of a forkhost")
+        raise not_done(begun + exactly(self.reader, length - len(begun)))
+
+    def text(self, line: str) -> str:
+        """The data of the reply, whole, as text."""
+        return text_of(self.ask(line).rest())
+
+
+def exactly(reader, count: int) -> bytes:
+    try:
+        data = reader.read(count)
+    except OSError as fault:
+        raise Lost(f"the host ended the connection: {fault.strerror or fault}") from fault
+    if len(data) != count:
+        raise Lost("the host ended the connection within a reply")
+    return data

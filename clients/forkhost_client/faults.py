@@ -1,0 +1,25 @@
+"""What can stand in the way of a request, apart from a refusal's meaning."""
+
+
+class Fatal(Exception):
+    """The work can not go on; the text says why, for a person."""
+
+
+class Lost(Fatal):
+    """A reply was not read, so whether the request was carried out is not known."""
+
+
+class HostFault(Fatal):
+    """The host failed at a request, and changed nothing by it."""
+
+    def __init__(self, word: str):
+        self.word = word
+        super().__init__(f"the host failed ({word}) and changed nothing by this request; it may be asked again")
+
+
+class Refused(Exception):
+    """The host refused a request by a word, and a detail which may be empty."""
+
+    def __init__(self, word: str, detail: str = ""):
+        self.word, self.detail = word, detail
+        super().__init__(f"{word} {detail}" if detail else word)

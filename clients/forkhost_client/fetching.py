@@ -1,0 +1,78 @@
+"""A fetch: what Git wants, in few requests, in one pack."""
+from typing import Dict, List, Optional
+
+from .listing import Listing
+from .negotiation import MAX_EXCLUDED, MAX_ITEMS, common
+from .options import Options
+from .pack import Pack
+from .progress import Progress
+from .remote import Remote
+from .repository import Repository
+
+
+class Fetch:
+    """What is wanted of one repository, over one connection, into a pack."""
+
+    def __init__(self, repository: Repository, remote: Remote, listing: Listing, options: Options, pack: Pack):
+        self.repository, self.remote, self.pack = repository, remote, pack
+        self.listing, self.options = listing, options
+        self.history: Dict[str, List[str]] = {}
+
+    def is_whole(self, wanted: List[str]) -> bool:
+        """Whether all that the history here leads to is here, or need not be.
+
+        Not so where it was cut short; and not where objects are elsewhere, and one of them is wanted by its name."""
+        if self.options.refetch or self.repository.is_shallow():
+            return False
+        return set(self.listing.refs.values()).issuperset(wanted) or not self.repository.is_partial()
+
+    def carry_out(self, wanted: List[str]) -> None:
+        self.history = self.repository.history() if self.is_whole(wanted) else {}
+        targets = [name for name in self.targets(wanted) if name not in self.history]
+        commits = [name for name in targets if self.listing.kind(name) == "commit"]
+        listed = self.listing.refs.values()
+        known = common(self.repository, self.history, self.remote, listed, commits) if targets else []
+        self.receive(targets, known)
+        if self.options.followtags:
+            self.follow_tags()
+
+    def targets(self, wanted: List[str]) -> List[str]:
+        """What stands behind the wanted names; tags between are here already, and need not be asked for.
+
+        HEAD is the first, since most other tips stand in its history; then come commits, then all else."""
+        first, found = self.listing.default(), []
+        for name in wanted:
+            self.add_chain(name)
+            found.append(self.listing.peeled(name).name)
+        return sorted(dict.fromkeys(found), key=lambda name: (name != first, self.listing.kind(name) != "commit"))
+
+    def add_chain(self, name: str) -> None:
+        for tag in self.listing.chain(name):
+            self.pack.add(tag)
+
+    def receive(self, wanted: List[str], known: List[str]) -> None:
+        """All that the wanted names lead to, less what the known ones do. The first one is asked for alone."""
+        room = 1
+        while wanted:
+            group = wanted[:room]
+            for record in self.remote.reached(group, known):
+                self.pack.add(record)
+            known = (known + group)[:MAX_EXCLUDED]
+            wanted = [name for name in wanted[room:] if name not in self.pack.names]
+            room = MAX_ITEMS - len(known)
+
+    def follow_tags(self) -> None:
+        """Tags of what has come, as Git's own servers send them along."""
+        for name in self.listing.refs.values():
+            if name in self.listing.tags and self.listing.peeled(name).name in self.pack.names:
+                self.add_chain(name)
+
+
+def fetch(
+    repository: Repository, remote: Remote, listing: Listing, wanted: List[str], options: Options
+) -> Optional[str]:
+    """Brings what the wanted names lead to into the repository; the path of the file that holds its pack, if any."""
+    with Pack(repository, Progress("Receiving objects", options.progress)) as pack:
+        with remote:
+            Fetch(repository, remote, listing, options, pack).carry_out(wanted)
+        return pack.keep()

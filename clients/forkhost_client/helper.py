@@ -1,0 +1,110 @@
+"""The remote helper: Git's lines in, and what Git is told (gitremote-helpers(7))."""
+from typing import BinaryIO, Iterable, Iterator, List, Mapping, Optional
+
+from .address import Address
+from .connection import Connection
+from .faults import Fatal, Refused
+from .fetching import fetch
+from .frames import bytes_of, text_of
+from .listing import Listing, read_listing
+from .options import Options
+from .progress import say
+from .pushing import Push, chosen
+from .remote import Remote
+from .repository import Repository
+from .updates import read_updates
+from .words import told
+
+CAPABILITIES = ["fetch", "push", "option", "object-format"]
+FORMAT = "sha256"
+EMPTY = (
+    "the repository is empty, and Git makes a clone of it in the SHA-1 format, which can not push to it; "
+    "clone by 'GIT_DEFAULT_HASH=sha256 git clone ..', or push from what 'git init --object-format=sha256' makes"
+)
+
+
+class Helper:
+    def __init__(self, address: Address, outer: Mapping[str, str]):
+        self.address, self.repository = address, Repository(outer)
+        self.options = Options(self.warn)
+        self.listing: Optional[Listing] = None
+
+    def warn(self, text: str) -> None:
+        if self.options.verbosity > 0:
+            say(text)
+
+    def connect(self) -> Remote:
+        """A connection for one batch."""
+        on_wait = lambda: self.warn("waiting: the host serves another connection")
+        return Remote(Connection(self.address.socket, self.address.tenant, on_wait), self.address.repository)
+
+    def serve(self, source: BinaryIO, sink: BinaryIO) -> None:
+        """Answers Git's lines to their end, or to an empty one between batches."""
+        for line in iter(lambda: read_line(source), ""):
+            for row in self.answer(line, source):
+                sink.write(bytes_of(row) + b"\n")
+            sink.flush()
+
+    def answer(self, line: str, source: BinaryIO) -> Iterable[str]:
+        word = line.partition(" ")[0]
+        if word == "option":
+            return [self.options.answer(line)]
+        if line == "capabilities":
+            return [*CAPABILITIES, ""]
+        if line in ("list", "list for-push"):
+            return [*self.list(line == "list for-push"), ""]
+        if word in ("fetch", "push"):
+            batch = [line, *iter(lambda: read_line(source), "")]
+            return [*(self.fetch(batch) if word == "fetch" else self.push(batch)), ""]
+        raise Fatal(f"Git asked for '{line}', which is not known here")
+
+    def listed(self, for_push: bool) -> Listing:
+        with self.connect() as remote:
+            try:
+                return read_listing(remote, for_push)
+            except Refused as refusal:
+                hint = f"; '{self.address.init()}' makes it" if refusal.word == "no-repository" else ""
+                raise Fatal(told(refusal, self.address) + hint) from refusal
+
+    def list(self, for_push: bool) -> Iterator[str]:
+        self.listing = self.listed(for_push)
+        if not self.listing.refs and not for_push and self.repository.object_format() == "sha1":
+            say(EMPTY)
+        if self.options.object_format:
+            yield f":object-format {FORMAT}"
+        yield from self.listing.rows()
+
+    def want_format(self) -> None:
+        """A clone has its format only behind the list, so it is looked at here."""
+        found = self.repository.object_format()
+        if found != FORMAT:
+            raise Fatal(
+                f"the object format of this repository is {found}, and the host's is {FORMAT}; "
+                f"use one made by 'git init --object-format={FORMAT}' or by 'git clone'"
+            )
+
+    def fetch(self, batch: List[str]) -> Iterator[str]:
+        self.want_format()
+        wanted = [line.split(" ")[1] for line in batch]
+        listing = self.listing or self.listed(False)
+        try:
+            kept = fetch(self.repository, self.connect(), listing, wanted, self.options)
+        except Refused as refusal:
+            raise Fatal(told(refusal, self.address)) from refusal
+        if kept:
+            yield f"lock {kept}"
+
+    def push(self, batch: List[str]) -> Iterator[str]:
+        self.want_format()
+        listing = self.listing or self.listed(True)
+        updates = read_updates(batch, listing, self.options.leases, self.repository)
+        good = chosen(updates, self.repository, self.options.atomic)
+        if good:
+            with self.connect() as remote:
+                Push(self.address, self.repository, remote, listing, self.options).carry_out(good)
+        yield from (update.row() for update in updates)
+
+
+def read_line(source: BinaryIO) -> str:
+    """A line of Git's without its end; nothing for an empty one, and at the end."""
+    return text_of(source.readline()).rstrip("\n")

@@ -1,0 +1,47 @@
+"""Orders of objects in which each stands behind those that it links to."""
+from typing import Dict, Iterator, List
+
+from .records import linked
+from .repository import Repository
+
+FOLDER = b"40000 "
+RAW = 32
+
+
+def behind_links(names: List[str], links: Dict[str, List[str]]) -> List[str]:
+    """The names, each behind those of them that it links to."""
+    found, done = [], set()
+    for top in names:
+        due = [(top, False)]
+        while due:
+            name, left = due.pop()
+            if left:
+                found.append(name)
+            elif name not in done and name in links:
+                done.add(name)
+                due.append((name, True))
+                due.extend((other, False) for other in links[name])
+    return found
+
+
+def folders(tree: bytes) -> Iterator[str]:
+    """The trees to which a tree links."""
+    at = 0
+    while at < len(tree):
+        end = tree.index(b"\0", at) + 1 + RAW
+        if tree.startswith(FOLDER, at):
+            yield tree[end - RAW : end].hex()
+        at = end
+
+
+def children_first(trees: List[str], repository: Repository) -> List[str]:
+    wanted = set(trees)
+    with repository.records(trees) as batch:
+        links = {name: [other for other in folders(tree) if other in wanted] for name, tree in batch.contents()}
+    return behind_links(trees, links)
+
+
+def inner_first(tags: List[str], repository: Repository) -> List[str]:
+    with repository.records(tags) as batch:
+        links = {name: [linked(tag).name] for name, tag in batch.contents()}
+    return behind_links(tags, links)

@@ -1,0 +1,93 @@
+"""A pack of objects whose number is known at its end alone, and its way into the repository."""
+import hashlib
+import os
+import subprocess
+import tempfile
+import zlib
+from typing import Iterator, List, Optional, Set
+
+from .faults import Fatal
+from .progress import Progress
+from .records import Record
+from .repository import Repository
+
+SIGN, VERSION = b"PACK", (2).to_bytes(4, "big")
+NUMBERS = {"commit": 1, "tree": 2, "blob": 3, "tag": 4}
+# Fewer objects than this are unpacked, as Git does.
+FEW = 100
+PIECE = 1 << 20
+
+
+def head(kind: str, length: int) -> bytes:
+    """The type and the length of an object in a pack (gitformat-pack(5))."""
+    found = bytearray([NUMBERS[kind] << 4 | length & 15])
+    length >>= 4
+    while length:
+        found[-1] |= 128
+        found.append(length & 127)
+        length >>= 7
+    return bytes(found)
+
+
+class Pack:
+    """Objects, each once, in a file without a name in the folder of the repository's objects."""
+
+    def __init__(self, repository: Repository, progress: Progress):
+        self.repository, self.progress = repository, progress
+        self.folder = repository.objects_folder()
+        self.names: Set[str] = set()
+        self.file = tempfile.TemporaryFile(dir=self.folder)
+        self.file.write(SIGN + VERSION + bytes(4))
+
+    def __enter__(self) -> "Pack":
+        return self
+
+    def __exit__(self, *_) -> None:
+        self.file.close()
+
+    def add(self, record: Record) -> None:
+        if record.name in self.names:
+            return
+        self.names.add(record.name)
+        self.file.write(head(record.kind, len(record.content)))
+        self.file.write(zlib.compress(record.content, 1))
+        self.progress.add(1, len(record.content))
+
+    def pieces(self) -> Iterator[bytes]:
+        self.file.seek(0)
+        while piece := self.file.read(PIECE):
+            yield piece
+
+    def end(self) -> None:
+        """Writes the number of the objects, and the sum that ends a pack."""
+        self.file.seek(len(SIGN + VERSION))
+        self.file.write(len(self.names).to_bytes(4, "big"))
+        digest = hashlib.sha256()
+        for piece in self.pieces():
+            digest.update(piece)
+        self.file.write(digest.digest())
+        self.file.flush()
+        os.lseek(self.file.fileno(), 0, os.SEEK_SET)
+
+    def keep(self) -> Optional[str]:
+        """Brings the objects into the repository; the path of the file that holds a pack, if one is held."""
+        self.progress.done()
+        if not self.names:
+            return None
+        self.end()
+        few = int(self.repository.setting("fetch.unpackLimit", "transfer.unpackLimit", kind="int") or FEW)
+        strict = self.repository.setting("fetch.fsckObjects", "transfer.fsckObjects", kind="bool") == "true"
+        if len(self.names) < few:
+            self.taken("unpack-objects", ["-q", *(["--strict"] if strict else [])])
+            return None
+        words = ["--stdin", f"--keep=forkhost {os.getpid()}", *(["--strict"] if strict else [])]
+        told = self.taken("index-pack", [*words, *(["-v"] if self.progress.shown else [])])
+        word, _, name = told.strip().partition("\t")
+        return os.path.join(self.folder, "pack", f"pack-{name}.keep") if word == "keep" else None
+
+    def taken(self, command: str, words: List[str]) -> str:
+        environment = self.repository.environment
+        ran = subprocess.run(["git", command, *words], stdin=self.file, stdout=subprocess.PIPE, env=environment)
+        if ran.returncode:
+            raise Fatal("Git did not take the objects that were received")
+        return ran.stdout.decode()

@@ -1,0 +1,107 @@
+"""The programs: words and the standard streams in, an exit status out."""
+import os
+import re
+import signal
+import sys
+from typing import List
+
+from .address import read_address
+from .connection import Connection
+from .door import WHO, serve
+from .faults import Fatal, Refused
+from .frames import bytes_of
+from .helper import Helper
+from .progress import say
+from .repository import NESTED
+
+DOOR_USAGE = "usage: forkhost-door SOCKET TENANT, by a front end, with frames on standard input"
+ASK_USAGE = "usage: forkhost-ask SOCKET TENANT WORD [ARG ..] [-]"
+HELPER_USAGE = "usage: git-remote-forkhost REMOTE forkhost::/ABSOLUTE/SOCKET/TENANT/REPO (Git runs it)"
+DONE, REFUSED, FAULT, FATAL = 0, 1, 2, 128
+PIECE = 1 << 16
+
+
+def leave_signals() -> None:
+    """Ctrl-C ends a program as it ends Git, without a trace."""
+    signal.signal(signal.SIGINT, signal.SIG_DFL)
+
+
+def nobody_reads() -> None:
+    """Whoever read standard output is gone: what is left of it goes nowhere."""
+    os.dup2(os.open(os.devnull, os.O_WRONLY), sys.stdout.fileno())
+
+
+def fatal(text: str) -> int:
+    print("fatal: ", end="", file=sys.stderr)
+    say(text)
+    return FATAL
+
+
+def remote_helper(words: List[str]) -> int:
+    """`git-remote-forkhost REMOTE URL`."""
+    leave_signals()
+    try:
+        if len(words) != 2:
+            raise Fatal(HELPER_USAGE)
+        if NESTED in os.environ:
+            raise Fatal("an object is not here, and a fetch of it would wait for this one; use a complete clone")
+        Helper(read_address(words[1]), os.environ).serve(sys.stdin.buffer, sys.stdout.buffer)
+        return DONE
+    except Fatal as fault:
+        return fatal(str(fault))
+    except BrokenPipeError:
+        nobody_reads()
+        return FATAL
+    except OSError as fault:
+        return fatal(fault.strerror or str(fault))
+
+
+def is_word(word: str) -> bool:
+    return word != "" and " " not in word and "\n" not in word
+
+
+def ask(words: List[str]) -> int:
+    """`forkhost-ask SOCKET TENANT WORD [ARG ..]`: one request, whose body comes from standard input behind `-`."""
+    leave_signals()
+    try:
+        has_body = words[3:] != [] and words[-1] == "-"
+        path, tenant, *line = words[:-1] if has_body else words + [""] * (3 - len(words))
+        if not all(map(is_word, [tenant, *line])):
+            raise Fatal(ASK_USAGE + "; no word holds a space or a line feed")
+        body = sys.stdin.buffer.read() if has_body else b""
+        with Connection(path, tenant, lambda: say("waiting: the host serves another connection")) as connection:
+            data = connection.ask(" ".join(line), body)
+            while data.left:
+                sys.stdout.buffer.write(data.read(min(data.left, PIECE)))
+        sys.stdout.buffer.flush()
+        return DONE
+    except Refused as refusal:
+        sys.stderr.buffer.write(b"forkhost-ask: " + bytes_of(str(refusal)) + b"\n")
+        return REFUSED
+    except Fatal as fault:
+        sys.stderr.buffer.write(b"forkhost-ask: " + bytes_of(str(fault)) + b"\n")
+        return FAULT
+    except BrokenPipeError:
+        nobody_reads()
+        return FAULT
+    except OSError as fault:
+        sys.stderr.buffer.write(bytes_of(f"forkhost-ask: {fault.strerror or fault}\n"))
+        return FAULT
+
+
+def door(words: List[str]) -> int:
+    """`forkhost-door SOCKET TENANT`: frames of one tenant from standard input, replies to standard output."""
+    leave_signals()
+    try:
+        if len(words) != 2 or not re.fullmatch(WHO, words[1]):
+            raise Fatal(DOOR_USAGE)
+        serve(words[0], words[1], sys.stdin.buffer, sys.stdout.buffer)
+        return DONE
+    except Fatal as fault:
+        print(f"forkhost-door: {fault}", file=sys.stderr)
+    except BrokenPipeError:
+        nobody_reads()
+        return DONE
+    except OSError as fault:
+        print(f"forkhost-door: {fault.strerror or fault}", file=sys.stderr)
+    return FAULT

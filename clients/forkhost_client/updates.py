@@ -1,0 +1,86 @@
+"""Changes of references that Git asks for, and what stands against each before the host is asked."""
+import re
+from typing import List, Mapping, Optional
+
+from .listing import Listing
+from .repository import NAME, Repository
+
+ABSENT = "0" * 64
+FORM = re.compile("push ([+]?)(.*):(.*)")
+# The host takes no longer names; a line with one could be too long to be told apart.
+LONGEST_REF = 255
+
+
+class Update:
+    """A reference, the name that it had, and the one that it gets; `ABSENT` stands for none."""
+
+    def __init__(self, ref: str, source: str, old: str, new: str, forced: bool):
+        self.ref, self.source, self.old, self.new, self.forced = ref, source, old, new, forced
+        # Whether the host carried it out, or why it was not carried out, in words.
+        self.is_done = False
+        self.refusal: Optional[str] = None
+
+    def command(self) -> str:
+        if self.new == ABSENT:
+            return f"delete {self.ref} {self.old}\n"
+        return f"update {self.ref} {self.new} {self.old}\n"
+
+    def stale(self) -> str:
+        """What Git is told where the reference is not as it was listed, in Git's own words."""
+        return "stale info" if self.forced or self.new == ABSENT else "fetch first"
+
+    def row(self) -> str:
+        """What Git is told of it."""
+        return f"error {self.ref} {self.refusal}" if self.refusal else f"ok {self.ref}"
+
+
+def read_updates(rows: List[str], listing: Listing, leases: Mapping[str, str], repository: Repository) -> List[Update]:
+    """The updates that lines `push [+]SOURCE:REF` ask for; with no source, deletions.
+
+    A lease is forced, and names the old target itself. A whole name stands for itself, wherever its object is."""
+    parts = [FORM.fullmatch(row).groups() for row in rows]
+    names = repository.resolve([source or ABSENT for _, source, _ in parts])
+    updates = []
+    for (sign, source, ref), name in zip(parts, names):
+        new = (name or (source if NAME.fullmatch(source) else "")) if source else ABSENT
+        old = leases.get(ref, listing.refs.get(ref, ABSENT))
+        updates.append(Update(ref, source, old, new, sign == "+" or ref in leases))
+    return updates
+
+
+def why_not(update: Update) -> Optional[str]:
+    """What stands against an update by itself."""
+    if len(update.ref.encode("utf-8", "surrogateescape")) > LONGEST_REF:
+        return f"the host takes names of references of at most {LONGEST_REF} bytes"
+    if not update.new:
+        return f"'{update.source}' names nothing here"
+    return "remote ref does not exist" if update.new == update.old == ABSENT else None
+
+
+def judge(updates: List[Update], repository: Repository) -> None:
+    """Git has judged each update by the list, and leaves two of its answers to the helper, in words that it knows."""
+    for update in updates:
+        update.refusal = why_not(update)
+    due = [one for one in updates if not one.refusal and not one.forced and ABSENT not in (one.old, one.new)]
+    due = [one for one in due if not one.ref.startswith("refs/tags/")]
+    here = repository.present(one.old for one in due)
+    commits = repository.resolve([f"{name}^{{commit}}" for one in due for name in (one.old, one.new)])
+    for at, update in enumerate(due):
+        if update.old not in here:
+            update.refusal = "fetch first"
+        elif None in commits[2 * at : 2 * at + 2]:
+            update.refusal = "needs force"
+
+
+def blamed(updates: List[Update], word: str, detail: str) -> List[Update]:
+    """Those of the updates for which the host refused a transaction; all of them where it was for none alone."""
+    found = []
+    if word in ("bad-ref", "stale", "repeated-ref"):
+        found = [update for update in updates if update.ref == detail]
+    elif word in ("not-a-commit", "missing"):
+        found = [update for update in updates if update.new == detail]
+        if word == "not-a-commit":
+            found = [update for update in found if update.ref.startswith("refs/heads/")]
+    elif word == "ref-conflict":
+        found = [update for update in updates if update.ref == detail or update.ref.startswith(detail + "/")]
+    return found or updates

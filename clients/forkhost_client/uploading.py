@@ -1,0 +1,52 @@
+"""Sends objects and commands: in one frame, in one upload, or in several of which the last has the commands."""
+from typing import List
+
+from .faults import Fatal, Refused
+from .plan import MAX_UPLOAD, Plan
+from .progress import Progress, say
+from .records import Size
+from .remote import MAX_PART, Remote
+from .repository import Batch, Repository
+
+END = b"\n"
+
+
+def send_parts(remote: Remote, batch: Batch, commands: bytes, length: int, progress: Progress) -> None:
+    head, left = commands + END, length
+    while left:
+        piece = head + batch.read(min(MAX_PART, left) - len(head))
+        remote.part(piece)
+        progress.add(0, len(piece))
+        left, head = left - len(piece), b""
+    remote.end_upload()
+
+
+def send(repository: Repository, remote: Remote, objects: List[Size], commands: bytes, progress: Progress) -> None:
+    """One push, all or none: the commands, an empty line, and the records."""
+    length = len(commands + END) + sum(one.record_length() for one in objects)
+    with repository.records([one.name for one in objects]) as batch:
+        if remote.fits(length):
+            remote.push(commands + END + batch.read(length - len(commands + END)))
+            progress.add(0, length)
+        else:
+            send_parts(remote, batch, commands, length, progress)
+
+
+def send_all(repository: Repository, remote: Remote, plan: Plan, commands: bytes, shown: bool) -> None:
+    """The uploads of a plan. One that another client of the tenant left open is dropped; none is open at the end.
+
+    Objects of uploads before one that is refused stay at the host, and in the tenant's use."""
+    if remote.drop_upload():
+        say("dropped an upload that was left open")
+    uploads = plan.uploads(MAX_UPLOAD - len(commands + END))
+    total = plan.length() + len(commands) + len(uploads) * len(END)
+    progress = Progress("Writing objects", shown and bool(plan.objects), total)
+    for at, objects in enumerate(uploads):
+        is_last = at == len(uploads) - 1
+        try:
+            send(repository, remote, objects, commands if is_last else b"", progress)
+        except (Fatal, Refused):
+            if at:
+                say(f"objects of {at} of {len(uploads)} uploads stay in use at the host until a prune")
+            raise
+    progress.done()

@@ -1,0 +1,165 @@
+"""One request by hand, and the door of one tenant."""
+import os
+import shlex
+import socket
+import subprocess
+import threading
+import time
+
+from forkhost_client.frames import BAD_FRAME, frame, framed
+from live import to_end
+from making import line, name_of
+from program import Ran, done
+from world import CLIENTS, World
+
+BLOB = b"hello\n"
+NAME = name_of(b"blob", BLOB)
+
+
+def refused(text):
+    return Ran(1, b"", f"forkhost-ask: {text}\n".encode())
+
+
+def show_asking(checks, program, folder):
+    """Data on standard output; a refusal is status 1, a host fault 2, and so is what can not be asked."""
+    world = World(checks, program, folder, "alice=1000", "bob=1000")
+    body = b"create refs/tags/v %s\n\n%s blob 6\nhello\n\n" % (NAME.encode(), NAME.encode())
+    row = f"{NAME} blob\trefs/tags/v\n".encode()
+    turns = [
+        (["alice", "init", "r"], b"", done()),
+        (["alice", "init", "r"], b"", refused("repository-exists r")),
+        (["alice", "push", "r", "-"], body, done()),
+        (["alice", "cat-file", NAME], b"", done(b"%s blob 6\nhello\n\n" % NAME.encode())),
+        (["bob", "cat-file", NAME], b"", refused(f"missing {NAME}")),
+        (["alice", "for-each-ref", "r"], b"", done(row)),
+        (["alice", "part", "-"], body[:40], done()),
+        (["alice", "part", "-"], b"", done()),
+        (["alice", "part-drop"], b"", done()),
+        (["alice", "quota"], b"", done(b"70 1000\n")),
+        (["carol", "quota"], b"", refused("unknown-tenant")),
+        (["alice", "nothing"], b"", refused("bad-request")),
+        (["alice", "init", "r\udcff"], b"", Ran(1, b"", b"forkhost-ask: bad-name r\xff\n")),
+        (["alice", "quota", "-"], b"x", refused("bad-request")),
+        (["@host", "nothing"], b"", refused("bad-request")),
+    ]
+    for words, given, wanted in turns:
+        words = [os.fsencode(word) for word in words]
+        ran = world.ran("forkhost-ask", world.host.socket, *words, given=given)
+        checks.same(f"by hand: {words}", wanted, ran)
+    wrong = ([], ["alice"], ["alice", ""], ["alice", "init r"], ["alice", "quota\n"], ["", "quota"], ["a b", "quota"])
+    for words in wrong:
+        ran = world.ran("forkhost-ask", world.host.socket, *words)
+        checks.same(f"by hand: {words} is no request", (2, b"", True), (*ran[:2], b"usage: forkhost-ask" in ran.fault))
+    ran = world.ran("forkhost-ask", world.path("nothing"), "alice", "quota")
+    checks.same("by hand: nobody is there", (2, b"", True), (*ran[:2], b"can not reach a host" in ran.fault))
+    world.host.ends_well(checks, "after requests by hand")
+
+
+class StandIn:
+    """In the place of ssh and sshd: each connection to its socket runs the forced command of a line of
+    `authorized_keys`, with the connection as its standard streams, and with what the user asked for beside."""
+
+    def __init__(self, world, name, authorized, asked="git-upload-pack '/'"):
+        self.path, self.world = world.path(name), world
+        self.command, self.asked = forced_command(authorized), asked
+        self.listener = socket.socket(socket.AF_UNIX)
+        self.listener.bind(self.path)
+        self.listener.listen(20)
+        self.children = []
+        threading.Thread(target=self.serve, daemon=True).start()
+
+    def serve(self):
+        outer = {**self.world.environment, "SSH_ORIGINAL_COMMAND": self.asked}
+        while True:
+            try:
+                stream, _ = self.listener.accept()
+            except OSError:
+                return
+            with stream:
+                streams = {"stdin": stream, "stdout": stream, "stderr": subprocess.PIPE}
+                self.children.append(subprocess.Popen(["sh", "-c", self.command], env=outer, **streams))
+
+    def told(self, given):
+        with socket.socket(socket.AF_UNIX) as stream:
+            stream.settimeout(60)
+            stream.connect(self.path)
+            stream.sendall(given)
+            stream.shutdown(socket.SHUT_WR)
+            return to_end(stream)
+
+    def end(self):
+        """Its end, and that of each command it began."""
+        self.listener.close()
+        return [child.wait(timeout=60) for child in self.children]
+
+
+def forced_command(authorized):
+    """The command of a line of `authorized_keys`, which sshd runs whatever the user asks for."""
+    options = authorized.split(" ssh-")[0]
+    return shlex.split(options.split("command=", 1)[1].split(",restrict")[0])[0]
+
+
+def authorized_line(socket_path, tenant, key):
+    """A line as docs/CLIENTS.md has it."""
+    page = os.path.join(CLIENTS, "../docs/CLIENTS.md")
+    with open(page, encoding="utf-8") as file:
+        (form,) = {row for row in file.read().splitlines() if row.startswith('command="')}
+    replaced = form.replace("/srv/forkhost/clients", CLIENTS).replace("/srv/forkhost/socket", socket_path)
+    return replaced.replace(" alice", f" {tenant}").replace("AAAA", key)
+
+
+def show_door(checks, program, folder):
+    """A forced command gives each key its tenant: Git works through it, and nothing of another tenant's is told."""
+    world = World(checks, program, folder, "alice=1000000", "alice2=1000000", "bob=1000000")
+    world.init("bob", "r")
+    line(world, world.repository("source"), "one", "two")
+    world.succeeds("bob pushes", world.git("source", "push", "-q", world.url("r", "bob"), "main"))
+    door = StandIn(world, "door", authorized_line(world.host.socket, "alice", "AAAAkey"))
+    url = lambda tenant, name: f"forkhost::{door.path}/{tenant}/{name}"
+    checks.same("alice makes r", done(), world.ran("forkhost-ask", door.path, "alice", "init", "r"))
+    world.succeeds("alice pushes", world.git("source", "push", "-q", url("alice", "r"), "main"))
+    world.succeeds("alice clones", world.git(None, "clone", "-q", url("alice", "r"), "copy"))
+    world.sound("what she cloned", "copy")
+    checks.same("it is hers", world.references("source"), world.kept("r", "alice"))
+    for who in ("bob", "carol"):
+        ran = world.git(None, "ls-remote", url(who, "r"))
+        wanted = (128, b"", f"fatal: forkhost: the host has no tenant '{who}'\n".encode())
+        checks.same(f"{who} is nobody here", wanted, ran)
+        ran = world.git("source", "push", url(who, "r"), "+main~1:main")
+        checks.same(f"a push as {who}", 128, ran.status)
+    ran = world.ran("forkhost-ask", door.path, "@host", "census")
+    checks.same("nor is the operator", refused("unknown-tenant"), ran)
+    checks.same("bob's has not changed", world.references("source"), world.kept("r", "bob"))
+    show_frames(checks, world, door)
+    checks.same("each command ended well", {0}, set(door.end()))
+    world.host.ends_well(checks, "after the door")
+
+
+def show_frames(checks, world, door):
+    """Frames through the door: those of others are told what a host without them tells, and cost the host nothing."""
+    quota, nobody = frame(b"alice", b"quota\n"), framed(b"no unknown-tenant\n")
+    told = framed(b"ok\n" + world.ask("alice", "quota").output)
+    turns = {
+        "her own": (quota, told),
+        "of others between": (frame(b"bob", b"quota\n") + quota + frame(b"@host", b"x") + quota, (nobody + told) * 2),
+        "nothing": (b"", b""),
+        "a longer name": (frame(b"alice2", b"quota\n"), nobody),
+        "a frame that is cut": (quota[:-1], BAD_FRAME),
+        "a line that is cut": (b"alice 6", BAD_FRAME),
+        "a space before": (b" " + quota, BAD_FRAME),
+        "a length with a zero": (b"alice 06\nquota\n", BAD_FRAME),
+        "too long": (b"alice 1048577\n", BAD_FRAME),
+        "no frame": (b"GET / HTTP/1.1\r\n\r\n", BAD_FRAME),
+        "capitals": (b"Alice 6\nquota\n", BAD_FRAME),
+        "right and then wrong": (quota + b"x", told + BAD_FRAME),
+        "a great one of another's": (frame(b"bob", b"part\n" + b"x" * 1_048_571), nobody),
+        "a great one": (frame(b"alice", b"part\n" + b"x" * 1_048_571), framed(b"ok\n")),
+        "its end": (frame(b"alice", b"part-drop\n"), framed(b"ok\n")),
+    }
+    for label, (given, wanted) in turns.items():
+        checks.same(f"through the door: {label}", wanted, door.told(given))
+    with socket.socket(socket.AF_UNIX) as idle:
+        idle.connect(door.path)
+        idle.sendall(quota[:5])
+        time.sleep(0.3)
+        checks.same("one that has sent no frame holds nobody", told, door.told(quota))

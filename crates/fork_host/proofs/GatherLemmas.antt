@@ -1,5 +1,5 @@
 -- Repositories of a list, one after another.
-use Rattle.std.proofs.Common.{◌≡◌, ◌⊎◌, inl, inr, ℕ, ◌+◌, ◌<◌, ◌≤◌, arith, Bool, true, false, cond, List, Option, Some, refl, sym, ap, ◌∙◌, length, get_or, is_some}
+use Rattle.std.proofs.Common.{◌≡◌, ◌⊎◌, inl, inr, ℕ, ◌+◌, ◌<◌, ◌≤◌, arith, Bool, true, false, cond, List, Some, sym, ap, ◌∙◌, length, get_or}
 use Rattle.std.specs.Prelude.{Contains}
 use Rattle.std.specs.Ordering.{eq_by_cmp}
 use Rattle.std.specs.FinMap.{contains_key, empty, get, get-empty, get-insert, insert, len, len-empty, len-insert}

@@ -66,7 +66,7 @@ below_shown : (vault : VaultState) (k : List ℕ) (es : Rows) → below_all name
 below_shown vault k [] = refl
 below_shown vault k (e ∷ es) = ap (λ b. is_lt (name_cmp k e.0) && b) (below_shown vault k es)
 
-sorted_shown : (vault : VaultState) (es : Rows) → is_sorted name_cmp (map (entry_shown vault) es) ≡ is_sorted name_cmp es
+pub sorted_shown : (vault : VaultState) (es : Rows) → is_sorted name_cmp (map (entry_shown vault) es) ≡ is_sorted name_cmp es
 sorted_shown vault [] = refl
 sorted_shown vault (e ∷ es) = ap (λ b. b && is_sorted name_cmp (map (entry_shown vault) es)) (below_shown vault e.0 es) ∙ ap (λ b. below_all name_cmp e.0 es && b) (sorted_shown vault es)
 

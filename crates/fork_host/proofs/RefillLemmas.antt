@@ -1,39 +1,36 @@
 -- A tenant that is filled again: its view is in order and right, and the state stays whole.
-use Rattle.std.proofs.Common.{◌≡◌, ◌≢◌, ◌⊎◌, inl, inr, ℕ, ◌≤◌, arith, Bool, true, false, cond, not, IsTrue, List, [], ◌∷◌, Option, None, Some, refl, sym, ap, subst, ◌∙◌, length, is_some}
+use Rattle.std.proofs.Common.{◌≡◌, ℕ, ◌≤◌, arith, Bool, true, false, cond, not, IsTrue, List, [], ◌∷◌, Option, None, Some, refl, sym, ap, subst, ◌∙◌, length, is_some}
 use Rattle.std.specs.Prelude.{Contains, ◌&&◌, ◌||◌, is_none}
-use Rattle.std.proofs.lemmas.List.Elements.{Contains-get_or}
 use Rattle.std.proofs.lemmas.List.Folds.{find-append}
 use Rattle.std.proofs.lemmas.Map.Views.{Contains-from_lookup}
 use Rattle.std.specs.List.{AllByRecursion, find, flat_map}
 use Rattle.std.specs.Option.{option_map, option_or, unwrap_or}
 use Rattle.std.specs.Ordering.{eq_by_cmp}
 use Rattle.std.specs.Cmp.{eq_by_cmp_equiv}
-use Rattle.std.specs.FinMap.{contains_key, empty, entries, get, get-entries, get-insert, insert, len}
+use Rattle.std.specs.FinMap.{contains_key, entries, get, get-entries, get-insert, insert}
 use Rattle.git_name.specs.Name.{name_cmp}
 use Rattle.git_name.specs.Object.{Object}
 use Rattle.git_name.specs.declared.kind.Kind.{Kind}
 use Rattle.git_name.proofs.Names.{name_total}
 use Rattle.git_name.proofs.TreeMaps.{find_is_lookup}
-use Rattle.git_reftx.specs.Known.{Kinds}
 use Rattle.git_reftx.specs.Transaction.{References, is_branch, is_commit}
 use Rattle.push_stream.specs.Upload.{UploadValue}
-use Rattle.fork_reach.specs.Objects.{IsNamed, Measures, measures_of, use_of}
+use Rattle.fork_reach.specs.Objects.{Measures, measures_of}
 use Rattle.fork_reach.specs.Source.{Objects, kind_in}
-use Rattle.fork_reach.proofs.KeptObjects.{at_key, tied_names}
-use Rattle.fork_ledger.specs.Tenants.{VaultState, private_of}
+use Rattle.fork_reach.proofs.KeptObjects.{tied_names}
+use Rattle.fork_ledger.specs.Tenants.{VaultState}
 use Rattle.fork_ledger.proofs.BothLemmas.{none_of}
-use Rattle.fork_model.specs.Sound.{AreReferences, AreRight, IsClosed, IsOrderly, IsOrderlyWorld, IsReference, IsRight, IsRightWorld}
+use Rattle.fork_model.specs.Sound.{AreReferences, IsOrderly, IsRight, IsRightWorld}
 use Rattle.fork_model.specs.View.{View, Repositories}
 use Rattle.fork_model.specs.World.{World}
 use Rattle.fork_model.proofs.ClosedLemmas.{each_of}
 use Rattle.state_text.specs.States.{IsRepository}
-use Rattle.fork_host.specs.Adding.{new_view}
-use Rattle.fork_host.specs.Own.{Changes, IsOwn, Settles, staged_in, visible_in}
+use Rattle.fork_host.specs.Own.{IsOwn, staged_in, visible_in}
 use Rattle.fork_host.specs.Restored.{IsRestored, is_bad_target, references_in}
-use Rattle.fork_host.specs.Shown.{Account, HostState, IsWhole, Trusted, seen_by, shown, uploaded, world_of}
+use Rattle.fork_host.specs.Shown.{Account, HostState, IsWhole, seen_by, shown, uploaded, world_of}
 use Rattle.fork_host.proofs.AddingLemmas.{each_more}
 use Rattle.fork_host.proofs.GatherLemmas.{Gathered}
-use Rattle.fork_host.proofs.OwnLemmas.{own_of, seen_itself, seen_measures}
+use Rattle.fork_host.proofs.OwnLemmas.{seen_itself}
 use Rattle.fork_host.proofs.WholeLemmas.{at_other, known_still, orderly_after}
 use Rattle.fork_host.proofs.WorldLemmas.{distinct, get_world, world_set}
 

@@ -1,4 +1,4 @@
-use Rattle.std.proofs.Common.{◌≡◌, ap, subst, sym, ◌∙◌}
+use Rattle.std.proofs.Common.{ap, subst, sym, ◌∙◌}
 use Rattle.std.specs.FinMap as map
 use Rattle.fork_reach.specs.Objects.{with_objects}
 use Rattle.fork_ledger.specs.Store.{Recalls}

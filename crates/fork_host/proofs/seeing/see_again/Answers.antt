@@ -1,10 +1,9 @@
-use Rattle.std.proofs.Common.{◌≡◌, ◌≤◌, ℕ, IsTrue, None, Some, refl, ap, subst, sym, ◌∙◌, List}
-use Rattle.std.specs.BTreeSet.{BTreeSet, contains}
+use Rattle.std.proofs.Common.{◌≡◌, ◌≤◌, IsTrue, refl, ap, subst, sym, ◌∙◌}
+use Rattle.std.specs.BTreeSet.{contains}
 use Rattle.std.specs.BTreeMap.{is_at}
 use Rattle.std.specs.List.{find, flat_map, list_any}
 use Rattle.std.specs.FinMap as map
 use Rattle.git_name.specs.Name.{name_cmp}
-use Rattle.git_name.specs.Object.{Object}
 use Rattle.fork_reach.specs.Objects.{use_of, with_objects}
 use Rattle.fork_reach.specs.Source.{kind_in}
 use Rattle.fork_ledger.specs.Private.{both_of, nothing, with_kept}
@@ -13,7 +12,6 @@ use Rattle.fork_ledger.proofs.BothLemmas.{both_quiet}
 use Rattle.fork_sound.specs.Sound.{is_bad}
 use Rattle.fork_host.specs.Own.{Changes, Settles, both_in, visible_in}
 use Rattle.fork_host.specs.Restored.{is_bad_target, references_in}
-use Rattle.fork_host.proofs.HandleLemmas.{same_then}
 use Rattle.fork_host.proofs.OwnLemmas.{changes_none, changes_still, emptied, leaves_all, own_of, seen_itself}
 use Rattle.fork_host.proofs.RestoreLemmas.{closed_seen, named_came, right_seen, seen_came}
 use Rattle.fork_host.proofs.seeing.see_again.Goals as goal

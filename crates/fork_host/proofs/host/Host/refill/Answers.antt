@@ -5,7 +5,7 @@ use Rattle.fork_ledger.proofs.BothLemmas.{none_of}
 use Rattle.fork_model.specs.Sound.{IsOrderly, IsRight}
 use Rattle.fork_host.specs.Adding.{new_view}
 use Rattle.fork_host.specs.Own.{visible_in}
-use Rattle.fork_host.specs.Shown.{HostState, seen_by, shown, state_of, world_of}
+use Rattle.fork_host.specs.Shown.{HostState, seen_by, state_of, world_of}
 use Rattle.fork_host.proofs.AddingLemmas.{orderly_new_view, right_new_view}
 use Rattle.fork_host.proofs.OwnLemmas.{own_of, seen_measures}
 use Rattle.fork_host.proofs.RefillLemmas.{account_shown, orderly_refilled, refilled, right_refilled, whole_set}

@@ -123,7 +123,8 @@ def show_leftovers(checks: Checks, program, folder):
 
 
 def show_saves(checks: Checks, program, folder, rest, fault):
-    """The state can't be written: a folder lies where its part must be. The old one stays."""
+    """The state can't be written: a folder lies where its part must be. The old one stays, and its journal has what was
+    done since."""
     checks.same("the first start", done(), program.ran("run", "--dir", folder.path, "alice=10000"))
     old = folder.state()
     live = Live(program, "--dir", folder.path)
@@ -134,12 +135,10 @@ def show_saves(checks: Checks, program, folder, rest, fault):
     checks.same("its end", failed(fault, told), live.ended(rest))
     checks.same("the state stays", old, folder.state())
     os.rmdir(folder.inside("part"))
-    checks.same("check", done(b"sound\n"), program.checked(folder.path))
+    checks.same("check", done(b"sound\njournal 2\n"), program.checked(folder.path))
     live = Live(program, "--dir", folder.path)
-    checks.same("nothing is there", b"no no-repository r\n", live.asked(ALICE, b"for-each-ref r\n"))
-    checks.same("no file is seen", b"no missing %s\n" % C, live.asked(ALICE, b"cat-file %s\n" % C))
-    checks.same("the repository is made again", b"ok\n", live.asked(ALICE, b"init r\n"))
-    checks.same("the push again", b"ok\n", live.asked(ALICE, PUSH))
+    checks.same("the repository is there", b"no repository-exists r\n", live.asked(ALICE, b"init r\n"))
+    checks.same("what was pushed", b"ok\n" + record(*OBJECTS[C]), live.asked(ALICE, b"cat-file %s\n" % C))
     checks.same("its end", done(), live.ended())
     checks.same("its state", SAVED, folder.state())
     shutil.rmtree(folder.path)

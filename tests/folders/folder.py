@@ -1,7 +1,20 @@
-"""A folder of a host: its state, and its objects' files, read and made by hand."""
+"""A folder of a host: its state, its journal, and its objects' files, read and made by hand."""
+import hashlib
 import os
+import re
 
 from objects import name_of, stored
+
+LINE = re.compile(rb"([a-z0-9][a-z0-9_-]{0,31}|@host) (0|[1-9][0-9]{0,6})\n")
+
+
+def requests_in(stream):
+    """The whole frames that stand one behind another at the front of a stream."""
+    found, at = [], 0
+    while (line := LINE.match(stream, at)) and line.end() + int(line[2]) <= len(stream):
+        found.append(stream[at : line.end() + int(line[2])])
+        at += len(found[-1])
+    return found
 
 
 def content(path):
@@ -43,6 +56,24 @@ class Folder:
 
     def set_state(self, text):
         write(self.inside("state"), text)
+
+    def journal_path(self):
+        """Where the journal lies that continues the state."""
+        return self.inside("journal", hashlib.sha256(self.state() or b"").hexdigest())
+
+    def journal(self):
+        path = self.journal_path()
+        return content(path) if os.path.exists(path) else b""
+
+    def journals(self):
+        """What lies beside one another as journals."""
+        home = self.inside("journal")
+        return sorted(os.listdir(home)) if os.path.exists(home) else []
+
+    def sound(self):
+        """What `check` prints of a sound folder."""
+        count = len(requests_in(self.journal()))
+        return b"sound\n" + (b"journal %d\n" % count if count else b"")
 
     def files(self):
         """The bytes of all that lies where an object's file may lie, by its name."""

@@ -6,8 +6,8 @@ import subprocess
 import time
 
 from asking import History
-from folder import Folder
-from forkhost_client.frames import frames, replies
+from folder import Folder, requests_in
+from forkhost_client.frames import framed, frames, replies
 from objects import whole
 from program import PATIENCE, Ran, done
 
@@ -45,7 +45,7 @@ class Killed:
         ran = program.ran("run", "--dir", folder.path, given=frames(self.turns))
         self.took = time.monotonic() - begun
         checks.same("the session", b"ok\n" * len(self.turns), self.told(ran))
-        self.new, self.wanted = folder.state(), ran
+        self.new, self.wanted = folder.state(), replies(ran.output)[0]
 
     def push(self, history, at, place):
         """A push of all that one commit leads to, under a name of its own."""
@@ -63,20 +63,25 @@ class Killed:
         shutil.copytree(self.base.path, path)
         return Folder(path)
 
-    def judge(self, label, folder):
-        """What is left is the old state or the new one, and whole files; and a next start goes on from there."""
+    def judge(self, label, folder, came=None):
+        """What is left is the old state or the new one, a journal of the requests that were done, and whole files; and
+        a next start goes on behind these. Where replies came, their requests were done, and one more at the most."""
         state = folder.state()
         if state not in (self.old, self.new):
             self.checks.same(f"{label}: the state", self.old, state)
             return
+        went = len(requests_in(folder.journal())) if state == self.old else len(self.turns)
+        if came is not None:
+            self.checks.same(f"{label}: {went} done behind {len(came)} replies", True, went - len(came) in (0, 1))
+            self.checks.same(f"{label}: the replies", self.wanted[: len(came)], came)
         torn = [name for name, file in folder.files().items() if not whole(name, file)]
         self.checks.same(f"{label}: files that are torn", [], torn)
-        self.checks.same(f"{label}: check", done(b"sound\n"), self.program.checked(folder.path))
+        self.checks.same(f"{label}: check", done(folder.sound()), self.program.checked(folder.path))
         self.checks.same(f"{label}: what was being written", [], folder.parts())
-        if state == self.old:
-            again = self.program.ran("run", "--dir", folder.path, given=frames(self.turns))
-            self.checks.same(f"{label}: the session again", self.wanted, again)
-            self.checks.same(f"{label}: its state", self.new, folder.state())
+        again = self.program.ran("run", "--dir", folder.path, given=frames(self.turns[went:]))
+        rest = b"".join(map(framed, self.wanted[went:]))
+        self.checks.same(f"{label}: the rest of the session", done(rest), again)
+        self.checks.same(f"{label}: its state", self.new, folder.state())
         shutil.rmtree(folder.path)
 
     def kill_within(self, label, wait):
@@ -84,11 +89,11 @@ class Killed:
         folder = self.copy()
         child = self.program.begun("run", "--dir", folder.path)
         try:
-            child.communicate(frames(self.turns), timeout=wait)
+            output, _ = child.communicate(frames(self.turns), timeout=wait)
         except subprocess.TimeoutExpired:
             child.kill()
-            child.communicate()
-        self.judge(label, folder)
+            output, _ = child.communicate()
+        self.judge(label, folder, replies(output)[0])
 
     def kill_saving(self, label, wait):
         """A run that is killed some time behind its last reply and the end of its input."""
@@ -96,7 +101,7 @@ class Killed:
         child = self.program.begun("run", "--dir", folder.path)
         child.stdin.write(frames(self.turns))
         child.stdin.flush()
-        child.stdout.read(len(self.wanted.output))
+        child.stdout.read(sum(len(framed(reply)) for reply in self.wanted))
         child.stdin.close()
         time.sleep(wait)
         child.kill()

@@ -6,11 +6,12 @@ import threading
 
 from cases import B, D, FILES, OBJECTS, alone
 from clients import ALICE, BOB, PUSH, QUOTA, TENANTS, TOLD
-from folder import Folder, content, write
+from folder import Folder, content, requests_in, write
 from forkhost_client.frames import frame, framed, frames
 from live import Live, Serving
 from objects import record
 from program import done, failed
+from state_text import Tenant, spelled
 
 
 def mode(path):
@@ -121,23 +122,24 @@ def show_faults(checks, program, folder):
 
 
 def show_saved(checks, program, folder):
-    """What all connections did is saved behind the last one, and not before."""
+    """The state is saved before the first connection and behind the last; between them a journal has what they did."""
     kept, path = Folder(os.path.join(folder, "kept")), os.path.join(folder, "socket")
     serving = Serving(program, path, 4, "--dir", kept.path, "alice=10000")
     checks.same("a push", framed(b"ok\n") * 2, serving.told(frames([(ALICE, b"init r\n"), (ALICE, PUSH)])))
     checks.same("another session's part", framed(b"ok\n"), serving.told(frame(ALICE, b"part\n")))
     told = serving.told(frame(ALICE, b"part\n") + b"alice 9\n")
     checks.same("one that goes in a frame", framed(b"ok\n") + b"! bad-frame\n", told)
-    checks.same("no state is there before the end", None, kept.state())
+    checks.same("the state before the end", spelled([Tenant(ALICE, 10000, [], [])]), kept.state())
+    checks.same("the journal behind it", 4, len(requests_in(kept.journal())))
     checks.same("the folder is held", failed("store"), program.ran("run", "--dir", kept.path))
     checks.same("the upload is the tenant's", framed(b"no upload-open\n"), serving.told(frame(ALICE, b"push r\n\n")))
     checks.same("the end", done(), serving.ended())
     checks.same("the state", alone(OBJECTS, (b"refs/heads/main", D)), kept.state())
     checks.same("the files", FILES, kept.files())
-    checks.same("check", done(b"sound\n"), program.checked(kept.path))
+    checks.same("check", done(b"sound\njournal 1\n"), program.checked(kept.path))
     live = Live(program, "--dir", kept.path, "bob=1000")
     checks.same("what was pushed, in a run", b"ok\n" + record(*OBJECTS[B]), live.asked(ALICE, b"cat-file %s\n" % B))
-    checks.same("the upload was not saved", b"no no-upload\n", live.asked(ALICE, b"part-drop\n"))
+    checks.same("the upload is open", b"ok\n", live.asked(ALICE, b"part-drop\n"))
     checks.same("one tenant more", b"ok\n0 1000\n", live.asked(BOB, b"quota\n"))
     checks.same("the end of the run", done(), live.ended())
     serving = Serving(program, path, 1, "--dir", kept.path)

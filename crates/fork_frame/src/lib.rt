@@ -11,6 +11,7 @@ mod line;
 mod payload;
 mod reader;
 mod reply;
+mod spelled;
 mod text;
 
 pub use crate::asker::Asker;
@@ -21,3 +22,4 @@ pub use crate::law::{same_bytes_are_same_replies, same_bytes_are_same_requests};
 pub use crate::line::Line;
 pub use crate::reader::read_some;
 pub use crate::reply::{send_bad_frame, send_bytes, send_reply};
+pub use crate::spelled::write_frame;

@@ -19,5 +19,6 @@ pub mod ShapeLemmas
 pub mod TakingLemmas
 pub mod TargetLemmas
 pub mod UpdateLemmas
+mod UploadLemmas
 pub mod WholeLemmas
 pub mod WorldLemmas

@@ -13,3 +13,4 @@ pub mod Safe
 pub mod Sent
 pub mod Shape
 pub mod Shown
+pub mod Uploads

@@ -1,4 +1,5 @@
-ghost use Rattle.std.specs.Prelude.{◌≡◌, ◌≢◌, IfOk, IsTrue, List, ℕ, OnOk, OnErr, Some, None, false};
+ghost use Rattle.std.specs.Prelude.{◌≡◌, ◌≢◌, IfOk, IsTrue, List, ℕ, OnOk, OnErr, Some, None, false, map as each};
+ghost use Rattle.push_stream.specs.Upload.{upload_of};
 ghost use Rattle.std.specs.FinMap as map;
 ghost use Rattle.std.specs.BTreeMap.{IsUnchanged, Updates};
 ghost use Rattle.git_name.specs.Name.{name_cmp};
@@ -16,6 +17,7 @@ ghost use Rattle.fork_host.specs.Rows.{YieldsOver};
 ghost use Rattle.fork_host.specs.Safe.{IsNamedReply, IsSafe};
 ghost use Rattle.fork_host.specs.Sent.{sent_by, sent_in_world};
 ghost use Rattle.fork_host.specs.Shape.{SameShape};
+ghost use Rattle.fork_host.specs.Uploads.{uploads_in};
 ghost use Rattle.fork_host.specs.Shown.{Account, IsWhole, Trusted, shown, state_of, world_of};
 
 use crate::keeping::keep_tenant;
@@ -118,6 +120,20 @@ impl Accounts {
             keep_tenant(&mut states, state)?;
         }
         Ok(states)
+    }
+
+    // The open uploads, tenant by tenant.
+    pub(crate) fn uploads(&self, alloc: Global) -> Result<Vec<(TenantName, &[u8])>, AllocError>
+        ensures { IfOk result (λ uploads. each (λ upload. (upload.0, upload_of upload.1.now)) uploads.items ≡ uploads_in (map.entries self.now)) }
+    {
+        let mut uploads = Vec::new(alloc);
+        for (name, tenant) in self.tenants.iter() {
+            match tenant.upload() {
+                Some(bytes) => uploads.push((name.copy(), bytes))?,
+                None => {}
+            }
+        }
+        Ok(uploads)
     }
 
     // Answers a tenant's request from its account and its own part of the vault.

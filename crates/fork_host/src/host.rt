@@ -1,4 +1,6 @@
-ghost use Rattle.std.specs.Prelude.{◌≡◌, ◌≢◌, ◌⊎◌, IsTrue, IfOk, IfErr, OnOk, OnErr, List, ℕ, Some, None, false};
+ghost use Rattle.std.specs.Prelude.{◌≡◌, ◌≢◌, ◌⊎◌, IsTrue, IfOk, IfErr, OnOk, OnErr, List, ℕ, Some, None, false, map as each};
+ghost use Rattle.push_stream.specs.Upload.{upload_of};
+ghost use Rattle.fork_host.specs.Uploads.{uploads_of};
 ghost use Rattle.std.specs.FinMap as map;
 ghost use Rattle.fork_request.specs.Asked.{ask_of};
 ghost use Rattle.fork_request.specs.Told.{is_done};
@@ -98,6 +100,17 @@ impl<S: LooseFiles> Host<S> {
             return Err(NoMemory);
         };
         Ok(states)
+    }
+
+    /// The uploads that are open, in the order of their tenants' names: whose they are, and the bytes
+    /// that came.
+    pub fn uploads(&self, alloc: Global) -> Result<Vec<(TenantName, &[u8])>, NoMemory>
+        ensures { IfOk result (λ uploads. each (λ upload. (upload.0, upload_of upload.1.now)) uploads.items ≡ uploads_of (world_of self.now)) }
+    {
+        let Ok(uploads) = self.accounts.uploads(alloc) else {
+            return Err(NoMemory);
+        };
+        Ok(uploads)
     }
 
     /// Adds a tenant that sees nothing and may use so many bytes. Where it fails, the host is as it

@@ -20,7 +20,7 @@ use Rattle.fork_frame.specs.declared.asker.Asker.TheVariants.{Tenant, Host}
 use Rattle.fork_frame.specs.declared.ended.Ended.{Ended}
 use Rattle.fork_frame.specs.declared.frame.Frame.{Frame}
 use Rattle.fork_wire.specs.declared.fault.SessionFault.{SessionFault}
-use Rattle.fork_wire.specs.declared.fault.SessionFault.TheVariants.{Read, Write, Memory}
+use Rattle.fork_wire.specs.declared.fault.SessionFault.TheVariants.{Read, Write, Memory, Journal}
 
 -- what a payload asks, by who sends it
 abbrev pub event_by : Asker → List ℕ → Event
@@ -92,7 +92,8 @@ pub record LacksReply (replies : List Reply) (before after : Option (List ℕ)) 
   pub written : Appends before after (frames_of sent)
 
 -- a session that a fault stopped: the first frames of the input were answered; where reading failed all their replies went out,
--- and writing fails only where something is to be told; memory is wanted for a payload that comes or for the bytes of a reply
+-- and writing fails only where something is to be told; memory is wanted for a payload that comes or for the bytes of a reply;
+-- where the last frame could not be kept, its reply did not go out
 pub record IsStopped (old new : HostState) (input before after : Option (List ℕ)) (fault : SessionFault) : Type 0 where
   pub frames : List Frame
   pub replies : List Reply
@@ -101,3 +102,4 @@ pub record IsStopped (old new : HostState) (input before after : Option (List �
   pub written : fault ≡ Read → Appends before after (frames_of replies)
   pub told : fault ≡ Write → IsTelling frames input
   pub memory : fault ≡ Memory → LacksPayload frames replies input before after ⊎ LacksReply replies before after
+  pub unkept : fault ≡ Journal → LacksReply replies before after

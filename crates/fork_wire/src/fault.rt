@@ -12,11 +12,14 @@ pub enum SessionFault {
     Write,
     #[error("no memory")]
     Memory,
+    #[error("a request could not be kept")]
+    Journal,
 }
 
 // The fault of a frame that could not be read.
 pub(crate) fn of_frame(fault: FrameFault) -> SessionFault
     ensures read { result ≢ SessionFault.Write }
+    ensures kept { result ≢ SessionFault.Journal }
     ensures memory { result ≡ SessionFault.Memory → fault ≡ FrameFault.Memory }
 {
     match fault {
@@ -28,6 +31,7 @@ pub(crate) fn of_frame(fault: FrameFault) -> SessionFault
 // The fault of a reply that could not be sent.
 pub(crate) fn of_reply(fault: ReplyFault) -> SessionFault
     ensures sent { result ≢ SessionFault.Read }
+    ensures kept { result ≢ SessionFault.Journal }
     ensures memory { result ≡ SessionFault.Memory → fault ≡ ReplyFault.Memory }
 {
     match fault {

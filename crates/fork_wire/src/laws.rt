@@ -1,9 +1,14 @@
-ghost use Rattle.std.specs.Prelude.{◌≡◌, ℕ, List};
+ghost use Rattle.std.specs.Prelude.{◌≡◌, ◌++◌, ℕ, List};
 ghost use Rattle.fork_request.specs.declared.reply.Reply.{Reply};
 ghost use Rattle.fork_model.specs.World.{Agree, IsUnfaulted};
 ghost use Rattle.fork_host.specs.Shown.{HostState, Trusted, world_of};
 ghost use Rattle.fork_frame.specs.declared.frame.Frame.{Frame};
-ghost use Rattle.fork_wire.specs.Sessions.{IsAnswered, events_of, sent_by, told_to};
+ghost use Rattle.fork_frame.specs.Frame.{AreFrames, IsRequestStream};
+ghost use Rattle.fork_frame.specs.declared.ended.Ended.{Ended};
+ghost use Rattle.fork_frame.specs.declared.ended.Ended.TheVariants.{Clean};
+ghost use Rattle.fork_wire.specs.Again.{AreFine};
+ghost use Rattle.fork_wire.specs.Kept.{kept_bytes, kept_of};
+ghost use Rattle.fork_wire.specs.Sessions.{IsAnswered, events_of, frames_of, sent_by, told_to};
 
 /// A law, and no work: where two hosts over trusted stores show a tenant alike, and it sends the same
 /// payloads to both, the same bytes go out to it, whatever others send between, and both show it alike
@@ -24,4 +29,35 @@ pub fn two_sessions_agree()
         → Trusted old → Trusted old2 → Agree tenant (world_of old) (world_of old2)
         → sent_by tenant frames ≡ sent_by tenant frames2
         → Agree tenant (world_of new) (world_of new2) }
+{}
+
+/// A law, and no work: frames that are served again, over trusted stores that show the same world and
+/// without host faults, get the same replies, and lead to the same world.
+pub fn a_session_is_served_again()
+    ensures replies { (old new : HostState) (frames : List Frame) (replies : List Reply) (old2 new2 : HostState) (replies2 : List Reply)
+        → IsAnswered old new frames replies → AreFine replies → IsAnswered old2 new2 frames replies2 → AreFine replies2
+        → Trusted old → Trusted old2 → world_of old ≡ world_of old2 → replies ≡ replies2 }
+    ensures worlds { (old new : HostState) (frames : List Frame) (replies : List Reply) (old2 new2 : HostState) (replies2 : List Reply)
+        → IsAnswered old new frames replies → AreFine replies → IsAnswered old2 new2 frames replies2 → AreFine replies2
+        → Trusted old → Trusted old2 → world_of old ≡ world_of old2 → world_of new ≡ world_of new2 }
+{}
+
+/// A law, and no work: what a journal kept of a session is a stream of frames, and these, served again
+/// over trusted stores that show the same world and without host faults, lead to the world to which the
+/// whole session led, whatever host faults it met.
+pub fn what_is_kept_is_enough()
+    ensures frames { (frames : List Frame) (replies : List Reply) (bytes : List ℕ) → AreFrames frames bytes → AreFrames (kept_of frames replies) (kept_bytes frames replies) }
+    ensures worlds { (old new : HostState) (frames : List Frame) (replies : List Reply) (old2 new2 : HostState) (replies2 : List Reply)
+        → IsAnswered old new frames replies → IsAnswered old2 new2 (kept_of frames replies) replies2 → AreFine replies2
+        → Trusted old → Trusted old2 → world_of old ≡ world_of old2 → world_of new ≡ world_of new2 }
+{}
+
+/// A law, and no work: a stream that is served in two halves, cut between frames, is the stream served
+/// whole.
+pub fn a_session_in_two_halves_is_the_whole()
+    ensures stream { (input more : List ℕ) (frames others : List Frame) (ended : Ended)
+        → IsRequestStream input frames Clean → IsRequestStream more others ended → IsRequestStream (input ++ more) (frames ++ others) ended }
+    ensures answered { (old mid new : HostState) (frames others : List Frame) (replies more : List Reply)
+        → IsAnswered old mid frames replies → (Trusted old → Trusted mid) → IsAnswered mid new others more → IsAnswered old new (frames ++ others) (replies ++ more) }
+    ensures told { (replies more : List Reply) → frames_of (replies ++ more) ≡ frames_of replies ++ frames_of more }
 {}

@@ -1,14 +1,17 @@
-ghost use Rattle.std.specs.Prelude.{◌≡◌, ◌≢◌, IfOk, IfErr, OnOk};
-ghost use Rattle.std.specs.Io.KnownBytes.{Appends};
+ghost use Rattle.std.specs.Prelude.{◌≡◌, ◌≢◌, ◌++◌, [], ℕ, List, IfOk, IfErr, IsTrue, OnOk, OnErr, cond, false, true};
+ghost use Rattle.std.specs.Io.KnownBytes.{Appends, Keeps};
 ghost use Rattle.fork_request.specs.Told.{bytes_of};
 ghost use Rattle.fork_model.specs.Sound.{IsOrderlyWorld, IsRightWorld};
 ghost use Rattle.fork_model.specs.World.{Steps};
 ghost use Rattle.fork_host.specs.Faults.{FaultsWithin};
 ghost use Rattle.fork_host.specs.Shown.{Trusted, world_of};
 ghost use Rattle.fork_frame.specs.Reply.{last_line, reply_frame};
+ghost use Rattle.fork_wire.specs.Kept.{kept_bytes, kept_one};
 ghost use Rattle.fork_wire.specs.Sessions.{IsServed, IsStopped, event_of};
 
 use crate::fault::{SessionFault, of_frame, of_reply};
+use crate::journal::{Journal, NoJournal};
+use crate::keeping::keep;
 use fork_frame::{Asker, Ended, Frame, Next, next_frame, send_bad_frame, send_reply};
 use fork_host::Host;
 use fork_model::a_run_is_private;
@@ -33,6 +36,37 @@ pub fn serve<S: LooseFiles, R: Read, W: Write>(
     ensures trusted { Trusted host.old → Trusted host.new }
     ensures orderly { IsOrderlyWorld (world_of host.new) }
     ensures right { Trusted host.old → IsRightWorld (world_of host.new) }
+    ensures cause { IfErr result (λ fault. fault ≢ SessionFault.Journal) }
+{
+    serve_kept(host, alloc, &mut NoJournal, reader, writer)
+}
+
+/// Serves one session, as `serve` does, and keeps the frames that may have changed the host: each is
+/// kept before its reply goes out. Where one could not be kept, the session stops, and its reply does
+/// not go out.
+pub fn serve_kept<S: LooseFiles, J: Journal, R: Read, W: Write>(
+    host: &mut Host<S>,
+    alloc: Global,
+    journal: &mut J,
+    reader: &mut R,
+    writer: &mut W,
+) -> Result<Ended, SessionFault>
+    ensures served { IfOk result (IsServed host.old host.new
+        (R.remaining reader.old) (W.contents writer.old) (W.contents writer.new)) }
+    ensures stopped { IfErr result (IsStopped host.old host.new
+        (R.remaining reader.old) (W.contents writer.old) (W.contents writer.new)) }
+    ensures trusted { Trusted host.old → Trusted host.new }
+    ensures orderly { IsOrderlyWorld (world_of host.new) }
+    ensures right { Trusted host.old → IsRightWorld (world_of host.new) }
+    ensures cause { IfErr result (λ fault. fault ≡ SessionFault.Journal → J.can_fail) }
+
+    // The journal has the frames of the very session that was served, or of that which stopped.
+    ensures kept { IfOk result (λ ended. (session : IsServed host.old host.new
+        (R.remaining reader.old) (W.contents writer.old) (W.contents writer.new) ended)
+        × Appends (J.kept journal.old) (J.kept journal.new) (kept_bytes session.frames session.replies)) }
+    ensures kept_so_far { IfErr result (λ fault. fault ≢ SessionFault.Journal → (session : IsStopped host.old host.new
+        (R.remaining reader.old) (W.contents writer.old) (W.contents writer.new) fault)
+        × Appends (J.kept journal.old) (J.kept journal.new) (kept_bytes session.frames session.replies)) }
 {
     a_run_is_private();
     let _tenants = host.tenants();
@@ -43,27 +77,71 @@ pub fn serve<S: LooseFiles, R: Read, W: Write>(
             Ok(Next::Bad) => return end_badly(writer),
             Err(fault) => return Err(of_frame(fault)),
         };
-        let reply = answer(host, alloc, frame);
-        match send_reply(alloc, writer, reply) {
+        let (reply, kept) = answer_kept(host, alloc, journal, frame);
+        match send_kept(alloc, writer, reply, kept) {
             Ok(()) => {}
-            Err(fault) => return Err(of_reply(fault)),
+            Err(fault) => return Err(fault),
         }
     }
     Err(SessionFault::Read)
 }
 
 // Answers a request as it came.
-fn answer<S: LooseFiles>(host: &mut Host<S>, alloc: Global, frame: Frame) -> Reply
-    ensures explained { Trusted host.old → Steps (world_of host.old) (event_of frame) result (world_of host.new) }
+pub(crate) fn answer<S: LooseFiles>(host: &mut Host<S>, alloc: Global, frame: &Frame) -> Reply
+    ensures explained { Trusted host.old → Steps (world_of host.old) (event_of frame.now) result (world_of host.new) }
     ensures trusted { Trusted host.old → Trusted host.new }
     ensures orderly { IsOrderlyWorld (world_of host.new) }
     ensures right { Trusted host.old → IsRightWorld (world_of host.new) }
-    ensures faults { FaultsWithin host.old (event_of frame) result host.new }
+    ensures faults { FaultsWithin host.old (event_of frame.now) result host.new }
 {
     let payload = frame.payload.as_bytes();
     match &frame.asker {
         Asker::Tenant(name) => host.answer(alloc, name, Request::read(payload)),
         Asker::Host => host.host_answer(alloc, HostRequest::read(payload)),
+    }
+}
+
+// Answers a request as it came, keeps it where it may have changed the host, and says whether that
+// went well.
+fn answer_kept<S: LooseFiles, J: Journal>(
+    host: &mut Host<S>,
+    alloc: Global,
+    journal: &mut J,
+    frame: Frame,
+) -> (Reply, bool)
+    ensures explained { Trusted host.old → Steps (world_of host.old) (event_of frame) result.0 (world_of host.new) }
+    ensures trusted { Trusted host.old → Trusted host.new }
+    ensures orderly { IsOrderlyWorld (world_of host.new) }
+    ensures right { Trusted host.old → IsRightWorld (world_of host.new) }
+    ensures faults { FaultsWithin host.old (event_of frame) result.0 host.new }
+    ensures kept { IsTrue result.1 → Appends (J.kept journal.old) (J.kept journal.new) (kept_one frame result.0) }
+    ensures cause { result.1 ≡ false → J.can_fail }
+{
+    let reply = answer(host, alloc, &frame);
+    let kept = keep(journal, &frame, &reply);
+    (reply, kept)
+}
+
+// Sends a reply to what was kept.
+fn send_kept<W: Write>(
+    alloc: Global,
+    writer: &mut W,
+    reply: Reply,
+    kept: bool,
+) -> Result<(), SessionFault>
+    ensures ok { OnOk result (Appends (W.contents writer.old) (W.contents writer.new) (reply_frame (bytes_of reply))) }
+    ensures kept { OnOk result (IsTrue kept) }
+    ensures sent { IfErr result (λ fault. fault ≢ SessionFault.Read) }
+    ensures unsent { IfErr result (λ fault. fault ≢ SessionFault.Write → Keeps (W.contents writer.old) (W.contents writer.new)) }
+    ensures unkept { IfErr result (λ fault. fault ≡ SessionFault.Journal → kept ≡ false) }
+    ensures was_kept { IfErr result (λ fault. fault ≢ SessionFault.Journal → IsTrue kept) }
+{
+    if !kept {
+        return Err(SessionFault::Journal);
+    }
+    match send_reply(alloc, writer, reply) {
+        Ok(()) => Ok(()),
+        Err(fault) => Err(of_reply(fault)),
     }
 }
 

@@ -8,7 +8,7 @@ use Rattle.fork_host.specs.Shown.{HostState, Trusted, world_of}
 use Rattle.fork_model.specs.World.{World}
 use Rattle.forkhost.specs.Given.{AreFree, AreGiven, AreUngiven, IsFirstRefused, IsUnadded, with_tenant, world_with}
 use Rattle.forkhost.specs.declared.fault.Fault.{Fault}
-use Rattle.forkhost.specs.declared.fault.Fault.TheVariants.{TooLarge, BadObject, BadFrame, Read, Write, Memory, Store, Socket, NoState, Unreadable, NotSaved, Line, Lost, Damaged, Unsound, OverLimit, There, TooManyTenants}
+use Rattle.forkhost.specs.declared.fault.Fault.TheVariants.{TooLarge, BadObject, BadFrame, Read, Write, Memory, Store, Socket, NoState, Unreadable, Journal, NotKept, NotSaved, Line, Lost, Damaged, Unsound, OverLimit, There, TooManyTenants}
 
 -- some of the tenants were added to a world, and the rest is still to come
 pub record Adding (grants rest : List Grant) (old world : World) : Type 0 where
@@ -89,6 +89,8 @@ not_added grants rest grant old world Store so_far why = absurd why
 not_added grants rest grant old world Socket so_far why = absurd why
 not_added grants rest grant old world NoState so_far why = absurd why
 not_added grants rest grant old world Unreadable so_far why = absurd why
+not_added grants rest grant old world Journal so_far why = absurd why
+not_added grants rest grant old world NotKept so_far why = absurd why
 not_added grants rest grant old world NotSaved so_far why = absurd why
 not_added grants rest grant old world (Line line) so_far why = absurd why
 not_added grants rest grant old world (Lost name) so_far why = absurd why

@@ -1,5 +1,5 @@
 -- The host that the given tenants were added to, and what comes of it.
-use Rattle.std.proofs.Common.{◌≡◌, ℕ, Bool, true, false, List, Option, IfErr, OnErr, OnOk, Result, Ok, Err, is_some}
+use Rattle.std.proofs.Common.{◌≡◌, ◌⊎◌, inl, inr, ℕ, Bool, true, false, List, Option, IfErr, OnErr, OnOk, Result, Ok, Err, is_some}
 use Rattle.std.proofs.KnownBytes.{Keeps-refl}
 use Rattle.std.specs.FinMap.{empty}
 use Rattle.fork_command.specs.declared.hosting.Hosting.{Hosting}
@@ -7,7 +7,7 @@ use Rattle.fork_host.specs.Shown.{HostState, Trusted, world_of}
 use Rattle.forkhost.specs.Given.{AreGiven, AreUngiven}
 use Rattle.forkhost.specs.Keeping.{IsUntouched}
 use Rattle.forkhost.specs.Running.{IsBegun, IsHostOf, IsUnhosted, Ungiven}
-use Rattle.forkhost.specs.Serving.{AreSomeVisits, Deaf, IsUnbound, IsUnlistened}
+use Rattle.forkhost.specs.Serving.{AreSomeVisits, Deaf, IsLost, IsUnbound, IsUnlistened, Lost}
 use Rattle.forkhost.specs.declared.fault.Fault.{Fault}
 
 -- a new host is right for any words
@@ -51,3 +51,13 @@ if_err_more (Err e) more why = more e why
 pub deaf : {A : Type 0} (hosting : Hosting) (first last : HostState) (n : ℕ) (r : Result A Fault) → IsHostOf hosting first → OnErr r (AreSomeVisits first last n) → IfErr r IsUnbound → IfErr r (IsUnlistened hosting n)
 deaf hosting first last n (Ok a) host visits cause = tt
 deaf hosting first last n (Err fault) host visits cause = Deaf first last host visits cause
+
+-- what holds of each fault, by two accounts of it
+pub if_err_both : {A E : Type 0} {P Q : E → Type 0} (R : E → Type 0) (r : Result A E) → ((e : E) → P e → Q e → R e) → IfErr r P → IfErr r Q → IfErr r R
+if_err_both R (Ok a) both one other = tt
+if_err_both R (Err e) both one other = both e one other
+
+-- serving over a folder ended by a fault of the socket, or of what keeps the host
+pub deaf_or_lost : (hosting : Hosting) (first last : HostState) (n : ℕ) (fault : Fault) → is_some hosting.dir ≡ true → IsHostOf hosting first → AreSomeVisits first last n → IsUnbound fault ⊎ IsLost fault → IsUnlistened hosting n fault
+deaf_or_lost hosting first last n fault kept host visits (inl cause) = Deaf first last host visits cause
+deaf_or_lost hosting first last n fault kept host visits (inr lost) = Lost kept first last host visits lost

@@ -1,10 +1,10 @@
 -- Connections one after another, with one more behind them.
-use Rattle.std.proofs.Common.{ℕ, ◌+◌, List, [], ◌∷◌, ◌++◌, Option, IfOk, IfErr, Result, Ok, Err, length-append, refl, subst, sym, arith}
+use Rattle.std.proofs.Common.{ℕ, ◌+◌, ◌≤◌, List, [], ◌∷◌, ◌++◌, Option, IfOk, IfErr, Result, Ok, Err, length-append, refl, subst, sym, arith}
 use Rattle.fork_frame.specs.declared.ended.Ended.{Ended}
 use Rattle.fork_host.specs.Shown.{HostState}
 use Rattle.fork_wire.specs.Sessions.{IsServed, IsStopped}
 use Rattle.fork_wire.specs.declared.fault.SessionFault.{SessionFault}
-use Rattle.forkhost.specs.Serving.{AreVisits, Asked, IsVisit, Visits}
+use Rattle.forkhost.specs.Serving.{AreSomeVisits, AreVisits, Asked, IsVisit, Visits}
 
 -- a session is a visit, however it ended
 pub visited : (old new : HostState) (input before after : Option (List ℕ)) (result : Result Ended SessionFault) → IfOk result (IsServed old new input before after) → IfErr result (IsStopped old new input before after) → IsVisit old new
@@ -20,4 +20,12 @@ one_more old mid new n visits more = record {
   states = visits.states ++ new ∷ [];
   number = (let number = visits.number in omega (arith, length-append visits.states (new ∷ [])));
   chain = visits_more old mid new visits.states visits.chain more;
+}
+
+-- so many are some
+pub some_visits : (old new : HostState) (m n : ℕ) → AreVisits old new m → m ≤ n → AreSomeVisits old new n
+some_visits old new m n visits fits = record {
+  states = visits.states;
+  number = (let number = visits.number in omega (arith, fits));
+  chain = visits.chain;
 }

@@ -3,12 +3,15 @@ use Rattle.std.specs.Prelude.{ℕ, List, [], ◌∷◌, ◌++◌, codes, decimal
 use Rattle.hex.specs.Hex.{encode_lower}
 use Rattle.fork_state.specs.declared.fault.LoadFault.{LoadFault}
 use Rattle.fork_state.specs.declared.fault.LoadFault.TheVariants as load
+use Rattle.fork_request.specs.declared.host_fault.HostFault.TheVariants as host
+use Rattle.fork_wire.specs.declared.again.AgainFault.{AgainFault}
+use Rattle.fork_wire.specs.declared.again.AgainFault.TheVariants as again
 use Rattle.fork_wire.specs.declared.fault.SessionFault.{SessionFault}
 use Rattle.fork_wire.specs.declared.fault.SessionFault.TheVariants as session
 use Rattle.loose_store.specs.declared.files.FileFault.{FileFault}
 use Rattle.loose_store.specs.declared.files.FileFault.TheVariants as file
 use Rattle.forkhost.specs.declared.fault.Fault.{Fault}
-use Rattle.forkhost.specs.declared.fault.Fault.TheVariants.{TooLarge, BadObject, BadFrame, Read, Write, Memory, Store, Socket, NoState, Unreadable, NotSaved, Line, Lost, Damaged, Unsound, OverLimit, There, TooManyTenants}
+use Rattle.forkhost.specs.declared.fault.Fault.TheVariants.{TooLarge, BadObject, BadFrame, Read, Write, Memory, Store, Socket, NoState, Unreadable, Journal, NotKept, NotSaved, Line, Lost, Damaged, Unsound, OverLimit, There, TooManyTenants}
 
 -- what is said of a fault
 abbrev pub words_of : Fault → List ℕ
@@ -22,6 +25,8 @@ words_of Store = codes "store"
 words_of Socket = codes "socket"
 words_of NoState = codes "no state"
 words_of Unreadable = codes "state unreadable"
+words_of Journal = codes "journal unreadable"
+words_of NotKept = codes "journal not written"
 words_of NotSaved = codes "state not saved"
 words_of (Line line) = codes "state line " ++ decimal line
 words_of (Lost name) = codes "lost " ++ encode_lower name
@@ -40,6 +45,7 @@ abbrev pub session_fault : SessionFault → Fault
 session_fault session.Read = Read
 session_fault session.Write = Write
 session_fault session.Memory = Memory
+session_fault session.Journal = NotKept
 
 -- how it is told that a folder could not be opened
 abbrev pub store_fault : FileFault → Fault
@@ -50,6 +56,20 @@ store_fault file.Memory = Memory
 abbrev pub state_fault : FileFault → Fault
 state_fault file.Device = Unreadable
 state_fault file.Memory = Memory
+
+-- how it is told that a journal could not be read
+abbrev pub journal_fault : FileFault → Fault
+journal_fault file.Device = Journal
+journal_fault file.Memory = Memory
+
+-- how it is told that what a journal has could not be done again
+abbrev pub again_fault : AgainFault → Fault
+again_fault again.Read = Journal
+again_fault again.Memory = Memory
+again_fault (again.Host host.Memory) = Memory
+again_fault (again.Host host.Store) = Store
+again_fault (again.Host host.Damaged) = Journal
+again_fault (again.Host host.Collision) = Journal
 
 -- how it is told that no host could be made of a state
 abbrev pub load_fault : LoadFault → Fault

@@ -1,8 +1,8 @@
 -- The host that a folder keeps, and what `check` does (own). Of what a device holds nothing is claimed.
-use Rattle.std.specs.Prelude.{ℕ, List, [], ◌∷◌, ◌++◌, codes, Option, ⊤}
+use Rattle.std.specs.Prelude.{ℕ, ◌==◌, List, [], ◌++◌, codes, decimal, if◌then◌else◌, Option, ⊤}
 use Rattle.std.specs.Io.KnownBytes.{Keeps}
 use Rattle.forkhost.specs.declared.fault.Fault.{Fault}
-use Rattle.forkhost.specs.declared.fault.Fault.TheVariants.{Write, Memory, Store, NoState, Unreadable, Line, Lost, Damaged, Unsound, OverLimit}
+use Rattle.forkhost.specs.declared.fault.Fault.TheVariants.{Write, Memory, Store, NoState, Unreadable, Journal, Line, Lost, Damaged, Unsound, OverLimit}
 
 -- nothing was read or written
 pub record IsUntouched (input left before after : Option (List ℕ)) : Type 0 where
@@ -14,6 +14,7 @@ abbrev pub IsUnkept : Fault → Type 0
 IsUnkept Memory = ⊤
 IsUnkept Store = ⊤
 IsUnkept Unreadable = ⊤
+IsUnkept Journal = ⊤
 IsUnkept (Line line) = ⊤
 IsUnkept (Lost name) = ⊤
 IsUnkept (Damaged name) = ⊤
@@ -21,11 +22,11 @@ IsUnkept (Unsound name) = ⊤
 IsUnkept (OverLimit tenant) = ⊤
 IsUnkept _ = ⊥
 
--- the line that `check` prints
-abbrev pub sound_line : List ℕ
-sound_line = codes "sound" ++ 10 ∷ []
+-- what `check` prints: a line, and another where requests of the journal are to be done again, with their number
+abbrev pub sound_lines : ℕ → List ℕ
+sound_lines count = codes "sound\n" ++ (if count == 0 then [] else codes "journal " ++ decimal count ++ codes "\n")
 
--- why `check` did not print it, or not the whole of it
+-- why `check` did not print them, or not the whole of them
 abbrev pub IsUnchecked : Option (List ℕ) → Option (List ℕ) → Fault → Type 0
 IsUnchecked before after Write = ⊤
 IsUnchecked before after NoState = Keeps before after

@@ -11,7 +11,7 @@ use Rattle.fork_command.specs.declared.error.CommandError.TheVariants as refusal
 use Rattle.fork_frame.specs.declared.ended.Ended.TheVariants.{Clean}
 use Rattle.forkhost.specs.Fault.{fault_line}
 use Rattle.forkhost.specs.Hashing.{IsNamed, IsUnnamed}
-use Rattle.forkhost.specs.Keeping.{IsUnchecked, IsUntouched, sound_line}
+use Rattle.forkhost.specs.Keeping.{IsUnchecked, IsUntouched, sound_lines}
 use Rattle.forkhost.specs.Running.{IsRun, IsUnserved}
 use Rattle.forkhost.specs.Serving.{IsListened, IsUnlistened}
 use Rattle.forkhost.specs.declared.ending.Ending.{Ending}
@@ -38,7 +38,7 @@ abbrev pub IsDone : Command → Option (List ℕ) → Option (List ℕ) → Opti
 IsDone (HashObject kind) input before after = IsNamed kind input before after
 IsDone (Run hosting) input before after = IsRun hosting input before after Clean
 IsDone (Serve socket connections hosting) input before after = IsListened hosting connections × Keeps before after
-IsDone (Check dir) input before after = Appends before after sound_line
+IsDone (Check dir) input before after = (count : ℕ) × Appends before after (sound_lines count)
 
 -- why it was not
 abbrev pub IsUndone : Command → Option (List ℕ) → Option (List ℕ) → Option (List ℕ) → Option (List ℕ) → Fault → Type 0

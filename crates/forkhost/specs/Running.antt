@@ -10,7 +10,7 @@ use Rattle.fork_wire.specs.declared.fault.SessionFault.TheVariants as session
 use Rattle.forkhost.specs.Given.{AreGiven, AreUngiven}
 use Rattle.forkhost.specs.Keeping.{IsUnkept, IsUntouched}
 use Rattle.forkhost.specs.declared.fault.Fault.{Fault}
-use Rattle.forkhost.specs.declared.fault.Fault.TheVariants.{BadFrame, Read, Write, Memory, NotSaved}
+use Rattle.forkhost.specs.declared.fault.Fault.TheVariants.{BadFrame, Read, Write, Memory, NotKept, NotSaved}
 
 -- a host without tenants, over a store that is trusted
 pub record IsNew (host : HostState) : Type 0 where
@@ -40,6 +40,7 @@ IsCutShort first last input before after BadFrame = IsServed first last input be
 IsCutShort first last input before after Read = IsStopped first last input before after session.Read
 IsCutShort first last input before after Write = IsStopped first last input before after session.Write
 IsCutShort first last input before after Memory = IsStopped first last input before after session.Memory
+IsCutShort first last input before after NotKept = IsStopped first last input before after session.Journal
 IsCutShort first last input before after _ = ⊥
 
 -- why there is no such host
@@ -55,7 +56,9 @@ pub data IsUnhosted (hosting : Hosting) (fault : Fault) : Type 0 where
 pub data IsUnserved (hosting : Hosting) (input left before after : Option (List ℕ)) (fault : Fault) : Type 0 where
   -- there was no host
   Unhosted : IsUnhosted hosting fault → IsUntouched input left before after → IsUnserved hosting input left before after fault
-  -- the session was cut short
-  Cut : (first last : HostState) → IsHostOf hosting first → IsCutShort first last input before after fault → IsUnserved hosting input left before after fault
+  -- the state could not be saved before the session
+  Unready : is_some hosting.dir ≡ true → fault ≡ NotSaved → (first : HostState) → IsHostOf hosting first → IsUntouched input left before after → IsUnserved hosting input left before after fault
+  -- the session was cut short, for want of a journal only where a folder keeps the host
+  Cut : (first last : HostState) → IsHostOf hosting first → (fault ≡ NotKept → is_some hosting.dir ≡ true) → IsCutShort first last input before after fault → IsUnserved hosting input left before after fault
   -- the session was served, and then the state could not be saved
   Unsaved : is_some hosting.dir ≡ true → fault ≡ NotSaved → IsRun hosting input before after ended.Clean → IsUnserved hosting input left before after fault

@@ -7,7 +7,7 @@ use Rattle.fork_request.specs.declared.reply.Reply.{Reply}
 use Rattle.fork_wire.specs.Sessions.{IsAnswered}
 use Rattle.forkhost.specs.Running.{IsHostOf, IsUnhosted}
 use Rattle.forkhost.specs.declared.fault.Fault.{Fault}
-use Rattle.forkhost.specs.declared.fault.Fault.TheVariants.{Memory, NotSaved, Socket}
+use Rattle.forkhost.specs.declared.fault.Fault.TheVariants.{Memory, NotKept, NotSaved, Socket}
 
 -- what a connection, however it ended, did to the host
 pub data IsVisit (old new : HostState) : Type 0 where
@@ -44,12 +44,20 @@ pub record IsListened (hosting : Hosting) (n : ℕ) : Type 0 where
 abbrev pub IsUnbound : Fault → Type 0
 IsUnbound fault = (fault ≡ Socket) ⊎ (fault ≡ Memory)
 
+-- the faults of what keeps a host while it serves
+abbrev pub IsLost : Fault → Type 0
+IsLost fault = (fault ≡ NotKept) ⊎ (fault ≡ NotSaved)
+
 -- why so many were not, or why the host was not kept
 pub data IsUnlistened (hosting : Hosting) (n : ℕ) (fault : Fault) : Type 0 where
   -- there was no host
   Unhosted : IsUnhosted hosting fault → IsUnlistened hosting n fault
   -- the socket could not be bound
   Unbound : (first : HostState) → IsHostOf hosting first → IsUnbound fault → IsUnlistened hosting n fault
+  -- the state could not be saved before the first connection
+  Unready : is_some hosting.dir ≡ true → fault ≡ NotSaved → (first : HostState) → IsHostOf hosting first → IsUnlistened hosting n fault
+  -- what was served could not be kept any more
+  Lost : is_some hosting.dir ≡ true → (first last : HostState) → IsHostOf hosting first → AreSomeVisits first last n → IsLost fault → IsUnlistened hosting n fault
   -- it could not be listened on any more
   Deaf : (first last : HostState) → IsHostOf hosting first → AreSomeVisits first last n → IsUnbound fault → IsUnlistened hosting n fault
   -- all were served, and then the state could not be saved

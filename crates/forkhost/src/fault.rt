@@ -33,6 +33,10 @@ pub enum Fault {
     NoState,
     /// The folder's state could not be read.
     Unreadable,
+    /// The folder's journal could not be read, or what it has could not be done again.
+    Journal,
+    /// A request could not be written to the journal.
+    NotKept,
     /// What was served could not be saved.
     NotSaved,
     /// This line of the state, counted from 1, is the first at which it is no state.
@@ -77,6 +81,8 @@ impl Fault {
             Fault::Socket => writer.write_all(b"socket"),
             Fault::NoState => writer.write_all(b"no state"),
             Fault::Unreadable => writer.write_all(b"state unreadable"),
+            Fault::Journal => writer.write_all(b"journal unreadable"),
+            Fault::NotKept => writer.write_all(b"journal not written"),
             Fault::NotSaved => writer.write_all(b"state not saved"),
             Fault::Line(line) => write!(writer, "state line {line}"),
             Fault::Lost(name) => write_name(b"lost ", name, writer),

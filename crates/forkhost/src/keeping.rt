@@ -1,10 +1,12 @@
-ghost use Rattle.std.specs.Prelude.{◌≡◌, IfErr};
+ghost use Rattle.std.specs.Prelude.{IfErr};
 ghost use Rattle.forkhost.specs.Keeping.{IsUnkept};
 
 use crate::fault::Fault;
+use crate::replaying::replay;
 use crate::telling::{of_load, of_state, of_store};
 use fork_host::{Host, OpenError};
-use loose_store::{Folder, LooseFiles, read_state, write_state};
+use git_name::Name;
+use loose_store::{Folder, LooseFiles, journal_name, read_state};
 use std::alloc::Global;
 use std::fs::{File, Files};
 
@@ -19,7 +21,51 @@ fn new_host<S: LooseFiles + Drop>(alloc: Global, files: S) -> Result<Host<S>, Fa
     }
 }
 
-/// The host that a folder keeps, and one without tenants where the folder keeps no state. The folder is
+// The host of a state, over the store that has its objects, and the name of the journal behind it.
+fn saved_host<S: LooseFiles + Drop>(
+    alloc: Global,
+    state: Option<Vec<u8>>,
+    files: S,
+) -> Result<(Host<S>, Name), Fault>
+    ensures { IfErr result IsUnkept }
+{
+    let Some(state) = state else {
+        return match new_host(alloc, files) {
+            Ok(host) => Ok((host, journal_name(b""))),
+            Err(fault) => Err(fault),
+        };
+    };
+    match fork_state::load(alloc, state.as_slice(), files) {
+        Ok(host) => Ok((host, journal_name(state.as_slice()))),
+        Err(fault) => Err(of_load(fault)),
+    }
+}
+
+/// The host that a folder keeps, over this store of its objects, and one without tenants where the
+/// folder keeps none; and how many requests of its journal were done again.
+pub fn restored_host<H: Files<File = File> + AllocGlobal, S: LooseFiles + Drop>(
+    rt: &H,
+    alloc: Global,
+    dir: &str,
+    files: S,
+) -> Result<(Host<S>, u64), Fault>
+    ensures { IfErr result IsUnkept }
+{
+    let state = match read_state(rt, alloc, dir) {
+        Ok(state) => state,
+        Err(fault) => return Err(of_state(fault)),
+    };
+    let (mut host, name) = match saved_host(alloc, state, files) {
+        Ok(saved) => saved,
+        Err(fault) => return Err(fault),
+    };
+    match replay(rt, alloc, dir, name, &mut host) {
+        Ok(count) => Ok((host, count)),
+        Err(fault) => Err(fault),
+    }
+}
+
+/// The host that a folder keeps, and one without tenants where the folder keeps none. The folder is
 /// made where it is not there, and while the host lives no other process can open it.
 pub fn kept_host<'a, H: Files<File = File> + AllocGlobal>(
     rt: &'a H,
@@ -32,31 +78,8 @@ pub fn kept_host<'a, H: Files<File = File> + AllocGlobal>(
         Ok(files) => files,
         Err(fault) => return Err(of_store(fault)),
     };
-    let state = match read_state(rt, alloc, dir) {
-        Ok(Some(state)) => state,
-        Ok(None) => return new_host(alloc, files),
-        Err(fault) => return Err(of_state(fault)),
-    };
-    match fork_state::load(alloc, state.as_slice(), files) {
-        Ok(host) => Ok(host),
-        Err(fault) => Err(of_load(fault)),
+    match restored_host(rt, alloc, dir, files) {
+        Ok((host, _)) => Ok(host),
+        Err(fault) => Err(fault),
     }
-}
-
-/// Saves the host's state in its folder. After an `Err` the folder has its old state or this one.
-pub fn save<H: Files, S: LooseFiles>(
-    rt: &H,
-    alloc: Global,
-    dir: &str,
-    host: &Host<S>,
-) -> Result<(), Fault>
-    ensures { IfErr result (λ fault. fault ≡ Fault.NotSaved) }
-{
-    let Ok(state) = fork_state::save(alloc, host) else {
-        return Err(Fault::NotSaved);
-    };
-    let Ok(()) = write_state(rt, alloc, dir, state.as_slice()) else {
-        return Err(Fault::NotSaved);
-    };
-    Ok(())
 }

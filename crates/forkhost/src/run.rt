@@ -4,22 +4,24 @@ ghost use Rattle.fork_wire.specs.Sessions.{IsServed};
 ghost use Rattle.forkhost.specs.Running.{IsCutShort, IsRun, IsUnserved};
 
 use crate::fault::Fault;
-use crate::keeping::{kept_host, save};
+use crate::keep::Keep;
+use crate::keeping::kept_host;
 use crate::telling::of_session;
 use crate::tenants::add_tenants;
 use fork_command::Hosting;
 use fork_frame::Ended;
 use fork_host::Host;
-use fork_wire::serve;
+use fork_wire::{Journal, NoJournal, serve_kept};
 use loose_store::{LooseFiles, Memory};
 use std::alloc::Global;
 use std::fs::{File, Files};
 use std::io::{Read, Write};
 
 // Serves one session.
-fn session<S: LooseFiles, R: Read, W: Write>(
+fn session<S: LooseFiles, J: Journal, R: Read, W: Write>(
     host: &mut Host<S>,
     alloc: Global,
+    journal: &mut J,
     reader: &mut R,
     writer: &mut W,
 ) -> Result<(), Fault>
@@ -27,8 +29,9 @@ fn session<S: LooseFiles, R: Read, W: Write>(
         (W.contents writer.old) (W.contents writer.new) Clean) }
     ensures err { IfErr result (IsCutShort host.old host.new (R.remaining reader.old)
         (W.contents writer.old) (W.contents writer.new)) }
+    ensures cause { IfErr result (λ fault. fault ≡ Fault.NotKept → J.can_fail) }
 {
-    match serve(host, alloc, reader, writer) {
+    match serve_kept(host, alloc, journal, reader, writer) {
         Ok(Ended::Clean) => Ok(()),
         Ok(Ended::BadFrame) => Err(Fault::BadFrame),
         Err(fault) => Err(of_session(fault)),
@@ -54,14 +57,15 @@ fn run_in_memory<R: Read, W: Write>(
         Ok(()) => {}
         Err(fault) => return Err(fault),
     }
-    session(&mut host, alloc, reader, writer)
+    session(&mut host, alloc, &mut NoJournal, reader, writer)
 }
 
-// Serves one session of the host that a folder keeps, and saves its state, however the session ended.
-fn run_in_folder<H: Files<File = File> + AllocGlobal, R: Read, W: Write>(
-    rt: &H,
+// Serves one session of the host that a folder keeps. Its state is saved before and behind it, however
+// the session ended, and each request is kept before its reply goes out.
+fn run_in_folder<'x, H: Files<File = File> + AllocGlobal, R: Read, W: Write>(
+    rt: &'x H,
     alloc: Global,
-    dir: &str,
+    dir: &'x str,
     hosting: Hosting<'_>,
     reader: &mut R,
     writer: &mut W,
@@ -80,8 +84,12 @@ fn run_in_folder<H: Files<File = File> + AllocGlobal, R: Read, W: Write>(
         Ok(()) => {}
         Err(fault) => return Err(fault),
     }
-    let served = session(&mut host, alloc, reader, writer);
-    let saved = save(rt, alloc, dir, &host);
+    let mut keep = match Keep::begin(rt, alloc, dir, &host) {
+        Ok(keep) => keep,
+        Err(fault) => return Err(fault),
+    };
+    let served = session(&mut host, alloc, &mut keep.journal, reader, writer);
+    let saved = keep.save(alloc, &host);
     match served {
         Ok(()) => saved,
         Err(fault) => Err(fault),

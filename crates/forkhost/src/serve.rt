@@ -1,9 +1,10 @@
-ghost use Rattle.std.specs.Prelude.{◌≡◌, IfErr, OnErr, OnOk, is_some, true};
-ghost use Rattle.forkhost.specs.Serving.{AreSomeVisits, AreVisits, IsListened, IsUnbound, IsUnlistened};
+ghost use Rattle.std.specs.Prelude.{◌≡◌, ◌⊎◌, IfErr, OnErr, OnOk, is_some, true};
+ghost use Rattle.forkhost.specs.Serving.{AreSomeVisits, AreVisits, IsListened, IsLost, IsUnbound, IsUnlistened};
 
-use crate::connections::serve_connections;
+use crate::connections::{serve_connections, serve_kept_connections};
 use crate::fault::Fault;
-use crate::keeping::{kept_host, save};
+use crate::keep::Keep;
+use crate::keeping::kept_host;
 use crate::listening::{Listening, listen};
 use crate::tenants::add_tenants;
 use fork_command::Hosting;
@@ -28,6 +29,25 @@ fn serve_at<H: Files, S: LooseFiles>(
     ensures cause { IfErr result IsUnbound }
 {
     let served = serve_connections(host, alloc, listening.listener(), connections);
+    let _removed = fs::remove_file(rt, socket);
+    served
+}
+
+// Serves so many connections, keeps what they do, and then takes the socket away.
+fn serve_kept_at<H: Files<File = File> + AllocGlobal, S: LooseFiles>(
+    rt: &H,
+    alloc: Global,
+    host: &mut Host<S>,
+    keep: &mut Keep<'_, H>,
+    listening: Listening,
+    socket: &str,
+    connections: u32,
+) -> Result<(), Fault>
+    ensures ok { OnOk result (AreVisits host.old host.new connections) }
+    ensures err { OnErr result (AreSomeVisits host.old host.new connections) }
+    ensures cause { IfErr result (λ fault. IsUnbound fault ⊎ IsLost fault) }
+{
+    let served = serve_kept_connections(host, alloc, keep, listening.listener(), connections);
     let _removed = fs::remove_file(rt, socket);
     served
 }
@@ -57,11 +77,12 @@ fn serve_in_memory<H: Files<File = File> + Net>(
     serve_at(rt, alloc, &mut host, listening, socket, connections)
 }
 
-// Serves connections to the host that a folder keeps, and saves its state once it has served.
-fn serve_in_folder<H: Files<File = File> + Net + AllocGlobal>(
-    rt: &H,
+// Serves connections to the host that a folder keeps. Its state is saved before the first and behind the
+// last, and each request is kept before its reply goes out.
+fn serve_in_folder<'x, H: Files<File = File> + Net + AllocGlobal>(
+    rt: &'x H,
     alloc: Global,
-    dir: &str,
+    dir: &'x str,
     socket: &str,
     connections: u32,
     hosting: Hosting<'_>,
@@ -82,8 +103,23 @@ fn serve_in_folder<H: Files<File = File> + Net + AllocGlobal>(
         Ok(listening) => listening,
         Err(fault) => return Err(fault),
     };
-    let served = serve_at(rt, alloc, &mut host, listening, socket, connections);
-    let saved = save(rt, alloc, dir, &host);
+    let mut keep = match Keep::begin(rt, alloc, dir, &host) {
+        Ok(keep) => keep,
+        Err(fault) => {
+            let _removed = fs::remove_file(rt, socket);
+            return Err(fault);
+        }
+    };
+    let served = serve_kept_at(
+        rt,
+        alloc,
+        &mut host,
+        &mut keep,
+        listening,
+        socket,
+        connections,
+    );
+    let saved = keep.save(alloc, &host);
     match served {
         Ok(()) => saved,
         Err(fault) => Err(fault),

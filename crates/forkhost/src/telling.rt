@@ -1,10 +1,11 @@
 ghost use Rattle.std.specs.Prelude.{◌≡◌};
-ghost use Rattle.forkhost.specs.Fault.{load_fault, session_fault, state_fault, store_fault};
+ghost use Rattle.forkhost.specs.Fault.{again_fault, journal_fault, load_fault, session_fault, state_fault, store_fault};
 ghost use Rattle.forkhost.specs.Keeping.{IsUnkept};
 
 use crate::fault::Fault;
+use fork_request::HostFault;
 use fork_state::LoadFault;
-use fork_wire::SessionFault;
+use fork_wire::{AgainFault, SessionFault};
 use loose_store::FileFault;
 
 /// How a session's fault is told.
@@ -15,6 +16,7 @@ pub fn of_session(fault: SessionFault) -> Fault
         SessionFault::Read => Fault::Read,
         SessionFault::Write => Fault::Write,
         SessionFault::Memory => Fault::Memory,
+        SessionFault::Journal => Fault::NotKept,
     }
 }
 
@@ -37,6 +39,32 @@ pub fn of_state(fault: FileFault) -> Fault
     match fault {
         FileFault::Device => Fault::Unreadable,
         FileFault::Memory => Fault::Memory,
+    }
+}
+
+/// How it is told that a journal could not be read.
+pub fn of_journal(fault: FileFault) -> Fault
+    ensures told { result ≡ journal_fault fault }
+    ensures within { IsUnkept result }
+{
+    match fault {
+        FileFault::Device => Fault::Journal,
+        FileFault::Memory => Fault::Memory,
+    }
+}
+
+/// How it is told that what a journal has could not be done again.
+pub fn of_again(fault: AgainFault) -> Fault
+    ensures told { result ≡ again_fault fault }
+    ensures within { IsUnkept result }
+{
+    match fault {
+        AgainFault::Read => Fault::Journal,
+        AgainFault::Memory => Fault::Memory,
+        AgainFault::Host(HostFault::Memory) => Fault::Memory,
+        AgainFault::Host(HostFault::Store) => Fault::Store,
+        AgainFault::Host(HostFault::Damaged) => Fault::Journal,
+        AgainFault::Host(HostFault::Collision) => Fault::Journal,
     }
 }
 

@@ -5,6 +5,7 @@ ghost use Rattle.loose_store.specs.Failures.{Counts};
 use crate::device::{PART, found, read_whole, settle, told};
 use crate::failures::counted;
 use crate::files::{FileFault, LooseFiles};
+use crate::journal_file::JOURNALS;
 use crate::listing::list_all;
 use crate::place::{home_of, inside, path_of};
 use git_name::Name;
@@ -47,6 +48,8 @@ fn sweep_one(rt: &impl Files, alloc: Global, folder: &str) -> io::Result<()> {
 // Removes what a killed process was writing.
 fn sweep(rt: &impl Files, alloc: Global, folder: &str) -> io::Result<()> {
     sweep_one(rt, alloc, folder)?;
+    let journals = inside(alloc, folder, JOURNALS)?;
+    sweep_one(rt, alloc, journals.as_str())?;
     for first in 0..=u8::MAX {
         let first = [first];
         let home = home_of(alloc, folder, first.as_slice())?;

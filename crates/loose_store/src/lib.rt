@@ -9,6 +9,7 @@ mod failures;
 mod files;
 mod folder;
 mod fused;
+mod journal_file;
 mod laws;
 mod listing;
 mod memory;
@@ -22,6 +23,9 @@ pub use crate::checked::{StoreFault, read_checked};
 pub use crate::files::{FileFault, LooseFiles};
 pub use crate::folder::Folder;
 pub use crate::fused::{Call, Fuse, Fused};
+pub use crate::journal_file::{
+    begin_journal, clear_journals, journal_name, open_journal, settle_journal,
+};
 pub use crate::laws::one_object;
 pub use crate::memory::Memory;
 pub use crate::state_file::{read_state, write_state};

@@ -50,6 +50,14 @@ impl Upload {
         self.bytes.len() as u64
     }
 
+    /// The bytes that came.
+    pub fn as_bytes(&self) -> &[u8]
+        ensures value { upload_of result.now ≡ self.now }
+        ensures within { length result.now ≤ MAX_UPLOAD }
+    {
+        self.bytes.as_slice()
+    }
+
     /// One more piece came. A fault is told by `finish`, not here; an `Err`, which tells want of
     /// memory, leaves the upload as it was.
     pub fn feed(&mut self, piece: &[u8]) -> Result<(), AllocError>

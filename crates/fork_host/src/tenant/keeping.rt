@@ -1,5 +1,6 @@
 // What of a tenant outlives the host's process.
-ghost use Rattle.std.specs.Prelude.{◌≡◌, IfOk};
+ghost use Rattle.std.specs.Prelude.{◌≡◌, IfOk, option_map};
+ghost use Rattle.push_stream.specs.Upload.{upload_of};
 ghost use Rattle.fork_model.specs.Sound.{IsOrderly};
 ghost use Rattle.state_text.specs.Kept.{kept_of};
 ghost use Rattle.fork_host.specs.Shown.{shown};
@@ -30,5 +31,15 @@ impl Tenant {
         self.repositories.keep(&mut state)?;
         keep_names(&mut state, names)?;
         Ok(state)
+    }
+
+    // The bytes of the upload, where one is open.
+    pub(crate) fn upload(&self) -> Option<&[u8]>
+        ensures { option_map (λ bytes. upload_of bytes.now) result ≡ self.now.upload }
+    {
+        match &self.upload {
+            Some(upload) => Some(upload.as_bytes()),
+            None => None,
+        }
     }
 }

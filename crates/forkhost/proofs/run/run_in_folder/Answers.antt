@@ -1,4 +1,4 @@
-use Rattle.forkhost.specs.Running.{Cut, Unhosted, Unsaved}
+use Rattle.forkhost.specs.Running.{Cut, Unhosted, Unready, Unsaved}
 use Rattle.forkhost.proofs.HostingLemmas.{if_err_more, kept_host, on_ok_always, ungiven_kept, untouched}
 use Rattle.forkhost.proofs.run.run_in_folder.Goals as goal
 
@@ -17,4 +17,10 @@ returns-in-Ok-served-clause-err g c =
 
 pub returns-clause-err : goal.returns-clause-err
 returns-clause-err g c =
-    Cut _ _ (kept_host c.args.hosting c.in-Ok.host c.add_tenants.new.host c.requires c.in-Ok-add_tenants.ensures.ok) c.in-Err-served.ensures.err
+    let host = kept_host c.args.hosting c.in-Ok.host c.add_tenants.new.host c.requires c.in-Ok-add_tenants.ensures.ok in
+    Cut _ _ host (λ is. c.requires) c.in-Err-served.ensures.err
+
+pub returns-in-Err-begin-clause-err : goal.returns-in-Err-begin-clause-err
+returns-in-Err-begin-clause-err g c =
+    let host = kept_host c.args.hosting c.in-Ok.host c.add_tenants.new.host c.requires c.in-Ok-add_tenants.ensures.ok in
+    Unready c.requires c.in-Err-begin.ensures c.add_tenants.new.host host (untouched _ _)

@@ -1,7 +1,7 @@
 use Rattle.std.proofs.Common.{refl}
 use Rattle.std.proofs.lemmas.Result.{on_ok_weaker}
 use Rattle.forkhost.specs.Running.{Cut, Unhosted}
-use Rattle.forkhost.proofs.HostingLemmas.{if_err_more, new_host, ungiven_new, untouched}
+use Rattle.forkhost.proofs.HostingLemmas.{if_err_both, new_host, ungiven_new, untouched}
 use Rattle.forkhost.proofs.run.run_in_memory.Goals as goal
 
 pub returns-in-Err-clause-err : goal.returns-in-Err-clause-err
@@ -16,4 +16,4 @@ returns-clause-ok g c =
 pub returns-clause-err : goal.returns-clause-err
 returns-clause-err g c =
     let host = new_host c.args.hosting c.in-Ok.host c.add_tenants.new.host (c.in-Ok.ensures.trusted refl) c.in-Ok.ensures.empty c.in-Ok-add_tenants.ensures.ok in
-    if_err_more c.session.result (λ fault cut. Cut _ _ host cut) c.session.ensures.err
+    if_err_both _ c.session.result (λ fault cut never. Cut _ _ host (λ is. absurd (never is)) cut) c.session.ensures.err c.session.ensures.cause

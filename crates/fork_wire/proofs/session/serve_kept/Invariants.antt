@@ -1,13 +1,13 @@
 use Rattle.fork_model.specs.Sound.{IsOrderlyWorld, IsRightWorld}
 use Rattle.fork_host.specs.Shown.{Trusted, world_of}
 use Rattle.fork_wire.proofs.Going.{Going}
-use Rattle.fork_wire.proofs.session.serve.Given as goal
+use Rattle.fork_wire.proofs.session.serve_kept.Given as goal
 
--- what came so far was answered by what went out so far
+-- what came so far was answered by what went out so far, and the journal has what is to be kept of it
 abbrev pub invariant-loop : goal.invariant-loop
 invariant-loop g l = record {
   trusted : Trusted l.fn.host → Trusted l.host;
   orderly : IsOrderlyWorld (world_of l.host);
   right : Trusted l.fn.host → IsRightWorld (world_of l.host);
-  going : Going l.fn.host l.host (g.R.Read.remaining l.fn.reader) (g.R.Read.remaining l.reader) (g.W.Write.contents l.fn.writer) (g.W.Write.contents l.writer);
+  going : Going l.fn.host l.host (g.R.Read.remaining l.fn.reader) (g.R.Read.remaining l.reader) (g.W.Write.contents l.fn.writer) (g.W.Write.contents l.writer) (g.J.Journal.kept l.fn.journal) (g.J.Journal.kept l.journal);
 }

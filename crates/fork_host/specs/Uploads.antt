@@ -1,0 +1,19 @@
+-- The uploads that are open (own): whose they are, and what their bytes stand for.
+use Rattle.std.specs.Prelude.{ℕ, List, [], ◌∷◌, Option, Some, None, flat_map}
+use Rattle.std.specs.FinMap.{entries}
+use Rattle.push_stream.specs.Upload.{UploadValue}
+use Rattle.fork_model.specs.World.{World}
+use Rattle.fork_host.specs.Shown.{Account}
+
+-- a tenant's upload, where one is open
+abbrev pub opened : List ℕ → Option UploadValue → List (List ℕ × UploadValue)
+opened tenant (Some upload) = (tenant, upload) ∷ []
+opened tenant None = []
+
+-- those of all accounts, in the order of their tenants' names
+abbrev pub uploads_in : List (List ℕ × Account) → List (List ℕ × UploadValue)
+uploads_in accounts = flat_map (λ entry. opened entry.0 entry.1.upload) accounts
+
+-- those of a world
+abbrev pub uploads_of : World → List (List ℕ × UploadValue)
+uploads_of world = flat_map (λ entry. opened entry.0 entry.1.upload) (entries world)

@@ -1,0 +1,59 @@
+use Rattle.fork_wire.proofs.Ending.{bad_end, clean_end, spent, unread, untold}
+use Rattle.fork_wire.proofs.Going.{going_more, not_yet, unsent, unsent_kept}
+use Rattle.fork_wire.proofs.session.serve_kept.Goals as goal
+
+pub loop-init : goal.loop-init
+loop-init g c = record {
+  trusted = λ trusted. trusted;
+  orderly = c.tenants-tenants.ensures.orderly;
+  right = c.tenants-tenants.ensures.right;
+  going = not_yet _ _ _ _;
+}
+
+pub loop-preserved : goal.loop-preserved
+loop-preserved g c = record {
+  trusted = λ trusted. c.answer_kept-reply.ensures.trusted (c.loop.invariant.trusted trusted);
+  orderly = c.answer_kept-reply.ensures.orderly;
+  right = λ trusted. c.answer_kept-reply.ensures.right (c.loop.invariant.trusted trusted);
+  going =
+      let frame = rw c.in-Ok-Frame.field-0-is at c.in-Ok-Frame.ensures.next in
+      going_more _ _ _ _ _ _ _ _ _ _ _ _ c.in-Ok-Frame.frame c.answer_kept-reply.result.0 c.loop.invariant.going frame.0 frame.1 c.loop.invariant.trusted c.answer_kept-reply.ensures.explained c.answer_kept-reply.ensures.faults c.in-Ok.ensures.ok
+      (c.answer_kept-reply.ensures.kept c.in-Ok.ensures.kept);
+}
+
+pub returns-in-Ok-End-clause-kept : goal.returns-in-Ok-End-clause-kept
+returns-in-Ok-End-clause-kept g c =
+    let next = rw c.in-Ok-End.field-0-is at c.in-Ok-End.ensures.next in
+    clean_end _ _ _ _ _ _ _ _ c.loop.invariant.going next.1
+
+pub returns-in-Ok-Bad-clause-kept : goal.returns-in-Ok-Bad-clause-kept
+returns-in-Ok-Bad-clause-kept g c =
+    let next = rw c.in-Ok-Bad.field-0-is at c.in-Ok-Bad.ensures.next in
+    bad_end _ _ _ _ _ _ _ _ _ c.end_badly.result c.loop.invariant.going next.bad c.end_badly.ensures.ok
+
+pub returns-in-Ok-Bad-clause-kept_so_far : goal.returns-in-Ok-Bad-clause-kept_so_far
+returns-in-Ok-Bad-clause-kept_so_far g c =
+    let next = rw c.in-Ok-Bad.field-0-is at c.in-Ok-Bad.ensures.next in
+    untold _ _ _ _ _ _ _ _ _ c.end_badly.result c.loop.invariant.going next.bad c.end_badly.ensures.cause
+
+pub returns-in-Err-clause-kept_so_far : goal.returns-in-Err-clause-kept_so_far
+returns-in-Err-clause-kept_so_far g c other =
+    unread _ _ _ _ _ _ _ _ c.of_frame.result c.loop.invariant.going c.of_frame.ensures.read c.of_frame.ensures.kept (λ is. c.in-Err.ensures.memory (c.of_frame.ensures.memory is))
+
+pub returns-in-Err-send_kept-clause-stopped : goal.returns-in-Err-send_kept-clause-stopped
+returns-in-Err-send_kept-clause-stopped g c =
+    let frame = rw c.in-Ok-Frame.field-0-is at c.in-Ok-Frame.ensures.next in
+    unsent _ _ _ _ _ _ _ _ _ _ _ c.in-Ok-Frame.frame c.answer_kept-reply.result.0 c.in-Err-send_kept.fault c.loop.invariant.going frame.0 frame.1 c.loop.invariant.trusted c.answer_kept-reply.ensures.explained c.answer_kept-reply.ensures.faults
+    c.in-Err-send_kept.ensures.sent c.in-Err-send_kept.ensures.unsent
+
+pub returns-in-Err-send_kept-clause-right : goal.returns-in-Err-send_kept-clause-right
+returns-in-Err-send_kept-clause-right g c trusted = c.answer_kept-reply.ensures.right (c.loop.invariant.trusted trusted)
+
+pub returns-in-Err-send_kept-clause-kept_so_far : goal.returns-in-Err-send_kept-clause-kept_so_far
+returns-in-Err-send_kept-clause-kept_so_far g c other =
+    let frame = rw c.in-Ok-Frame.field-0-is at c.in-Ok-Frame.ensures.next in
+    unsent_kept _ _ _ _ _ _ _ _ _ _ _ _ c.in-Ok-Frame.frame c.answer_kept-reply.result.0 c.in-Err-send_kept.fault c.loop.invariant.going frame.0 frame.1 c.loop.invariant.trusted c.answer_kept-reply.ensures.explained c.answer_kept-reply.ensures.faults
+    c.in-Err-send_kept.ensures.sent c.in-Err-send_kept.ensures.unsent (c.answer_kept-reply.ensures.kept (c.in-Err-send_kept.ensures.was_kept other))
+
+pub returns-clause-kept_so_far : goal.returns-clause-kept_so_far
+returns-clause-kept_so_far g c other = spent _ _ _ _ _ _ _ _ c.loop.invariant.going

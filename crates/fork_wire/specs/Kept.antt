@@ -1,0 +1,60 @@
+-- What a journal keeps of a session (own): the frames that may have changed the host.
+use Rattle.std.specs.Prelude.{Bool, true, false, not, cond, ℕ, List, [], ◌∷◌, flat_map}
+use Rattle.fork_request.specs.Asked.{Ask, EndsParts, AsksObject, AsksTree, AsksRevisions, AsksBases, AsksReferences, Fetches, AsksUse, NoRequest, asked}
+use Rattle.fork_request.specs.declared.reply.Reply.{Reply}
+use Rattle.fork_request.specs.declared.reply.Reply.TheVariants.{Done, Refused, Failed}
+use Rattle.fork_frame.specs.Frame.{frame_bytes}
+use Rattle.fork_frame.specs.declared.asker.Asker.{Asker}
+use Rattle.fork_frame.specs.declared.asker.Asker.TheVariants.{Tenant, Host}
+use Rattle.fork_frame.specs.declared.frame.Frame.{Frame}
+
+-- a request that only asks: no answer to it changes the view
+abbrev pub only_asks : Ask → Bool
+only_asks (AsksObject name) = true
+only_asks (AsksTree name) = true
+only_asks (AsksRevisions repository items) = true
+only_asks (AsksBases repository first second) = true
+only_asks (AsksReferences repository prefix) = true
+only_asks (Fetches repository items) = true
+only_asks AsksUse = true
+only_asks NoRequest = true
+only_asks ask = false
+
+-- a request that ends the upload, also where it is refused
+abbrev pub ends_upload : Ask → Bool
+ends_upload (EndsParts repository) = true
+ends_upload ask = false
+
+-- the view is as it was before the request was answered so
+abbrev pub leaves : Ask → Reply → Bool
+leaves ask (Done text) = only_asks ask
+leaves ask (Refused refusal) = not (ends_upload ask)
+leaves ask (Failed fault) = true
+
+-- what a tenant sends is kept where it may have changed the tenant's view
+abbrev pub is_kept_of : Asker → List ℕ → Reply → Bool
+is_kept_of (Tenant name) payload reply = not (leaves (asked payload) reply)
+is_kept_of Host payload reply = false
+
+abbrev pub is_kept : Frame → Reply → Bool
+is_kept frame reply = is_kept_of frame.asker frame.payload reply
+
+-- what is kept of one frame
+abbrev pub kept_one : Frame → Reply → List ℕ
+kept_one frame reply = cond (is_kept frame reply) (frame_bytes frame) []
+
+-- the frames that are kept of a session
+abbrev pub kept_of : List Frame → List Reply → List Frame
+kept_of [] replies = []
+kept_of (frame ∷ frames) [] = []
+kept_of (frame ∷ frames) (reply ∷ replies) = cond (is_kept frame reply) (frame ∷ kept_of frames replies) (kept_of frames replies)
+
+-- the replies to them
+abbrev pub replies_kept : List Frame → List Reply → List Reply
+replies_kept [] replies = []
+replies_kept (frame ∷ frames) [] = []
+replies_kept (frame ∷ frames) (reply ∷ replies) = cond (is_kept frame reply) (reply ∷ replies_kept frames replies) (replies_kept frames replies)
+
+-- their bytes
+abbrev pub kept_bytes : List Frame → List Reply → List ℕ
+kept_bytes frames replies = flat_map frame_bytes (kept_of frames replies)

@@ -1,0 +1,30 @@
+-- Frames that open uploads again (own): `part` requests, whose pieces are the bytes that came.
+use Rattle.std.specs.Prelude.{◌≡◌, ℕ, ◌≤◌, All, List, [], ◌∷◌, ◌++◌, codes, length, map}
+use Rattle.std.specs.List.{concat}
+use Rattle.push_stream.specs.Upload.{UploadValue, upload_of}
+use Rattle.fork_frame.specs.Frame.{IsFrame}
+use Rattle.fork_frame.specs.declared.asker.Asker.TheVariants.{Tenant}
+use Rattle.fork_frame.specs.declared.frame.Frame.{Frame}
+
+-- a frame by which a tenant sends a piece
+abbrev pub part_frame : List ℕ → List ℕ → Frame
+part_frame tenant piece = record { asker = Tenant tenant; payload = codes "part\n" ++ piece }
+
+-- frames by which a tenant sends these bytes: one at least, and each a right frame
+pub record AreParts (tenant bytes : List ℕ) (frames : List Frame) : Type 0 where
+  pub pieces : List (List ℕ)
+  pub some : 1 ≤ length pieces
+  pub whole : concat pieces ≡ bytes
+  pub sent : frames ≡ map (part_frame tenant) pieces
+  pub right : All IsFrame frames
+
+-- frames that open this upload again
+pub record ReopensOne (tenant : List ℕ) (upload : UploadValue) (frames : List Frame) : Type 0 where
+  pub bytes : List ℕ
+  pub stands : upload_of bytes ≡ upload
+  pub parts : AreParts tenant bytes frames
+
+-- frames that open these uploads again, one after another
+abbrev pub Reopens : List (List ℕ × UploadValue) → List Frame → Type 0
+Reopens [] frames = frames ≡ []
+Reopens (upload ∷ uploads) frames = (first : List Frame) × (rest : List Frame) × (frames ≡ first ++ rest) × ReopensOne upload.0 upload.1 first × Reopens uploads rest

@@ -1,0 +1,76 @@
+ghost use Rattle.std.specs.Prelude.{◌≡◌, IfErr, IfOk};
+ghost use Rattle.fork_request.specs.Told.{is_host_fault};
+ghost use Rattle.fork_model.specs.Sound.{IsOrderlyWorld, IsRightWorld};
+ghost use Rattle.fork_model.specs.World.{Steps};
+ghost use Rattle.fork_host.specs.Faults.{FaultsWithin};
+ghost use Rattle.fork_host.specs.Shown.{Trusted, world_of};
+ghost use Rattle.fork_wire.specs.Again.{IsAnsweredAgain, IsServedAgain};
+ghost use Rattle.fork_wire.specs.Sessions.{event_of};
+
+use crate::session::answer;
+use fork_frame::{Frame, FrameFault, Next, next_frame};
+use fork_host::Host;
+use fork_model::a_run_is_private;
+use fork_request::{HostFault, Reply};
+use loose_store::LooseFiles;
+use std::alloc::Global;
+use std::io::Read;
+use thiserror::Error;
+
+/// Why frames were not served again to their end.
+#[derive(Clone, Copy, Debug, PartialEq, Eq, Error)]
+pub enum AgainFault {
+    #[error("the input could not be read")]
+    Read,
+    #[error("no memory")]
+    Memory,
+    #[error("a host fault answered a request that was answered before")]
+    Host(HostFault),
+}
+
+/// Serves frames that were answered before, up to the input's end or to what is no frame, and says how
+/// many there were. Nothing is told to anyone. A host fault stops it.
+pub fn serve_again<S: LooseFiles, R: Read>(
+    host: &mut Host<S>,
+    alloc: Global,
+    reader: &mut R,
+) -> Result<u64, AgainFault>
+    ensures again { IfOk result (IsServedAgain host.old host.new (R.remaining reader.old)) }
+    ensures trusted { Trusted host.old → Trusted host.new }
+    ensures orderly { IsOrderlyWorld (world_of host.new) }
+    ensures right { Trusted host.old → IsRightWorld (world_of host.new) }
+{
+    a_run_is_private();
+    let _tenants = host.tenants();
+    for count in 0..u64::MAX {
+        let frame = match next_frame(alloc, reader) {
+            Ok(Next::Frame(frame)) => frame,
+            Ok(Next::End) => return Ok(count),
+            Ok(Next::Bad) => return Ok(count),
+            Err(FrameFault::Read) => return Err(AgainFault::Read),
+            Err(FrameFault::Memory) => return Err(AgainFault::Memory),
+        };
+        match answer_again(host, alloc, frame) {
+            Ok(()) => {}
+            Err(fault) => return Err(AgainFault::Host(fault)),
+        }
+    }
+    Err(AgainFault::Read)
+}
+
+// Answers a request, and tells a host fault alone.
+fn answer_again<S: LooseFiles>(
+    host: &mut Host<S>,
+    alloc: Global,
+    frame: Frame,
+) -> Result<(), HostFault>
+    ensures ok { IfOk result (λ _. IsAnsweredAgain host.old host.new frame) }
+    ensures trusted { Trusted host.old → Trusted host.new }
+    ensures orderly { IsOrderlyWorld (world_of host.new) }
+    ensures right { Trusted host.old → IsRightWorld (world_of host.new) }
+{
+    match answer(host, alloc, &frame) {
+        Reply::Failed(fault) => Err(fault),
+        _ => Ok(()),
+    }
+}

@@ -1,0 +1,95 @@
+ghost use Rattle.std.specs.Prelude.{◌≡◌, ℕ, List, Option, IfErr, IfOk, OnOk};
+ghost use Rattle.std.specs.Io.KnownBytes.{Appends};
+ghost use Rattle.fork_frame.specs.Frame.{frame_bytes};
+
+use fork_frame::{Frame, write_frame};
+use fork_request::MAX_PAYLOAD;
+use std::alloc::{AllocError, Global};
+use std::io::Write;
+
+/// A frame could not be kept, or not wholly. Nothing more is to be kept behind it.
+#[derive(Clone, Copy, Debug, PartialEq, Eq)]
+pub struct NotKept;
+
+/// What keeps frames, one behind the other, so that they can be served again.
+pub trait Journal {
+    /// The bytes of the frames that it has, where they are known.
+    ghost kept: { Self → Option (List ℕ) };
+
+    /// That a frame may fail to be kept.
+    ghost can_fail: { Type 0 };
+
+    /// Keeps a frame behind those that it has.
+    fn keep(&mut self, frame: &Frame) -> Result<(), NotKept>
+        ensures ok { OnOk result (Appends (kept self.old) (kept self.new) (frame_bytes frame.now)) }
+        ensures cause { IfErr result (λ _. can_fail) };
+}
+
+/// A journal that keeps nothing.
+#[derive(Clone, Copy, Debug, PartialEq, Eq)]
+pub struct NoJournal;
+
+impl Journal for NoJournal {
+    ghost use Rattle.std.specs.Prelude.{None};
+
+    ghost kept = { λ _. None };
+
+    ghost can_fail = { ⊥ };
+
+    fn keep(&mut self, _frame: &Frame) -> Result<(), NotKept> {
+        Ok(())
+    }
+}
+
+/// A journal that writes the frames, each at once.
+#[derive(Drop)]
+pub struct Written<W> {
+    writer: W,
+    // The frame that is being kept.
+    frame: Vec<u8>,
+    bytes: u64,
+}
+
+// Room for the longest frame: its line, LF, and the payload.
+const LONGEST_FRAME: usize = MAX_PAYLOAD + 41;
+
+impl<W: Write + Drop> Written<W> {
+    /// A journal that writes behind what is there. It takes all its memory here.
+    pub fn new(alloc: Global, writer: W) -> Result<Written<W>, AllocError>
+        ensures { IfOk result (λ journal. (journal.writer ≡ writer) × (journal.bytes ≡ 0)) }
+    {
+        let frame = Vec::with_capacity(alloc, LONGEST_FRAME)?;
+        Ok(Written {
+            writer,
+            frame,
+            bytes: 0,
+        })
+    }
+}
+
+impl<W> Written<W> {
+    /// How many bytes were kept, up to 2^64 - 1.
+    pub fn bytes(&self) -> u64
+        ensures { result ≡ self.now.bytes }
+    {
+        self.bytes
+    }
+}
+
+impl<W: Write> Journal for Written<W> {
+    ghost kept = { λ journal. W.contents journal.writer };
+
+    ghost can_fail = { Unit {0} };
+
+    fn keep(&mut self, frame: &Frame) -> Result<(), NotKept> {
+        self.frame.clear();
+        let Ok(()) = write_frame(&mut self.frame, frame) else {
+            return Err(NotKept);
+        };
+        let Ok(()) = self.writer.write_all(self.frame.as_slice()) else {
+            return Err(NotKept);
+        };
+        self.bytes = self.bytes.saturating_add(self.frame.len() as u64);
+        Ok(())
+    }
+}

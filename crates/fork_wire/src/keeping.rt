@@ -1,0 +1,72 @@
+// Which frames a journal keeps.
+ghost use Rattle.std.specs.Prelude.{◌≡◌, IsTrue, false};
+ghost use Rattle.std.specs.Io.KnownBytes.{Appends};
+ghost use Rattle.fork_request.specs.Asked.{asked};
+ghost use Rattle.fork_wire.specs.Kept.{ends_upload as may_end, is_kept, kept_one, leaves as is_left, only_asks as is_asking};
+
+use crate::journal::Journal;
+use fork_frame::{Asker, Frame};
+use fork_request::{Reply, Request};
+
+// The request only asks.
+fn only_asks(payload: &[u8]) -> bool
+    ensures { result ≡ is_asking (asked payload.now) }
+{
+    match Request::read(payload) {
+        Request::CatFile(_)
+        | Request::LsTree(_)
+        | Request::RevList(_, _)
+        | Request::MergeBase(_, _, _)
+        | Request::ForEachRef(_, _)
+        | Request::Fetch(_, _)
+        | Request::Quota
+        | Request::Bad => true,
+        _ => false,
+    }
+}
+
+// The request is to end the upload.
+fn ends_upload(payload: &[u8]) -> bool
+    ensures { result ≡ may_end (asked payload.now) }
+{
+    match Request::read(payload) {
+        Request::PartEnd(_) => true,
+        _ => false,
+    }
+}
+
+// The tenant's view is as it was before the request was answered so.
+fn leaves(payload: &[u8], reply: &Reply) -> bool
+    ensures { result ≡ is_left (asked payload.now) reply.now }
+{
+    match reply {
+        Reply::Done(_) => only_asks(payload),
+        Reply::Refused(_) => !ends_upload(payload),
+        Reply::Failed(_) => true,
+    }
+}
+
+// The frame, answered so, may have changed its tenant's view.
+fn may_change(frame: &Frame, reply: &Reply) -> bool
+    ensures { result ≡ is_kept frame.now reply.now }
+{
+    match &frame.asker {
+        Asker::Tenant(_) => !leaves(frame.payload.as_bytes(), reply),
+        Asker::Host => false,
+    }
+}
+
+/// Keeps a frame that was answered so, where it may have changed the host, and says whether that went
+/// well.
+pub(crate) fn keep<J: Journal>(journal: &mut J, frame: &Frame, reply: &Reply) -> bool
+    ensures kept { IsTrue result → Appends (J.kept journal.old) (J.kept journal.new) (kept_one frame.now reply.now) }
+    ensures cause { result ≡ false → J.can_fail }
+{
+    if !may_change(frame, reply) {
+        return true;
+    }
+    let Ok(()) = journal.keep(frame) else {
+        return false;
+    };
+    true
+}

@@ -1,0 +1,103 @@
+ghost use Rattle.std.specs.Prelude.{◌≡◌, ◌<◌, ◌≤◌, ◌∷◌, [], ℕ, All, List, IfOk, OnOk, flat_map, length};
+ghost use Rattle.std.specs.Io.KnownBytes.{Appends};
+ghost use Rattle.fork_request.specs.Names.{IsTenantName};
+ghost use Rattle.fork_host.specs.Shown.{world_of};
+ghost use Rattle.fork_host.specs.Uploads.{uploads_of};
+ghost use Rattle.fork_frame.specs.Frame.{IsFrame, frame_bytes};
+ghost use Rattle.fork_frame.specs.declared.frame.Frame.{Frame as FrameValue};
+ghost use Rattle.fork_wire.specs.Reopening.{AreParts, Reopens, part_frame};
+
+use crate::journal::NotKept;
+use fork_frame::{Asker, Frame, write_frame};
+use fork_host::Host;
+use fork_request::{ByteString, TenantName};
+use loose_store::LooseFiles;
+use std::alloc::{AllocError, Global};
+use std::io::Write;
+
+// The most bytes of a piece, so that its payload is as long as one may be.
+const MOST: usize = 1_048_571;
+
+// The frame of a piece.
+fn part(alloc: Global, tenant: &TenantName, piece: &[u8]) -> Result<Frame, AllocError>
+    ensures { IfOk result (λ frame. frame ≡ part_frame tenant.now piece.now) }
+{
+    let mut payload = Vec::new(alloc);
+    payload.extend_from_slice(b"part\n")?;
+    payload.extend_from_slice(piece)?;
+    Ok(Frame {
+        asker: Asker::Tenant(tenant.copy()),
+        payload: ByteString::new(payload),
+    })
+}
+
+// Writes the frame of a piece.
+fn write_part<W: Write>(
+    writer: &mut W,
+    alloc: Global,
+    tenant: &TenantName,
+    piece: &[u8],
+) -> Result<(), NotKept>
+    ensures { OnOk result (Appends (W.contents writer.old) (W.contents writer.new) (frame_bytes (part_frame tenant.now piece.now))) }
+{
+    let Ok(frame) = part(alloc, tenant, piece) else {
+        return Err(NotKept);
+    };
+    let Ok(()) = write_frame(writer, &frame) else {
+        return Err(NotKept);
+    };
+    Ok(())
+}
+
+// Writes the frames of an upload.
+fn write_upload<W: Write>(
+    writer: &mut W,
+    alloc: Global,
+    tenant: &TenantName,
+    bytes: &[u8],
+) -> Result<(), NotKept>
+    ensures { OnOk result ((frames : List FrameValue) × AreParts tenant.now bytes.now frames
+        × Appends (W.contents writer.old) (W.contents writer.new) (flat_map frame_bytes frames)) }
+{
+    // Only for its clause: the bytes are a tenant's name.
+    let _name = tenant.as_bytes();
+    let mut at = bytes.len().min(MOST);
+    match write_part(writer, alloc, tenant, &bytes[..at]) {
+        Ok(()) => {}
+        Err(fault) => return Err(fault),
+    }
+    while at < bytes.len() {
+        let next = (bytes.len() - at).min(MOST);
+        match write_part(writer, alloc, tenant, &bytes[at..at + next]) {
+            Ok(()) => {}
+            Err(fault) => return Err(fault),
+        }
+        at += next;
+    }
+    Ok(())
+}
+
+/// Writes frames that open the host's open uploads again, and says how many bytes these have. Nothing
+/// is flushed.
+pub fn write_uploads<S: LooseFiles, W: Write>(
+    host: &Host<S>,
+    alloc: Global,
+    writer: &mut W,
+) -> Result<u64, NotKept>
+    ensures { IfOk result (λ _. (frames : List FrameValue) × Reopens (uploads_of (world_of host.now)) frames × All IsFrame frames
+        × Appends (W.contents writer.old) (W.contents writer.new) (flat_map frame_bytes frames)) }
+{
+    let Ok(uploads) = host.uploads(alloc) else {
+        return Err(NotKept);
+    };
+    let mut total = 0u64;
+    for upload in uploads {
+        let (tenant, bytes) = upload;
+        match write_upload(writer, alloc, &tenant, bytes) {
+            Ok(()) => {}
+            Err(fault) => return Err(fault),
+        }
+        total = total.saturating_add(bytes.len() as u64);
+    }
+    Ok(total)
+}

@@ -1,0 +1,129 @@
+ghost use Rattle.std.specs.Prelude.{◌≡◌, IfOk, ◌∷◌, ◌++◌, codes, string_bytes};
+ghost use Rattle.hex.specs.Hex.{encode_lower};
+ghost use Rattle.sha2.specs.Sha256.{sha256};
+
+use crate::device::{PART, found, settle, told};
+use crate::files::FileFault;
+use crate::place::inside;
+use git_name::Name;
+use sha2::{Digest, Sha256};
+use std::alloc::{AllocError, Global};
+use std::fs::OpenFile;
+use std::io::ErrorKind;
+use std::rt::Files;
+use std::{fs, io};
+
+// The folder of journals, in a host's folder.
+pub(crate) const JOURNALS: &str = "journal";
+
+/// The name of the journal that continues this state text: its SHA-256 (FIPS 180-4, 6.2).
+pub fn journal_name(state: &[u8]) -> Name
+    ensures { result ≡ sha256 state.now }
+{
+    Name::new(Sha256::digest(state))
+}
+
+// The path of the journal of this name.
+fn path_of_journal(alloc: Global, folder: &str, name: Name) -> Result<String, AllocError>
+    ensures { IfOk result (λ path. string_bytes path ≡ folder.now ++ codes "/journal/" ++ encode_lower name) }
+{
+    let digits = hex::encode(alloc, name.as_bytes().as_slice())?;
+    let mut path = String::from_str(alloc, folder)?;
+    path.push_str("/journal/")?;
+    path.push_str(digits.as_str())?;
+    Ok(path)
+}
+
+fn open_in<R: Files>(
+    rt: &R,
+    alloc: Global,
+    folder: &str,
+    name: Name,
+) -> io::Result<Option<R::File>> {
+    let path = path_of_journal(alloc, folder, name)?;
+    found(fs::open(rt, path.as_str()))
+}
+
+fn begin_in<R: Files>(rt: &R, alloc: Global, folder: &str) -> io::Result<R::File> {
+    let home = inside(alloc, folder, JOURNALS)?;
+    let part = inside(alloc, home.as_str(), PART)?;
+    fs::create_dir_all(rt, home.as_str())?;
+    fs::create(rt, part.as_str())
+}
+
+fn settle_in<R: Files>(
+    rt: &R,
+    alloc: Global,
+    folder: &str,
+    name: Name,
+    file: &R::File,
+) -> io::Result<()> {
+    let home = inside(alloc, folder, JOURNALS)?;
+    let part = inside(alloc, home.as_str(), PART)?;
+    let path = path_of_journal(alloc, folder, name)?;
+    settle(rt, file.sync_all(), part.as_str(), path.as_str())?;
+    fs::open(rt, home.as_str())?.sync_all()
+}
+
+fn clear_in<R: Files + AllocGlobal + Clone + Drop>(
+    rt: &R,
+    alloc: Global,
+    folder: &str,
+    name: Name,
+) -> io::Result<()> {
+    let home = inside(alloc, folder, JOURNALS)?;
+    let digits = hex::encode(alloc, name.as_bytes().as_slice())?;
+    for entry in fs::read_dir(rt, home.as_str())? {
+        match entry {
+            Ok(entry) => {
+                if entry.file_name() != digits.as_str() {
+                    let other = inside(alloc, home.as_str(), entry.file_name())?;
+                    fs::remove_file(rt, other.as_str())?;
+                }
+            }
+            Err(error) if error.kind() == ErrorKind::InvalidFilename => {}
+            Err(error) => return Err(error),
+        }
+    }
+    Ok(())
+}
+
+/// The journal of this name in the folder of this path, opened at its beginning, and none where it is
+/// not there.
+pub fn open_journal<R: Files>(
+    rt: &R,
+    alloc: Global,
+    path: &str,
+    name: Name,
+) -> Result<Option<R::File>, FileFault> {
+    told(open_in(rt, alloc, path, name))
+}
+
+/// A new journal without a name, to be written. The folder must be there, and open in this process
+/// alone (`Folder::open`).
+pub fn begin_journal<R: Files>(rt: &R, alloc: Global, path: &str) -> Result<R::File, FileFault> {
+    told(begin_in(rt, alloc, path))
+}
+
+/// Gives the new journal, as it was written so far, its name, in the place of one that is there. It is
+/// synced, and is still to be written behind. After an `Err` it may have its name or not.
+pub fn settle_journal<R: Files>(
+    rt: &R,
+    alloc: Global,
+    path: &str,
+    name: Name,
+    file: &R::File,
+) -> Result<(), FileFault> {
+    told(settle_in(rt, alloc, path, name, file))
+}
+
+/// Removes what lies beside the journal of this name: journals of other states, and what a killed
+/// process was writing.
+pub fn clear_journals<R: Files + AllocGlobal + Clone + Drop>(
+    rt: &R,
+    alloc: Global,
+    path: &str,
+    name: Name,
+) -> Result<(), FileFault> {
+    told(clear_in(rt, alloc, path, name))
+}

@@ -1,0 +1,130 @@
+"""The journal of a folder: what it has and when, where it is cut, and what is done again."""
+import os
+import random
+import shutil
+
+from cases import C, D, OBJECTS
+from clients import ALICE, BOB, PUSH
+from devices import homes
+from folder import Folder, requests_in, write
+from forkhost_client.frames import frame, framed, frames, replies
+from killing import changes
+from live import Live
+from objects import name_of, record
+from program import done, failed
+from asking import History, Requests
+
+INIT = (ALICE, b"init r\n")
+GREAT = (b"blob", bytes(3_000_000))
+
+
+def killed(live):
+    live.child.kill()
+    live.child.communicate()
+
+
+def show_journal(checks, program, work):
+    """When a reply is there, the journal has its request, where that changed something, and nothing else."""
+    folder, chance = Folder(os.path.join(work, "kept")), random.Random(5)
+    requests = Requests(chance, History(chance, 8))
+    live = Live(program, "--dir", folder.path, "alice=60000", "bob=60000")
+    checks.same("init", b"ok\n", live.asked(*INIT))
+    checks.same("the state was saved before the first request", True, folder.state() is not None)
+    kept = frame(*INIT)
+    checks.same("its journal has that request", kept, folder.journal())
+    for who, payload in requests.turns(300):
+        reply = live.asked(who, payload)
+        kept += frame(who, payload) if changes(payload, reply) else b""
+        checks.same(f"the journal behind {payload[:20]!r}", kept, folder.journal())
+    checks.same("bad requests are not in it", b"no bad-request\n", live.asked(ALICE, b"x" * 1000))
+    checks.same("nor are the host's", b"no bad-request\n", live.asked(b"@host", b"x"))
+    checks.same("nor those of others", b"no unknown-tenant\n", live.asked(b"carol", b"init r\n"))
+    checks.same("the journal stays", kept, folder.journal())
+    killed(live)
+    count = len(requests_in(kept))
+    checks.same("check counts it", done(b"sound\njournal %d\n" % count), program.checked(folder.path))
+    checks.same("check leaves it", kept, folder.journal())
+    checks.same("a start that serves nothing", done(), program.ran("run", "--dir", folder.path))
+    checks.same("there is one journal behind it", [os.path.basename(folder.journal_path())], folder.journals())
+
+
+def show_cuts(checks, program, work):
+    """A journal that is cut at any byte, or that goes on with what is no frame, is done again up to there."""
+    base = Folder(os.path.join(work, "base"))
+    live = Live(program, "--dir", base.path, "alice=60000", "bob=60000")
+    turns = [INIT, (ALICE, PUSH), (BOB, b"init s\n"), (ALICE, b"fork r s\n"), (BOB, b"part\nabc")]
+    for turn in turns:
+        checks.same(f"{turn[1][:10]!r}", b"ok\n", live.asked(*turn))
+    killed(live)
+    whole, ends = base.journal(), [0]
+    for turn in turns:
+        ends.append(ends[-1] + len(frame(*turn)))
+    checks.same("the journal", frames(turns), whole)
+    tails = [b"", b"x", b"alice 5\nabc", b"\0" * 50, b"alice 9\n"]
+    rows = [whole[:cut] for cut in sorted({*range(0, len(whole), 37), *ends, *(end - 1 for end in ends[1:])})]
+    rows += [whole[:end] + tail for end in ends for tail in tails]
+    for number, row in enumerate(rows):
+        folder = Folder(shutil.copytree(base.path, os.path.join(work, f"cut{number}")))
+        write(folder.journal_path(), row)
+        write(folder.inside("journal", "0" * 64), frame(ALICE, b"init stale\n"))
+        write(folder.inside("journal", "part"), b"torn")
+        count = max(at for at, end in enumerate(ends) if row.startswith(whole[:end]))
+        sound = b"sound\n" + (b"journal %d\n" % count if count else b"")
+        checks.same(f"check of {row[-10:]!r}", done(sound), program.checked(folder.path))
+        asks = [(who, b"for-each-ref %s\n" % place) for who in (ALICE, BOB) for place in (b"r", b"s", b"stale")]
+        asks += [(BOB, b"part-drop\n"), (ALICE, b"cat-file %s\n" % C), (ALICE, b"quota\n")]
+        ran = program.ran("run", "--dir", folder.path, given=frames(asks))
+        memory = program.ran("run", "alice=60000", "bob=60000", given=frames(turns[:count] + asks))
+        wanted = b"".join(map(framed, replies(memory.output)[0][count:]))
+        checks.same(f"what is there behind {row[-10:]!r}", done(wanted), ran)
+        checks.same("one journal is left", [os.path.basename(folder.journal_path())], folder.journals())
+        shutil.rmtree(folder.path)
+    path = base.journal_path()
+    os.remove(path)
+    os.mkdir(path)
+    checks.same("a journal that can't be read", failed("journal unreadable"), program.checked(base.path))
+    checks.same("a start", failed("journal unreadable"), program.ran("run", "--dir", base.path))
+
+
+def show_uploads(checks, program, work):
+    """Open uploads outlive a kill and a clean end, however long they are."""
+    folder = Folder(os.path.join(work, "kept"))
+    body = b"\n" + record(*GREAT)
+    cuts = [body[at : at + 900_000] for at in range(0, len(body), 900_000)]
+    live = Live(program, "--dir", folder.path, "alice=10000000", "bob=10000")
+    checks.same("init", b"ok\n", live.asked(*INIT))
+    checks.same("an upload of no bytes", b"ok\n", live.asked(BOB, b"part\n"))
+    for number, piece in enumerate(cuts):
+        checks.same(f"piece {number}", b"ok\n", live.asked(ALICE, b"part\n" + piece))
+        killed(live) if number % 2 else checks.same("its end", done(), live.ended())
+        live = Live(program, "--dir", folder.path)
+        checks.same("it is open", b"no upload-open\n", live.asked(ALICE, b"push r\n\n"))
+    checks.same("its end", b"ok\n", live.asked(ALICE, b"part-end r\n"))
+    checks.same("what it brought", b"ok\n" + record(*GREAT), live.asked(ALICE, b"cat-file %s\n" % name_of(*GREAT)))
+    checks.same("the other one", b"ok\n", live.asked(BOB, b"part-drop\n"))
+    checks.same("the end", done(), live.ended())
+    checks.same("nothing is to be done again", b"", folder.journal())
+    checks.same("check", done(b"sound\n"), program.checked(folder.path))
+
+
+def show_faults(checks, program, work):
+    """What was answered by a host fault is never done again."""
+    folder = Folder(os.path.join(work, "kept"))
+    live = Live(program, "--dir", folder.path, "alice=10000")
+    checks.same("init", b"ok\n", live.asked(*INIT))
+    checks.same("a part", b"ok\n", live.asked(ALICE, b"part\n" + PUSH.split(b"\n", 1)[1]))
+    for home in homes(folder):
+        write(home, b"")
+    checks.same("an upload that can't be stored", b"host store\n", live.asked(ALICE, b"part-end r\n"))
+    checks.same("it is not kept", False, b"part-end" in folder.journal())
+    for home in homes(folder):
+        os.remove(home)
+    killed(live)
+    live = Live(program, "--dir", folder.path)
+    checks.same("no reference is there", b"ok\n", live.asked(ALICE, b"for-each-ref r\n"))
+    checks.same("the upload is open", b"no upload-open\n", live.asked(ALICE, b"push r\n\n"))
+    checks.same("it ends well", b"ok\n", live.asked(ALICE, b"part-end r\n"))
+    killed(live)
+    live = Live(program, "--dir", folder.path)
+    checks.same("what it brought", b"ok\n" + record(*OBJECTS[D]), live.asked(ALICE, b"cat-file %s\n" % D))
+    checks.same("the end", done(), live.ended())

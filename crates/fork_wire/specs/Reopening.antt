@@ -1,7 +1,8 @@
 -- Frames that open uploads again (own): `part` requests, whose pieces are the bytes that came.
-use Rattle.std.specs.Prelude.{◌≡◌, ℕ, ◌≤◌, All, List, [], ◌∷◌, ◌++◌, codes, length, map}
+use Rattle.std.specs.Prelude.{◌≡◌, ℕ, ◌≤◌, All, List, [], ◌∷◌, ◌++◌, Some, codes, length, map}
 use Rattle.std.specs.List.{concat}
 use Rattle.push_stream.specs.Upload.{UploadValue, upload_of}
+use Rattle.fork_model.specs.View.{View}
 use Rattle.fork_frame.specs.Frame.{IsFrame}
 use Rattle.fork_frame.specs.declared.asker.Asker.TheVariants.{Tenant}
 use Rattle.fork_frame.specs.declared.frame.Frame.{Frame}
@@ -17,6 +18,10 @@ pub record AreParts (tenant bytes : List ℕ) (frames : List Frame) : Type 0 whe
   pub whole : concat pieces ≡ bytes
   pub sent : frames ≡ map (part_frame tenant) pieces
   pub right : All IsFrame frames
+
+-- a view whose open upload has these bytes
+abbrev pub with_upload : View → List ℕ → View
+with_upload view bytes = record view { upload = Some (upload_of bytes) }
 
 -- frames that open this upload again
 pub record ReopensOne (tenant : List ℕ) (upload : UploadValue) (frames : List Frame) : Type 0 where

@@ -1,6 +1,9 @@
-ghost use Rattle.std.specs.Prelude.{◌≡◌, ◌++◌, ℕ, List};
+ghost use Rattle.std.specs.Prelude.{◌≡◌, ◌≤◌, ◌++◌, None, Some, ℕ, List, length};
+ghost use Rattle.std.specs.FinMap.{get, insert};
+ghost use Rattle.push_stream.specs.declared.upload.TheConstants.{MAX_UPLOAD};
+ghost use Rattle.fork_model.specs.View.{View};
 ghost use Rattle.fork_request.specs.declared.reply.Reply.{Reply};
-ghost use Rattle.fork_model.specs.World.{Agree, IsUnfaulted};
+ghost use Rattle.fork_model.specs.World.{Agree, Explains, IsUnfaulted, World};
 ghost use Rattle.fork_host.specs.Shown.{HostState, Trusted, world_of};
 ghost use Rattle.fork_frame.specs.declared.frame.Frame.{Frame};
 ghost use Rattle.fork_frame.specs.Frame.{AreFrames, IsRequestStream};
@@ -8,6 +11,7 @@ ghost use Rattle.fork_frame.specs.declared.ended.Ended.{Ended};
 ghost use Rattle.fork_frame.specs.declared.ended.Ended.TheVariants.{Clean};
 ghost use Rattle.fork_wire.specs.Again.{AreFine};
 ghost use Rattle.fork_wire.specs.Kept.{kept_bytes, kept_of};
+ghost use Rattle.fork_wire.specs.Reopening.{AreParts, with_upload};
 ghost use Rattle.fork_wire.specs.Sessions.{IsAnswered, events_of, frames_of, sent_by, told_to};
 
 /// A law, and no work: where two hosts over trusted stores show a tenant alike, and it sends the same
@@ -60,4 +64,12 @@ pub fn a_session_in_two_halves_is_the_whole()
     ensures answered { (old mid new : HostState) (frames others : List Frame) (replies more : List Reply)
         → IsAnswered old mid frames replies → (Trusted old → Trusted mid) → IsAnswered mid new others more → IsAnswered old new (frames ++ others) (replies ++ more) }
     ensures told { (replies more : List Reply) → frames_of (replies ++ more) ≡ frames_of replies ++ frames_of more }
+{}
+
+/// A law, and no work: the parts of an upload, of which none is open, open it again with all its bytes,
+/// and change nothing else.
+pub fn parts_open_an_upload_again()
+    ensures { (world : World) (tenant bytes : List ℕ) (view : View) (frames : List Frame)
+        → get world tenant ≡ Some view → view.upload ≡ None → length bytes ≤ MAX_UPLOAD → AreParts tenant bytes frames
+        → (replies : List Reply) × Explains world (events_of frames) replies (insert world tenant (with_upload view bytes)) × AreFine replies }
 {}

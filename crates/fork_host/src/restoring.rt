@@ -71,13 +71,9 @@ impl<S: LooseFiles> Host<S> {
         };
         self.refill(alloc, state)
     }
+
     // Adds a tenant that nothing but want of memory may refuse.
-    fn add_behind(
-        &mut self,
-        alloc: Global,
-        name: TenantName,
-        limit: u64,
-    ) -> Result<(), AllocError>
+    fn add_behind(&mut self, alloc: Global, name: TenantName, limit: u64) -> Result<(), AllocError>
         requires { refusal_to_add (world_of self.old) name limit ≡ None }
         ensures ok { OnOk result (world_of self.new ≡ map.insert (world_of self.old) name (new_view limit)) }
         ensures trusted { Trusted self.old → Trusted self.new }

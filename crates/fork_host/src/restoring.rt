@@ -32,7 +32,8 @@ use std::alloc::{AllocError, Global};
 impl<S: LooseFiles + Drop> Host<S> {
     /// A host that shows these states, over the store that holds their objects. What stands against it is
     /// told in this order: the objects of all tenants; the targets of all references; the limits. Each
-    /// object that a tenant sees is read from the store once for that tenant.
+    /// object that a tenant sees is read from the store once for that tenant, and a tree, commit or tag
+    /// once more to be judged.
     pub fn restore(alloc: Global, files: S, states: States) -> Result<Host<S>, RestoreError>
         ensures trusted { IfOk result (λ host. IsTrue (S.honest files) → Trusted host) }
         ensures shown { IfOk result (λ host. IsTrue (S.honest files) → IsShownAgain (S.contents files) states (world_of host)) }

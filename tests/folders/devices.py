@@ -2,12 +2,12 @@
 import os
 import shutil
 
-from cases import B, C, D, FILES, OBJECTS, alone
+from cases import B, C, D, FILES, O, OBJECTS, alone
 from checks import Checks
 from folder import Folder
 from forkhost_client.frames import framed, frames
 from live import Live
-from objects import record
+from objects import name_of, record, stored
 from program import done, ended, failed
 from state_text import Repository, Tenant, spelled
 
@@ -22,7 +22,9 @@ def homes(folder):
 
 def show_devices(checks, program, work):
     show_writes(checks, program, Folder(os.path.join(work, "writes")))
+    show_second_write(checks, program, Folder(os.path.join(work, "second")))
     show_reads(checks, program, Folder(os.path.join(work, "reads")))
+    show_shared(checks, program, Folder(os.path.join(work, "shared")))
     show_leftovers(checks, program, Folder(os.path.join(work, "leftovers")))
     show_streams(checks, program, Folder(os.path.join(work, "streams")))
     for rest, fault in ((b"", "state not saved"), (b"alice", "bad frame")):
@@ -68,6 +70,47 @@ def show_writes(checks: Checks, program, folder):
     checks.same("its state", SAVED, folder.state())
     checks.same("its files", FILES, folder.files())
     checks.same("check", done(b"sound\n"), program.checked(folder.path))
+
+
+def show_second_write(checks: Checks, program, folder):
+    """The second object of a push can't be written, and the first one is: nothing came of the push to anybody."""
+    live = Live(program, "--dir", folder.path, "alice=10000", "bob=10000")
+    for who in (ALICE, BOB):
+        checks.same("init", b"ok\n", live.asked(who, b"init r\n"))
+    first, second = B, O
+    push = b"push r\n\n" + record(*OBJECTS[first]) + record(*OBJECTS[second])
+    home = os.path.dirname(folder.file_of(second))
+    with open(home, "wb"):
+        pass
+    checks.same("a push whose second object can't be written", b"host store\n", live.asked(ALICE, push))
+    checks.same("the first one is there", True, os.path.exists(folder.file_of(first)))
+    for who in (ALICE, BOB):
+        checks.same("quota is as before", b"ok\n0 10000\n", live.asked(who, b"quota\n"))
+        checks.same("so are references", b"ok\n", live.asked(who, b"for-each-ref r\n"))
+        checks.same("nobody sees it", b"no missing %s\n" % first, live.asked(who, b"cat-file %s\n" % first))
+    os.remove(home)
+    checks.same("the same push again", b"ok\n", live.asked(ALICE, push))
+    checks.same("both are there", sorted([first, second]), sorted(folder.files()))
+    checks.same("its end", done(), live.ended())
+    checks.same("check", done(b"sound\n"), program.checked(folder.path))
+
+
+def show_shared(checks: Checks, program, folder):
+    """A file that two tenants share is altered: it is damaged for both, and what they use stays."""
+    live = Live(program, "--dir", folder.path, "alice=100000", "bob=100000")
+    content = b"x" * 70000
+    name = name_of(b"blob", content)
+    for who in (ALICE, BOB):
+        checks.same("init", b"ok\n", live.asked(who, b"init r\n"))
+        checks.same("a push", b"ok\n", live.asked(who, b"push r\n\n" + record(b"blob", content)))
+    folder.keep(name, stored(b"blob", content)[:-1] + b"y")
+    for who in (ALICE, BOB):
+        checks.same("what both have is damaged", b"host damaged\n", live.asked(who, b"cat-file %s\n" % name))
+        checks.same("and counts as before", b"ok\n70064 100000\n", live.asked(who, b"quota\n"))
+    folder.keep(name, stored(b"blob", content))
+    for who in (ALICE, BOB):
+        checks.same("what is put back", b"ok\n" + record(b"blob", content), live.asked(who, b"cat-file %s\n" % name))
+    checks.same("its end", done(), live.ended())
 
 
 def is_right(reply, *others):

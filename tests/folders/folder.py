@@ -85,6 +85,20 @@ class Folder:
                     found[name] = content(self.file_of(name))
         return found
 
+    def swept_path(self, name):
+        """Where an object's file lies once it is swept."""
+        return self.inside("swept", name.decode())
+
+    def sweep(self, name):
+        """Takes an object's file away as a sweep does."""
+        os.makedirs(self.inside("swept"), exist_ok=True)
+        os.rename(self.file_of(name), self.swept_path(name))
+
+    def swept(self):
+        """What lies where swept files lie, by the names that it has there."""
+        home = self.inside("swept")
+        return sorted(os.listdir(home)) if os.path.exists(home) else []
+
     def parts(self):
         """What was being written: paths of files that are called so."""
         return [os.path.join(home, "part") for home, _, names in os.walk(self.path) if "part" in names]

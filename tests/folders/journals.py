@@ -13,6 +13,7 @@ from live import Live
 from objects import name_of, record
 from program import done, failed
 from asking import History, Requests
+from sweeps import COUNT, HOST
 
 INIT = (ALICE, b"init r\n")
 GREAT = (b"blob", bytes(3_000_000))
@@ -37,7 +38,9 @@ def show_journal(checks, program, work):
         kept += frame(who, payload) if changes(payload, reply) else b""
         checks.same(f"the journal behind {payload[:20]!r}", kept, folder.journal())
     checks.same("bad requests are not in it", b"no bad-request\n", live.asked(ALICE, b"x" * 1000))
-    checks.same("nor are the host's", b"no bad-request\n", live.asked(b"@host", b"x"))
+    checks.same("nor are the host's", b"no bad-request\n", live.asked(HOST, b"x"))
+    for payload in (b"sweep 5\n", b"collect\n", b"census\n"):
+        checks.same(f"nor is {payload!r}", True, COUNT.fullmatch(live.asked(HOST, payload)) is not None)
     checks.same("nor those of others", b"no unknown-tenant\n", live.asked(b"carol", b"init r\n"))
     checks.same("the journal stays", kept, folder.journal())
     killed(live)

@@ -13,6 +13,7 @@ from forkhost_client.frames import frames, replies
 from live import to_end
 from objects import whole
 from program import PATIENCE, done, ended
+from sweeps import COUNT, HOST, collected, plain, show_collected, with_sweeps
 
 TENANTS = [b"alice", b"bob", b"carol", b"dave"]
 GRANTS = ["alice=60000", "bob=60000", "carol=4000000", "dave=5000"]
@@ -105,10 +106,11 @@ class Told:
     def session(self, turns):
         """What one session in memory answers to all of this."""
         ran = self.program.ran("run", *GRANTS, given=frames(turns))
-        return replies(ran.output)[0]
+        return plain(turns, replies(ran.output)[0])
 
     def went(self, label, turns, answers):
         """These were asked, and these replies came: all but perhaps some at the end."""
+        answers = plain(turns, answers)
         known = [(turn, reply) for turn, reply in zip(turns, answers) if not reply.startswith(b"host ")]
         self.pasts = [(past + [turn for turn, _ in known], heard + [r for _, r in known]) for past, heard in self.pasts]
         if len(answers) < len(turns):
@@ -158,14 +160,15 @@ class Life:
         return Host(self.program, self.folder.path, self.path, *words, prepare=prepare)
 
     def turns(self, count):
-        """So many requests by chance, of four tenants; now and then a push of a great object, in parts or at once."""
+        """So many requests by chance, of four tenants; now and then a push of a great object, in parts or at once; and
+        sweeps between."""
         asked = [(who, b"init %s\n" % self.chance.choice(REPOSITORIES)) for who in TENANTS]
         while len(asked) < count:
             who = self.chance.choice(TENANTS)
             asked += ((who, payload) for payload in self.requests.payloads())
             if self.seed % 2 and self.chance.random() < 0.3:
                 asked += ((b"carol", payload) for payload in self.great())
-        return asked
+        return list(with_sweeps(self.chance, asked))
 
     def great(self):
         blobs = [name for name in self.history.names if len(self.history.objects[name][1]) == GREAT]
@@ -227,6 +230,23 @@ class Life:
         torn = [name for name, file in self.folder.files().items() if not whole(name, file)]
         self.checks.same(f"{label}: files that are torn", [], torn)
 
+    def sweep_and_kill(self, label, host):
+        """What a round takes away, and a kill before the connection's end undoes, the next round takes away again."""
+        with host.client() as stream:
+            tell(stream, [(HOST, b"collect\n")])
+            counted = one_told(stream)
+            host.kill()
+        self.checks.same(f"{label}: a round counts, {counted!r}", True, COUNT.fullmatch(counted) is not None)
+        self.checks.same(f"{label}: the next one", (counted, done()), collected(self.program, self.folder))
+
+    def sweep_to_the_end(self, label, host):
+        """What a round takes away is let go at the connection's end, and does not come back."""
+        self.told.went(label, [(HOST, b"collect\n")], self.at_once(host, [(HOST, b"collect\n")], None))
+        self.at_once(host, [(HOST, b"census\n")], None)
+        self.checks.same(f"{label}: what was swept is let go", [], self.folder.swept())
+        host.kill()
+        self.checks.same(f"{label}: nothing is left to it", (b"ok\n0\n", done()), collected(self.program, self.folder))
+
     def start_again(self, label):
         """A start, which is killed too now and then."""
         while self.chance.random() < 0.3:
@@ -262,7 +282,9 @@ def show_killed(checks, program, work):
             life.killed(label, host)
             host = life.start_again(label)
             life.looked(label, host)
-        host.kill()
+        end = life.sweep_to_the_end if seed % 2 else life.sweep_and_kill
+        end(f"life {seed}, its end", host)
+        show_collected(checks, program, life.folder, f"life {seed}")
 
 
 def show_full(checks, program, work):

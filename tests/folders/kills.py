@@ -10,6 +10,7 @@ from folder import Folder, requests_in
 from forkhost_client.frames import framed, frames, replies
 from objects import whole
 from program import PATIENCE, Ran, done
+from sweeps import HOST, of_tenants, plain
 
 KILLS = 150
 SAVES = 150
@@ -22,30 +23,40 @@ CALLS = {
     "unlink": "?unlink,?unlinkat",
 }
 EACH = 12
+LAST = 4
+SPARE = 20
 MOST = 2000
 HOST_STORE = b"host store\n"
 
 
 class Killed:
-    """A folder to begin with, a session over it, and the state that the session leaves."""
+    """A folder to begin with, a session over it that sweeps what the folder's state still names, and the state that the
+    session leaves. Of the folder's objects one in so many was swept since its state was saved, or none."""
 
-    def __init__(self, checks, program, work, count):
-        self.checks, self.program, self.work, self.number = checks, program, work, 0
+    def __init__(self, checks, program, work, count, swept=0):
+        self.checks, self.program, self.work, self.number, self.step = checks, program, work, 0, swept
         history = History(random.Random(count), count)
         places = [b"init r\n", b"init s\n"]
+        spare = [history.add(b"blob", b"spare %d\n" % number) for number in range(SPARE)]
         self.first = [(b"alice", payload) for payload in places] + [self.push(history, 0, b"r")]
-        self.turns = [self.push(history, at, b"s") for at in range(1, count)]
+        self.first.append((b"alice", b"push r\n" + history.body([], spare)))
+        self.turns = [(b"alice", b"prune\n"), *(self.push(history, at, b"s") for at in range(1, count))]
         self.turns += [(b"alice", b"drop r\n"), (b"alice", b"prune\n")]
-        self.base = Folder(os.path.join(work, f"base{count}"))
+        self.asked = [asked for turn in self.turns for asked in (turn, (HOST, b"sweep 7\n"))] + [(HOST, b"collect\n")]
+        self.base = Folder(os.path.join(work, f"base{count}-{swept}"))
         words = ["--dir", self.base.path, "alice=1000000"]
-        checks.same("the session before", b"ok\n" * 3, self.told(program.ran("run", *words, given=frames(self.first))))
+        checks.same("the session before", b"ok\n" * 4, self.told(program.ran("run", *words, given=frames(self.first))))
         self.old = self.base.state()
         folder = self.copy()
         begun = time.monotonic()
-        ran = program.ran("run", "--dir", folder.path, given=frames(self.turns))
+        ran = program.ran("run", "--dir", folder.path, given=frames(self.asked))
         self.took = time.monotonic() - begun
-        checks.same("the session", b"ok\n" * len(self.turns), self.told(ran))
-        self.new, self.wanted = folder.state(), replies(ran.output)[0]
+        self.replies = replies(ran.output)[0]
+        self.new, self.wanted = folder.state(), of_tenants(self.asked, self.replies)
+        checks.same("the session", [b"ok\n"] * len(self.turns), self.wanted)
+        swept = [b"a count"] * (len(self.turns) + 1)
+        checks.same("its sweeps", swept, [reply for reply in plain(self.asked, self.replies) if reply != b"ok\n"])
+        checks.same("what they took away", SPARE, sum(int(reply[3:]) for reply in self.replies if reply != b"ok\n"))
 
     def push(self, history, at, place):
         """A push of all that one commit leads to, under a name of its own."""
@@ -60,8 +71,10 @@ class Killed:
         """The folder to begin with, anew."""
         self.number += 1
         path = os.path.join(self.work, f"{os.path.basename(self.base.path)}-{self.number}")
-        shutil.copytree(self.base.path, path)
-        return Folder(path)
+        folder = Folder(shutil.copytree(self.base.path, path))
+        for name in sorted(folder.files())[:: self.step] if self.step else []:
+            folder.sweep(name)
+        return folder
 
     def judge(self, label, folder, came=None):
         """What is left is the old state or the new one, a journal of the requests that were done, and whole files; and
@@ -72,12 +85,14 @@ class Killed:
             return
         went = len(requests_in(folder.journal())) if state == self.old else len(self.turns)
         if came is not None:
+            came = of_tenants(self.asked, came)
             self.checks.same(f"{label}: {went} done behind {len(came)} replies", True, went - len(came) in (0, 1))
             self.checks.same(f"{label}: the replies", self.wanted[: len(came)], came)
         torn = [name for name, file in folder.files().items() if not whole(name, file)]
         self.checks.same(f"{label}: files that are torn", [], torn)
         self.checks.same(f"{label}: check", done(folder.sound()), self.program.checked(folder.path))
         self.checks.same(f"{label}: what was being written", [], folder.parts())
+        self.checks.same(f"{label}: what was swept", [], folder.swept())
         again = self.program.ran("run", "--dir", folder.path, given=frames(self.turns[went:]))
         rest = b"".join(map(framed, self.wanted[went:]))
         self.checks.same(f"{label}: the rest of the session", done(rest), again)
@@ -89,7 +104,7 @@ class Killed:
         folder = self.copy()
         child = self.program.begun("run", "--dir", folder.path)
         try:
-            output, _ = child.communicate(frames(self.turns), timeout=wait)
+            output, _ = child.communicate(frames(self.asked), timeout=wait)
         except subprocess.TimeoutExpired:
             child.kill()
             output, _ = child.communicate()
@@ -99,9 +114,9 @@ class Killed:
         """A run that is killed some time behind its last reply and the end of its input."""
         folder = self.copy()
         child = self.program.begun("run", "--dir", folder.path)
-        child.stdin.write(frames(self.turns))
+        child.stdin.write(frames(self.asked))
         child.stdin.flush()
-        child.stdout.read(sum(len(framed(reply)) for reply in self.wanted))
+        child.stdout.read(sum(len(framed(reply)) for reply in self.replies))
         child.stdin.close()
         time.sleep(wait)
         child.kill()
@@ -114,13 +129,13 @@ class Killed:
         """A run in which the calls meet this, and what comes of it."""
         words = ["strace", "-f", "-qq", "-o", os.devnull, "-e", f"trace={calls}", "-e", f"inject={calls}:{how}"]
         words += [self.program.path, "run", "--dir", folder.path]
-        ran = subprocess.run(words, input=frames(self.turns), capture_output=True, timeout=PATIENCE)
+        ran = subprocess.run(words, input=frames(self.asked), capture_output=True, timeout=PATIENCE)
         return Ran(ran.returncode, ran.stdout, ran.stderr)
 
 
 def show_kills(checks, program, work):
     chance = random.Random(11)
-    killed = Killed(checks, program, work, 40)
+    killed = Killed(checks, program, work, 40, swept=2)
     for number in range(KILLS):
         killed.kill_within(f"kill {number}", chance.uniform(0, killed.took * 1.1))
     for number in range(SAVES):
@@ -128,15 +143,16 @@ def show_kills(checks, program, work):
 
 
 def some_of(count):
-    """The numbers of some calls: the first, the last, and others between."""
-    return sorted({1 + (count - 1) * at // (EACH - 1) for at in range(EACH)}) if count else []
+    """The numbers of some calls: the first, the last ones, and others between."""
+    spread = {1 + (count - 1) * at // (EACH - 1) for at in range(EACH)}
+    return sorted(spread | set(range(max(1, count - LAST), count))) if count else []
 
 
 def counted(killed, calls):
     """How many such calls a run makes."""
     folder, path = killed.copy(), os.path.join(killed.work, "calls")
     words = ["strace", "-f", "-qq", "-o", path, "-e", f"trace={calls}", killed.program.path, "run", "--dir"]
-    subprocess.run([*words, folder.path], input=frames(killed.turns), capture_output=True, timeout=PATIENCE)
+    subprocess.run([*words, folder.path], input=frames(killed.asked), capture_output=True, timeout=PATIENCE)
     shutil.rmtree(folder.path)
     with open(path, encoding="utf-8", errors="replace") as file:
         return min(sum("(" in line for line in file), MOST)
@@ -147,7 +163,11 @@ def show_injected(checks, program, work):
     if not shutil.which("strace"):
         print("no strace here: no calls are injected")
         return
-    killed = Killed(checks, program, work, 4)
+    for swept in (0, 2):
+        inject(checks, Killed(checks, program, work, 4, swept))
+
+
+def inject(checks, killed):
     for name, calls in CALLS.items():
         for at in some_of(counted(killed, calls)):
             folder = killed.copy()
@@ -168,10 +188,10 @@ def judge_failed(killed, label, folder, ran):
     if ran.fault or HOST_STORE not in told:
         killed.judge(label, folder)
         return
-    kept = [turn for turn, reply in zip(killed.turns, told) if reply != HOST_STORE]
+    kept = [turn for turn, reply in zip(killed.asked, told) if reply != HOST_STORE]
     other = killed.copy()
     again = killed.program.ran("run", "--dir", other.path, given=frames(kept))
-    others = [reply for reply in told if reply != HOST_STORE]
-    killed.checks.same(f"{label}: the other replies", others, replies(again.output)[0])
+    others = plain(kept, [reply for reply in told if reply != HOST_STORE])
+    killed.checks.same(f"{label}: the other replies", others, plain(kept, replies(again.output)[0]))
     killed.checks.same(f"{label}: the state", other.state(), folder.state())
     killed.checks.same(f"{label}: check", done(b"sound\n"), killed.program.checked(folder.path))

@@ -9,6 +9,7 @@ pub mod OwnLemmas
 pub mod PushLemmas
 pub mod QueryLemmas
 pub mod ReadLemmas
+pub mod ReadingLemmas
 pub mod RecallLemmas
 pub mod RefillLemmas
 pub mod RestoreLemmas
@@ -16,8 +17,10 @@ pub mod RestoringLemmas
 pub mod RowLemmas
 pub mod SafeLemmas
 pub mod ShapeLemmas
+pub mod SweptLemmas
 pub mod TakingLemmas
 pub mod TargetLemmas
+pub mod TendingLemmas
 pub mod UpdateLemmas
 mod UploadLemmas
 pub mod WholeLemmas

@@ -1,5 +1,5 @@
 -- Objects that are recalled, name by name.
-use Rattle.std.proofs.Common.{◌≡◌, ◌⊎◌, ◌<◌, ◌≤◌, ◌+◌, arith, length, get_or, inl, inr, ℕ, true, IsTrue, None, List, [], ◌∷◌, ◌++◌, refl, sym, ap, subst, ◌∙◌}
+use Rattle.std.proofs.Common.{◌≡◌, ◌⊎◌, ◌<◌, ◌≤◌, ◌+◌, arith, length, get_or, inl, inr, ℕ, true, IsTrue, Option, None, Some, is_some, List, [], ◌∷◌, ◌++◌, refl, sym, ap, subst, ◌∙◌}
 use Rattle.std.specs.Prelude.{Contains}
 use Rattle.std.proofs.lemmas.Bool.{cases_eq}
 use Rattle.std.proofs.lemmas.List.{get_or_default}
@@ -12,11 +12,11 @@ use Rattle.loose_store.specs.Stored.{Whole}
 use Rattle.loose_store.proofs.TypedLemmas.{one_object}
 use Rattle.fork_reach.specs.Objects.{with_object, with_objects}
 use Rattle.fork_reach.specs.Source.{Objects}
-use Rattle.fork_ledger.specs.declared.recalling.Recalled.{Recalled}
-use Rattle.fork_ledger.specs.declared.recalling.Recalled.TheVariants.{Whole as IsWhole, Lost, Damaged}
 use Rattle.fork_ledger.specs.Store.{Becomes, Recalls}
-use Rattle.fork_ledger.specs.Tenants.{VaultState}
+use Rattle.fork_ledger.specs.Tenants.{VaultState, shape_of}
+use Rattle.fork_sound.specs.Reading.{ReadingMap, ReadingValue}
 use Rattle.fork_host.specs.Own.{Changes, Stages}
+use Rattle.fork_host.specs.Read.{AreRead, RecallsRead}
 use Rattle.fork_host.proofs.OwnLemmas.{changes_more, changes_still}
 
 -- one whole object at most stands under a name
@@ -34,7 +34,7 @@ pub record Came (own : List ℕ) (names : List (List ℕ)) (at : ℕ) (both : Ob
   pub stages : Changes (Stages own (with_objects both came)) first now
   pub whole : IsTrue first.honest → (object : Object) → Contains came object → Whole first.files (object_name object) object
   pub all : IsTrue first.honest → (i : ℕ) (object : Object) → i < at → Whole first.files (get_or names i []) object → Contains came object
-  pub files : IsTrue first.honest → now.files ≡ first.files
+  pub files : now.files ≡ first.files
 
 nothing_came : (object : Object) (G : Type 0) → Contains [] object → G
 nothing_came object G is = absurd (omega (arith, is.1))
@@ -46,11 +46,11 @@ came_none own names both first changes = record {
   stages = changes;
   whole = λ h object is. nothing_came object _ is;
   all = λ h i object before is. absurd (omega (arith, before));
-  files = λ h. refl;
+  files = refl;
 }
 
 -- one more name was asked for, and nothing came of it
-came_still : (own : List ℕ) (names : List (List ℕ)) (at : ℕ) (both : Objects) (first old new : VaultState) → new.honest ≡ old.honest → (IsTrue old.honest → new.files ≡ old.files) → Becomes old.honest old.tenants new.tenants
+came_still : (own : List ℕ) (names : List (List ℕ)) (at : ℕ) (both : Objects) (first old new : VaultState) → new.honest ≡ old.honest → new.files ≡ old.files → Becomes old.honest old.tenants new.tenants
     → ((IsTrue first.honest) → (object : Object) → Whole first.files (get_or names at []) object → ⊥) → Came own names at both first old → Came own names (at + 1) both first new
 came_still own names at both first old new honest files stays never so_far = record {
   came = so_far.came;
@@ -58,52 +58,56 @@ came_still own names at both first old new honest files stays never so_far = rec
   stages = changes_still (Stages own (with_objects both so_far.came)) first old new stays.shape stays.exact honest so_far.stages;
   whole = so_far.whole;
   all = λ h i object before is. by h i object before is (cases_eq i at);
-  files = λ h. files (so_far.stages.honest ∙ h) ∙ so_far.files h;
+  files = files ∙ so_far.files;
 }
   where
     by : IsTrue first.honest → (i : ℕ) (object : Object) → i < at + 1 → Whole first.files (get_or names i []) object → (i ≡ at) ⊎ (i ≡ at → ⊥) → Contains so_far.came object
     by h i object before is (inl same) = absurd (never h object (subst (λ k. Whole first.files (get_or names k []) object) same is))
     by h i object before is (inr differs) = so_far.all h i object (omega (arith, before, differs)) is
 
--- one more name was asked for
-pub came_more : (own name : List ℕ) (names : List (List ℕ)) (at : ℕ) (both : Objects) (first old new : VaultState) (r : Recalled) → contains_key first.tenants own ≡ true → at < length names → name ≡ get_or names at name → new.honest ≡ old.honest
-    → (IsTrue old.honest → new.files ≡ old.files) → Recalls old.honest own name old.files old.tenants new.tenants r → Came own names at both first old → Came own names (at + 1) both first new
-came_more own name names at both first old new IsWhole there inside is honest files (object, named, whole, stays) so_far = record {
-  came = so_far.came ++ object ∷ [];
-  among = λ other among. asked other (Contains-push_cases so_far.came object other among);
-  stages = subst (λ objects. Changes (Stages own objects) first new) (sym (with_one_more both so_far.came object)) (changes_more first old new own (with_objects both so_far.came) object there stays.shape stays.exact honest so_far.stages);
-  whole = λ h other among. stands h other (Contains-push_cases so_far.came object other among);
+-- one more name was asked for, and its object came
+came_whole : (own name : List ℕ) (names : List (List ℕ)) (at : ℕ) (both : Objects) (first old new : VaultState) → contains_key first.tenants own ≡ true → at < length names → name ≡ get_or names at name → new.honest ≡ old.honest
+    → new.files ≡ old.files → Recalls old.honest own name old.files old.tenants new.tenants → Came own names at both first old → Came own names (at + 1) both first new
+came_whole own name names at both first old new there inside is honest files recalls so_far = record {
+  came = so_far.came ++ recalls.object ∷ [];
+  among = λ other among. asked other (Contains-push_cases so_far.came recalls.object other among);
+  stages = subst (λ objects. Changes (Stages own objects) first new) (sym (with_one_more both so_far.came recalls.object)) (changes_more first old new own (with_objects both so_far.came) recalls.object there recalls.becomes.shape recalls.becomes.exact honest so_far.stages);
+  whole = λ h other among. stands h other (Contains-push_cases so_far.came recalls.object other among);
   all = λ h i other before stored. comes h i other before stored (cases_eq i at);
-  files = λ h. files (so_far.stages.honest ∙ h) ∙ so_far.files h;
+  files = files ∙ so_far.files;
 }
   where
-    asked : (other : Object) → Contains so_far.came other ⊎ (object ≡ other) → Contains names (object_name other)
+    asked : (other : Object) → Contains so_far.came other ⊎ (recalls.object ≡ other) → Contains names (object_name other)
     asked other (inl before) = so_far.among other before
-    asked other (inr itself) = subst (λ o. Contains names (object_name o)) itself (subst (Contains names) (sym named) (at, inside, sym is))
+    asked other (inr itself) = subst (λ o. Contains names (object_name o)) itself (subst (Contains names) (sym recalls.named) (at, inside, sym is))
 
-    itself_whole : IsTrue first.honest → Whole first.files name object
-    itself_whole h = subst (λ fs. Whole fs name object) (so_far.files h) (whole (so_far.stages.honest ∙ h))
+    itself_whole : IsTrue first.honest → Whole first.files name recalls.object
+    itself_whole h = subst (λ fs. Whole fs name recalls.object) so_far.files (recalls.whole (so_far.stages.honest ∙ h))
 
-    stands : IsTrue first.honest → (other : Object) → Contains so_far.came other ⊎ (object ≡ other) → Whole first.files (object_name other) other
+    stands : IsTrue first.honest → (other : Object) → Contains so_far.came other ⊎ (recalls.object ≡ other) → Whole first.files (object_name other) other
     stands h other (inl before) = so_far.whole h other before
-    stands h other (inr itself) = subst (λ o. Whole first.files (object_name o) o) itself (subst (λ n. Whole first.files n object) (sym named) (itself_whole h))
+    stands h other (inr itself) = subst (λ o. Whole first.files (object_name o) o) itself (subst (λ n. Whole first.files n recalls.object) (sym recalls.named) (itself_whole h))
 
-    comes : IsTrue first.honest → (i : ℕ) (other : Object) → i < at + 1 → Whole first.files (get_or names i []) other → (i ≡ at) ⊎ (i ≡ at → ⊥) → Contains (so_far.came ++ object ∷ []) other
+    comes : IsTrue first.honest → (i : ℕ) (other : Object) → i < at + 1 → Whole first.files (get_or names i []) other → (i ≡ at) ⊎ (i ≡ at → ⊥) → Contains (so_far.came ++ recalls.object ∷ []) other
     comes h i other before stored (inl same) =
         let here : get_or names i [] ≡ name = ap (λ k. get_or names k []) same ∙ get_or_default names at [] name inside ∙ sym is in
-        subst (Contains (so_far.came ++ object ∷ [])) (one_whole first.files name object other (itself_whole h) (subst (λ n. Whole first.files n other) here stored)) (Contains-push so_far.came object)
-    comes h i other before stored (inr differs) = Contains-append_left so_far.came (object ∷ []) other (so_far.all h i other (omega (arith, before, differs)) stored)
-came_more own name names at both first old new Lost there inside is honest files (stays, lost) so_far =
-    came_still own names at both first old new honest files stays
-    (λ h object stored. no_file (lost (so_far.stages.honest ∙ h)) (subst (λ fs. Whole fs name object) (sym (so_far.files h)) (subst (λ n. Whole first.files n object) (get_or_default names at [] name inside ∙ sym is) stored)))
-    so_far
+        subst (Contains (so_far.came ++ recalls.object ∷ [])) (one_whole first.files name recalls.object other (itself_whole h) (subst (λ n. Whole first.files n other) here stored)) (Contains-push so_far.came recalls.object)
+    comes h i other before stored (inr differs) = Contains-append_left so_far.came (recalls.object ∷ []) other (so_far.all h i other (omega (arith, before, differs)) stored)
+
+-- one more name was asked for
+pub came_read : (own name : List ℕ) (names : List (List ℕ)) (at : ℕ) (both : Objects) (first old new : VaultState) (readings : ReadingMap) → contains_key first.tenants own ≡ true → at < length names → name ≡ get_or names at name → new.honest ≡ old.honest → new.files ≡ old.files
+    → AreRead first.honest first.files names readings → RecallsRead old.honest own name old.files old.tenants new.tenants (get readings name) → Came own names at both first old → Came own names (at + 1) both first new
+came_read own name names at both first old new readings there inside is honest files read recalls so_far = by (get readings name) refl recalls
   where
-    no_file : {object : Object} → get old.files name ≡ None → Whole old.files name object → ⊥
-    no_file none whole = cc (sym none ∙ whole.file)
-came_more own name names at both first old new Damaged there inside is honest files (stays, damaged) so_far =
-    came_still own names at both first old new honest files stays
-    (λ h object stored. (damaged (so_far.stages.honest ∙ h)).2 object (subst (λ fs. Whole fs name object) (sym (so_far.files h)) (subst (λ n. Whole first.files n object) (get_or_default names at [] name inside ∙ sym is) stored)))
-    so_far
+    unread : get readings name ≡ None → (object : Object) → contains_key readings name ≡ true → ⊥
+    unread none object found = cc (sym (ap is_some none) ∙ found)
+
+    by : (o : Option ReadingValue) → get readings name ≡ o → RecallsRead old.honest own name old.files old.tenants new.tenants o → Came own names (at + 1) both first new
+    by (Some reading) found staged = came_whole own name names at both first old new there inside is honest files staged so_far
+    by None none same =
+        came_still own names at both first old new honest files (record { exact = λ h. same; shape = ap shape_of same })
+        (λ h object stored. unread none object (read.all h name object (at, inside, sym is) (subst (λ n. Whole first.files n object) (get_or_default names at [] name inside ∙ sym is) stored)))
+        so_far
 
 -- all names were asked for
 pub came_all : (own : List ℕ) (names : List (List ℕ)) (at : ℕ) (both : Objects) (first now : VaultState) → length names ≤ at → (so_far : Came own names at both first now)

@@ -28,7 +28,7 @@ use Rattle.fork_sound.proofs.SoundLemmas.{all_met, good_found, good_there, none_
 use Rattle.fork_host.specs.Refilled.{IsAgainst, StandsAgainst, bad_in}
 use Rattle.fork_host.specs.Restored.{AreOnStore, first_astray, first_bad, is_one_of, target_of}
 use Rattle.fork_host.specs.declared.seeing.Against.{Against}
-use Rattle.fork_host.specs.declared.seeing.Against.TheVariants.{Fault, BadObject, Astray, Limit}
+use Rattle.fork_host.specs.declared.seeing.Against.TheVariants.{Memory as NoMemory, BadObject, Astray, Limit}
 use Rattle.fork_host.proofs.RecallLemmas.{one_whole}
 
 -- a name among others
@@ -104,7 +104,7 @@ bad_by set names objects is = ap (λ keys. first_bad keys objects) is
 -- what stands against the objects that are seen, by those on the store
 pub stands_against : (files : Files) (names : List (List ℕ)) (set : BTreeSet (List ℕ)) (repositories : List (List ℕ × References)) (limit : ℕ) (visible both objects : Objects) → set.keys ≡ names → visible ≡ objects → both ≡ objects → AreOnStore files names objects
     → (against : Against) → IsAgainst set repositories limit visible both against → StandsAgainst files names repositories limit against
-stands_against files names set repositories limit visible both objects are seen all stored (Fault error) is = tt
+stands_against files names set repositories limit visible both objects are seen all stored NoMemory is = tt
 stands_against files names set repositories limit visible both objects are seen all stored (BadObject name) is =
     record { objects = objects; stored = stored; is = sym (bad_by set names objects are) ∙ ap (bad_in set) (sym seen) ∙ is }
 stands_against files names set repositories limit visible both objects are seen all stored (Astray target) is =

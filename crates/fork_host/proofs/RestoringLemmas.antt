@@ -24,13 +24,13 @@ use Rattle.fork_host.specs.Refilled.{IsBehind, IsJudged, IsRefilledIn, IsWhy, fi
 use Rattle.fork_host.specs.Restored.{ByLimit, ByObject, ByTarget, HasObjects, HasTargets, IsFault, IsFirst, IsRefused, IsShownAgain, KeepsLimit, OnStore, TellsBad, WantsMemory, WantsStore, first_astray, first_bad}
 use Rattle.fork_host.specs.Shown.{HostState, world_of}
 use Rattle.fork_host.specs.declared.later.Bad.{Bad}
-use Rattle.fork_host.specs.declared.later.Bad.TheVariants.{Unread, Object as Object_of}
+use Rattle.fork_host.specs.declared.later.Bad.TheVariants.{Memory as BadMemory, Object as Object_of}
 use Rattle.fork_host.specs.declared.later.Later.{Later}
 use Rattle.fork_host.specs.declared.later.Later.TheVariants.{Nothing, Target, Limit as Over}
 use Rattle.fork_host.specs.declared.restore_error.RestoreError.{RestoreError}
 use Rattle.fork_host.specs.declared.restore_error.RestoreError.TheVariants.{Unsound, OverLimit}
 use Rattle.fork_host.specs.declared.seeing.Against.{Against}
-use Rattle.fork_host.specs.declared.seeing.Against.TheVariants.{Fault, BadObject, Astray, Limit}
+use Rattle.fork_host.specs.declared.seeing.Against.TheVariants.{Memory as NoMemory, BadObject, Astray, Limit}
 use Rattle.fork_host.proofs.NamesLemmas.{keys_seen, same_keys}
 use Rattle.fork_host.proofs.WorldLemmas.{known_world, len_world}
 
@@ -183,7 +183,7 @@ noted_more files states tenant old new Nothing (Ok done) before ascend r none no
 }
 noted_more files states tenant old new (Target target) (Ok done) before ascend r none noted = astray_more files states tenant target noted
 noted_more files states tenant old new (Over name) (Ok done) before ascend r none noted = over_more files states tenant name (has_targets files tenant old new r) noted
-noted_more files states tenant old new later (Err (Fault error)) before ascend r none noted = absurd (cc)
+noted_more files states tenant old new later (Err NoMemory) before ascend r none noted = absurd (cc)
 noted_more files states tenant old new later (Err (BadObject name)) before ascend r none noted = absurd (cc)
 noted_more files states tenant old new Nothing (Err (Astray target)) before ascend r none noted = astray_last files states tenant target r noted.targets
 noted_more files states tenant old new (Target first) (Err (Astray target)) before ascend r none noted = astray_more files states tenant first noted
@@ -201,7 +201,7 @@ noted_more files states tenant old new (Over name) (Err Limit) before ascend r n
 -- its objects are there, where they are not told at once
 objects_met : (files : Files) (tenant : TenantState) (old new : World) (judged : Result (Unit {0}) Against) → IsJudged files tenant old new judged → told_at_once judged ≡ None → HasObjects files tenant
 objects_met files tenant old new (Ok done) r none = has_objects files tenant old new r
-objects_met files tenant old new (Err (Fault error)) r none = absurd (cc)
+objects_met files tenant old new (Err NoMemory) r none = absurd (cc)
 objects_met files tenant old new (Err (BadObject name)) r none = absurd (cc)
 objects_met files tenant old new (Err (Astray target)) r none = record { objects = r.objects; stored = r.stored; is = r.is.0 }
 objects_met files tenant old new (Err Limit) r none = record { objects = r.objects; stored = r.stored; is = r.is.0 }
@@ -250,9 +250,9 @@ of_fault files states error (inr is) = subst (IsRefused files states) (sym is) W
 pub told_bad : (files : Files) (states : States) (tenant : TenantState) (back all : States) (old new : HostState) (later : Later) (judged : Result (Unit {0}) Against) (bad : Bad) (error : RestoreError) → all ≡ states ++ tenant ∷ back → Going files states old later
     → IsJudged old.vault.files tenant (world_of old) (world_of new) judged → told_at_once judged ≡ Some bad → IsWhy files bad error → IsRefused files all error
 told_bad files states tenant back all old new later (Ok done) bad error parts so_far is told why = absurd (cc)
-told_bad files states tenant back all old new later (Err (Fault fault)) (Unread other) error parts so_far is told why = of_fault files all error why
-told_bad files states tenant back all old new later (Err (Fault fault)) (Object_of name) error parts so_far is told why = absurd (cc)
-told_bad files states tenant back all old new later (Err (BadObject name)) (Unread other) error parts so_far is told why = absurd (cc)
+told_bad files states tenant back all old new later (Err NoMemory) BadMemory error parts so_far is told why = of_fault files all error (inr why)
+told_bad files states tenant back all old new later (Err NoMemory) (Object_of name) error parts so_far is told why = absurd (cc)
+told_bad files states tenant back all old new later (Err (BadObject name)) BadMemory error parts so_far is told why = absurd (cc)
 told_bad files states tenant back all old new later (Err (BadObject name)) (Object_of other) error parts so_far is told why =
     let same : name ≡ other = cc in
     let here = subst (λ fs. OnStore fs tenant.seen (λ objects. first_bad tenant.seen objects ≡ Some name)) so_far.same is in
@@ -281,14 +281,14 @@ judged_more files tenant old mid new view added (Err against) is = is
 -- it is behind the others
 pub is_behind : (name : List ℕ) (old new : List (List ℕ)) → new ≡ old ++ name ∷ [] → (judged : Result (Unit {0}) Against) → IsBehind name old new judged
 is_behind name old new is (Ok done) = is
-is_behind name old new is (Err (Fault error)) = tt
+is_behind name old new is (Err NoMemory) = tt
 is_behind name old new is (Err (BadObject bad)) = is
 is_behind name old new is (Err (Astray target)) = is
 is_behind name old new is (Err Limit) = is
 
 pub behind_is : (name : List ℕ) (old new : List (List ℕ)) (judged : Result (Unit {0}) Against) → told_at_once judged ≡ None → IsBehind name old new judged → new ≡ old ++ name ∷ []
 behind_is name old new (Ok done) none is = is
-behind_is name old new (Err (Fault error)) none is = absurd (cc)
+behind_is name old new (Err NoMemory) none is = absurd (cc)
 behind_is name old new (Err (BadObject bad)) none is = absurd (cc)
 behind_is name old new (Err (Astray target)) none is = is
 behind_is name old new (Err Limit) none is = is

@@ -156,7 +156,7 @@ as_many old new t account after here set =
 seen_still : (old new : HostState) (t q : List ℕ) → IsOwn t old.vault new.vault → eq_by_cmp name_cmp q t ≡ false → measures_of (visible_in new.vault q) ≡ measures_of (visible_in old.vault q)
 seen_still old new t q own apart = ap (λ (p : Measures × Measures). p.0) (own.shape q (λ same. distinct t q same apart))
 
-orderly_still : (old new : HostState) (t q : List ℕ) (o : Option Account) (view : View) → measures_of (visible_in new.vault q) ≡ measures_of (visible_in old.vault q) → option_map (λ a. shown a new.vault q) o ≡ Some view
+pub orderly_still : (old new : HostState) (t q : List ℕ) (o : Option Account) (view : View) → measures_of (visible_in new.vault q) ≡ measures_of (visible_in old.vault q) → option_map (λ a. shown a new.vault q) o ≡ Some view
     → ((other : View) → option_map (λ a. shown a old.vault q) o ≡ Some other → IsOrderly other) → IsOrderly view
 orderly_still old new t q None view same is each = absurd (cc)
 orderly_still old new t q (Some a) view same is each =
@@ -181,7 +181,7 @@ orderly_after old new t account after orderly here set own still = record {
         (λ other found. orderly.views q other (get_world old q ∙ found))
 
 -- each other tenant's shape stays
-shape_still : (old new : HostState) (q : List ℕ) (o : Option Account) → measures_of (visible_in new.vault q) ≡ measures_of (visible_in old.vault q)
+pub shape_still : (old new : HostState) (q : List ℕ) (o : Option Account) → measures_of (visible_in new.vault q) ≡ measures_of (visible_in old.vault q)
     → option_map shape_of (option_map (λ a. shown a new.vault q) o) ≡ option_map shape_of (option_map (λ a. shown a old.vault q) o)
 shape_still old new q None same = refl
 shape_still old new q (Some a) same = ap Some (shape_measured a.repositories (visible_in old.vault q) (visible_in new.vault q) a.upload a.upload a.limit same)

@@ -6,6 +6,7 @@ pub mod Handle
 pub mod Keeping
 pub mod Own
 pub mod Pushed
+pub mod Read
 pub mod Refilled
 pub mod Restored
 pub mod Rows
@@ -13,4 +14,5 @@ pub mod Safe
 pub mod Sent
 pub mod Shape
 pub mod Shown
+pub mod Swept
 pub mod Uploads

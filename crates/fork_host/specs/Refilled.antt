@@ -17,15 +17,15 @@ use Rattle.fork_model.specs.View.{View}
 use Rattle.fork_model.specs.World.{World}
 use Rattle.state_text.specs.States.{TenantState}
 use Rattle.fork_host.specs.Own.{Changes, Settles, both_in, visible_in}
-use Rattle.fork_host.specs.Restored.{IsFault, OnStore, TellsBad, first_astray, first_bad}
+use Rattle.fork_host.specs.Restored.{OnStore, TellsBad, first_astray, first_bad}
 use Rattle.fork_host.specs.declared.later.Bad.{Bad}
-use Rattle.fork_host.specs.declared.later.Bad.TheVariants.{Unread, Object as Object_of}
+use Rattle.fork_host.specs.declared.later.Bad.TheVariants.{Memory as BadMemory, Object as Object_of}
 use Rattle.fork_host.specs.declared.later.Later.{Later}
 use Rattle.fork_host.specs.declared.later.Later.TheVariants.{Nothing, Target as LaterTarget, Limit as LaterLimit}
 use Rattle.fork_host.specs.declared.restore_error.RestoreError.{RestoreError}
-use Rattle.fork_host.specs.declared.restore_error.RestoreError.TheVariants.{Unsound, OverLimit}
+use Rattle.fork_host.specs.declared.restore_error.RestoreError.TheVariants.{Unsound, OverLimit, Memory as WantsMemory}
 use Rattle.fork_host.specs.declared.seeing.Against.{Against}
-use Rattle.fork_host.specs.declared.seeing.Against.TheVariants.{Fault, BadObject, Astray, Limit}
+use Rattle.fork_host.specs.declared.seeing.Against.TheVariants.{Memory as NoMemory, BadObject, Astray, Limit}
 
 -- objects of some of these names came to what a tenant sees and has staged, and all of it is seen; over an honest store those
 -- that stand whole on it
@@ -54,14 +54,14 @@ pub record IsRefilled (own : List ℕ) (names : List (List ℕ)) (repositories :
 
 -- what stands against it: judged by the names of a set, among what the tenant sees, of the use of what it sees and has staged
 abbrev pub IsAgainst : BTreeSet (List ℕ) → List (List ℕ × References) → ℕ → Objects → Objects → Against → Type 0
-IsAgainst names repositories limit visible both (Fault error) = Unit {0}
+IsAgainst names repositories limit visible both NoMemory = Unit {0}
 IsAgainst names repositories limit visible both (BadObject name) = bad_in names visible ≡ Some name
 IsAgainst names repositories limit visible both (Astray target) = (bad_in names visible ≡ None) × (reference : List ℕ) × (first_astray repositories visible ≡ Some (reference, target))
 IsAgainst names repositories limit visible both Limit = (bad_in names visible ≡ None) × (first_astray repositories visible ≡ None) × (limit < use_of both)
 
 -- the same by what stands on the store
 abbrev pub StandsAgainst : Files → List (List ℕ) → List (List ℕ × References) → ℕ → Against → Type 0
-StandsAgainst files names repositories limit (Fault error) = Unit {0}
+StandsAgainst files names repositories limit NoMemory = Unit {0}
 StandsAgainst files names repositories limit (BadObject name) = OnStore files names (λ objects. first_bad names objects ≡ Some name)
 StandsAgainst files names repositories limit (Astray target) =
     OnStore files names (λ objects. (first_bad names objects ≡ None) × (reference : List ℕ) × (first_astray repositories objects ≡ Some (reference, target)))
@@ -87,7 +87,7 @@ IsJudged files tenant old new (Err against) = StandsAgainst files tenant.seen te
 -- where it was judged, the tenant is there, behind the others
 abbrev pub IsBehind : List ℕ → List (List ℕ) → List (List ℕ) → Result (Unit {0}) Against → Type 0
 IsBehind name old new (Ok done) = new ≡ old ++ name ∷ []
-IsBehind name old new (Err (Fault error)) = Unit {0}
+IsBehind name old new (Err NoMemory) = Unit {0}
 IsBehind name old new (Err (BadObject bad)) = new ≡ old ++ name ∷ []
 IsBehind name old new (Err (Astray target)) = new ≡ old ++ name ∷ []
 IsBehind name old new (Err Limit) = new ≡ old ++ name ∷ []
@@ -105,7 +105,7 @@ with_limit (LaterLimit first) tenant = LaterLimit first
 
 abbrev pub with_judged : Later → List ℕ → Result (Unit {0}) Against → Later
 with_judged later tenant (Ok done) = later
-with_judged later tenant (Err (Fault error)) = later
+with_judged later tenant (Err NoMemory) = later
 with_judged later tenant (Err (BadObject name)) = later
 with_judged later tenant (Err (Astray target)) = with_target later target
 with_judged later tenant (Err Limit) = with_limit later tenant
@@ -113,7 +113,7 @@ with_judged later tenant (Err Limit) = with_limit later tenant
 -- what is told at once
 abbrev pub told_at_once : Result (Unit {0}) Against → Option Bad
 told_at_once (Ok done) = None
-told_at_once (Err (Fault error)) = Some (Unread error)
+told_at_once (Err NoMemory) = Some BadMemory
 told_at_once (Err (BadObject name)) = Some (Object_of name)
 told_at_once (Err (Astray target)) = None
 told_at_once (Err Limit) = None
@@ -126,5 +126,5 @@ first_told (LaterLimit tenant) = Some (OverLimit tenant)
 
 -- how what is told at once is told
 abbrev pub IsWhy : Files → Bad → RestoreError → Type 0
-IsWhy files (Unread error) told = IsFault told
+IsWhy files BadMemory told = told ≡ WantsMemory
 IsWhy files (Object_of name) told = TellsBad files name told

@@ -2,7 +2,9 @@
 use Rattle.std.specs.Prelude.{ℕ, List, [], ◌∷◌, Option, Some, None, flat_map}
 use Rattle.std.specs.FinMap.{entries}
 use Rattle.push_stream.specs.Upload.{UploadValue}
+use Rattle.fork_model.specs.View.{View}
 use Rattle.fork_model.specs.World.{World}
+use Rattle.git_name.specs.Maps.{map_values}
 use Rattle.fork_host.specs.Shown.{Account}
 
 -- a tenant's upload, where one is open
@@ -17,3 +19,10 @@ uploads_in accounts = flat_map (λ entry. opened entry.0 entry.1.upload) account
 -- those of a world
 abbrev pub uploads_of : World → List (List ℕ × UploadValue)
 uploads_of world = flat_map (λ entry. opened entry.0 entry.1.upload) (entries world)
+
+-- a view without its open upload, and a world of such views
+abbrev pub closed : View → View
+closed view = record { repositories = view.repositories; objects = view.objects; upload = None; limit = view.limit }
+
+abbrev pub closed_world : World → World
+closed_world world = map_values closed world

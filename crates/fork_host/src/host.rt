@@ -1,4 +1,4 @@
-ghost use Rattle.std.specs.Prelude.{◌≡◌, ◌≢◌, ◌⊎◌, IsTrue, IfOk, IfErr, OnOk, OnErr, List, ℕ, Some, None, false, map as each};
+ghost use Rattle.std.specs.Prelude.{◌≡◌, ◌≢◌, ◌⊎◌, IsTrue, IfOk, IfErr, OnOk, OnErr, List, ℕ, Some, None, false, true, map as each};
 ghost use Rattle.push_stream.specs.Upload.{upload_of};
 ghost use Rattle.fork_host.specs.Uploads.{uploads_of};
 ghost use Rattle.std.specs.FinMap as map;
@@ -18,14 +18,16 @@ ghost use Rattle.fork_host.specs.Faults.{FaultsAlong, FaultsWithin};
 ghost use Rattle.fork_host.specs.Safe.{IsNamedReply};
 ghost use Rattle.fork_host.specs.Shape.{SameShape};
 ghost use Rattle.fork_host.specs.Shown.{Trusted, world_of};
+ghost use Rattle.fork_host.specs.Swept.{IsSharp, KeepsTaken, SharpAfterSweeps, Tends, TendsAlong, TendsAt};
 
 use crate::accounts::Accounts;
 use crate::add_error::AddError;
 use crate::open_error::OpenError;
 use crate::step::HostStep;
-use fork_ledger::{Vault, VaultFault};
+use crate::tending::tend;
+use fork_ledger::{Vault, VaultFault, sharp_slices};
 use fork_model::{MAX_TENANTS, a_run_is_private, what_runs_show_was_seen_or_sent};
-use fork_request::{HostRequest, MAX_LIMIT, Refusal, Reply, Request, TenantName};
+use fork_request::{HostRequest, MAX_LIMIT, Reply, Request, TenantName};
 use loose_store::LooseFiles;
 use state_text::States;
 use std::alloc::{AllocError, Global};
@@ -163,19 +165,25 @@ impl<S: LooseFiles> Host<S> {
         self.accounts.answer(alloc, &mut self.vault, name, request)
     }
 
-    /// Answers a request of the host's own, which changes no view.
-    pub fn host_answer(&mut self, _alloc: Global, request: HostRequest) -> Reply
+    /// Answers a request of the host's own, which changes no view. What a sweep or a collection took
+    /// away before a fault is away.
+    pub fn host_answer(&mut self, alloc: Global, request: HostRequest) -> Reply
         ensures explained { Trusted self.old → Steps (world_of self.old) (HostAsks request) result (world_of self.new) }
         ensures trusted { Trusted self.old → Trusted self.new }
         ensures orderly { IsOrderlyWorld (world_of self.new) }
         ensures right { Trusted self.old → IsRightWorld (world_of self.new) }
         ensures kept { (tenant : List ℕ) → SameShape tenant (world_of self.old) (world_of self.new) }
         ensures faults { FaultsWithin self.old (HostAsks request) result self.new }
+
+        // A collection leaves the files of just the names of which some tenant has an object, and
+        // nothing takes one of these files away.
+        ensures sharp { Trusted self.old → request ≡ HostRequest.Collect → is_done result ≡ true → IsSharp self.new.vault }
+        ensures stays { Trusted self.old → KeepsTaken self.old.vault self.new.vault }
+
+        // Over any store too: how many looks at the catalogue, and by how many names it shrank.
+        ensures tends { Tends request self.old.vault result self.new.vault }
     {
-        let _accounts = &self.accounts;
-        match request {
-            HostRequest::Bad => Reply::Refused(Refusal::BadRequest),
-        }
+        tend(alloc, &mut self.vault, request)
     }
 
     ghost use Rattle.fork_host.specs.Given.{asker_of, event_of, events_of};
@@ -189,6 +197,7 @@ impl<S: LooseFiles> Host<S> {
         ensures kept { is_done result ≡ false → (tenant : List ℕ) → SameShape tenant (world_of self.old) (world_of self.new) }
         ensures others { (tenant : List ℕ) → asker_of (event_of step.entry) ≢ Some tenant → SameShape tenant (world_of self.old) (world_of self.new) }
         ensures faults { FaultsWithin self.old (event_of step.entry) result self.new }
+        ensures tends { TendsAt self.old (event_of step.entry) result self.new }
     {
         match step {
             HostStep::Tenant(name, request) => self.answer(alloc, name, request),
@@ -205,6 +214,11 @@ impl<S: LooseFiles> Host<S> {
         ensures right { Trusted self.old → IsRightWorld (world_of self.new) }
         ensures err { OnErr result (self.new ≡ self.old) }
         ensures faults { IfOk result (λ replies. FaultsAlong self.old (events_of steps.now) replies.items self.new) }
+        ensures tends { IfOk result (λ replies. TendsAlong self.old (events_of steps.now) replies.items self.new) }
+
+        // After sweeps alone that add up to at least twice the number of names that were catalogued, the
+        // store has files of just the names of which some tenant has an object.
+        ensures sharp { Trusted self.old → IfOk result (λ replies. SharpAfterSweeps self.old.vault (events_of steps.now) replies.items self.new.vault) }
 
         // To each tenant that no host fault answered, the replies are those of a private host.
         ensures private_replies { Trusted self.old → IfOk result (λ replies. (tenant : List ℕ) (view : View)
@@ -221,7 +235,8 @@ impl<S: LooseFiles> Host<S> {
             → map.get (world_of self.old) tenant ≡ Some view → map.get (world_of self.new) tenant ≡ Some last → map.get last.objects name ≡ Some object
             → (map.get view.objects name ≡ Some object) ⊎ WasSent view (own tenant (events_of steps.now)) name object) }
     {
-        let _accounts = &self.accounts;
+        // The census only for its clauses, here and behind the steps.
+        let _before = self.vault.census();
         let Ok(mut replies) = Vec::with_capacity(alloc, steps.len()) else {
             return Err(NoMemory);
         };
@@ -229,8 +244,10 @@ impl<S: LooseFiles> Host<S> {
             let reply = self.step(alloc, *step);
             replies.push_reserved(reply);
         }
+        let _behind = self.vault.census();
         a_run_is_private();
         what_runs_show_was_seen_or_sent();
+        sharp_slices();
         Ok(replies)
     }
 }

@@ -2,7 +2,6 @@
 ghost use Rattle.std.specs.Prelude.{◌≡◌, Err};
 ghost use Rattle.fork_host.specs.Refilled.{first_told, told_at_once, with_judged, with_limit, with_target};
 
-use crate::open_error::OpenError;
 use crate::restore_error::RestoreError;
 use crate::seeing::Against;
 use fork_request::TenantName;
@@ -11,8 +10,8 @@ use git_name::Name;
 // What is told at once.
 #[derive(Drop)]
 pub(crate) enum Bad {
-    // The store could not be read.
-    Unread(OpenError),
+    // There was no memory.
+    Memory,
     // The object of this name is not there whole, or not sound.
     Object(Name),
 }
@@ -42,7 +41,7 @@ impl Later {
         ensures told { result ≡ told_at_once (Err against) }
     {
         match against {
-            Against::Fault(error) => Some(Bad::Unread(error)),
+            Against::Memory => Some(Bad::Memory),
             Against::BadObject(name) => Some(Bad::Object(name)),
             Against::Astray(target) => {
                 self.note_target(target);

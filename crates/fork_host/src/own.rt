@@ -9,6 +9,7 @@ ghost use Rattle.fork_reach.specs.Faults.{fault_in as source_fault_in};
 ghost use Rattle.fork_reach.specs.Objects.{use_of};
 ghost use Rattle.fork_reach.specs.Reach.{is_reached, linked_names};
 ghost use Rattle.fork_reach.specs.Source.{kind_in};
+ghost use Rattle.fork_ledger.specs.Known.{IsKnown};
 ghost use Rattle.fork_ledger.specs.Private.{with_discarded, with_kept, with_published, with_staged};
 ghost use Rattle.fork_ledger.specs.Store.{AsksStore, LeavesStore, Meets, Recalls, StoresAlone, fault_in};
 ghost use Rattle.fork_ledger.specs.Tenants.{at_tenant, shape_of};
@@ -19,7 +20,7 @@ ghost use Rattle.fork_host.specs.Bounds.{IsRead};
 ghost use Rattle.std.specs.Prelude.{ℕ, List, Contains, true};
 
 use crate::both::Both;
-use fork_ledger::{Held, Recalled, Vault, VaultFault};
+use fork_ledger::{Held, Vault, VaultFault};
 use fork_push::{Verdict, judge};
 use fork_reach::{SourceFault, reach};
 use fork_request::TenantName;
@@ -27,7 +28,7 @@ use git_name::{Kind, Name, Sealed};
 use git_reftx::Refs;
 use loose_store::LooseFiles;
 use push_stream::{Brief, StreamFault};
-use std::alloc::Global;
+use std::alloc::{AllocError, Global};
 use std::collections::BTreeSet;
 
 // One tenant's own part of the vault. It is made once for a request, from the vault and the tenant that
@@ -88,16 +89,16 @@ impl<'a, S: LooseFiles> Own<'a, S> {
         self.vault.stage(alloc, self.tenant, sealed)
     }
 
-    // Stages the object of this name, where the store has it.
-    pub(crate) fn recall(&mut self, alloc: Global, name: Name) -> Result<Recalled, VaultFault>
-        ensures recalls { IfOk result (Recalls self.old.vault.now.honest self.old.tenant.now name self.old.vault.now.files self.old.vault.now.tenants self.new.vault.now.tenants) }
-        ensures err { IsTrue self.old.vault.now.honest → OnErr result (self.new.vault.now.tenants ≡ self.old.vault.now.tenants) }
-        ensures kept { OnErr result (shape_of self.new.vault.now.tenants ≡ shape_of self.old.vault.now.tenants) }
-        ensures files { IsTrue self.old.vault.now.honest → self.new.vault.now.files ≡ self.old.vault.now.files }
-        ensures store { AsksStore self.old.vault.now self.new.vault.now (fault_in result) }
+    // Stages the object of this name, of which is known what its ledger keeps.
+    pub(crate) fn recall(&mut self, name: Name, kind: Kind, length: u64) -> Result<(), AllocError>
+        requires known { IsKnown self.old.vault.now.honest self.old.vault.now.files name kind length }
+        ensures recalls { OnOk result (Recalls self.old.vault.now.honest self.old.tenant.now name self.old.vault.now.files self.old.vault.now.tenants self.new.vault.now.tenants) }
+        ensures err { OnErr result (self.new.vault.now.tenants ≡ self.old.vault.now.tenants) }
+        ensures files { self.new.vault.now.files ≡ self.old.vault.now.files }
+        ensures honest { self.new.vault.now.honest ≡ self.old.vault.now.honest }
         ensures same { IsSame self.old self.new }
     {
-        self.vault.recall(alloc, self.tenant, name)
+        self.vault.recall(self.tenant, name, kind, length)
     }
 
     // What is staged is seen.

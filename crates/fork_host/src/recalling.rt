@@ -1,40 +1,61 @@
-// What a tenant saw, taken from the store again.
-ghost use Rattle.std.specs.Prelude.{◌≡◌, OnErr, OnOk, IsTrue, true};
+// What a tenant saw, by what was read of it.
+ghost use Rattle.std.specs.Prelude.{◌≡◌, OnErr, OnOk, true};
 ghost use Rattle.std.specs.FinMap as map;
 ghost use Rattle.fork_host.specs.Handle.{IsSame, visible_by};
 ghost use Rattle.fork_host.specs.Own.{Changes, Settles};
+ghost use Rattle.fork_host.specs.Read.{AreRead, EachRead, RecallsRead};
 ghost use Rattle.fork_host.specs.Refilled.{SeesAgain};
 
 use crate::own::Own;
 use crate::staging::{discard, publish};
-use fork_ledger::VaultFault;
+use fork_sound::Readings;
 use git_name::Name;
 use loose_store::LooseFiles;
-use std::alloc::Global;
+use std::alloc::AllocError;
 
-// Lets a tenant see the objects of these names that the store has whole. Where it fails, the tenant sees
-// what it saw.
+// Lets a tenant see the objects of these names that were read. Where it fails, the tenant sees what it
+// saw.
 pub(crate) fn recall_all<S: LooseFiles>(
-    alloc: Global,
     own: &mut Own<'_, S>,
+    readings: &Readings,
     names: &[Name],
-) -> Result<(), VaultFault>
+) -> Result<(), AllocError>
     requires there { map.contains_key own.old.vault.now.tenants own.old.tenant.now ≡ true }
+    requires read { AreRead own.old.vault.now.honest own.old.vault.now.files names.now readings.now }
     ensures ok { OnOk result (SeesAgain own.old.tenant.now names.now own.old.vault.now own.new.vault.now) }
     ensures err { OnErr result (Changes (Settles own.old.tenant.now (visible_by own.old)) own.old.vault.now own.new.vault.now) }
-    ensures files { IsTrue own.old.vault.now.honest → own.new.vault.now.files ≡ own.old.vault.now.files }
+    ensures files { own.new.vault.now.files ≡ own.old.vault.now.files }
+    ensures honest { own.new.vault.now.honest ≡ own.old.vault.now.honest }
     ensures same { IsSame own.old own.new }
 {
     for name in names {
-        match own.recall(alloc, *name) {
-            // What is not there whole is judged once all is there that is.
-            Ok(_) => {}
-            Err(fault) => {
+        match recall_read(own, readings, *name) {
+            Ok(()) => {}
+            Err(error) => {
                 discard(own);
-                return Err(fault);
+                return Err(error);
             }
         }
     }
     publish(own);
     Ok(())
+}
+
+// Stages the object of this name, where it was read.
+fn recall_read<S: LooseFiles>(
+    own: &mut Own<'_, S>,
+    readings: &Readings,
+    name: Name,
+) -> Result<(), AllocError>
+    requires read { EachRead own.old.vault.now.honest own.old.vault.now.files readings.now }
+    ensures recalls { OnOk result (RecallsRead own.old.vault.now.honest own.old.tenant.now name own.old.vault.now.files own.old.vault.now.tenants own.new.vault.now.tenants (map.get readings.now name)) }
+    ensures err { OnErr result (own.new.vault.now.tenants ≡ own.old.vault.now.tenants) }
+    ensures files { own.new.vault.now.files ≡ own.old.vault.now.files }
+    ensures honest { own.new.vault.now.honest ≡ own.old.vault.now.honest }
+    ensures same { IsSame own.old own.new }
+{
+    let Some(reading) = readings.get(name) else {
+        return Ok(());
+    };
+    own.recall(name, reading.kind(), reading.size())
 }

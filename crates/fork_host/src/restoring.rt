@@ -6,6 +6,7 @@ ghost use Rattle.fork_ledger.specs.Store.{LeavesStore};
 ghost use Rattle.fork_ledger.specs.Tenants.{private_of};
 ghost use Rattle.fork_model.specs.declared.limits.TheConstants.{MAX_TENANTS};
 ghost use Rattle.fork_host.specs.Own.{Changes, Settles};
+ghost use Rattle.fork_host.specs.Read.{AreRead};
 ghost use Rattle.fork_host.specs.Adding.{new_view, refusal_to_add};
 ghost use Rattle.fork_host.specs.Refilled.{IsBehind, IsJudged, IsRefilled, IsWhy, StandsAgainst};
 ghost use Rattle.fork_host.specs.Restored.{IsFault, IsRefused, IsShownAgain, TellsBad};
@@ -18,11 +19,13 @@ use crate::host::Host;
 use crate::later::{Bad, Later};
 use crate::open_error::OpenError;
 use crate::own::Own;
+use crate::reading::read_states;
 use crate::repositories::Repositories;
 use crate::restore_error::RestoreError;
 use crate::seeing::{Against, see_again};
 use fork_ledger::Vault;
 use fork_request::{RepositoryName, TenantName};
+use fork_sound::Readings;
 use git_name::Name;
 use git_reftx::Refs;
 use loose_store::{LooseFiles, StoreFault, read_checked};
@@ -32,20 +35,25 @@ use std::alloc::{AllocError, Global};
 impl<S: LooseFiles + Drop> Host<S> {
     /// A host that shows these states, over the store that holds their objects. What stands against it is
     /// told in this order: the objects of all tenants; the targets of all references; the limits. Each
-    /// object that a tenant sees is read from the store once for that tenant, and a tree, commit or tag
-    /// once more to be judged.
+    /// object that tenants see is read from the store once, however many they are, and judged for each
+    /// of them by what is known of it then.
     pub fn restore(alloc: Global, files: S, states: States) -> Result<Host<S>, RestoreError>
         ensures trusted { IfOk result (λ host. IsTrue (S.honest files) → Trusted host) }
         ensures shown { IfOk result (λ host. IsTrue (S.honest files) → IsShownAgain (S.contents files) states (world_of host)) }
         ensures refused { IfErr result (λ error. IsTrue (S.honest files) → IsRefused (S.contents files) states error) }
     {
+        let mut files = files;
+        let readings = match read_states(alloc, &mut files, states.as_slice()) {
+            Ok(readings) => readings,
+            Err(error) => return Err(of_open(error)),
+        };
         let mut host = match Host::new(alloc, files) {
             Ok(host) => host,
             Err(error) => return Err(of_open(error)),
         };
         let mut later = Later::Nothing;
         for state in states.as_slice() {
-            let judged = host.restore_tenant(alloc, state);
+            let judged = host.restore_tenant(alloc, &readings, state);
             if let Some(bad) = later.note(state.name(), judged) {
                 return Err(why(alloc, host.close(), bad));
             }
@@ -59,18 +67,25 @@ impl<S: LooseFiles + Drop> Host<S> {
 
 impl<S: LooseFiles> Host<S> {
     // Adds a tenant behind the others, which sees again what it saw.
-    fn restore_tenant(&mut self, alloc: Global, state: &TenantState) -> Result<(), Against>
+    fn restore_tenant(
+        &mut self,
+        alloc: Global,
+        readings: &Readings,
+        state: &TenantState,
+    ) -> Result<(), Against>
         requires before { AreBefore (map.keys self.old.accounts) state.now.name }
         requires few { map.len self.old.accounts < MAX_TENANTS }
+        requires read { AreRead self.old.vault.honest self.old.vault.files state.now.seen readings.now }
         ensures judged { Trusted self.old → IsJudged self.old.vault.files state.now (world_of self.old) (world_of self.new) result }
         ensures trusted { Trusted self.old → Trusted self.new }
         ensures files { Trusted self.old → self.new.vault.files ≡ self.old.vault.files }
+        ensures honest { self.new.vault.honest ≡ self.old.vault.honest }
         ensures behind { IsBehind state.now.name (map.keys self.old.accounts) (map.keys self.new.accounts) result }
     {
         let Ok(()) = self.add_behind(alloc, state.name().copy(), state.limit()) else {
-            return Err(Against::Fault(OpenError::Memory));
+            return Err(Against::Memory);
         };
-        self.refill(alloc, state)
+        self.refill(alloc, readings, state)
     }
 
     // Adds a tenant that nothing but want of memory may refuse.
@@ -88,22 +103,30 @@ impl<S: LooseFiles> Host<S> {
     }
 
     // A tenant that sees nothing sees again what it saw. Where it fails, it sees nothing.
-    fn refill(&mut self, alloc: Global, state: &TenantState) -> Result<(), Against>
+    fn refill(
+        &mut self,
+        alloc: Global,
+        readings: &Readings,
+        state: &TenantState,
+    ) -> Result<(), Against>
         requires fresh { map.get (world_of self.old) state.now.name ≡ Some (new_view state.now.limit) }
+        requires read { AreRead self.old.vault.honest self.old.vault.files state.now.seen readings.now }
         ensures judged { Trusted self.old → IsJudged self.old.vault.files state.now (world_of self.old) (world_of self.new) result }
         ensures trusted { Trusted self.old → Trusted self.new }
         ensures files { Trusted self.old → self.new.vault.files ≡ self.old.vault.files }
+        ensures honest { self.new.vault.honest ≡ self.old.vault.honest }
         ensures keys { map.keys self.new.accounts ≡ map.keys self.old.accounts }
     {
         // For its clause too: the state is in order.
         let name = state.name();
         let Ok(gathered) = Repositories::gather(alloc, state.repositories()) else {
-            return Err(Against::Fault(OpenError::Memory));
+            return Err(Against::Memory);
         };
         match see_in(
             alloc,
             &mut self.vault,
             name,
+            readings,
             state.seen(),
             state.repositories(),
             state.limit(),
@@ -122,6 +145,7 @@ pub(crate) fn see_in<S: LooseFiles>(
     alloc: Global,
     vault: &mut Vault<S>,
     name: &TenantName,
+    readings: &Readings,
     seen: &[Name],
     repositories: &[(RepositoryName, Refs)],
     limit: u64,
@@ -129,13 +153,15 @@ pub(crate) fn see_in<S: LooseFiles>(
     requires there { map.contains_key vault.old.tenants name.now ≡ true }
     requires nothing { private_of vault.old.tenants name.now ≡ nothing }
     requires ascend { Ascend seen.now }
+    requires read { AreRead vault.old.honest vault.old.files seen.now readings.now }
     ensures ok { OnOk result (IsRefilled name.now seen.now repositories.now limit vault.old vault.new) }
     ensures err { OnErr result (Changes (Settles name.now map.empty) vault.old vault.new) }
     ensures against { IsTrue vault.old.honest → IfErr result (StandsAgainst vault.old.files seen.now repositories.now limit) }
-    ensures files { IsTrue vault.old.honest → vault.new.files ≡ vault.old.files }
+    ensures files { vault.new.files ≡ vault.old.files }
+    ensures honest { vault.new.honest ≡ vault.old.honest }
 {
     let mut own = Own::new(vault, name);
-    see_again(alloc, &mut own, seen, repositories, limit)
+    see_again(alloc, &mut own, readings, seen, repositories, limit)
 }
 
 // How what is bad is told.
@@ -143,7 +169,7 @@ fn why<S: LooseFiles + Drop>(alloc: Global, files: S, bad: Bad) -> RestoreError
     ensures { IsTrue (S.honest files) → IsWhy (S.contents files) bad result }
 {
     match bad {
-        Bad::Unread(error) => of_open(error),
+        Bad::Memory => RestoreError::Memory,
         Bad::Object(name) => why_bad(alloc, files, name),
     }
 }

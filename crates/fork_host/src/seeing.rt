@@ -1,23 +1,24 @@
 // A tenant that sees again what it saw.
 ghost use Rattle.std.specs.Prelude.{◌≡◌, ◌≤◌, IfErr, IfOk, IsTrue, None, OnErr, OnOk, true};
+ghost use Rattle.std.specs.BTreeSet.{contains};
 ghost use Rattle.std.specs.FinMap as map;
+ghost use Rattle.git_name.specs.Name.{name_cmp};
 ghost use Rattle.fork_reach.specs.Objects.{use_of};
 ghost use Rattle.fork_ledger.specs.Private.{nothing};
-ghost use Rattle.fork_ledger.specs.Tenants.{private_of, shape_of};
+ghost use Rattle.fork_ledger.specs.Tenants.{private_of};
+ghost use Rattle.fork_sound.specs.Reading.{AreReadings};
 ghost use Rattle.fork_host.specs.Handle.{IsSame, both_by, visible_by};
 ghost use Rattle.fork_host.specs.Own.{Changes, Settles};
+ghost use Rattle.fork_host.specs.Read.{AreRead};
 ghost use Rattle.fork_host.specs.Refilled.{IsAgainst, IsRefilled, StandsAgainst, bad_in};
 ghost use Rattle.fork_host.specs.Restored.{first_astray};
 ghost use Rattle.state_text.specs.States.{Ascend};
 
-use crate::open_error::OpenError;
 use crate::own::Own;
 use crate::recalling::recall_all;
 use crate::targets::first_bad_target;
-use fork_ledger::VaultFault;
-use fork_reach::SourceFault;
 use fork_request::RepositoryName;
-use fork_sound::first_bad;
+use fork_sound::{Readings, first_bad};
 use git_name::Name;
 use git_reftx::Refs;
 use loose_store::LooseFiles;
@@ -27,8 +28,8 @@ use std::collections::BTreeSet;
 // What stands against what a tenant saw.
 #[derive(Drop)]
 pub(crate) enum Against {
-    // It could not be read.
-    Fault(OpenError),
+    // There was no memory.
+    Memory,
     // The object of this name is not there whole, or not sound.
     BadObject(Name),
     // A reference points at this name, and may not.
@@ -42,6 +43,7 @@ pub(crate) enum Against {
 pub(crate) fn see_again<S: LooseFiles>(
     alloc: Global,
     own: &mut Own<'_, S>,
+    readings: &Readings,
     seen: &[Name],
     repositories: &[(RepositoryName, Refs)],
     limit: u64,
@@ -49,20 +51,22 @@ pub(crate) fn see_again<S: LooseFiles>(
     requires there { map.contains_key own.old.vault.now.tenants own.old.tenant.now ≡ true }
     requires nothing { private_of own.old.vault.now.tenants own.old.tenant.now ≡ nothing }
     requires ascend { Ascend seen.now }
+    requires read { AreRead own.old.vault.now.honest own.old.vault.now.files seen.now readings.now }
     ensures ok { OnOk result (IsRefilled own.old.tenant.now seen.now repositories.now limit own.old.vault.now own.new.vault.now) }
     ensures err { OnErr result (Changes (Settles own.old.tenant.now map.empty) own.old.vault.now own.new.vault.now) }
     ensures against { IsTrue own.old.vault.now.honest → IfErr result (StandsAgainst own.old.vault.now.files seen.now repositories.now limit) }
-    ensures files { IsTrue own.old.vault.now.honest → own.new.vault.now.files ≡ own.old.vault.now.files }
+    ensures files { own.new.vault.now.files ≡ own.old.vault.now.files }
+    ensures honest { own.new.vault.now.honest ≡ own.old.vault.now.honest }
     ensures same { IsSame own.old own.new }
 {
     let Ok(names) = set_of(alloc, seen) else {
-        return Err(Against::Fault(OpenError::Memory));
+        return Err(Against::Memory);
     };
-    match recall_all(alloc, own, seen) {
+    match recall_all(own, readings, seen) {
         Ok(()) => {}
-        Err(fault) => return Err(Against::Fault(of_vault(fault))),
+        Err(_) => return Err(Against::Memory),
     }
-    match judge_seen(alloc, own, &names, repositories, limit) {
+    match judge_seen(own, readings, &names, repositories, limit) {
         Ok(()) => Ok(()),
         Err(against) => {
             own.keep_only(&BTreeSet::new(alloc));
@@ -83,28 +87,21 @@ fn set_of(alloc: Global, names: &[Name]) -> Result<BTreeSet<Name>, AllocError>
     Ok(set)
 }
 
-// Judges what a tenant sees, where these are the names that it saw.
+// Judges what a tenant sees, where these are the names that it saw, by what was read.
 pub(crate) fn judge_seen<S: LooseFiles>(
-    alloc: Global,
-    own: &mut Own<'_, S>,
+    own: &Own<'_, S>,
+    readings: &Readings,
     names: &BTreeSet<Name>,
     repositories: &[(RepositoryName, Refs)],
     limit: u64,
 ) -> Result<(), Against>
-    ensures sound { IsTrue own.old.vault.now.honest → OnOk result (bad_in names.now (visible_by own.old) ≡ None) }
-    ensures targets { OnOk result (first_astray repositories.now (visible_by own.new) ≡ None) }
-    ensures within { OnOk result (use_of (both_by own.new) ≤ limit) }
-    ensures against { IsTrue own.old.vault.now.honest → IfErr result (IsAgainst names.now repositories.now limit (visible_by own.old) (both_by own.old)) }
-    ensures kept { IsTrue own.old.vault.now.honest → own.new.vault.now.tenants ≡ own.old.vault.now.tenants }
-    ensures files { IsTrue own.old.vault.now.honest → own.new.vault.now.files ≡ own.old.vault.now.files }
-    ensures shape { shape_of own.new.vault.now.tenants ≡ shape_of own.old.vault.now.tenants }
-    ensures honest { own.new.vault.now.honest ≡ own.old.vault.now.honest }
-    ensures same { IsSame own.old own.new }
+    ensures sound { AreReadings readings.now (contains name_cmp names.now) (visible_by own.now) → OnOk result (bad_in names.now (visible_by own.now) ≡ None) }
+    ensures targets { OnOk result (first_astray repositories.now (visible_by own.now) ≡ None) }
+    ensures within { OnOk result (use_of (both_by own.now) ≤ limit) }
+    ensures against { AreReadings readings.now (contains name_cmp names.now) (visible_by own.now) → IfErr result (IsAgainst names.now repositories.now limit (visible_by own.now) (both_by own.now)) }
 {
-    match first_bad(alloc, own, names) {
-        Ok(None) => {}
-        Ok(Some(name)) => return Err(Against::BadObject(name)),
-        Err(fault) => return Err(Against::Fault(of_source(fault))),
+    if let Some(name) = first_bad(readings, names) {
+        return Err(Against::BadObject(name));
     }
     if let Some(target) = first_bad_target(own, repositories) {
         return Err(Against::Astray(target));
@@ -113,18 +110,4 @@ pub(crate) fn judge_seen<S: LooseFiles>(
         return Err(Against::Limit);
     }
     Ok(())
-}
-
-fn of_vault(fault: VaultFault) -> OpenError {
-    match fault {
-        VaultFault::Memory => OpenError::Memory,
-        _ => OpenError::Store,
-    }
-}
-
-fn of_source(fault: SourceFault) -> OpenError {
-    match fault {
-        SourceFault::Memory => OpenError::Memory,
-        SourceFault::Store | SourceFault::Damaged => OpenError::Store,
-    }
 }

@@ -1,8 +1,10 @@
 -- Files that change under names that nobody holds change nothing that is shown.
-use Rattle.std.proofs.Common.{◌≡◌, ℕ, List, Bool, true, false, ◌||◌, Option, Some, None, is_some, refl, sym, ap, subst, ◌∙◌}
+use Rattle.std.proofs.Common.{◌≡◌, ℕ, List, Bool, true, false, cond, ◌||◌, Option, Some, None, is_some, refl, sym, ap, subst, ◌∙◌}
 use Rattle.std.specs.Prelude.{if◌then◌else◌}
 use Rattle.std.specs.Option.{option_map}
-use Rattle.std.specs.FinMap.{contains_key, get, same_map}
+use Rattle.std.specs.FinMap.{contains_key, get, get-remove, remove, same_map}
+use Rattle.std.specs.Ordering.{eq_by_cmp}
+use Rattle.git_name.specs.Name.{name_cmp}
 use Rattle.git_name.proofs.Names.{name_total, name_exact}
 use Rattle.looks.specs.Places.{Places}
 use Rattle.ledgers.specs.Holders.{is_held_in}
@@ -11,7 +13,7 @@ use Rattle.ledgers.specs.Words.{Words, is_staged, is_visible}
 use Rattle.ledgers.specs.declared.word.Word.{Word}
 use Rattle.ledgers.proofs.HolderLemmas.{held_by}
 use Rattle.loose_store.specs.Files.{Files, SameBut}
-use Rattle.fork_ledger.specs.Kept.{Covers, IsKept, KeepsHeld}
+use Rattle.fork_ledger.specs.Kept.{Covers, IsKept, KeepsHeld, TakesAway}
 use Rattle.fork_ledger.specs.Private.{Awaits, Holds, Private, Sees, is_held_by}
 use Rattle.fork_ledger.specs.Shown.{object_at, own_of, part, tenants_of}
 use Rattle.fork_ledger.specs.Store.{IsStored}
@@ -57,6 +59,21 @@ keeps_same m old new same q held = ap (λ files. get files q) same
 
 pub keeps_more : (m k : AllWords) (a b c : Files) → k ≡ m → KeepsHeld m a b → KeepsHeld k b c → KeepsHeld m a c
 keeps_more m k a b c same first next q held = next q (ap (λ x. is_held_in x q) same ∙ held) ∙ first q held
+
+-- files that are taken away, one after another
+pub away_none : (files : Files) → TakesAway files files
+away_none files name file is = is
+
+pub away_more : (a b c : Files) → TakesAway a b → TakesAway b c → TakesAway a c
+away_more a b c first next name file is = first name file (next name file is)
+
+-- one file is taken away
+pub away_one : (old new : Files) (name : List ℕ) → new ≡ remove old name → TakesAway old new
+away_one old new name is other file there = by (eq_by_cmp name_cmp other name) (sym (ap (λ files. get files other) is ∙ get-remove name_total old name other) ∙ there)
+  where
+    by : (b : Bool) → cond b None (get old other) ≡ Some file → get old other ≡ Some file
+    by true none = absurd (cc)
+    by false stands = stands
 
 -- what is held stands whole as before
 pub stored_keeps : (m : AllWords) (old new : Files) → KeepsHeld m old new → IsStored (tenants_of old m) old → IsStored (tenants_of new m) new

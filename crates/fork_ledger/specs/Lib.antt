@@ -1,4 +1,5 @@
 pub mod Kept
+pub mod Known
 pub mod Private
 pub mod Shown
 pub mod Store

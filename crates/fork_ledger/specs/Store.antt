@@ -7,8 +7,6 @@ use Rattle.loose_store.specs.Stored.{Whole}
 use Rattle.fork_ledger.specs.declared.fault.VaultFault.{VaultFault}
 use Rattle.fork_ledger.specs.declared.fault.VaultFault.TheVariants.{Store, Damaged, Memory, Collision}
 use Rattle.std.specs.FinMap.{get}
-use Rattle.fork_ledger.specs.declared.recalling.Recalled.{Recalled}
-use Rattle.fork_ledger.specs.declared.recalling.Recalled.TheVariants.{Whole as Whole_object, Lost, Damaged as Damaged_object}
 use Rattle.fork_ledger.specs.Private.{Holds, is_held_by, with_staged}
 use Rattle.fork_ledger.specs.Tenants.{Tenants, VaultState, at_tenant, private_of, shape_of}
 
@@ -50,12 +48,12 @@ pub record Becomes (honest : Bool) (tenants new : Tenants) : Type 0 where
   pub exact : IsTrue honest → new ≡ tenants
   pub shape : shape_of new ≡ shape_of tenants
 
--- an object that a tenant saw before: what stands whole on the store is staged, and what is lost or damaged changes nothing
-abbrev pub Recalls : Bool → List ℕ → List ℕ → Files → Tenants → Tenants → Recalled → Type 0
-Recalls honest tenant name files old new Whole_object =
-    (object : Object) × (object_name object ≡ name) × (IsTrue honest → Whole files name object) × Becomes honest (at_tenant old tenant (with_staged object)) new
-Recalls honest tenant name files old new Lost = Becomes honest old new × (IsTrue honest → get files name ≡ None)
-Recalls honest tenant name files old new Damaged_object = Becomes honest old new × (IsTrue honest → IsDamaged files name)
+-- an object of this name that a tenant saw before is staged; over an honest store it is the one that stands whole on it
+pub record Recalls (honest : Bool) (tenant name : List ℕ) (files : Files) (old new : Tenants) : Type 0 where
+  pub object : Object
+  pub named : object_name object ≡ name
+  pub whole : IsTrue honest → Whole files name object
+  pub becomes : Becomes honest (at_tenant old tenant (with_staged object)) new
 
 -- the fault of a result
 abbrev pub fault_in : {A : Type 0} → Result A VaultFault → Option VaultFault

@@ -7,7 +7,8 @@ ghost use Rattle.fork_ledger.specs.Store.{CountsFault, Meets, fault_in};
 
 use crate::fault::VaultFault;
 use git_name::Sealed;
-use loose_store::{FileFault, LooseFiles, StoreFault, file_of, read_checked};
+use loose_store::{FileFault, LooseFiles, StoreFault, file_of};
+use read_cache::CachedStore;
 use std::alloc::Global;
 
 // How a vault tells a fault of the store.
@@ -25,22 +26,22 @@ pub(crate) fn store_fault(fault: FileFault) -> VaultFault
 // that is not whole is written anew, where no tenant holds the name.
 pub(crate) fn arrive<S: LooseFiles>(
     alloc: Global,
-    files: &mut S,
+    files: &mut CachedStore<S>,
     is_held: bool,
     sealed: &Sealed,
 ) -> Result<(), VaultFault>
-    ensures whole { IsTrue (S.honest files.old) → OnOk result (Whole (S.contents files.new) (object_name sealed.now) sealed.now) }
-    ensures others { IsTrue (S.honest files.old) → SameBut (object_name sealed.now) (S.contents files.old) (S.contents files.new) }
-    ensures held { IsTrue (S.honest files.old) → is_held ≡ true → S.contents files.new ≡ S.contents files.old }
-    ensures damaged { IsTrue (S.honest files.old) → IfErr result (λ fault. fault ≡ VaultFault.Damaged
-        → (is_held ≡ true) × ((object : Object) → Whole (S.contents files.old) (object_name sealed.now) object → ⊥)) }
-    ensures collision { IsTrue (S.honest files.old) → IfErr result (λ fault. fault ≡ VaultFault.Collision → Meets sealed.now (S.contents files.old)) }
-    ensures still { IsTrue (S.honest files.old) → IfErr result (λ fault. fault ≡ VaultFault.Collision → S.contents files.new ≡ S.contents files.old) }
-    ensures honest { S.honest files.new ≡ S.honest files.old }
-    ensures cause { CountsFault (S.failures files.old) (S.failures files.new) (fault_in result) }
+    ensures whole { IsTrue files.old.honest → OnOk result (Whole files.new.contents (object_name sealed.now) sealed.now) }
+    ensures others { IsTrue files.old.honest → SameBut (object_name sealed.now) files.old.contents files.new.contents }
+    ensures held { IsTrue files.old.honest → is_held ≡ true → files.new.contents ≡ files.old.contents }
+    ensures damaged { IsTrue files.old.honest → IfErr result (λ fault. fault ≡ VaultFault.Damaged
+        → (is_held ≡ true) × ((object : Object) → Whole files.old.contents (object_name sealed.now) object → ⊥)) }
+    ensures collision { IsTrue files.old.honest → IfErr result (λ fault. fault ≡ VaultFault.Collision → Meets sealed.now files.old.contents) }
+    ensures still { IsTrue files.old.honest → IfErr result (λ fault. fault ≡ VaultFault.Collision → files.new.contents ≡ files.old.contents) }
+    ensures honest { files.new.honest ≡ files.old.honest }
+    ensures cause { CountsFault files.old.failures files.new.failures (fault_in result) }
 {
     let name = sealed.name();
-    match read_checked(alloc, files, name) {
+    match files.read_past(alloc, name) {
         Ok(Some(found)) => {
             if is_same(&found, sealed) {
                 Ok(())
@@ -68,11 +69,15 @@ fn is_same(found: &Sealed, sealed: &Sealed) -> bool
 }
 
 // Writes the file of an object.
-fn put_whole<S: LooseFiles>(alloc: Global, files: &mut S, sealed: &Sealed) -> Result<(), VaultFault>
-    ensures whole { IsTrue (S.honest files.old) → OnOk result (Whole (S.contents files.new) (object_name sealed.now) sealed.now) }
-    ensures others { IsTrue (S.honest files.old) → SameBut (object_name sealed.now) (S.contents files.old) (S.contents files.new) }
-    ensures honest { S.honest files.new ≡ S.honest files.old }
-    ensures cause { CountsFault (S.failures files.old) (S.failures files.new) (fault_in result) }
+fn put_whole<S: LooseFiles>(
+    alloc: Global,
+    files: &mut CachedStore<S>,
+    sealed: &Sealed,
+) -> Result<(), VaultFault>
+    ensures whole { IsTrue files.old.honest → OnOk result (Whole files.new.contents (object_name sealed.now) sealed.now) }
+    ensures others { IsTrue files.old.honest → SameBut (object_name sealed.now) files.old.contents files.new.contents }
+    ensures honest { files.new.honest ≡ files.old.honest }
+    ensures cause { CountsFault files.old.failures files.new.failures (fault_in result) }
     ensures undamaged { IfErr result (λ fault. fault ≢ VaultFault.Damaged) }
     ensures apart { IfErr result (λ fault. fault ≢ VaultFault.Collision) }
 {

@@ -18,5 +18,4 @@ mod vault;
 pub use crate::fault::VaultFault;
 pub use crate::held::Held;
 pub use crate::laws::sharp_slices;
-pub use crate::recalling::Recalled;
 pub use crate::vault::Vault;

@@ -3,19 +3,20 @@ ghost use Rattle.std.specs.Prelude.{◌≡◌, ◌≢◌, ◌<◌, ◌+◌, IsTr
 ghost use Rattle.looks.specs.Looks.{Look};
 ghost use Rattle.catalogue.specs.Counted.{IsNext, places_of};
 ghost use Rattle.ledgers.specs.Holders.{holders_of, is_held_in};
-ghost use Rattle.fork_ledger.specs.Kept.{Covers, IsExact, KeepsHeld};
+ghost use Rattle.fork_ledger.specs.Kept.{Covers, IsExact, KeepsHeld, TakesAway};
 ghost use Rattle.fork_ledger.specs.Store.{CountsFault, fault_in};
 
 use crate::fault::VaultFault;
 use git_name::Name;
 use ledgers::Holdings;
 use loose_store::{FileFault, LooseFiles};
+use read_cache::CachedStore;
 use std::alloc::Global;
 
 // Takes away the file of the next name, which nobody holds, and then the name.
 fn take_away<S: LooseFiles>(
     alloc: Global,
-    files: &mut S,
+    files: &mut CachedStore<S>,
     holdings: &mut Holdings,
     name: Name,
 ) -> Result<(), VaultFault>
@@ -25,12 +26,14 @@ fn take_away<S: LooseFiles>(
     ensures count { OnOk result (length (places_of holdings.new.catalogue).names + 1 ≡ length (places_of holdings.old.catalogue).names) }
     ensures err { OnErr result (places_of holdings.new.catalogue ≡ places_of holdings.old.catalogue) }
     ensures ledgers { holdings.new.ledgers ≡ holdings.old.ledgers }
-    ensures keeps { IsTrue (S.honest files.old) → KeepsHeld holdings.old.ledgers (S.contents files.old) (S.contents files.new) }
-    ensures covers { IsTrue (S.honest files.old) → Covers (S.contents files.old) (places_of holdings.old.catalogue) → Covers (S.contents files.new) (places_of holdings.new.catalogue) }
-    ensures exact { IsTrue (S.honest files.old) → OnOk result (IsExact (S.contents files.old) (places_of holdings.old.catalogue) → IsExact (S.contents files.new) (places_of holdings.new.catalogue)) }
-    ensures honest { S.honest files.new ≡ S.honest files.old }
-    ensures cause { CountsFault (S.failures files.old) (S.failures files.new) (fault_in result) }
+    ensures keeps { IsTrue files.old.honest → KeepsHeld holdings.old.ledgers files.old.contents files.new.contents }
+    ensures covers { IsTrue files.old.honest → Covers files.old.contents (places_of holdings.old.catalogue) → Covers files.new.contents (places_of holdings.new.catalogue) }
+    ensures exact { IsTrue files.old.honest → OnOk result (IsExact files.old.contents (places_of holdings.old.catalogue) → IsExact files.new.contents (places_of holdings.new.catalogue)) }
+    ensures away { IsTrue files.old.honest → OnOk result (TakesAway files.old.contents files.new.contents) }
+    ensures honest { files.new.honest ≡ files.old.honest }
+    ensures cause { CountsFault files.old.failures files.new.failures (fault_in result) }
     ensures undamaged { IfErr result (λ fault. fault ≢ VaultFault.Damaged) }
+    ensures apart { IfErr result (λ fault. fault ≢ VaultFault.Collision) }
 {
     match files.remove(alloc, name) {
         Ok(()) => {
@@ -45,7 +48,7 @@ fn take_away<S: LooseFiles>(
 // One look at a catalogue that is not empty. Answers whether a name left.
 pub(crate) fn look_once<S: LooseFiles>(
     alloc: Global,
-    files: &mut S,
+    files: &mut CachedStore<S>,
     holdings: &mut Holdings,
 ) -> Result<bool, VaultFault>
     requires { 0 < length (places_of holdings.old.catalogue).names }
@@ -53,12 +56,14 @@ pub(crate) fn look_once<S: LooseFiles>(
     ensures count { IfOk result (λ left. length (places_of holdings.new.catalogue).names + (if left then 1 else 0) ≡ length (places_of holdings.old.catalogue).names) }
     ensures err { OnErr result (places_of holdings.new.catalogue ≡ places_of holdings.old.catalogue) }
     ensures ledgers { holdings.new.ledgers ≡ holdings.old.ledgers }
-    ensures keeps { IsTrue (S.honest files.old) → KeepsHeld holdings.old.ledgers (S.contents files.old) (S.contents files.new) }
-    ensures covers { IsTrue (S.honest files.old) → Covers (S.contents files.old) (places_of holdings.old.catalogue) → Covers (S.contents files.new) (places_of holdings.new.catalogue) }
-    ensures exact { IsTrue (S.honest files.old) → OnOk result (IsExact (S.contents files.old) (places_of holdings.old.catalogue) → IsExact (S.contents files.new) (places_of holdings.new.catalogue)) }
-    ensures honest { S.honest files.new ≡ S.honest files.old }
-    ensures cause { CountsFault (S.failures files.old) (S.failures files.new) (fault_in result) }
+    ensures keeps { IsTrue files.old.honest → KeepsHeld holdings.old.ledgers files.old.contents files.new.contents }
+    ensures covers { IsTrue files.old.honest → Covers files.old.contents (places_of holdings.old.catalogue) → Covers files.new.contents (places_of holdings.new.catalogue) }
+    ensures exact { IsTrue files.old.honest → OnOk result (IsExact files.old.contents (places_of holdings.old.catalogue) → IsExact files.new.contents (places_of holdings.new.catalogue)) }
+    ensures away { IsTrue files.old.honest → OnOk result (TakesAway files.old.contents files.new.contents) }
+    ensures honest { files.new.honest ≡ files.old.honest }
+    ensures cause { CountsFault files.old.failures files.new.failures (fault_in result) }
     ensures undamaged { IfErr result (λ fault. fault ≢ VaultFault.Damaged) }
+    ensures apart { IfErr result (λ fault. fault ≢ VaultFault.Collision) }
 {
     let Some(name) = holdings.free_name() else {
         holdings.pass();

@@ -5,25 +5,26 @@ ghost use Rattle.fork_ledger.specs.Store.{CountsFault, fault_in};
 
 use crate::fault::VaultFault;
 use git_name::{Name, Sealed};
-use loose_store::{LooseFiles, StoreFault, read_checked};
+use loose_store::{LooseFiles, StoreFault};
+use read_cache::CachedStore;
 use std::alloc::Global;
 
 // The object of a name that some tenant holds. Where its file is lost or damaged, that is told.
 pub(crate) fn read_held<S: LooseFiles>(
     alloc: Global,
-    files: &mut S,
+    files: &mut CachedStore<S>,
     name: Name,
 ) -> Result<Option<Sealed>, VaultFault>
-    ensures whole { IsTrue (S.honest files.old) → IfOk result (λ found. (object : Object) × (found ≡ Some object) × Whole (S.contents files.old) name object) }
-    ensures damaged { IsTrue (S.honest files.old) → IfErr result (λ fault. fault ≡ VaultFault.Damaged → (object : Object) → Whole (S.contents files.old) name object → ⊥) }
-    ensures kept { IsTrue (S.honest files.old) → S.contents files.new ≡ S.contents files.old }
+    ensures whole { IsTrue files.old.honest → IfOk result (λ found. (object : Object) × (found ≡ Some object) × Whole files.old.contents name object) }
+    ensures damaged { IsTrue files.old.honest → IfErr result (λ fault. fault ≡ VaultFault.Damaged → (object : Object) → Whole files.old.contents name object → ⊥) }
+    ensures kept { IsTrue files.old.honest → files.new.contents ≡ files.old.contents }
     ensures there { IfOk result (λ found. is_some found ≡ true) }
     ensures named { IfOk result (λ found. IfSome found (λ object. object_name object ≡ name)) }
-    ensures honest { S.honest files.new ≡ S.honest files.old }
-    ensures cause { CountsFault (S.failures files.old) (S.failures files.new) (fault_in result) }
+    ensures honest { files.new.honest ≡ files.old.honest }
+    ensures cause { CountsFault files.old.failures files.new.failures (fault_in result) }
     ensures apart { IfErr result (λ fault. fault ≢ VaultFault.Collision) }
 {
-    match read_checked(alloc, files, name) {
+    match files.read(alloc, name) {
         Ok(Some(sealed)) => Ok(Some(sealed)),
         Ok(None) => Err(VaultFault::Damaged),
         Err(StoreFault::Device) => Err(VaultFault::Store),

@@ -15,29 +15,30 @@ use fork_request::TenantName;
 use git_name::Sealed;
 use ledgers::Holdings;
 use loose_store::LooseFiles;
+use read_cache::CachedStore;
 use std::alloc::Global;
 
 // Catalogues an object's name, sees to it that its file is whole, and stages it for a tenant.
 pub(crate) fn stage_whole<S: LooseFiles>(
     alloc: Global,
-    files: &mut S,
+    files: &mut CachedStore<S>,
     holdings: &mut Holdings,
     tenant: &TenantName,
     sealed: Sealed,
 ) -> Result<(), VaultFault>
     ensures ok { OnOk result (holdings.new.ledgers ≡ at_ledger holdings.old.ledgers tenant.now (staged_words (object_name sealed) sealed.kind (length sealed.bytes))) }
     ensures err { OnErr result (holdings.new.ledgers ≡ holdings.old.ledgers) }
-    ensures whole { IsTrue (S.honest files.old) → OnOk result (Whole (S.contents files.new) (object_name sealed) sealed) }
-    ensures keeps { IsTrue (S.honest files.old) → KeepsHeld holdings.old.ledgers (S.contents files.old) (S.contents files.new) }
-    ensures covers { IsTrue (S.honest files.old) → Covers (S.contents files.old) (places_of holdings.old.catalogue) → Covers (S.contents files.new) (places_of holdings.new.catalogue) }
-    ensures exact { IsTrue (S.honest files.old) → OnOk result (IsExact (S.contents files.old) (places_of holdings.old.catalogue) → IsExact (S.contents files.new) (places_of holdings.new.catalogue)) }
-    ensures alone { IsTrue (S.honest files.old) → OnOk result (StoresAlone sealed (S.contents files.old) (S.contents files.new)) }
-    ensures damaged { IsTrue (S.honest files.old) → IfErr result (λ fault. fault ≡ VaultFault.Damaged
-        → (is_held_in holdings.old.ledgers (object_name sealed) ≡ true) × ((object : Object) → Whole (S.contents files.old) (object_name sealed) object → ⊥)) }
-    ensures collision { IsTrue (S.honest files.old) → IfErr result (λ fault. fault ≡ VaultFault.Collision → Meets sealed (S.contents files.old)) }
-    ensures still { IsTrue (S.honest files.old) → IfErr result (λ fault. fault ≡ VaultFault.Collision → S.contents files.new ≡ S.contents files.old) }
-    ensures honest { S.honest files.new ≡ S.honest files.old }
-    ensures cause { CountsFault (S.failures files.old) (S.failures files.new) (fault_in result) }
+    ensures whole { IsTrue files.old.honest → OnOk result (Whole files.new.contents (object_name sealed) sealed) }
+    ensures keeps { IsTrue files.old.honest → KeepsHeld holdings.old.ledgers files.old.contents files.new.contents }
+    ensures covers { IsTrue files.old.honest → Covers files.old.contents (places_of holdings.old.catalogue) → Covers files.new.contents (places_of holdings.new.catalogue) }
+    ensures exact { IsTrue files.old.honest → OnOk result (IsExact files.old.contents (places_of holdings.old.catalogue) → IsExact files.new.contents (places_of holdings.new.catalogue)) }
+    ensures alone { IsTrue files.old.honest → OnOk result (StoresAlone sealed files.old.contents files.new.contents) }
+    ensures damaged { IsTrue files.old.honest → IfErr result (λ fault. fault ≡ VaultFault.Damaged
+        → (is_held_in holdings.old.ledgers (object_name sealed) ≡ true) × ((object : Object) → Whole files.old.contents (object_name sealed) object → ⊥)) }
+    ensures collision { IsTrue files.old.honest → IfErr result (λ fault. fault ≡ VaultFault.Collision → Meets sealed files.old.contents) }
+    ensures still { IsTrue files.old.honest → IfErr result (λ fault. fault ≡ VaultFault.Collision → files.new.contents ≡ files.old.contents) }
+    ensures honest { files.new.honest ≡ files.old.honest }
+    ensures cause { CountsFault files.old.failures files.new.failures (fault_in result) }
 {
     let name = sealed.name();
     let Ok(()) = holdings.enter(name) else {

@@ -1,17 +1,18 @@
 // Slices and whole rounds of looks.
-ghost use Rattle.std.specs.Prelude.{◌≡◌, ◌≢◌, ◌<◌, ◌+◌, ℕ, IsTrue, IfErr, IfOk, OnOk, OnErr, length, if◌then◌else◌};
+ghost use Rattle.std.specs.Prelude.{◌≡◌, ◌≢◌, ◌≤◌, ◌<◌, ◌+◌, ℕ, IsTrue, IfErr, IfOk, OnOk, OnErr, length, if◌then◌else◌};
 ghost use Rattle.looks.specs.Looks.{Looks, Walks};
 ghost use Rattle.looks.specs.Places.{at_start};
 ghost use Rattle.looks.specs.Slices.{Collects, Sweeps};
 ghost use Rattle.catalogue.specs.Counted.{places_of};
 ghost use Rattle.ledgers.specs.Holders.{is_held_in};
-ghost use Rattle.fork_ledger.specs.Kept.{Covers, IsExact, KeepsHeld};
+ghost use Rattle.fork_ledger.specs.Kept.{Covers, IsExact, KeepsHeld, TakesAway};
 ghost use Rattle.fork_ledger.specs.Store.{CountsFault, fault_in};
 
 use crate::fault::VaultFault;
 use crate::looking::look_once;
 use ledgers::Holdings;
 use loose_store::LooseFiles;
+use read_cache::CachedStore;
 use std::alloc::Global;
 
 fn number_of(left: bool) -> u64
@@ -24,20 +25,23 @@ fn number_of(left: bool) -> u64
 // left.
 pub(crate) fn sweep<S: LooseFiles>(
     alloc: Global,
-    files: &mut S,
+    files: &mut CachedStore<S>,
     holdings: &mut Holdings,
     most: u64,
 ) -> Result<u64, VaultFault>
     ensures sweeps { OnOk result (Sweeps (is_held_in holdings.old.ledgers) most (places_of holdings.old.catalogue) (places_of holdings.new.catalogue)) }
     ensures fault { OnErr result ((n : ℕ) × (n < most) × Looks (is_held_in holdings.old.ledgers) n (places_of holdings.old.catalogue) (places_of holdings.new.catalogue)) }
     ensures count { IfOk result (λ count. length (places_of holdings.new.catalogue).names + count ≡ length (places_of holdings.old.catalogue).names) }
+    ensures few { IfOk result (λ count. count ≤ most) }
     ensures ledgers { holdings.new.ledgers ≡ holdings.old.ledgers }
-    ensures keeps { IsTrue (S.honest files.old) → KeepsHeld holdings.old.ledgers (S.contents files.old) (S.contents files.new) }
-    ensures covers { IsTrue (S.honest files.old) → Covers (S.contents files.old) (places_of holdings.old.catalogue) → Covers (S.contents files.new) (places_of holdings.new.catalogue) }
-    ensures exact { IsTrue (S.honest files.old) → OnOk result (IsExact (S.contents files.old) (places_of holdings.old.catalogue) → IsExact (S.contents files.new) (places_of holdings.new.catalogue)) }
-    ensures honest { S.honest files.new ≡ S.honest files.old }
-    ensures cause { CountsFault (S.failures files.old) (S.failures files.new) (fault_in result) }
+    ensures keeps { IsTrue files.old.honest → KeepsHeld holdings.old.ledgers files.old.contents files.new.contents }
+    ensures covers { IsTrue files.old.honest → Covers files.old.contents (places_of holdings.old.catalogue) → Covers files.new.contents (places_of holdings.new.catalogue) }
+    ensures exact { IsTrue files.old.honest → OnOk result (IsExact files.old.contents (places_of holdings.old.catalogue) → IsExact files.new.contents (places_of holdings.new.catalogue)) }
+    ensures away { IsTrue files.old.honest → OnOk result (TakesAway files.old.contents files.new.contents) }
+    ensures honest { files.new.honest ≡ files.old.honest }
+    ensures cause { CountsFault files.old.failures files.new.failures (fault_in result) }
     ensures undamaged { IfErr result (λ fault. fault ≢ VaultFault.Damaged) }
+    ensures apart { IfErr result (λ fault. fault ≢ VaultFault.Collision) }
 {
     let mut count = 0;
     for done in 0..most {
@@ -56,19 +60,21 @@ pub(crate) fn sweep<S: LooseFiles>(
 // One whole round, from the beginning until the end is reached. Answers how many names left.
 pub(crate) fn collect<S: LooseFiles>(
     alloc: Global,
-    files: &mut S,
+    files: &mut CachedStore<S>,
     holdings: &mut Holdings,
 ) -> Result<u64, VaultFault>
     ensures collects { OnOk result (Collects (is_held_in holdings.old.ledgers) (places_of holdings.old.catalogue) (places_of holdings.new.catalogue)) }
     ensures fault { OnErr result ((n : ℕ) × Walks (is_held_in holdings.old.ledgers) n (at_start (places_of holdings.old.catalogue)) (places_of holdings.new.catalogue)) }
     ensures count { IfOk result (λ count. length (places_of holdings.new.catalogue).names + count ≡ length (places_of holdings.old.catalogue).names) }
     ensures ledgers { holdings.new.ledgers ≡ holdings.old.ledgers }
-    ensures keeps { IsTrue (S.honest files.old) → KeepsHeld holdings.old.ledgers (S.contents files.old) (S.contents files.new) }
-    ensures covers { IsTrue (S.honest files.old) → Covers (S.contents files.old) (places_of holdings.old.catalogue) → Covers (S.contents files.new) (places_of holdings.new.catalogue) }
-    ensures exact { IsTrue (S.honest files.old) → OnOk result (IsExact (S.contents files.old) (places_of holdings.old.catalogue) → IsExact (S.contents files.new) (places_of holdings.new.catalogue)) }
-    ensures honest { S.honest files.new ≡ S.honest files.old }
-    ensures cause { CountsFault (S.failures files.old) (S.failures files.new) (fault_in result) }
+    ensures keeps { IsTrue files.old.honest → KeepsHeld holdings.old.ledgers files.old.contents files.new.contents }
+    ensures covers { IsTrue files.old.honest → Covers files.old.contents (places_of holdings.old.catalogue) → Covers files.new.contents (places_of holdings.new.catalogue) }
+    ensures exact { IsTrue files.old.honest → OnOk result (IsExact files.old.contents (places_of holdings.old.catalogue) → IsExact files.new.contents (places_of holdings.new.catalogue)) }
+    ensures away { IsTrue files.old.honest → OnOk result (TakesAway files.old.contents files.new.contents) }
+    ensures honest { files.new.honest ≡ files.old.honest }
+    ensures cause { CountsFault files.old.failures files.new.failures (fault_in result) }
     ensures undamaged { IfErr result (λ fault. fault ≢ VaultFault.Damaged) }
+    ensures apart { IfErr result (λ fault. fault ≢ VaultFault.Collision) }
 {
     holdings.restart();
     let mut count = 0;

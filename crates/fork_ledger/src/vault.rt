@@ -7,7 +7,8 @@ ghost use Rattle.fork_reach.specs.Objects.{use_of};
 ghost use Rattle.looks.specs.Looks.{Looks, Walks};
 ghost use Rattle.looks.specs.Places.{at_start, is_listed};
 ghost use Rattle.looks.specs.Slices.{Collects, Sweeps};
-ghost use Rattle.fork_ledger.specs.Kept.{IsExact};
+ghost use Rattle.fork_ledger.specs.Kept.{IsExact, TakesAway};
+ghost use Rattle.fork_ledger.specs.Known.{IsKnown};
 ghost use Rattle.fork_ledger.specs.Private.{both_of, held_in, with_discarded, with_kept, with_published, with_staged};
 ghost use Rattle.fork_ledger.specs.Store.{AsksStore, IsOver, LeavesStore, Meets, Recalls, StoresAlone, fault_in};
 ghost use Rattle.fork_ledger.specs.Swept.{IsAccounted};
@@ -19,15 +20,16 @@ use crate::arrival::store_fault;
 use crate::fault::VaultFault;
 use crate::held::{Held, held_of};
 use crate::reading::read_held;
-use crate::recalling::{Recalled, recall};
+use crate::recalling::recall;
 use crate::staging::stage_whole;
 use crate::sweeping::{collect, sweep};
 use catalogue::Catalogue;
 use fork_request::TenantName;
-use git_name::{Name, Sealed};
+use git_name::{Kind, Name, Sealed};
 use ledgers::Holdings;
 use looks::sharp_collection;
 use loose_store::LooseFiles;
+use read_cache::CachedStore;
 use std::alloc::{AllocError, Global};
 use std::collections::BTreeSet;
 use std::marker::Model;
@@ -41,7 +43,7 @@ use std::marker::Model;
 /// names, kinds and lengths, hold over any store.
 #[derive(Drop)]
 pub struct Vault<S: LooseFiles> {
-    files: S,
+    files: CachedStore<S>,
     holdings: Holdings,
 }
 
@@ -57,14 +59,14 @@ impl<S: LooseFiles> Model for Vault<S> {
     ghost coded = { vault_code };
 
     ghost view = { λ a. record {
-      tenants = tenants_of (S.contents a.files) a.holdings.ledgers;
-      files = S.contents a.files;
-      honest = S.honest a.files;
-      failures = S.failures a.files;
+      tenants = tenants_of a.files.contents a.holdings.ledgers;
+      files = a.files.contents;
+      honest = a.files.honest;
+      failures = a.files.failures;
       places = places_of a.holdings.catalogue;
     } };
 
-    ghost invariant = { λ a. IsTrue (S.honest a.files) → IsKept a.holdings.ledgers (S.contents a.files) (places_of a.holdings.catalogue) };
+    ghost invariant = { λ a. IsTrue a.files.honest → IsKept a.holdings.ledgers a.files.contents (places_of a.holdings.catalogue) };
 }
 
 impl<S: LooseFiles + Drop> Vault<S> {
@@ -84,6 +86,9 @@ impl<S: LooseFiles + Drop> Vault<S> {
         let Ok(catalogue) = Catalogue::of(alloc, names.as_slice()) else {
             return Err(VaultFault::Memory);
         };
+        let Ok(files) = CachedStore::new(alloc, files) else {
+            return Err(VaultFault::Memory);
+        };
         let holdings = Holdings::new(alloc, catalogue);
         Ok(Vault { files, holdings })
     }
@@ -94,7 +99,7 @@ impl<S: LooseFiles> Vault<S> {
     pub fn close(self) -> S
         ensures { IsOver (S.contents result) (S.honest result) (S.failures result) self }
     {
-        self.files
+        self.files.close()
     }
 
     /// Adds a tenant that has no objects, unless it is there.
@@ -195,21 +200,24 @@ impl<S: LooseFiles> Vault<S> {
         stage_whole(alloc, &mut self.files, &mut self.holdings, tenant, sealed)
     }
 
-    /// Stages the object of this name for a tenant that saw it before, where the store has it.
+    /// Stages the object of this name for a tenant that saw it before, where its kind and its bytes of
+    /// content are known, and that the store has it. It asks no store.
     pub fn recall(
         &mut self,
-        alloc: Global,
         tenant: &TenantName,
         name: Name,
-    ) -> Result<Recalled, VaultFault>
-        ensures recalls { IfOk result (Recalls self.old.honest tenant.now name self.old.files self.old.tenants self.new.tenants) }
-        ensures err { IsTrue self.old.honest → OnErr result (self.new.tenants ≡ self.old.tenants) }
-        ensures kept { OnErr result (shape_of self.new.tenants ≡ shape_of self.old.tenants) }
-        ensures files { IsTrue self.old.honest → self.new.files ≡ self.old.files }
+        kind: Kind,
+        length: u64,
+    ) -> Result<(), AllocError>
+        requires known { IsKnown self.old.honest self.old.files name kind length }
+        ensures recalls { OnOk result (Recalls self.old.honest tenant.now name self.old.files self.old.tenants self.new.tenants) }
+        ensures err { OnErr result (self.new.tenants ≡ self.old.tenants) }
         ensures exact { IsTrue self.old.honest → IsExact self.old.files self.old.places → IsExact self.new.files self.new.places }
-        ensures store { AsksStore self.old self.new (fault_in result) }
+        ensures files { self.new.files ≡ self.old.files }
+        ensures honest { self.new.honest ≡ self.old.honest }
+        ensures failures { self.new.failures ≡ self.old.failures }
     {
-        recall(alloc, &mut self.files, &mut self.holdings, tenant, name)
+        recall(&mut self.holdings, tenant, name, kind, length)
     }
 
     /// The names of what a tenant sees, ascending.
@@ -264,6 +272,7 @@ impl<S: LooseFiles> Vault<S> {
     pub fn sweep(&mut self, alloc: Global, most: u64) -> Result<u64, VaultFault>
         ensures kept { IsTrue self.old.honest → self.new.tenants ≡ self.old.tenants }
         ensures stays { IsTrue self.old.honest → (name : List ℕ) → is_taken self.old.tenants name ≡ true → map.get self.new.files name ≡ map.get self.old.files name }
+        ensures away { IsTrue self.old.honest → OnOk result (TakesAway self.old.files self.new.files) }
         ensures accounted { IsTrue self.old.honest → IsAccounted self.new }
         ensures exact { IsTrue self.old.honest → OnOk result (IsExact self.old.files self.old.places → IsExact self.new.files self.new.places) }
 
@@ -271,8 +280,11 @@ impl<S: LooseFiles> Vault<S> {
         ensures sweeps { OnOk result (Sweeps (is_taken self.old.tenants) most self.old.places self.new.places) }
         ensures fault { OnErr result ((n : ℕ) × (n < most) × Looks (is_taken self.old.tenants) n self.old.places self.new.places) }
         ensures count { IfOk result (λ count. length self.new.places.names + count ≡ length self.old.places.names) }
+        ensures few { IfOk result (λ count. count ≤ most) }
         ensures place { self.old.places.place ≤ length self.old.places.names }
         ensures shape { shape_of self.new.tenants ≡ shape_of self.old.tenants }
+        ensures undamaged { IfErr result (λ fault. fault ≢ VaultFault.Damaged) }
+        ensures apart { IfErr result (λ fault. fault ≢ VaultFault.Collision) }
         ensures store { AsksStore self.old self.new (fault_in result) }
     {
         let _place = self.holdings.place();
@@ -285,6 +297,7 @@ impl<S: LooseFiles> Vault<S> {
     pub fn collect(&mut self, alloc: Global) -> Result<u64, VaultFault>
         ensures kept { IsTrue self.old.honest → self.new.tenants ≡ self.old.tenants }
         ensures stays { IsTrue self.old.honest → (name : List ℕ) → is_taken self.old.tenants name ≡ true → map.get self.new.files name ≡ map.get self.old.files name }
+        ensures away { IsTrue self.old.honest → OnOk result (TakesAway self.old.files self.new.files) }
         ensures sharp { IsTrue self.old.honest → OnOk result ((name : List ℕ) → map.contains_key self.new.files name ≡ is_taken self.new.tenants name) }
         ensures exact { IsTrue self.old.honest → OnOk result ((name : List ℕ) → is_listed self.new.places.names name ≡ map.contains_key self.new.files name) }
 
@@ -293,6 +306,8 @@ impl<S: LooseFiles> Vault<S> {
         ensures fault { OnErr result ((n : ℕ) × Walks (is_taken self.old.tenants) n (at_start self.old.places) self.new.places) }
         ensures count { IfOk result (λ count. length self.new.places.names + count ≡ length self.old.places.names) }
         ensures shape { shape_of self.new.tenants ≡ shape_of self.old.tenants }
+        ensures undamaged { IfErr result (λ fault. fault ≢ VaultFault.Damaged) }
+        ensures apart { IfErr result (λ fault. fault ≢ VaultFault.Collision) }
         ensures store { AsksStore self.old self.new (fault_in result) }
     {
         sharp_collection();

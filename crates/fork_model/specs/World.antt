@@ -1,14 +1,14 @@
 -- The world of a host: a view for each tenant, and how runs go from one world to the next.
-use Rattle.std.specs.Prelude.{◌≡◌, ℕ, List}
+use Rattle.std.specs.Prelude.{◌≡◌, ◌≤◌, ◌++◌, ℕ, List, codes, decimal}
 use Rattle.std.specs.FinMap.{FinMap, get}
 use Rattle.git_name.specs.Name.{name_cmp}
 use Rattle.fork_request.specs.Asked.{Ask}
 use Rattle.fork_request.specs.Told.{is_host_fault}
 use Rattle.fork_request.specs.declared.host_request.HostRequest.{HostRequest}
-use Rattle.fork_request.specs.declared.host_request.HostRequest.TheVariants.{Bad}
+use Rattle.fork_request.specs.declared.host_request.HostRequest.TheVariants.{Sweep, Collect, Census, Bad}
 use Rattle.fork_request.specs.declared.refusal.Refusal.TheVariants.{BadRequest, UnknownTenant}
 use Rattle.fork_request.specs.declared.reply.Reply.{Reply}
-use Rattle.fork_request.specs.declared.reply.Reply.TheVariants.{Refused}
+use Rattle.fork_request.specs.declared.reply.Reply.TheVariants.{Done, Refused}
 use Rattle.fork_model.specs.Answer.{answer}
 use Rattle.fork_model.specs.Runs
 use Rattle.fork_model.specs.View.{View}
@@ -21,8 +21,16 @@ World = FinMap name_cmp View
 abbrev pub Event : Type 0
 Event = Runs.Event (List ℕ) Ask HostRequest
 
--- what may be told of the host: a bad request is refused
+-- the data of a number: its digits and LF
+abbrev pub number_line : ℕ → List ℕ
+number_line n = decimal n ++ codes "\n"
+
+-- what may be told of the host: how many names left its catalogue or are in it, and of a sweep no more than it looked at. Which
+-- number it is the store settles, and no world. A bad request is refused
 abbrev pub HostSays : HostRequest → Reply → Type 0
+HostSays (Sweep most) reply = (n : ℕ) × (n ≤ most) × (reply ≡ Done (number_line n))
+HostSays Collect reply = (n : ℕ) × (reply ≡ Done (number_line n))
+HostSays Census reply = (n : ℕ) × (reply ≡ Done (number_line n))
 HostSays Bad reply = reply ≡ Refused BadRequest
 
 -- one step may go from the old world to the new one with this reply

@@ -72,7 +72,7 @@ pub fn runs_keep_worlds_sound()
     ensures right_world { (old new : World) (steps : List Event) (replies : List Reply) → Explains old steps replies new → IsRightWorld old → IsRightWorld new }
 {}
 
-ghost use Rattle.std.specs.Prelude.{◌⊎◌, true};
+ghost use Rattle.std.specs.Prelude.{◌⊎◌, ◌≢◌, true};
 ghost use Rattle.fork_request.specs.declared.host_request.HostRequest.TheVariants.{Bad};
 ghost use Rattle.fork_request.specs.declared.refusal.Refusal.TheVariants.{BadRequest};
 ghost use Rattle.fork_model.specs.Runs.{HostAsks};
@@ -82,6 +82,16 @@ ghost use Rattle.fork_model.specs.World.{Steps};
 pub fn bad_host_requests_are_refused()
     ensures reply { (old new : World) (reply : Reply) → Steps old (HostAsks Bad) reply new → (reply ≡ Refused BadRequest) ⊎ (is_host_fault reply ≡ true) }
     ensures world { (old new : World) (reply : Reply) → Steps old (HostAsks Bad) reply new → new ≡ old }
+{}
+
+ghost use Rattle.fork_request.specs.Told.{is_done};
+ghost use Rattle.fork_request.specs.declared.host_request.HostRequest.{HostRequest};
+
+/// Whatever is asked of the host itself leaves the world, and what is no bad request is answered, or
+/// met by a host fault.
+pub fn host_requests_leave_the_world()
+    ensures world { (old new : World) (request : HostRequest) (reply : Reply) → Steps old (HostAsks request) reply new → new ≡ old }
+    ensures reply { (old new : World) (request : HostRequest) (reply : Reply) → Steps old (HostAsks request) reply new → request ≢ Bad → (is_done reply ≡ true) ⊎ (is_host_fault reply ≡ true) }
 {}
 
 ghost use Rattle.std.specs.Prelude.{None};

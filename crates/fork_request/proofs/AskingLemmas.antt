@@ -25,7 +25,7 @@ abbrev Right : List ℕ → Ask → Type 0
 Right payload ask = (ask ≡ NoRequest) ⊎ Spells ask payload
 
 -- one word, or none
-abbrev IsSole : List ℕ → Option (List ℕ) → Type 0
+abbrev pub IsSole : List ℕ → Option (List ℕ) → Type 0
 IsSole rest words = (words ≡ None) ⊎ ((words ≡ Some rest) × IsWord rest)
 
 right_at : (payload : List ℕ) (ask other : Ask) → ask ≡ other → Spells other payload → Right payload ask
@@ -144,10 +144,10 @@ references_right payload rest (b ∷ body) words is (inr (inl one)) = inl (ap (�
 references_right payload rest (b ∷ body) words is (inr (inr two)) = inl (ap (λ o. asked_references o (b ∷ body)) two.1)
 
 -- a verb is this word, or what comes next decides
-by_word : (payload verb word : List ℕ) (x y : Ask) → (verb ≡ word → Right payload x) → Right payload y → Right payload (cond (bytes_eq verb word) x y)
-by_word payload verb word x y is other = by (bytes_eq verb word) (bytes_eq-Decides verb word).0
+pub by_word : {A : Type 0} (P : A → Type 0) (verb word : List ℕ) (x y : A) → (verb ≡ word → P x) → P y → P (cond (bytes_eq verb word) x y)
+by_word P verb word x y is other = by (bytes_eq verb word) (bytes_eq-Decides verb word).0
   where
-    by : (b : Bool) → (b ≡ true → verb ≡ word) → Right payload (cond b x y)
+    by : (b : Bool) → (b ≡ true → verb ≡ word) → P (cond b x y)
     by true same = is (same refl)
     by false same = other
 
@@ -156,24 +156,24 @@ query_right payload verb rest body is ends =
     let at = (λ (word : List ℕ) (same : verb ≡ word). is ∙ ap (λ v. (v ++ 32 ∷ rest) ++ 10 ∷ body) same) in
     let one = sole_right rest ends in
     let items = word_and_items_right rest ends in
-    by_word payload verb (codes "cat-file") _ _ (λ v. cat_file_right payload rest body (sole (words_of rest)) (at (codes "cat-file") v) one)
-    (by_word payload verb (codes "ls-tree") _ _ (λ v. ls_tree_right payload rest body (sole (words_of rest)) (at (codes "ls-tree") v) one)
-    (by_word payload verb (codes "rev-list") _ _ (λ v. revisions_right payload rest body (word_and_items (words_of rest)) (at (codes "rev-list") v) items)
-    (by_word payload verb (codes "merge-base") _ _ (λ v. bases_right payload rest body (three (words_of rest)) (at (codes "merge-base") v) (three_right rest ends))
-    (by_word payload verb (codes "for-each-ref") _ _ (λ v. references_right payload rest body (one_or_two (words_of rest)) (at (codes "for-each-ref") v) (one_or_two_right rest ends))
-    (by_word payload verb (codes "fetch") _ _ (λ v. fetch_right payload rest body (word_and_items (words_of rest)) (at (codes "fetch") v) items) (inl refl))))))
+    by_word (Right payload) verb (codes "cat-file") _ _ (λ v. cat_file_right payload rest body (sole (words_of rest)) (at (codes "cat-file") v) one)
+    (by_word (Right payload) verb (codes "ls-tree") _ _ (λ v. ls_tree_right payload rest body (sole (words_of rest)) (at (codes "ls-tree") v) one)
+    (by_word (Right payload) verb (codes "rev-list") _ _ (λ v. revisions_right payload rest body (word_and_items (words_of rest)) (at (codes "rev-list") v) items)
+    (by_word (Right payload) verb (codes "merge-base") _ _ (λ v. bases_right payload rest body (three (words_of rest)) (at (codes "merge-base") v) (three_right rest ends))
+    (by_word (Right payload) verb (codes "for-each-ref") _ _ (λ v. references_right payload rest body (one_or_two (words_of rest)) (at (codes "for-each-ref") v) (one_or_two_right rest ends))
+    (by_word (Right payload) verb (codes "fetch") _ _ (λ v. fetch_right payload rest body (word_and_items (words_of rest)) (at (codes "fetch") v) items) (inl refl))))))
 
 verb_right : (payload verb rest body : List ℕ) → payload ≡ (verb ++ 32 ∷ rest) ++ 10 ∷ body → Lacks 10 rest → Right payload (asked_verb verb (words_of rest) body)
 verb_right payload verb rest body is ends =
     let at = (λ (word : List ℕ) (same : verb ≡ word). is ∙ ap (λ v. (v ++ 32 ∷ rest) ++ 10 ∷ body) same) in
     let one = sole_right rest ends in
     let two = pair_right rest ends in
-    by_word payload verb (codes "init") _ _ (λ v. init_right payload rest body (sole (words_of rest)) (at (codes "init") v) one)
-    (by_word payload verb (codes "drop") _ _ (λ v. drop_right payload rest body (sole (words_of rest)) (at (codes "drop") v) one)
-    (by_word payload verb (codes "fork") _ _ (λ v. fork_right payload rest body (pair (words_of rest)) (at (codes "fork") v) two)
-    (by_word payload verb (codes "push") _ _ (λ v. push_right payload rest body (sole (words_of rest)) (at (codes "push") v) one)
-    (by_word payload verb (codes "part-end") _ _ (λ v. part_end_right payload rest body (sole (words_of rest)) (at (codes "part-end") v) one)
-    (by_word payload verb (codes "update-refs") _ _ (λ v. update_right payload rest body (sole (words_of rest)) (at (codes "update-refs") v) one) (query_right payload verb rest body is ends))))))
+    by_word (Right payload) verb (codes "init") _ _ (λ v. init_right payload rest body (sole (words_of rest)) (at (codes "init") v) one)
+    (by_word (Right payload) verb (codes "drop") _ _ (λ v. drop_right payload rest body (sole (words_of rest)) (at (codes "drop") v) one)
+    (by_word (Right payload) verb (codes "fork") _ _ (λ v. fork_right payload rest body (pair (words_of rest)) (at (codes "fork") v) two)
+    (by_word (Right payload) verb (codes "push") _ _ (λ v. push_right payload rest body (sole (words_of rest)) (at (codes "push") v) one)
+    (by_word (Right payload) verb (codes "part-end") _ _ (λ v. part_end_right payload rest body (sole (words_of rest)) (at (codes "part-end") v) one)
+    (by_word (Right payload) verb (codes "update-refs") _ _ (λ v. update_right payload rest body (sole (words_of rest)) (at (codes "update-refs") v) one) (query_right payload verb rest body is ends))))))
 
 plain_right : (payload body end : List ℕ) (ask : Ask) → (body ≡ [] → Spells ask payload) → Right payload (asked_plain ask body)
 plain_right payload [] end ask spells = inr (spells refl)
@@ -182,10 +182,10 @@ plain_right payload (b ∷ body) end ask spells = inl refl
 alone_right : (payload verb body : List ℕ) → payload ≡ verb ++ 10 ∷ body → Right payload (asked_alone verb body)
 alone_right payload verb body is =
     let at = (λ (word : List ℕ) (same : verb ≡ word). is ∙ ap (λ v. v ++ 10 ∷ body) same) in
-    by_word payload verb (codes "part") _ _ (λ v. inr (at (codes "part") v))
-    (by_word payload verb (codes "part-drop") _ _ (λ v. plain_right payload body [] DropsParts (λ none. at (codes "part-drop") v ∙ ap (λ b. codes "part-drop\n" ++ b) none))
-    (by_word payload verb (codes "quota") _ _ (λ v. plain_right payload body [] AsksUse (λ none. at (codes "quota") v ∙ ap (λ b. codes "quota\n" ++ b) none))
-    (by_word payload verb (codes "prune") _ _ (λ v. plain_right payload body [] Prunes (λ none. at (codes "prune") v ∙ ap (λ b. codes "prune\n" ++ b) none)) (inl refl))))
+    by_word (Right payload) verb (codes "part") _ _ (λ v. inr (at (codes "part") v))
+    (by_word (Right payload) verb (codes "part-drop") _ _ (λ v. plain_right payload body [] DropsParts (λ none. at (codes "part-drop") v ∙ ap (λ b. codes "part-drop\n" ++ b) none))
+    (by_word (Right payload) verb (codes "quota") _ _ (λ v. plain_right payload body [] AsksUse (λ none. at (codes "quota") v ∙ ap (λ b. codes "quota\n" ++ b) none))
+    (by_word (Right payload) verb (codes "prune") _ _ (λ v. plain_right payload body [] Prunes (λ none. at (codes "prune") v ∙ ap (λ b. codes "prune\n" ++ b) none)) (inl refl))))
 
 line_right : (payload line body : List ℕ) → payload ≡ line ++ 10 ∷ body → Lacks 10 line → Right payload (asked_words (words_of line) body)
 line_right payload line body is ends = by (parted 32 line)

@@ -1,7 +1,8 @@
 -- Lines that are written out, as the definitions compute them.
 use Rattle.std.proofs.Common.{◌≡◌, [], ◌∷◌, codes, refl}
 use Rattle.git_name.specs.Text.{words_of}
-use Rattle.fork_request.specs.Asked.{AsksBases, AsksRevisions, Fetches, NoRequest, asked_words}
+use Rattle.fork_request.specs.Asked.{AsksBases, AsksRevisions, Fetches, NoRequest, asked_words, host_words}
+use Rattle.fork_request.specs.declared.host_request.HostRequest.TheVariants.{Bad, Collect}
 
 pub items_are_asked : asked_words (words_of (codes "rev-list r a ^b")) [] ≡ AsksRevisions (codes "r") (codes "a" ∷ codes "^b" ∷ [])
 items_are_asked = refl
@@ -23,3 +24,12 @@ three_items_are_bad = refl
 
 pub a_body_is_bad : asked_words (words_of (codes "fetch r a")) (codes "x") ≡ NoRequest
 a_body_is_bad = refl
+
+pub a_collection_is_asked : host_words (words_of (codes "collect")) [] ≡ Collect
+a_collection_is_asked = refl
+
+pub a_word_behind_collect_is_bad : host_words (words_of (codes "collect x")) [] ≡ Bad
+a_word_behind_collect_is_bad = refl
+
+pub a_number_is_wanted : host_words (words_of (codes "sweep")) [] ≡ Bad
+a_number_is_wanted = refl

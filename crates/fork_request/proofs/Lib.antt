@@ -1,5 +1,6 @@
 pub mod AskingLemmas
 pub mod Examples
+pub mod HostLemmas
 pub mod ItemLemmas
 pub mod NameLemmas
 pub mod PartLemmas

@@ -2,12 +2,14 @@
 use Rattle.std.specs.Prelude.{ℕ, List, [], ◌∷◌, Option, None, Some, option_map, length, nat_le, codes, if◌then◌else◌}
 use Rattle.std.specs.Str.{bytes_eq}
 use Rattle.git_name.specs.Name.{name_in}
+use Rattle.git_name.specs.Number.{number_in}
 use Rattle.git_name.specs.Text.{split_once, words_of}
 use Rattle.fork_request.specs.declared.request.Request.{Request}
 use Rattle.fork_request.specs.declared.request.Request.TheVariants.{Init, Drop, Fork, Push, Part, PartEnd, PartDrop, UpdateRefs, CatFile, LsTree, RevList, MergeBase, ForEachRef, Fetch, Quota, Prune, Bad}
 use Rattle.fork_request.specs.declared.request.TheConstants.{MAX_PAYLOAD}
 use Rattle.fork_request.specs.declared.host_request.HostRequest.{HostRequest}
-use Rattle.fork_request.specs.declared.host_request.HostRequest.TheVariants.{Bad as Bad_host}
+use Rattle.fork_request.specs.declared.host_request.HostRequest.TheVariants.{Sweep, Collect, Census, Bad as Bad_host}
+use Rattle.fork_request.specs.declared.host_request.TheConstants.{MAX_SWEEP}
 use Rattle.fork_request.specs.Words.{one_or_two, pair, sole, three, word_and_items}
 
 -- a tenant's request as a value: words and bodies are lists of bytes
@@ -177,6 +179,45 @@ asked_parts (Some (line, body)) = asked_words (words_of line) body
 unfoldable pub asked : List ℕ → Ask
 asked payload = if nat_le (length payload) MAX_PAYLOAD then asked_parts (split_once 10 payload) else NoRequest
 
--- what a payload asks of the host itself: so far each is a bad request
-abbrev pub asked_host : List ℕ → HostRequest
-asked_host payload = Bad_host
+-- ---- what is asked of the host itself
+
+-- this, where nothing stands behind the line
+abbrev pub host_plain : HostRequest → List ℕ → HostRequest
+host_plain request [] = request
+host_plain request (b ∷ body) = Bad_host
+
+-- so many looks, where there is a number, and no more than a sweep may have
+abbrev pub host_looks : Option ℕ → List ℕ → HostRequest
+host_looks (Some most) body = if nat_le most MAX_SWEEP then host_plain (Sweep most) body else Bad_host
+host_looks None body = Bad_host
+
+-- `sweep K`
+abbrev pub host_sweep : Option (List ℕ) → List ℕ → HostRequest
+host_sweep (Some digits) body = host_looks (number_in digits) body
+host_sweep None body = Bad_host
+
+-- by a verb and the words behind it
+abbrev pub host_verb : List ℕ → List (List ℕ) → List ℕ → HostRequest
+host_verb verb words body = if bytes_eq verb (codes "sweep") then host_sweep (sole words) body else Bad_host
+
+-- by a verb that stands alone: `collect`, `census`
+abbrev pub host_alone : List ℕ → List ℕ → HostRequest
+host_alone verb body =
+    if bytes_eq verb (codes "collect") then host_plain Collect body
+    else if bytes_eq verb (codes "census") then host_plain Census body
+    else Bad_host
+
+-- by the line's first word
+abbrev pub host_words : List (List ℕ) → List ℕ → HostRequest
+host_words [] body = Bad_host
+host_words (verb ∷ []) body = host_alone verb body
+host_words (verb ∷ word ∷ words) body = host_verb verb (word ∷ words) body
+
+-- by the line and what stands behind its LF
+abbrev pub host_parts : Option (List ℕ × List ℕ) → HostRequest
+host_parts None = Bad_host
+host_parts (Some (line, body)) = host_words (words_of line) body
+
+-- what a payload asks of the host itself
+unfoldable pub asked_host : List ℕ → HostRequest
+asked_host payload = if nat_le (length payload) MAX_PAYLOAD then host_parts (split_once 10 payload) else Bad_host

@@ -1,9 +1,12 @@
 -- How each request is spelled (own): a line of words, LF, and for some requests a body.
-use Rattle.std.specs.Prelude.{◌≡◌, ◌≢◌, ℕ, ◌≤◌, List, ◌++◌, None, Some, length, All, codes}
+use Rattle.std.specs.Prelude.{◌≡◌, ◌≢◌, ℕ, ◌≤◌, List, ◌++◌, None, Some, length, All, codes, decimal}
 use Rattle.std.specs.List.{flat_map}
 use Rattle.hex.specs.Hex.{encode_lower}
 use Rattle.git_name.specs.Name.{IsName}
 use Rattle.fork_request.specs.Asked.{Ask, Inits, Drops, Forks, Pushes, SendsPart, EndsParts, DropsParts, Updates, AsksObject, AsksTree, AsksRevisions, AsksBases, AsksReferences, Fetches, AsksUse, Prunes, NoRequest}
+use Rattle.fork_request.specs.declared.host_request.HostRequest.{HostRequest}
+use Rattle.fork_request.specs.declared.host_request.HostRequest.TheVariants.{Sweep, Collect, Census, Bad}
+use Rattle.fork_request.specs.declared.host_request.TheConstants.{MAX_SWEEP}
 
 -- a word of a line: some bytes, none of which is SP or LF
 pub record IsWord (word : List ℕ) : Type 0 where
@@ -45,3 +48,10 @@ Spells (Fetches repository items) payload = IsWord repository × AreItems items 
 Spells AsksUse payload = payload ≡ codes "quota\n"
 Spells Prunes payload = payload ≡ codes "prune\n"
 Spells NoRequest payload = ⊥
+
+-- the payload that asks this of the host itself; what is no request is spelled by none
+abbrev pub HostSpells : HostRequest → List ℕ → Type 0
+HostSpells (Sweep most) payload = (most ≤ MAX_SWEEP) × (payload ≡ codes "sweep " ++ decimal most ++ codes "\n")
+HostSpells Collect payload = payload ≡ codes "collect\n"
+HostSpells Census payload = payload ≡ codes "census\n"
+HostSpells Bad payload = ⊥

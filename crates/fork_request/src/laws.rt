@@ -1,6 +1,8 @@
 ghost use Rattle.std.specs.Prelude.{◌≡◌, ◌≢◌, ◌≤◌, List, ℕ, length};
-ghost use Rattle.fork_request.specs.Asked.{Ask, NoRequest, asked};
-ghost use Rattle.fork_request.specs.Spelling.{Spells};
+ghost use Rattle.fork_request.specs.Asked.{Ask, NoRequest, asked, asked_host};
+ghost use Rattle.fork_request.specs.Spelling.{HostSpells, Spells};
+ghost use Rattle.fork_request.specs.declared.host_request.HostRequest.{HostRequest};
+ghost use Rattle.fork_request.specs.declared.host_request.HostRequest.TheVariants.{Bad};
 ghost use Rattle.fork_request.specs.declared.request.TheConstants.{MAX_PAYLOAD};
 
 /// A law, and no work: a payload asks for something where it is the one spelling of that, as `Spells`
@@ -8,4 +10,11 @@ ghost use Rattle.fork_request.specs.declared.request.TheConstants.{MAX_PAYLOAD};
 pub fn a_request_has_one_spelling()
     ensures found { (payload : List ℕ) (ask : Ask) → length payload ≤ MAX_PAYLOAD → Spells ask payload → asked payload ≡ ask }
     ensures only { (payload : List ℕ) (ask : Ask) → asked payload ≡ ask → ask ≢ NoRequest → (length payload ≤ MAX_PAYLOAD) × Spells ask payload }
+{}
+
+/// A law, and no work: a payload asks for something of the host itself where it is the one spelling of
+/// that, as `HostSpells` tells it.
+pub fn a_host_request_has_one_spelling()
+    ensures found { (payload : List ℕ) (request : HostRequest) → HostSpells request payload → asked_host payload ≡ request }
+    ensures only { (payload : List ℕ) (request : HostRequest) → asked_host payload ≡ request → request ≢ Bad → HostSpells request payload }
 {}

@@ -17,8 +17,8 @@ mod words;
 
 pub use crate::byte_string::ByteString;
 pub use crate::host_fault::HostFault;
-pub use crate::host_request::HostRequest;
-pub use crate::laws::a_request_has_one_spelling;
+pub use crate::host_request::{HostRequest, MAX_SWEEP};
+pub use crate::laws::{a_host_request_has_one_spelling, a_request_has_one_spelling};
 pub use crate::limit::MAX_LIMIT;
 pub use crate::name::{
     MAX_REPOSITORY_NAME, MAX_TENANT_NAME, PlainName, RepositoryName, TenantName,

@@ -11,18 +11,7 @@ use Rattle.git_object.specs.ObjectIn.{links_in, object_in}
 use Rattle.git_object.specs.declared.link.Link.{Link}
 use Rattle.fork_push.specs.Push.{same_kind}
 use Rattle.fork_reach.specs.Source.{Objects, kind_in}
-use Rattle.fork_sound.specs.Sound.{is_bad, is_bad_found, is_other, is_unmet, is_unsound}
-
-blob_sound : (objects : Objects) (seen : List ℕ → Bool) (bytes : List ℕ) → (is_none (object_in Blob bytes) || list_any (is_unmet objects seen) (links_in Blob bytes)) ≡ false
-unfolding object_in links_in
-blob_sound objects seen bytes = refl
-
-pub blob_good : (objects : Objects) (seen : List ℕ → Bool) (name : List ℕ) → kind_in objects name ≡ Some Blob → is_bad objects seen name ≡ false
-blob_good objects seen name blob = by (get objects name) blob
-  where
-    by : (found : Option Object) → option_map (λ object. object.kind) found ≡ Some Blob → is_bad_found objects seen found ≡ false
-    by None is = absurd (cc)
-    by (Some object) is = (let same : object.kind ≡ Blob = cc in ap (λ kind. is_none (object_in kind object.bytes) || list_any (is_unmet objects seen) (links_in kind object.bytes)) same ∙ blob_sound objects seen object.bytes)
+use Rattle.fork_sound.specs.Sound.{is_bad, is_bad_found, is_other, is_unmet}
 
 either_false : (a b : Bool) → (a || b) ≡ false → (a ≡ false) × (b ≡ false)
 either_false true b is = absurd (cc)

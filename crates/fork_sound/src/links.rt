@@ -1,22 +1,23 @@
 ghost use Rattle.std.specs.Prelude.{◌≡◌};
 ghost use Rattle.std.specs.BTreeSet.{contains};
 ghost use Rattle.git_name.specs.Name.{name_cmp};
-ghost use Rattle.fork_sound.specs.Sound.{is_unmet, is_unsound};
+ghost use Rattle.fork_sound.specs.Reading.{is_unmet_read, is_unsound_read};
 
-use fork_reach::Source;
-use git_name::{Name, Sealed};
-use git_object::{Link, Object, links};
+use crate::reading::Reading;
+use crate::readings::Readings;
+use git_name::Name;
+use git_object::Link;
 use std::collections::BTreeSet;
 
 // Whether the object is not in the grammar of its kind, or one of its links is not met.
-pub(crate) fn is_unsound<S: Source>(source: &S, seen: &BTreeSet<Name>, sealed: &Sealed) -> bool
-    ensures { result ≡ is_unsound (S.state source.now).objects (contains name_cmp seen.now) sealed.now }
+pub(crate) fn is_unsound(readings: &Readings, seen: &BTreeSet<Name>, reading: &Reading) -> bool
+    ensures { result ≡ is_unsound_read readings.now (contains name_cmp seen.now) reading.now }
 {
-    let Ok(object) = Object::read(sealed.kind(), sealed.bytes()) else {
+    if reading.is_wrong() {
         return true;
-    };
-    for link in links(&object) {
-        if is_unmet(source, seen, link) {
+    }
+    for link in reading.links() {
+        if is_unmet(readings, seen, *link) {
             return true;
         }
     }
@@ -24,14 +25,14 @@ pub(crate) fn is_unsound<S: Source>(source: &S, seen: &BTreeSet<Name>, sealed: &
 }
 
 // Whether the link's name is not seen, or its object has another kind.
-fn is_unmet<S: Source>(source: &S, seen: &BTreeSet<Name>, link: Link) -> bool
-    ensures { result ≡ is_unmet (S.state source.now).objects (contains name_cmp seen.now) link }
+fn is_unmet(readings: &Readings, seen: &BTreeSet<Name>, link: Link) -> bool
+    ensures { result ≡ is_unmet_read readings.now (contains name_cmp seen.now) link }
 {
     if !seen.contains(&link.name) {
         return true;
     }
-    match source.kind_of(link.name) {
-        Some(kind) => kind != link.kind,
+    match readings.get(link.name) {
+        Some(reading) => reading.kind() != link.kind,
         None => false,
     }
 }

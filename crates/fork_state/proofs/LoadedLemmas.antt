@@ -35,7 +35,8 @@ use Rattle.fork_host.specs.Restored.{AreOnStore, ByLimit, ByObject, ByTarget, Is
 use Rattle.fork_host.specs.declared.restore_error.RestoreError.{RestoreError}
 use Rattle.fork_host.proofs.RecallLemmas.{one_whole}
 use Rattle.fork_host.proofs.RestoreLemmas.{one_of}
-use Rattle.fork_state.specs.Loaded.{HasWorld, closed, closed_world}
+use Rattle.fork_host.specs.Uploads.{closed, closed_world}
+use Rattle.fork_state.specs.Loaded.{HasWorld}
 
 -- entries are what is found
 of_entry : {X : Type 0} (values : FinMap name_cmp X) (name : List ℕ) (value : X) → Contains (entries values) (name, value) → get values name ≡ Some value

@@ -1,7 +1,6 @@
 -- Why a text is not loaded, and what is loaded of a text that was saved.
-use Rattle.std.specs.Prelude.{◌≡◌, ℕ, List, None, Some, ⊤}
+use Rattle.std.specs.Prelude.{◌≡◌, ℕ, List, Some, ⊤}
 use Rattle.std.specs.FinMap.{get}
-use Rattle.git_name.specs.Maps.{map_values}
 use Rattle.git_name.specs.Object.{Object}
 use Rattle.loose_store.specs.Files.{Files}
 use Rattle.loose_store.specs.Stored.{Whole}
@@ -13,6 +12,7 @@ use Rattle.state_text.specs.Kept.{states_of}
 use Rattle.state_text.specs.States.{States}
 use Rattle.state_text.specs.Text.{IsStateText}
 use Rattle.fork_host.specs.Restored.{IsFault, IsRefused, IsShownAgain}
+use Rattle.fork_host.specs.Uploads.{closed_world}
 use Rattle.fork_host.specs.declared.restore_error.RestoreError.{RestoreError}
 use Rattle.fork_host.specs.declared.restore_error.RestoreError.TheVariants as restore
 use Rattle.fork_state.specs.declared.fault.LoadFault.{LoadFault}
@@ -52,13 +52,6 @@ pub record IsLoaded (files : Files) (text : List ℕ) (world : World) : Type 0 w
 -- the store has each object that a tenant of the world sees
 abbrev pub HasWorld : Files → World → Type 0
 HasWorld files world = (tenant : List ℕ) (view : View) (name : List ℕ) (object : Object) → get world tenant ≡ Some view → get view.objects name ≡ Some object → Whole files name object
-
--- a view without its open upload, and a world of such views
-abbrev pub closed : View → View
-closed view = record { repositories = view.repositories; objects = view.objects; upload = None; limit = view.limit }
-
-abbrev pub closed_world : World → World
-closed_world world = map_values closed world
 
 -- where the store has the objects of a sound world, the world's states are refused for want of memory or of the store alone
 abbrev pub AcceptsItsWorld : Type 0

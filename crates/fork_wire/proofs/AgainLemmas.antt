@@ -12,7 +12,7 @@ use Rattle.fork_frame.specs.declared.ended.Ended.TheVariants.{Clean}
 use Rattle.fork_frame.specs.declared.frame.Frame.{Frame}
 use Rattle.fork_host.specs.Faults.{FaultsAlong}
 use Rattle.fork_host.specs.Shown.{HostState, Trusted, world_of}
-use Rattle.fork_wire.specs.Again.{AreFine}
+use Rattle.fork_wire.specs.Again.{AreFine, AreSettled, is_settled, is_settled_host, settled}
 use Rattle.fork_wire.specs.Kept.{is_kept, is_kept_of, kept_of, replies_kept}
 use Rattle.fork_wire.specs.Sessions.{IsAnswered, event_of, events_of}
 use Rattle.fork_wire.proofs.Going.{answered_so_far}
@@ -22,7 +22,7 @@ use Rattle.git_name.specs.Name.{name_cmp}
 use Rattle.fork_request.specs.Asked.{Ask}
 use Rattle.fork_request.specs.Told.{is_host_fault}
 use Rattle.fork_request.specs.declared.host_request.HostRequest.{HostRequest}
-use Rattle.fork_request.specs.declared.host_request.HostRequest.TheVariants.{Bad}
+use Rattle.fork_request.specs.declared.host_request.HostRequest.TheVariants.{Sweep, Collect, Census, Bad}
 use Rattle.fork_request.specs.declared.refusal.Refusal.TheVariants.{UnknownTenant}
 use Rattle.fork_request.specs.declared.reply.Reply.{Reply}
 use Rattle.fork_request.specs.declared.reply.Reply.TheVariants.{Done, Refused, Failed}
@@ -51,24 +51,44 @@ same_answer old new new2 name ask reply reply2 (Faulted bad stays) other fine fi
 same_answer old new new2 name ask reply reply2 (Answered view here told set) (Faulted bad stays) fine fine2 = absurd (true_false (is_host_fault reply2) bad fine2)
 same_answer old new new2 name ask reply reply2 (Unknown none told stays) (Faulted bad stays2) fine fine2 = absurd (true_false (is_host_fault reply2) bad fine2)
 
-same_saying : (ask : HostRequest) (reply reply2 : Reply) → HostSays ask reply → HostSays ask reply2 → reply ≡ reply2
-same_saying Bad reply reply2 says says2 = says ∙ sym says2
+-- what is settled is told alike
+same_saying : (ask : HostRequest) (reply reply2 : Reply) → is_settled_host ask ≡ true → HostSays ask reply → HostSays ask reply2 → reply ≡ reply2
+same_saying Bad reply reply2 is says says2 = says ∙ sym says2
+same_saying (Sweep most) reply reply2 is says says2 = absurd (cc)
+same_saying Collect reply reply2 is says says2 = absurd (cc)
+same_saying Census reply reply2 is says says2 = absurd (cc)
 
+-- a step without a host fault has one outcome
 same_own : (old new new2 : World) (ask : HostRequest) (reply reply2 : Reply) → OwnStep is_host_fault HostSays old ask reply new → OwnStep is_host_fault HostSays old ask reply2 new2
-    → is_host_fault reply ≡ false → is_host_fault reply2 ≡ false → (reply ≡ reply2) × (new ≡ new2)
-same_own old new new2 ask reply reply2 (HostAnswered says stays) (HostAnswered says2 stays2) fine fine2 = (same_saying ask reply reply2 says says2, stays ∙ sym stays2)
+    → is_host_fault reply ≡ false → is_host_fault reply2 ≡ false → (is_settled_host ask ≡ true → reply ≡ reply2) × (new ≡ new2)
+same_own old new new2 ask reply reply2 (HostAnswered says stays) (HostAnswered says2 stays2) fine fine2 = (λ is. same_saying ask reply reply2 is says says2, stays ∙ sym stays2)
 same_own old new new2 ask reply reply2 (HostFaulted bad stays) other fine fine2 = absurd (true_false (is_host_fault reply) bad fine)
 same_own old new new2 ask reply reply2 (HostAnswered says stays) (HostFaulted bad stays2) fine fine2 = absurd (true_false (is_host_fault reply2) bad fine2)
 
--- a step without a host fault has one outcome
-same_step : (old new new2 : World) (event : Event) (reply reply2 : Reply) → Steps old event reply new → Steps old event reply2 new2 → is_host_fault reply ≡ false → is_host_fault reply2 ≡ false → (reply ≡ reply2) × (new ≡ new2)
-same_step old new new2 (Asks name ask) reply reply2 step step2 fine fine2 = same_answer old new new2 name ask reply reply2 step step2 fine fine2
+same_step : (old new new2 : World) (event : Event) (reply reply2 : Reply) → Steps old event reply new → Steps old event reply2 new2 → is_host_fault reply ≡ false → is_host_fault reply2 ≡ false
+    → (is_settled event ≡ true → reply ≡ reply2) × (new ≡ new2)
+same_step old new new2 (Asks name ask) reply reply2 step step2 fine fine2 = (let same = same_answer old new new2 name ask reply reply2 step step2 fine fine2 in (λ is. same.0, same.1))
 same_step old new new2 (HostAsks ask) reply reply2 step step2 fine fine2 = same_own old new new2 ask reply reply2 step step2 fine fine2
 
 -- and so has a run
+pub same_world_run : (old new old2 new2 : World) (events : List Event) (replies replies2 : List Reply) → old ≡ old2 → Explains old events replies new → Explains old2 events replies2 new2 → AreFine replies → AreFine replies2 → new ≡ new2
+same_world_run old new old2 new2 [] [] [] same run run2 fine fine2 = run ∙ same ∙ sym run2
+same_world_run old new old2 new2 [] [] (r ∷ replies2) same run run2 fine fine2 = absurd run2
+same_world_run old new old2 new2 [] (r ∷ replies) replies2 same run run2 fine fine2 = absurd run
+same_world_run old new old2 new2 (e ∷ events) [] replies2 same run run2 fine fine2 = absurd run
+same_world_run old new old2 new2 (e ∷ events) (r ∷ replies) [] same run run2 fine fine2 = absurd run2
+same_world_run old new old2 new2 (e ∷ events) (r ∷ replies) (s ∷ replies2) same run run2 fine fine2 =
+    let step = same_step old run.0 run2.0 e r s run.1 (subst (λ w. Steps w e s run2.0) (sym same) run2.1) fine.0 fine2.0 in
+    same_world_run run.0 new run2.0 new2 events replies replies2 step.1 run.2 run2.2 fine.1 fine2.1
+
+-- with the same replies, where they are settled
+settled_front : (b : Bool) (reply reply2 : Reply) (replies replies2 : List Reply) → (b ≡ true → reply ≡ reply2) → replies ≡ replies2 → cond b (reply ∷ replies) replies ≡ cond b (reply2 ∷ replies2) replies2
+settled_front true reply reply2 replies replies2 one rest = ap₂ (λ (head : Reply) (tail : List Reply). head ∷ tail) (one refl) rest
+settled_front false reply reply2 replies replies2 one rest = rest
+
 pub same_run : (old new old2 new2 : World) (events : List Event) (replies replies2 : List Reply) → old ≡ old2 → Explains old events replies new → Explains old2 events replies2 new2 → AreFine replies → AreFine replies2
-    → (replies ≡ replies2) × (new ≡ new2)
-same_run old new old2 new2 [] [] [] same run run2 fine fine2 = (refl, run ∙ same ∙ sym run2)
+    → (settled events replies ≡ settled events replies2) × (AreSettled events → replies ≡ replies2)
+same_run old new old2 new2 [] [] [] same run run2 fine fine2 = (refl, λ are. refl)
 same_run old new old2 new2 [] [] (r ∷ replies2) same run run2 fine fine2 = absurd run2
 same_run old new old2 new2 [] (r ∷ replies) replies2 same run run2 fine fine2 = absurd run
 same_run old new old2 new2 (e ∷ events) [] replies2 same run run2 fine fine2 = absurd run
@@ -76,7 +96,7 @@ same_run old new old2 new2 (e ∷ events) (r ∷ replies) [] same run run2 fine 
 same_run old new old2 new2 (e ∷ events) (r ∷ replies) (s ∷ replies2) same run run2 fine fine2 =
     let step = same_step old run.0 run2.0 e r s run.1 (subst (λ w. Steps w e s run2.0) (sym same) run2.1) fine.0 fine2.0 in
     let rest = same_run run.0 new run2.0 new2 events replies replies2 step.1 run.2 run2.2 fine.1 fine2.1 in
-    (ap₂ (λ (head : Reply) (tail : List Reply). head ∷ tail) step.0 rest.0, rest.1)
+    (settled_front (is_settled e) r s (settled events replies) (settled events replies2) step.0 rest.0, λ are. ap₂ (λ (head : Reply) (tail : List Reply). head ∷ tail) (step.0 are.0) (rest.1 are.1))
 
 -- two runs, one behind the other, are one
 pub run_joined : (old mid new : World) (events more : List Event) (replies others : List Reply) → Explains old events replies mid → Explains mid more others new → Explains old (events ++ more) (replies ++ others) new
@@ -152,12 +172,17 @@ streams_joined input more frames others ended one other = record {
 }
 
 pub served_again : (old new : HostState) (frames : List Frame) (replies : List Reply) (old2 new2 : HostState) (replies2 : List Reply) → IsAnswered old new frames replies → AreFine replies → IsAnswered old2 new2 frames replies2 → AreFine replies2
-    → Trusted old → Trusted old2 → world_of old ≡ world_of old2 → (replies ≡ replies2) × (world_of new ≡ world_of new2)
+    → Trusted old → Trusted old2 → world_of old ≡ world_of old2 → (settled (events_of frames) replies ≡ settled (events_of frames) replies2) × (AreSettled (events_of frames) → replies ≡ replies2)
 served_again old new frames replies old2 new2 replies2 one fine other fine2 trusted trusted2 same =
     same_run (world_of old) (world_of new) (world_of old2) (world_of new2) (events_of frames) replies replies2 same (one.explained trusted) (other.explained trusted2) fine fine2
+
+pub worlds_again : (old new : HostState) (frames : List Frame) (replies : List Reply) (old2 new2 : HostState) (replies2 : List Reply) → IsAnswered old new frames replies → AreFine replies → IsAnswered old2 new2 frames replies2 → AreFine replies2
+    → Trusted old → Trusted old2 → world_of old ≡ world_of old2 → world_of new ≡ world_of new2
+worlds_again old new frames replies old2 new2 replies2 one fine other fine2 trusted trusted2 same =
+    same_world_run (world_of old) (world_of new) (world_of old2) (world_of new2) (events_of frames) replies replies2 same (one.explained trusted) (other.explained trusted2) fine fine2
 
 pub kept_again : (old new : HostState) (frames : List Frame) (replies : List Reply) (old2 new2 : HostState) (replies2 : List Reply) → IsAnswered old new frames replies → IsAnswered old2 new2 (kept_of frames replies) replies2 → AreFine replies2
     → Trusted old → Trusted old2 → world_of old ≡ world_of old2 → world_of new ≡ world_of new2
 kept_again old new frames replies old2 new2 replies2 one other fine2 trusted trusted2 same =
-    (same_run (world_of old) (world_of new) (world_of old2) (world_of new2) (events_of (kept_of frames replies)) (replies_kept frames replies) replies2 same
-    (kept_run (world_of old) (world_of new) frames replies (one.explained trusted)) (other.explained trusted2) (fine_kept frames replies) fine2).1
+    same_world_run (world_of old) (world_of new) (world_of old2) (world_of new2) (events_of (kept_of frames replies)) (replies_kept frames replies) replies2 same
+    (kept_run (world_of old) (world_of new) frames replies (one.explained trusted)) (other.explained trusted2) (fine_kept frames replies) fine2

@@ -1,9 +1,12 @@
 -- Frames that are served again (own): no host fault answers them, and nothing is told to anyone.
-use Rattle.std.specs.Prelude.{◌≡◌, ℕ, false, IfSome, List, Option, length}
+use Rattle.std.specs.Prelude.{◌≡◌, ℕ, Bool, true, false, cond, IfSome, List, [], ◌∷◌, Option, length}
 use Rattle.std.specs.List.{AllByRecursion}
 use Rattle.fork_request.specs.Told.{is_host_fault}
+use Rattle.fork_request.specs.declared.host_request.HostRequest.{HostRequest}
+use Rattle.fork_request.specs.declared.host_request.HostRequest.TheVariants.{Sweep, Collect, Census, Bad}
 use Rattle.fork_request.specs.declared.reply.Reply.{Reply}
-use Rattle.fork_model.specs.World.{Steps}
+use Rattle.fork_model.specs.Runs.{Asks, HostAsks}
+use Rattle.fork_model.specs.World.{Event, Steps}
 use Rattle.fork_host.specs.Faults.{FaultsWithin}
 use Rattle.fork_host.specs.Shown.{HostState, Trusted, world_of}
 use Rattle.fork_frame.specs.Frame.{IsRequestStream}
@@ -14,6 +17,28 @@ use Rattle.fork_wire.specs.Sessions.{IsAnswered, event_of}
 -- no reply is a host fault
 abbrev pub AreFine : List Reply → Type 0
 AreFine replies = AllByRecursion (λ reply. is_host_fault reply ≡ false) replies
+
+-- whether the world settles what is told of a request of the host itself: the numbers that tell of its store it does not
+abbrev pub is_settled_host : HostRequest → Bool
+is_settled_host (Sweep most) = false
+is_settled_host Collect = false
+is_settled_host Census = false
+is_settled_host Bad = true
+
+-- the same of a step: what a tenant is told is always settled
+abbrev pub is_settled : Event → Bool
+is_settled (Asks tenant ask) = true
+is_settled (HostAsks request) = is_settled_host request
+
+-- the replies to steps, but those that tell of the store
+abbrev pub settled : List Event → List Reply → List Reply
+settled [] replies = []
+settled (event ∷ events) [] = []
+settled (event ∷ events) (reply ∷ replies) = cond (is_settled event) (reply ∷ settled events replies) (settled events replies)
+
+-- no step asks of the store
+abbrev pub AreSettled : List Event → Type 0
+AreSettled events = AllByRecursion (λ event. is_settled event ≡ true) events
 
 -- one frame was answered, and by no host fault
 pub record IsAnsweredAgain (old new : HostState) (frame : Frame) : Type 0 where

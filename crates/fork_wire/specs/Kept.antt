@@ -1,5 +1,5 @@
 -- What a journal keeps of a session (own): the frames that may have changed the host.
-use Rattle.std.specs.Prelude.{Bool, true, false, not, cond, ℕ, List, [], ◌∷◌, flat_map}
+use Rattle.std.specs.Prelude.{◌≡◌, Result, Ok, Err, Bool, true, false, not, cond, ℕ, List, [], ◌∷◌, flat_map}
 use Rattle.fork_request.specs.Asked.{Ask, EndsParts, AsksObject, AsksTree, AsksRevisions, AsksBases, AsksReferences, Fetches, AsksUse, NoRequest, asked}
 use Rattle.fork_request.specs.declared.reply.Reply.{Reply}
 use Rattle.fork_request.specs.declared.reply.Reply.TheVariants.{Done, Refused, Failed}
@@ -7,6 +7,8 @@ use Rattle.fork_frame.specs.Frame.{frame_bytes}
 use Rattle.fork_frame.specs.declared.asker.Asker.{Asker}
 use Rattle.fork_frame.specs.declared.asker.Asker.TheVariants.{Tenant, Host}
 use Rattle.fork_frame.specs.declared.frame.Frame.{Frame}
+use Rattle.fork_wire.specs.declared.fault.SessionFault.{SessionFault}
+use Rattle.fork_wire.specs.declared.fault.SessionFault.TheVariants.{Read, Write, Memory, Journal}
 
 -- a request that only asks: no answer to it changes the view
 abbrev pub only_asks : Ask → Bool
@@ -58,3 +60,11 @@ replies_kept (frame ∷ frames) (reply ∷ replies) = cond (is_kept frame reply)
 -- their bytes
 abbrev pub kept_bytes : List Frame → List Reply → List ℕ
 kept_bytes frames replies = flat_map frame_bytes (kept_of frames replies)
+
+-- what a session's end says of its journal: that a frame could not be kept, or that it is as whole as it was
+abbrev pub TellsCut : {A : Type 0} → Bool → Bool → Result A SessionFault → Type 0
+TellsCut before now (Ok ended) = now ≡ before
+TellsCut before now (Err Read) = now ≡ before
+TellsCut before now (Err Write) = now ≡ before
+TellsCut before now (Err Memory) = now ≡ before
+TellsCut before now (Err Journal) = now ≡ true

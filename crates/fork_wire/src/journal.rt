@@ -1,4 +1,4 @@
-ghost use Rattle.std.specs.Prelude.{◌≡◌, ℕ, List, Option, IfErr, IfOk, OnOk};
+ghost use Rattle.std.specs.Prelude.{◌≡◌, ℕ, Bool, true, false, List, Option, IfErr, IfOk, OnErr, OnOk};
 ghost use Rattle.std.specs.Io.KnownBytes.{Appends};
 ghost use Rattle.fork_frame.specs.Frame.{frame_bytes};
 
@@ -19,10 +19,15 @@ pub trait Journal {
     /// That a frame may fail to be kept.
     ghost can_fail: { Type 0 };
 
+    /// Whether a frame failed to be kept, so that the last one may be there in part.
+    ghost is_cut: { Self → Bool };
+
     /// Keeps a frame behind those that it has.
     fn keep(&mut self, frame: &Frame) -> Result<(), NotKept>
         ensures ok { OnOk result (Appends (kept self.old) (kept self.new) (frame_bytes frame.now)) }
-        ensures cause { IfErr result (λ _. can_fail) };
+        ensures cause { IfErr result (λ _. can_fail) }
+        ensures whole { OnOk result (is_cut self.new ≡ is_cut self.old) }
+        ensures cut { OnErr result (is_cut self.new ≡ true) };
 }
 
 /// A journal that keeps nothing.
@@ -30,11 +35,13 @@ pub trait Journal {
 pub struct NoJournal;
 
 impl Journal for NoJournal {
-    ghost use Rattle.std.specs.Prelude.{None};
+    ghost use Rattle.std.specs.Prelude.{None, false};
 
     ghost kept = { λ _. None };
 
     ghost can_fail = { ⊥ };
+
+    ghost is_cut = { λ _. false };
 
     fn keep(&mut self, _frame: &Frame) -> Result<(), NotKept> {
         Ok(())
@@ -48,6 +55,7 @@ pub struct Written<W> {
     // The frame that is being kept.
     frame: Vec<u8>,
     bytes: u64,
+    is_cut: bool,
 }
 
 // Room for the longest frame: its line, LF, and the payload.
@@ -56,13 +64,14 @@ const LONGEST_FRAME: usize = MAX_PAYLOAD + 41;
 impl<W: Write + Drop> Written<W> {
     /// A journal that writes behind what is there. It takes all its memory here.
     pub fn new(alloc: Global, writer: W) -> Result<Written<W>, AllocError>
-        ensures { IfOk result (λ journal. (journal.writer ≡ writer) × (journal.bytes ≡ 0)) }
+        ensures { IfOk result (λ journal. (journal.writer ≡ writer) × (journal.bytes ≡ 0) × (journal.is_cut ≡ false)) }
     {
         let frame = Vec::with_capacity(alloc, LONGEST_FRAME)?;
         Ok(Written {
             writer,
             frame,
             bytes: 0,
+            is_cut: false,
         })
     }
 }
@@ -81,12 +90,16 @@ impl<W: Write> Journal for Written<W> {
 
     ghost can_fail = { Unit {0} };
 
+    ghost is_cut = { λ journal. journal.is_cut };
+
     fn keep(&mut self, frame: &Frame) -> Result<(), NotKept> {
         self.frame.clear();
         let Ok(()) = write_frame(&mut self.frame, frame) else {
+            self.is_cut = true;
             return Err(NotKept);
         };
         let Ok(()) = self.writer.write_all(self.frame.as_slice()) else {
+            self.is_cut = true;
             return Err(NotKept);
         };
         self.bytes = self.bytes.saturating_add(self.frame.len() as u64);

@@ -1,5 +1,5 @@
 // Which frames a journal keeps.
-ghost use Rattle.std.specs.Prelude.{◌≡◌, IsTrue, false};
+ghost use Rattle.std.specs.Prelude.{◌≡◌, IsTrue, false, true};
 ghost use Rattle.std.specs.Io.KnownBytes.{Appends};
 ghost use Rattle.fork_request.specs.Asked.{asked};
 ghost use Rattle.fork_wire.specs.Kept.{ends_upload as may_end, is_kept, kept_one, leaves as is_left, only_asks as is_asking};
@@ -61,6 +61,8 @@ fn may_change(frame: &Frame, reply: &Reply) -> bool
 pub(crate) fn keep<J: Journal>(journal: &mut J, frame: &Frame, reply: &Reply) -> bool
     ensures kept { IsTrue result → Appends (J.kept journal.old) (J.kept journal.new) (kept_one frame.now reply.now) }
     ensures cause { result ≡ false → J.can_fail }
+    ensures whole { IsTrue result → J.is_cut journal.new ≡ J.is_cut journal.old }
+    ensures cut { result ≡ false → J.is_cut journal.new ≡ true }
 {
     if !may_change(frame, reply) {
         return true;

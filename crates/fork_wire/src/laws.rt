@@ -1,17 +1,19 @@
 ghost use Rattle.std.specs.Prelude.{◌≡◌, ◌≤◌, ◌++◌, None, Some, ℕ, List, length};
 ghost use Rattle.std.specs.FinMap.{get, insert};
 ghost use Rattle.push_stream.specs.declared.upload.TheConstants.{MAX_UPLOAD};
+ghost use Rattle.fork_model.specs.Sound.{IsOrderlyWorld};
 ghost use Rattle.fork_model.specs.View.{View};
 ghost use Rattle.fork_request.specs.declared.reply.Reply.{Reply};
 ghost use Rattle.fork_model.specs.World.{Agree, Explains, IsUnfaulted, World};
 ghost use Rattle.fork_host.specs.Shown.{HostState, Trusted, world_of};
+ghost use Rattle.fork_host.specs.Uploads.{closed_world, uploads_of};
 ghost use Rattle.fork_frame.specs.declared.frame.Frame.{Frame};
 ghost use Rattle.fork_frame.specs.Frame.{AreFrames, IsRequestStream};
 ghost use Rattle.fork_frame.specs.declared.ended.Ended.{Ended};
 ghost use Rattle.fork_frame.specs.declared.ended.Ended.TheVariants.{Clean};
-ghost use Rattle.fork_wire.specs.Again.{AreFine};
+ghost use Rattle.fork_wire.specs.Again.{AreFine, AreSettled, settled};
 ghost use Rattle.fork_wire.specs.Kept.{kept_bytes, kept_of};
-ghost use Rattle.fork_wire.specs.Reopening.{AreParts, with_upload};
+ghost use Rattle.fork_wire.specs.Reopening.{AreParts, Reopens, with_upload};
 ghost use Rattle.fork_wire.specs.Sessions.{IsAnswered, events_of, frames_of, sent_by, told_to};
 
 /// A law, and no work: where two hosts over trusted stores show a tenant alike, and it sends the same
@@ -36,11 +38,15 @@ pub fn two_sessions_agree()
 {}
 
 /// A law, and no work: frames that are served again, over trusted stores that show the same world and
-/// without host faults, get the same replies, and lead to the same world.
+/// without host faults, get the same replies, and lead to the same world; but for the numbers that tell
+/// the host itself of its store, of which the worlds say nothing.
 pub fn a_session_is_served_again()
     ensures replies { (old new : HostState) (frames : List Frame) (replies : List Reply) (old2 new2 : HostState) (replies2 : List Reply)
         → IsAnswered old new frames replies → AreFine replies → IsAnswered old2 new2 frames replies2 → AreFine replies2
-        → Trusted old → Trusted old2 → world_of old ≡ world_of old2 → replies ≡ replies2 }
+        → Trusted old → Trusted old2 → world_of old ≡ world_of old2 → settled (events_of frames) replies ≡ settled (events_of frames) replies2 }
+    ensures all { (old new : HostState) (frames : List Frame) (replies : List Reply) (old2 new2 : HostState) (replies2 : List Reply)
+        → IsAnswered old new frames replies → AreFine replies → IsAnswered old2 new2 frames replies2 → AreFine replies2
+        → Trusted old → Trusted old2 → world_of old ≡ world_of old2 → AreSettled (events_of frames) → replies ≡ replies2 }
     ensures worlds { (old new : HostState) (frames : List Frame) (replies : List Reply) (old2 new2 : HostState) (replies2 : List Reply)
         → IsAnswered old new frames replies → AreFine replies → IsAnswered old2 new2 frames replies2 → AreFine replies2
         → Trusted old → Trusted old2 → world_of old ≡ world_of old2 → world_of new ≡ world_of new2 }
@@ -72,4 +78,13 @@ pub fn parts_open_an_upload_again()
     ensures { (world : World) (tenant bytes : List ℕ) (view : View) (frames : List Frame)
         → get world tenant ≡ Some view → view.upload ≡ None → length bytes ≤ MAX_UPLOAD → AreParts tenant bytes frames
         → (replies : List Reply) × Explains world (events_of frames) replies (insert world tenant (with_upload view bytes)) × AreFine replies }
+{}
+
+/// A law, and no work: frames that open all uploads of a world again, served where none of them is open,
+/// lead to that world; and so does whatever serves them without a host fault over a trusted store.
+pub fn all_uploads_open_again()
+    ensures opened { (world : World) (frames : List Frame) → IsOrderlyWorld world → Reopens (uploads_of world) frames
+        → (replies : List Reply) × Explains (closed_world world) (events_of frames) replies world × AreFine replies }
+    ensures served { (world : World) (frames : List Frame) (old new : HostState) (replies : List Reply) → IsOrderlyWorld world → Reopens (uploads_of world) frames
+        → IsAnswered old new frames replies → AreFine replies → Trusted old → world_of old ≡ closed_world world → world_of new ≡ world }
 {}

@@ -15,8 +15,8 @@ pub use crate::again::{AgainFault, serve_again};
 pub use crate::fault::SessionFault;
 pub use crate::journal::{Journal, NoJournal, NotKept, Written};
 pub use crate::laws::{
-    a_session_in_two_halves_is_the_whole, a_session_is_served_again, parts_open_an_upload_again,
-    two_sessions_agree, what_is_kept_is_enough,
+    a_session_in_two_halves_is_the_whole, a_session_is_served_again, all_uploads_open_again,
+    parts_open_an_upload_again, two_sessions_agree, what_is_kept_is_enough,
 };
 pub use crate::session::{serve, serve_kept};
 pub use crate::uploads::write_uploads;

@@ -6,7 +6,7 @@ ghost use Rattle.fork_model.specs.World.{Steps};
 ghost use Rattle.fork_host.specs.Faults.{FaultsWithin};
 ghost use Rattle.fork_host.specs.Shown.{Trusted, world_of};
 ghost use Rattle.fork_frame.specs.Reply.{last_line, reply_frame};
-ghost use Rattle.fork_wire.specs.Kept.{kept_bytes, kept_one};
+ghost use Rattle.fork_wire.specs.Kept.{TellsCut, kept_bytes, kept_one};
 ghost use Rattle.fork_wire.specs.Sessions.{IsServed, IsStopped, event_of};
 
 use crate::fault::{SessionFault, of_frame, of_reply};
@@ -67,6 +67,9 @@ pub fn serve_kept<S: LooseFiles, J: Journal, R: Read, W: Write>(
     ensures kept_so_far { IfErr result (λ fault. fault ≢ SessionFault.Journal → (session : IsStopped host.old host.new
         (R.remaining reader.old) (W.contents writer.old) (W.contents writer.new) fault)
         × Appends (J.kept journal.old) (J.kept journal.new) (kept_bytes session.frames session.replies)) }
+
+    // Where a frame could not be kept, that is how the session ended, and else the journal is as whole as it was.
+    ensures cut { TellsCut (J.is_cut journal.old) (J.is_cut journal.new) result }
 {
     a_run_is_private();
     let _tenants = host.tenants();
@@ -116,6 +119,8 @@ fn answer_kept<S: LooseFiles, J: Journal>(
     ensures faults { FaultsWithin host.old (event_of frame) result.0 host.new }
     ensures kept { IsTrue result.1 → Appends (J.kept journal.old) (J.kept journal.new) (kept_one frame result.0) }
     ensures cause { result.1 ≡ false → J.can_fail }
+    ensures whole { IsTrue result.1 → J.is_cut journal.new ≡ J.is_cut journal.old }
+    ensures cut { result.1 ≡ false → J.is_cut journal.new ≡ true }
 {
     let reply = answer(host, alloc, &frame);
     let kept = keep(journal, &frame, &reply);

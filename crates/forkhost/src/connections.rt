@@ -1,4 +1,4 @@
-ghost use Rattle.std.specs.Prelude.{◌≡◌, ◌⊎◌, OnErr, OnOk, IfErr};
+ghost use Rattle.std.specs.Prelude.{◌≡◌, ◌⊎◌, OnErr, OnOk, IfErr, true};
 ghost use Rattle.forkhost.specs.Serving.{AreSomeVisits, AreVisits, IsLost, IsUnbound, IsVisit};
 
 use crate::fault::Fault;
@@ -27,6 +27,8 @@ fn visit<S: LooseFiles, J: Journal>(
 ) -> Result<(), Fault>
     ensures visited { IsVisit host.old host.new }
     ensures cause { IfErr result (λ fault. J.can_fail × (fault ≡ Fault.NotKept)) }
+    ensures whole { OnOk result (J.is_cut journal.new ≡ J.is_cut journal.old) }
+    ensures cut { OnErr result (J.is_cut journal.new ≡ true) }
 {
     let Ok(()) = stream.set_write_timeout(Some(Duration::from_secs(PATIENCE))) else {
         return Ok(());

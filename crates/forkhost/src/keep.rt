@@ -4,7 +4,8 @@ use crate::fault::Fault;
 use fork_host::Host;
 use fork_wire::{Written, write_uploads};
 use loose_store::{
-    LooseFiles, begin_journal, clear_journals, journal_name, settle_journal, write_state,
+    LooseFiles, begin_journal, clear_journals, empty_swept, has_swept, journal_name,
+    settle_journal, write_state,
 };
 use std::alloc::Global;
 use std::fs::{File, Files};
@@ -50,8 +51,9 @@ fn saved<H: Files<File = File> + AllocGlobal, S: LooseFiles>(
     let Ok(()) = write_state(rt, alloc, dir, state.as_slice()) else {
         return Err(Fault::NotSaved);
     };
-    // What is left of older ones does no harm, and goes at the next saving.
+    // What is left of older journals, and of what was swept, does no harm, and goes at the next saving.
     let _cleared = clear_journals(&rt, alloc, dir, name);
+    let _emptied = empty_swept(&rt, alloc, dir);
     Ok((file, uploads.saturating_add(state.len() as u64)))
 }
 
@@ -81,12 +83,13 @@ impl<'a, H: Files<File = File> + AllocGlobal> Keep<'a, H> {
         })
     }
 
-    /// Saves the host's state, where anything was done since it was saved last. After an `Err` nothing
-    /// more is to be kept.
+    /// Saves the host's state, where anything was done since it was saved last, and lets go of what was
+    /// swept. After an `Err` nothing more is to be kept.
     pub fn save<S: LooseFiles>(&mut self, alloc: Global, host: &Host<S>) -> Result<(), Fault>
         ensures { IfErr result (λ fault. fault ≡ Fault.NotSaved) }
     {
         if self.journal.bytes() == 0 {
+            let _emptied = empty_swept(&self.rt, alloc, self.dir);
             return Ok(());
         }
         match Keep::begin(self.rt, alloc, self.dir, host) {
@@ -98,14 +101,14 @@ impl<'a, H: Files<File = File> + AllocGlobal> Keep<'a, H> {
         }
     }
 
-    /// Saves the host's state, where the journal has grown longer than it and than a MiB. After an
-    /// `Err` nothing more is to be kept.
+    /// Saves the host's state, where the journal has grown longer than it and than a MiB, or where
+    /// anything was swept. After an `Err` nothing more is to be kept.
     pub fn settle<S: LooseFiles>(&mut self, alloc: Global, host: &Host<S>) -> Result<(), Fault>
         ensures { IfErr result (λ fault. fault ≡ Fault.NotSaved) }
     {
-        if self.journal.bytes() <= self.saved.max(SPARE) {
-            return Ok(());
+        if self.journal.bytes() > self.saved.max(SPARE) || has_swept(&self.rt, alloc, self.dir) {
+            return self.save(alloc, host);
         }
-        self.save(alloc, host)
+        Ok(())
     }
 }

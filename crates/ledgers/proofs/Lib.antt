@@ -2,6 +2,7 @@ pub mod CappedLemmas
 pub mod ChosenLemmas
 pub mod DueLemmas
 pub mod HolderLemmas
+pub mod SettleLemmas
 pub mod SumLemmas
 pub mod TenantEntries
 pub mod TotalLemmas

@@ -3,25 +3,12 @@ ghost use Rattle.std.specs.Prelude.{◌≡◌, ◌≤◌, ◌+◌, List, ℕ};
 ghost use Rattle.std.specs.BTreeSet.{contains};
 ghost use Rattle.git_name.specs.Name.{name_cmp};
 ghost use Rattle.catalogue.specs.Counted.{count_of, places_of};
-ghost use Rattle.ledgers.specs.Due.{due_in, leaves_discarded, leaves_kept};
+ghost use Rattle.ledgers.specs.Due.{due_in, leaves_kept};
 
 use crate::word::{Word, goes};
 use catalogue::Catalogue;
 use git_name::Name;
 use std::collections::{BTreeMap, BTreeSet};
-
-// Lowers the numbers of the names that leave as what is staged goes. It takes no memory.
-pub(crate) fn lower_unseen(words: &BTreeMap<Name, Word>, catalogue: &mut Catalogue)
-    requires { (q : List ℕ) → due_in leaves_discarded words.now.entries q ≤ count_of catalogue.old q }
-    ensures places { places_of catalogue.new ≡ places_of catalogue.old }
-    ensures counts { (q : List ℕ) → count_of catalogue.new q + due_in leaves_discarded words.now.entries q ≡ count_of catalogue.old q }
-{
-    for (name, word) in words.iter() {
-        if !word.is_visible() {
-            catalogue.lower(*name);
-        }
-    }
-}
 
 // Lowers the numbers of the names that leave as these alone are kept. It takes no memory.
 pub(crate) fn lower_left(

@@ -306,11 +306,10 @@ fn discard_counted(ledgers: &mut Ledgers, catalogue: &mut Catalogue, tenant: &Te
     ensures ledgers { ledgers.new ≡ at_ledger ledgers.old tenant.now discarded_words }
     ensures places { places_of catalogue.new ≡ places_of catalogue.old }
 {
-    let Some(own) = ledgers.get(tenant) else {
+    let Some(_) = ledgers.get(tenant) else {
         return;
     };
-    own.lower_staged(catalogue);
-    ledgers.discard(tenant);
+    ledgers.discard(tenant, catalogue);
 }
 
 // Of what is visible these names stay alone, and what leaves the ledger is counted no more.

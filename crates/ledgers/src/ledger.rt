@@ -7,26 +7,25 @@ ghost use Rattle.ledgers.specs.Due.{due_at, leaves_discarded, leaves_kept};
 ghost use Rattle.ledgers.specs.Totals.{capped, total_of, used_by};
 ghost use Rattle.ledgers.specs.Words.{discarded_words, is_visible, kept_words, published_words, staged_words, words_that};
 
-use crate::counting::{lower_left, lower_unseen};
-use crate::word::{Word, word_over};
-use crate::words::{keep_among, put, see_all, seen_names, size_of, unstage_all, uses};
+use crate::word::Word;
+use crate::word_map::WordMap;
+use crate::words::size_of;
 use catalogue::Catalogue;
 use git_name::{Kind, Name};
 use std::alloc::{AllocError, Global};
-use std::collections::{BTreeMap, BTreeSet};
+use std::collections::BTreeSet;
 use std::marker::Model;
 
 /// What is known of one tenant's objects without their bytes, and what they use, those that it sees
 /// and all of them.
 #[derive(Drop)]
 pub struct Ledger {
-    words: BTreeMap<Name, Word>,
+    words: WordMap,
     used: u128,
     total: u128,
 }
 
 impl Model for Ledger {
-    ghost use Rattle.std.specs.FinMap.{from_entries};
     ghost use Rattle.ledgers.specs.Totals.{IsTotalled};
     ghost use Rattle.ledgers.specs.Words.{Words, words_code};
 
@@ -34,9 +33,9 @@ impl Model for Ledger {
 
     ghost coded = { words_code };
 
-    ghost view = { λ a. from_entries a.words.entries };
+    ghost view = { λ a. a.words };
 
-    ghost invariant = { λ a. IsTotalled (from_entries a.words.entries) a.used a.total };
+    ghost invariant = { λ a. IsTotalled a.words a.used a.total };
 }
 
 impl Ledger {
@@ -45,7 +44,7 @@ impl Ledger {
         ensures { result ≡ map.empty }
     {
         Ledger {
-            words: BTreeMap::new(alloc),
+            words: WordMap::new(alloc),
             used: 0,
             total: 0,
         }
@@ -55,14 +54,14 @@ impl Ledger {
     pub fn get(&self, name: Name) -> Option<Word>
         ensures { result ≡ map.get self.now name }
     {
-        self.words.get(&name).copied()
+        self.words.get(name)
     }
 
     /// The names of what the tenant sees, ascending.
     pub fn names(&self, alloc: Global) -> Result<Vec<Name>, AllocError>
         ensures { IfOk result (λ names. names.items ≡ map.keys (words_that is_visible self.now)) }
     {
-        seen_names(alloc, &self.words)
+        self.words.names(alloc)
     }
 
     /// What the objects use that the tenant sees, in constant time.
@@ -85,8 +84,7 @@ impl Ledger {
         ensures err { OnErr result (self.new ≡ self.old) }
     {
         let before = self.get(name);
-        let word = word_over(kind, length, before);
-        let Ok(()) = put(&mut self.words, name, word) else {
+        let Ok(()) = self.words.stage(name, kind, length) else {
             return Err(AllocError);
         };
         if before.is_some() {
@@ -100,15 +98,18 @@ impl Ledger {
     pub fn publish(&mut self)
         ensures { self.new ≡ published_words self.old }
     {
-        see_all(&mut self.words);
+        self.words.publish();
         self.used = self.total;
     }
 
-    /// What is staged goes. It takes no memory.
-    pub fn discard(&mut self)
-        ensures { self.new ≡ discarded_words self.old }
+    /// What is staged goes, and the numbers of the names that leave are lowered. It takes no memory.
+    pub fn discard(&mut self, catalogue: &mut Catalogue)
+        requires { (q : List ℕ) → due_at leaves_discarded self.old q ≤ count_of catalogue.old q }
+        ensures words { self.new ≡ discarded_words self.old }
+        ensures places { places_of catalogue.new ≡ places_of catalogue.old }
+        ensures counts { (q : List ℕ) → count_of catalogue.new q + due_at leaves_discarded self.old q ≡ count_of catalogue.old q }
     {
-        unstage_all(&mut self.words);
+        self.words.discard(catalogue);
         self.total = self.used;
     }
 
@@ -116,20 +117,10 @@ impl Ledger {
     pub fn keep_only(&mut self, names: &BTreeSet<Name>)
         ensures { self.new ≡ kept_words (λ name. contains name_cmp names.now name) self.old }
     {
-        keep_among(&mut self.words, names);
-        let (used, total) = uses(&self.words);
+        self.words.keep_only(names);
+        let (used, total) = self.words.uses();
         self.used = used;
         self.total = total;
-    }
-
-    /// Lowers the numbers of the names that leave by `discard`. It takes no memory.
-    pub fn lower_staged(&self, catalogue: &mut Catalogue)
-        requires { (q : List ℕ) → due_at leaves_discarded self.now q ≤ count_of catalogue.old q }
-        ensures places { places_of catalogue.new ≡ places_of catalogue.old }
-        ensures counts { (q : List ℕ) → count_of catalogue.new q + due_at leaves_discarded self.now q ≡ count_of catalogue.old q }
-    {
-        let _count = self.words.len();
-        lower_unseen(&self.words, catalogue);
     }
 
     /// Lowers the numbers of the names that leave by `keep_only`. It takes no memory.
@@ -138,7 +129,6 @@ impl Ledger {
         ensures places { places_of catalogue.new ≡ places_of catalogue.old }
         ensures counts { (q : List ℕ) → count_of catalogue.new q + due_at (leaves_kept (contains name_cmp names.now)) self.now q ≡ count_of catalogue.old q }
     {
-        let _count = self.words.len();
-        lower_left(&self.words, names, catalogue);
+        self.words.lower_others(names, catalogue);
     }
 }

@@ -1,12 +1,15 @@
-ghost use Rattle.std.specs.Prelude.{◌≡◌, OnOk, OnErr};
+ghost use Rattle.std.specs.Prelude.{◌≡◌, ◌≤◌, ◌+◌, List, ℕ, OnOk, OnErr};
 ghost use Rattle.std.specs.BTreeSet.{contains};
 ghost use Rattle.std.specs.FinMap as map;
 ghost use Rattle.std.specs.Option.{option_copied};
 ghost use Rattle.git_name.specs.Name.{name_cmp};
-ghost use Rattle.ledgers.specs.Ledgers.{at_ledger, with_ledger};
+ghost use Rattle.catalogue.specs.Counted.{count_of, places_of};
+ghost use Rattle.ledgers.specs.Due.{due_at, leaves_discarded};
+ghost use Rattle.ledgers.specs.Ledgers.{at_ledger, ledger_at, with_ledger};
 ghost use Rattle.ledgers.specs.Words.{discarded_words, kept_words, published_words, staged_words};
 
 use crate::ledger::Ledger;
+use catalogue::Catalogue;
 use fork_request::TenantName;
 use git_name::{Kind, Name};
 use std::alloc::{AllocError, Global};
@@ -98,14 +101,18 @@ impl Ledgers {
         own.publish();
     }
 
-    /// What a tenant has staged goes. It takes no memory.
-    pub fn discard(&mut self, tenant: &TenantName)
-        ensures { self.new ≡ at_ledger self.old tenant.now discarded_words }
+    /// What a tenant has staged goes, and the numbers of the names that leave are lowered. It takes no
+    /// memory.
+    pub fn discard(&mut self, tenant: &TenantName, catalogue: &mut Catalogue)
+        requires { (q : List ℕ) → due_at leaves_discarded (ledger_at self.old tenant.now) q ≤ count_of catalogue.old q }
+        ensures words { self.new ≡ at_ledger self.old tenant.now discarded_words }
+        ensures places { places_of catalogue.new ≡ places_of catalogue.old }
+        ensures counts { (q : List ℕ) → count_of catalogue.new q + due_at leaves_discarded (ledger_at self.old tenant.now) q ≡ count_of catalogue.old q }
     {
         let Some(own) = self.tenants.get_mut(tenant) else {
             return;
         };
-        own.discard();
+        own.discard(catalogue);
     }
 
     /// Of what a tenant sees, keeps these names alone. It takes no memory.

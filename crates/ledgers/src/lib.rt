@@ -10,6 +10,7 @@ mod ledger;
 mod ledgers;
 mod usage;
 mod word;
+mod word_map;
 mod words;
 
 pub use crate::holdings::Holdings;

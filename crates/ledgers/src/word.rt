@@ -73,26 +73,11 @@ pub(crate) fn word_over(kind: Kind, length: u64, before: Option<Word>) -> Word
     }
 }
 
-// What is staged is seen. Answers that the word stays.
-pub(crate) fn see(word: &mut Word) -> bool
-    ensures { kept_as result word.new ≡ Some (seen_word word.old) }
+// What is staged is seen, and no more staged.
+pub(crate) fn see(word: &mut Word)
+    ensures { word.new ≡ seen_word word.old }
 {
     word.standing = Standing::Visible;
-    true
-}
-
-// What is staged is staged no more. Answers whether the word stays.
-pub(crate) fn unstage(word: &mut Word) -> bool
-    ensures { kept_as result word.new ≡ unstaged_word word.old }
-{
-    match word.standing {
-        Standing::Visible => true,
-        Standing::Staged => false,
-        Standing::Both => {
-            word.standing = Standing::Visible;
-            true
-        }
-    }
 }
 
 // What is seen goes, unless it is among what is kept. Answers whether the word stays.

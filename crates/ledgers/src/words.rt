@@ -1,51 +1,114 @@
-// Words by the names of their objects.
-ghost use Rattle.std.specs.Prelude.{◌≡◌, ◌+◌, OnOk, OnErr, IfOk, Some, sum_by};
+// Words by the names of their objects, in a tree.
+ghost use Rattle.std.specs.Prelude.{◌≡◌, ◌≤◌, ◌+◌, List, ℕ, OnOk, OnErr, IfOk, Some, None, true, false, sum_by};
 ghost use Rattle.std.specs.BTreeMap.{IsOrdered, IsUnchanged, Updates};
-ghost use Rattle.std.specs.BTreeSet.{contains};
+ghost use Rattle.std.specs.BTreeSet as set;
+ghost use Rattle.std.specs.FinMap.{from_entries, get};
 ghost use Rattle.std.specs.Map.{keys_of, values_of};
+ghost use Rattle.std.specs.Option.{option_map_or};
 ghost use Rattle.git_name.specs.Name.{name_cmp};
+ghost use Rattle.catalogue.specs.Counted.{count_of, places_of};
 ghost use Rattle.ledgers.specs.Chosen.{chosen_in};
+ghost use Rattle.ledgers.specs.Due.{due_at, leaves_discarded};
+ghost use Rattle.ledgers.specs.Settled.{AreStaged, Settles};
 ghost use Rattle.ledgers.specs.Totals.{capped, seen_use, use_of_word};
-ghost use Rattle.ledgers.specs.Words.{is_visible, kept_as, kept_word, seen_word, unstaged_word};
+ghost use Rattle.ledgers.specs.Words.{discarded_words, is_visible, kept_as, kept_word, published_words, seen_word, unstaged_word};
 
 use crate::usage::WORD_USE;
-use crate::word::{Word, keep, see, unstage};
+use crate::word::{Word, keep, see};
+use catalogue::Catalogue;
 use git_name::Name;
 use std::alloc::{AllocError, Global};
 use std::collections::{BTreeMap, BTreeSet};
 
-// Puts a word under its name.
-pub(crate) fn put(
+// The word of a name.
+pub(crate) fn word_at(words: &BTreeMap<Name, Word>, name: Name) -> Option<Word>
+    ensures { result ≡ get {R = name_cmp} (from_entries words.now.entries) name }
+{
+    words.get(&name).copied()
+}
+
+// Puts a word that is staged under its name, which is noted first.
+pub(crate) fn put_staged(
     words: &mut BTreeMap<Name, Word>,
+    staged: &mut BTreeSet<Name>,
     name: Name,
     word: Word,
 ) -> Result<(), AllocError>
+    requires fresh { set.contains name_cmp staged.old name ≡ false }
     ensures ok { OnOk result (Updates name_cmp words.old words.new name (Some word)) }
+    ensures noted { OnOk result (set.Updates name_cmp staged.old staged.new name true) }
     ensures err { OnErr result (IsUnchanged words.old words.new) }
+    ensures kept { OnErr result ((q : List ℕ) → set.contains name_cmp staged.new q ≡ set.contains name_cmp staged.old q) }
 {
-    words.insert(name, word)?;
+    let Ok(_) = staged.insert(name) else {
+        return Err(AllocError);
+    };
+    let Ok(_) = words.insert(name, word) else {
+        staged.remove(&name);
+        return Err(AllocError);
+    };
     Ok(())
 }
 
-// What is staged is seen, and no more staged. It takes no memory.
-pub(crate) fn see_all(words: &mut BTreeMap<Name, Word>)
-    ensures entries { words.new.entries ≡ chosen_in (λ _ word. Some (seen_word word)) words.old.entries }
-    ensures ordered { IsOrdered name_cmp words.old }
+// What is staged under a name is seen, and no more staged.
+fn see_one(words: &mut BTreeMap<Name, Word>, name: Name)
+    ensures { Settles (λ word. Some (seen_word word)) name (from_entries words.old.entries) (from_entries words.new.entries) }
 {
-    words.retain(|_, word| see(word));
+    let Some(word) = words.get_mut(&name) else {
+        return;
+    };
+    see(word);
 }
 
-// What is staged is staged no more. It takes no memory.
-pub(crate) fn unstage_all(words: &mut BTreeMap<Name, Word>)
-    ensures entries { words.new.entries ≡ chosen_in (λ _ word. unstaged_word word) words.old.entries }
-    ensures ordered { IsOrdered name_cmp words.old }
+// What is staged under a name is staged no more. Answers whether the word left.
+fn unstage_one(words: &mut BTreeMap<Name, Word>, name: Name) -> bool
+    ensures settles { Settles unstaged_word name (from_entries words.old.entries) (from_entries words.new.entries) }
+    ensures left { result ≡ option_map_or (leaves_discarded name) (get {R = name_cmp} (from_entries words.old.entries) name) false }
 {
-    words.retain(|_, word| unstage(word));
+    let Some(word) = word_at(words, name) else {
+        return false;
+    };
+    if word.is_visible() {
+        see_one(words, name);
+        return false;
+    }
+    words.remove(&name);
+    true
+}
+
+// What is staged, which are the words of these names, is seen, and no more staged. It takes no memory.
+pub(crate) fn see_all(words: &mut BTreeMap<Name, Word>, staged: &BTreeSet<Name>)
+    requires { AreStaged staged.now.keys (from_entries words.old.entries) }
+    ensures { from_entries words.new.entries ≡ published_words (from_entries words.old.entries) }
+{
+    for name in staged {
+        see_one(words, *name);
+    }
+}
+
+// What is staged, which are the words of these names, is staged no more, and the numbers of the names
+// that leave are lowered. It takes no memory.
+pub(crate) fn unstage_all(
+    words: &mut BTreeMap<Name, Word>,
+    staged: &BTreeSet<Name>,
+    catalogue: &mut Catalogue,
+)
+    requires staged { AreStaged staged.now.keys (from_entries words.old.entries) }
+    requires held { (q : List ℕ) → due_at leaves_discarded (from_entries words.old.entries) q ≤ count_of catalogue.old q }
+    ensures words { from_entries words.new.entries ≡ discarded_words (from_entries words.old.entries) }
+    ensures places { places_of catalogue.new ≡ places_of catalogue.old }
+    ensures counts { (q : List ℕ) → count_of catalogue.new q + due_at leaves_discarded (from_entries words.old.entries) q ≡ count_of catalogue.old q }
+{
+    for name in staged {
+        if unstage_one(words, *name) {
+            catalogue.lower(*name);
+        }
+    }
 }
 
 // Of what is seen these names alone stay so. It takes no memory.
 pub(crate) fn keep_among(words: &mut BTreeMap<Name, Word>, names: &BTreeSet<Name>)
-    ensures entries { words.new.entries ≡ chosen_in (λ name word. kept_word (contains name_cmp names.now name) word) words.old.entries }
+    ensures entries { words.new.entries ≡ chosen_in (λ name word. kept_word (set.contains name_cmp names.now name) word) words.old.entries }
     ensures ordered { IsOrdered name_cmp words.old }
 {
     words.retain(|name, word| keep(word, names.contains(name)));

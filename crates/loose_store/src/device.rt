@@ -35,6 +35,19 @@ pub(crate) fn found<T: Drop>(answer: io::Result<T>) -> io::Result<Option<T>>
     }
 }
 
+/// An entry of a folder, and none where its name is no text.
+pub(crate) fn readable<T: Drop>(entry: io::Result<T>) -> io::Result<Option<T>>
+    ensures { IfOk entry (λ entry. result ≡ Ok (Some entry)) }
+{
+    match entry {
+        Ok(entry) => Ok(Some(entry)),
+        Err(error) => match error.kind() {
+            ErrorKind::InvalidFilename => Ok(None),
+            _ => Err(error),
+        },
+    }
+}
+
 /// All bytes of a file. There is room for one more, so that its end is read with no growth.
 pub(crate) fn read_whole(rt: &impl Files, alloc: Global, path: &str) -> io::Result<Vec<u8>> {
     let mut file = fs::open(rt, path)?;

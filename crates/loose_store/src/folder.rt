@@ -8,6 +8,7 @@ use crate::files::{FileFault, LooseFiles};
 use crate::journal_file::JOURNALS;
 use crate::listing::list_all;
 use crate::place::{home_of, inside, path_of};
+use crate::swept::{put_all_back, sweep_at};
 use git_name::Name;
 use std::alloc::Global;
 use std::fs::{File, OpenOptions};
@@ -17,8 +18,10 @@ use std::{fs, io};
 
 /// Files in a folder of the file system: under `objects/`, two digits, `/`, 62 digits. An object's
 /// file is whole or not there, whenever the process is killed. It is not synced, so after a loss of
-/// power it may be lost or damaged. What a device holds is known to no contract, so this store claims
-/// no honesty: of its clauses the count of failures alone says something.
+/// power it may be lost or damaged. A file that is taken away is kept as `swept/` and 64 digits, and is
+/// back in its place when the folder is opened anew, unless it was let go (`empty_swept`). What a device
+/// holds is known to no contract, so this store claims no honesty: of its clauses the count of failures
+/// alone says something.
 #[derive(Drop)]
 pub struct Folder<R> {
     rt: R,
@@ -39,41 +42,47 @@ fn locked<R: Files<File = File>>(rt: &R, alloc: Global, folder: &str) -> io::Res
     Ok(lock)
 }
 
-fn sweep_one(rt: &impl Files, alloc: Global, folder: &str) -> io::Result<()> {
+fn clear_part(rt: &impl Files, alloc: Global, folder: &str) -> io::Result<()> {
     let part = inside(alloc, folder, PART)?;
     found(fs::remove_file(rt, part.as_str()))?;
     Ok(())
 }
 
 // Removes what a killed process was writing.
-fn sweep(rt: &impl Files, alloc: Global, folder: &str) -> io::Result<()> {
-    sweep_one(rt, alloc, folder)?;
+fn clear_parts(rt: &impl Files, alloc: Global, folder: &str) -> io::Result<()> {
+    clear_part(rt, alloc, folder)?;
     let journals = inside(alloc, folder, JOURNALS)?;
-    sweep_one(rt, alloc, journals.as_str())?;
+    clear_part(rt, alloc, journals.as_str())?;
     for first in 0..=u8::MAX {
         let first = [first];
         let home = home_of(alloc, folder, first.as_slice())?;
-        sweep_one(rt, alloc, home.as_str())?;
+        clear_part(rt, alloc, home.as_str())?;
     }
     Ok(())
 }
 
-// Makes a folder where it is not there, and takes it for this process.
-fn taken<R: Files<File = File>>(rt: &R, alloc: Global, folder: &str) -> io::Result<File> {
+// Makes a folder where it is not there, and takes it for this process. What was swept is back in it.
+fn taken<R: Files<File = File> + AllocGlobal + Clone + Drop>(
+    rt: &R,
+    alloc: Global,
+    folder: &str,
+) -> io::Result<File> {
     if folder.is_empty() {
         return Err(io::Error::from(ErrorKind::NotFound));
     }
     let objects = inside(alloc, folder, "objects")?;
     fs::create_dir_all(rt, objects.as_str())?;
     let lock = locked(rt, alloc, folder)?;
-    sweep(rt, alloc, folder)?;
+    clear_parts(rt, alloc, folder)?;
+    put_all_back(rt, alloc, folder)?;
     Ok(lock)
 }
 
-impl<R: Files<File = File> + Drop> Folder<R> {
+impl<R: Files<File = File> + AllocGlobal + Clone + Drop> Folder<R> {
     /// Opens the folder of this path, which is made with its parents where it is not there. While it
     /// is open no other process can open it: for that it is a fault of the device. A process that is
-    /// killed lets go of it; what it was writing is removed here.
+    /// killed lets go of it; what it was writing is removed here, and what was swept and not let go is
+    /// put back.
     pub fn open(rt: R, alloc: Global, path: &str) -> Result<Folder<R>, FileFault> {
         let text = String::from_str(alloc, path)?;
         let lock = told(taken(&rt, alloc, path))?;
@@ -125,12 +134,6 @@ fn write_at(
     write_in(rt, alloc, home.as_str(), path.as_str(), bytes)
 }
 
-fn remove_at(rt: &impl Files, alloc: Global, folder: &str, name: Name) -> io::Result<()> {
-    let path = path_of(alloc, folder, name)?;
-    found(fs::remove_file(rt, path.as_str()))?;
-    Ok(())
-}
-
 // The answer of the file system as the store's, and the count after it.
 fn answered<T: Drop>(failures: &mut u64, answer: io::Result<T>) -> Result<T, FileFault>
     ensures { Counts failures.old failures.new result }
@@ -159,7 +162,7 @@ impl<R: Files + AllocGlobal + Clone + Drop> LooseFiles for Folder<R> {
     }
 
     fn remove(&mut self, alloc: Global, name: Name) -> Result<(), FileFault> {
-        let answer = remove_at(&self.rt, alloc, self.path.as_str(), name);
+        let answer = sweep_at(&self.rt, alloc, self.path.as_str(), name);
         answered(&mut self.failures, answer)
     }
 

@@ -2,14 +2,13 @@ ghost use Rattle.std.specs.Prelude.{◌≡◌, IfOk, ◌∷◌, ◌++◌, codes,
 ghost use Rattle.hex.specs.Hex.{encode_lower};
 ghost use Rattle.sha2.specs.Sha256.{sha256};
 
-use crate::device::{PART, found, settle, told};
+use crate::device::{PART, found, readable, settle, told};
 use crate::files::FileFault;
 use crate::place::inside;
 use git_name::Name;
 use sha2::{Digest, Sha256};
 use std::alloc::{AllocError, Global};
 use std::fs::OpenFile;
-use std::io::ErrorKind;
 use std::rt::Files;
 use std::{fs, io};
 
@@ -74,15 +73,11 @@ fn clear_in<R: Files + AllocGlobal + Clone + Drop>(
     let home = inside(alloc, folder, JOURNALS)?;
     let digits = hex::encode(alloc, name.as_bytes().as_slice())?;
     for entry in fs::read_dir(rt, home.as_str())? {
-        match entry {
-            Ok(entry) => {
-                if entry.file_name() != digits.as_str() {
-                    let other = inside(alloc, home.as_str(), entry.file_name())?;
-                    fs::remove_file(rt, other.as_str())?;
-                }
+        if let Some(entry) = readable(entry)? {
+            if entry.file_name() != digits.as_str() {
+                let other = inside(alloc, home.as_str(), entry.file_name())?;
+                fs::remove_file(rt, other.as_str())?;
             }
-            Err(error) if error.kind() == ErrorKind::InvalidFilename => {}
-            Err(error) => return Err(error),
         }
     }
     Ok(())

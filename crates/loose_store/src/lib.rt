@@ -16,6 +16,7 @@ mod memory;
 mod place;
 mod state_file;
 mod stored;
+mod swept;
 #[cfg(test)]
 mod tests;
 
@@ -30,3 +31,4 @@ pub use crate::laws::one_object;
 pub use crate::memory::Memory;
 pub use crate::state_file::{read_state, write_state};
 pub use crate::stored::{content_of, file_of};
+pub use crate::swept::{empty_swept, has_swept};

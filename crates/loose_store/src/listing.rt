@@ -1,8 +1,7 @@
-use crate::device::found;
+use crate::device::{found, readable};
 use crate::place::{home_of, name_at};
 use git_name::Name;
 use std::alloc::Global;
-use std::io::ErrorKind;
 use std::rt::Files;
 use std::{fs, io};
 
@@ -21,14 +20,10 @@ fn list_home<R: Files + AllocGlobal + Clone + Drop>(
         return Ok(());
     };
     for entry in listing {
-        match entry {
-            Ok(entry) => {
-                if let Some(name) = name_at(front.as_bytes(), entry.file_name().as_bytes()) {
-                    names.push(name)?;
-                }
+        if let Some(entry) = readable(entry)? {
+            if let Some(name) = name_at(front.as_bytes(), entry.file_name().as_bytes()) {
+                names.push(name)?;
             }
-            Err(error) if error.kind() == ErrorKind::InvalidFilename => {}
-            Err(error) => return Err(error),
         }
     }
     Ok(())

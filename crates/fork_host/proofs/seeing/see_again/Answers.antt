@@ -1,6 +1,6 @@
 use Rattle.std.proofs.Common.{◌≡◌, ◌≤◌, ℕ, IsTrue, refl, ap, subst, sym, ◌∙◌, List}
 use Rattle.std.specs.BTreeMap.{is_at}
-use Rattle.std.specs.BTreeSet.{contains}
+use Rattle.std.specs.BTreeSet.{BTreeSet, contains}
 use Rattle.std.specs.List.{list_any}
 use Rattle.std.specs.FinMap as map
 use Rattle.git_name.specs.Name.{name_cmp}
@@ -10,10 +10,13 @@ use Rattle.fork_ledger.specs.Tenants.{at_tenant, private_of}
 use Rattle.fork_ledger.proofs.BothLemmas.{both_quiet}
 use Rattle.fork_host.specs.Handle.{both_by, visible_by}
 use Rattle.fork_host.specs.Own.{Changes, Settles, both_in, visible_in}
+use Rattle.fork_sound.specs.Reading.{AreReadings, ReadingMap}
+use Rattle.fork_host.specs.Read.{AreRead}
 use Rattle.fork_host.specs.Refilled.{SeesAgain, bad_in}
 use Rattle.fork_host.specs.Restored.{AreOnStore, first_astray}
 use Rattle.fork_host.specs.declared.own.Own.{Own}
-use Rattle.fork_host.proofs.OwnLemmas.{changes_none, changes_still, emptied, leaves_all, own_of, seen_itself}
+use Rattle.fork_host.proofs.OwnLemmas.{changes_none, emptied, leaves_all, own_of, seen_itself}
+use Rattle.fork_host.proofs.ReadingLemmas.{are_readings}
 use Rattle.fork_host.proofs.RestoreLemmas.{bad_by, closed_seen, named_came, on_store, right_seen, stands_against}
 use Rattle.fork_host.proofs.seeing.see_again.Goals as goal
 
@@ -34,6 +37,13 @@ seen_of first mid names none tenant told h =
 stored_of : {S : Type 0} (first mid : Own S) (names : List (List ℕ)) (told : SeesAgain first.tenant.now names first.vault.now mid.vault.now) → IsTrue first.vault.now.honest → AreOnStore first.vault.now.files names (with_objects map.empty told.came)
 stored_of first mid names told h = on_store first.vault.now.files names told.came told.among (told.whole h) (told.all h)
 
+-- and is what was read
+read_of : {S : Type 0} (first mid : Own S) (names : List (List ℕ)) (set : BTreeSet (List ℕ)) (readings : ReadingMap) → private_of first.vault.now.tenants first.tenant.now ≡ nothing → mid.tenant ≡ first.tenant → (told : SeesAgain first.tenant.now names first.vault.now mid.vault.now)
+    → set.keys ≡ names → AreRead first.vault.now.honest first.vault.now.files names readings → IsTrue first.vault.now.honest → AreReadings readings (contains name_cmp set) (visible_by mid)
+read_of first mid names set readings none tenant told are read h =
+    subst (AreReadings readings (contains name_cmp set)) (sym (seen_of first mid names none tenant told h))
+    (are_readings first.vault.now.honest first.vault.now.files names readings (with_objects map.empty told.came) set are h read (stored_of first mid names told h))
+
 pub returns-in_default-clause-err : goal.returns-in_default-clause-err
 returns-in_default-clause-err g c =
     let first = c.args.own.now in
@@ -44,18 +54,16 @@ pub returns-in-Ok-judge_seen-clause-ok : goal.returns-in-Ok-judge_seen-clause-ok
 returns-in-Ok-judge_seen-clause-ok g c =
     let first = c.args.own.now in
     let mid = c.recall_all.new.own in
-    let new = c.judge_seen.new.own in
     let t = first.tenant.now in
     let names = c.args.seen.now in
     let set = c.in-Ok.names in
     let told = c.in-Ok-recall_all.ensures.ok in
     let judged = c.in-Ok-judge_seen.ensures in
     let objects = with_objects map.empty told.came in
-    let changes = changes_still (Settles t objects) first.vault.now mid.vault.now new.vault.now judged.shape judged.kept judged.honest (came_of first mid names c.requires.nothing told) in
-    let tenant = c.in-Ok-recall_all.ensures.same.tenant in
-    let last = judged.same.tenant ∙ tenant in
+    let changes = came_of first mid names c.requires.nothing told in
+    let tenant = c.recall_all.ensures.same.tenant in
     let stored = stored_of first mid names told in
-    let none = λ (h : IsTrue first.vault.now.honest). sym (bad_by set names objects c.in-Ok.ensures) ∙ ap (bad_in set) (sym (seen_of first mid names c.requires.nothing tenant told h)) ∙ judged.sound (told.changes.honest ∙ h) in
+    let none = λ (h : IsTrue first.vault.now.honest). sym (bad_by set names objects c.in-Ok.ensures) ∙ ap (bad_in set) (sym (seen_of first mid names c.requires.nothing tenant told h)) ∙ judged.sound (read_of first mid names set c.args.readings.now c.requires.nothing tenant told c.in-Ok.ensures c.requires.read h) in
     record {
       objects = objects;
       changes = changes;
@@ -63,8 +71,8 @@ returns-in-Ok-judge_seen-clause-ok g c =
       right = λ h. right_seen first.vault.now.files names objects (stored h).among (none h);
       closed = λ h. closed_seen first.vault.now.files names objects (stored h).among (none h);
       stored = λ h. record { objects = objects; stored = stored h; is = (refl, none h) };
-      targets = ap (λ r. first_astray c.args.repositories.now (visible_in new.vault.now r.now)) (sym last) ∙ judged.targets;
-      within = subst (λ o. use_of o ≤ c.args.limit) (ap (λ r. both_in new.vault.now r.now) last ∙ both_quiet (private_of new.vault.now.tenants t) (own_of first.vault.now new.vault.now t objects changes).quiet) judged.within;
+      targets = ap (λ r. first_astray c.args.repositories.now (visible_in mid.vault.now r.now)) (sym tenant) ∙ judged.targets;
+      within = subst (λ o. use_of o ≤ c.args.limit) (ap (λ r. both_in mid.vault.now r.now) tenant ∙ both_quiet (private_of mid.vault.now.tenants t) (own_of first.vault.now mid.vault.now t objects changes).quiet) judged.within;
     }
 
 pub returns-clause-against : goal.returns-clause-against
@@ -75,24 +83,20 @@ returns-clause-against g c = λ h.
     let names = c.args.seen.now in
     let told = c.in-Ok-recall_all.ensures.ok in
     let objects = with_objects map.empty told.came in
-    let tenant = c.in-Ok-recall_all.ensures.same.tenant in
+    let tenant = c.recall_all.ensures.same.tenant in
     let came = came_of first mid names c.requires.nothing told in
     let seen = seen_of first mid names c.requires.nothing tenant told h in
     let quiet = ap (λ r. both_in mid.vault.now r.now) tenant ∙ both_quiet (private_of mid.vault.now.tenants t) (own_of first.vault.now mid.vault.now t objects came).quiet in
     let all = quiet ∙ seen_itself first.vault.now mid.vault.now t objects came h in
     stands_against first.vault.now.files names c.in-Ok.names c.args.repositories.now c.args.limit (visible_by mid) (both_by mid) objects c.in-Ok.ensures seen all (stored_of first mid names told h) c.in-Err-judge_seen.against
-    (c.in-Err-judge_seen.ensures.against (told.changes.honest ∙ h))
+    (c.in-Err-judge_seen.ensures.against (read_of first mid names c.in-Ok.names c.args.readings.now c.requires.nothing tenant told c.in-Ok.ensures c.requires.read h))
 
 pub returns-clause-err : goal.returns-clause-err
 returns-clause-err g c =
     let first = c.args.own.now in
     let mid = c.recall_all.new.own in
-    let new = c.judge_seen.new.own in
     let t = first.tenant.now in
     let told = c.in-Ok-recall_all.ensures.ok in
-    let judged = c.in-Err-judge_seen.ensures in
-    let changes = changes_still (Settles t (with_objects (both_in first.vault.now t) told.came)) first.vault.now mid.vault.now new.vault.now judged.shape judged.kept judged.honest told.changes in
-    let last = judged.same.tenant ∙ c.in-Ok-recall_all.ensures.same.tenant in
     let names = contains name_cmp c.new.result in
-    emptied first.vault.now new.vault.now c.keep_only.new.self.vault.now t (with_objects (both_in first.vault.now t) told.came) names c.requires.there (λ name. ap (list_any (is_at (name_cmp name))) c.new.ensures.empty)
-    (c.keep_only.ensures.tenants ∙ ap (λ r. at_tenant new.vault.now.tenants r.now (with_kept names)) last) c.keep_only.ensures.store.honest changes
+    emptied first.vault.now mid.vault.now c.keep_only.new.self.vault.now t (with_objects (both_in first.vault.now t) told.came) names c.requires.there (λ name. ap (list_any (is_at (name_cmp name))) c.new.ensures.empty)
+    (c.keep_only.ensures.tenants ∙ ap (λ r. at_tenant mid.vault.now.tenants r.now (with_kept names)) c.recall_all.ensures.same.tenant) c.keep_only.ensures.store.honest told.changes

@@ -3,7 +3,7 @@ use Rattle.std.specs.FinMap as map
 use Rattle.catalogue.specs.Counted.{places_of}
 use Rattle.ledgers.specs.Holders.{holders_of, is_held_in}
 use Rattle.fork_ledger.proofs.CoverLemmas.{covers_failed, covers_left, exact_left, false_is_true, removed_none}
-use Rattle.fork_ledger.proofs.KeepingLemmas.{keeps_but}
+use Rattle.fork_ledger.proofs.KeepingLemmas.{away_one, keeps_but}
 use Rattle.fork_ledger.proofs.LookLemmas.{fewer_names, look_leaves, not_held}
 use Rattle.fork_ledger.proofs.looking.take_away.Goals as goal
 
@@ -18,32 +18,35 @@ returns-in-Ok-clause-count g c =
 
 pub returns-in-Ok-clause-keeps : goal.returns-in-Ok-clause-keeps
 returns-in-Ok-clause-keeps g c = λ h.
-    keeps_but c.args.holdings.now.ledgers c.args.name (g.S.LooseFiles.contents c.args.files.now) (g.S.LooseFiles.contents c.remove.new.self) false
+    keeps_but c.args.holdings.now.ledgers c.args.name c.args.files.now.contents c.remove.new.self.contents false
     (not_held (holders_of c.args.holdings.now.ledgers c.args.name) c.requires.free) (c.remove.ensures.others h) (false_is_true _)
 
 pub returns-in-Err-Device-clause-keeps : goal.returns-in-Err-Device-clause-keeps
 returns-in-Err-Device-clause-keeps g c = λ h.
-    keeps_but c.args.holdings.now.ledgers c.args.name (g.S.LooseFiles.contents c.args.files.now) (g.S.LooseFiles.contents c.remove.new.self) false
+    keeps_but c.args.holdings.now.ledgers c.args.name c.args.files.now.contents c.remove.new.self.contents false
     (not_held (holders_of c.args.holdings.now.ledgers c.args.name) c.requires.free) (c.remove.ensures.others h) (false_is_true _)
 
 pub returns-in-Err-Memory-clause-keeps : goal.returns-in-Err-Memory-clause-keeps
 returns-in-Err-Memory-clause-keeps g c = λ h.
-    keeps_but c.args.holdings.now.ledgers c.args.name (g.S.LooseFiles.contents c.args.files.now) (g.S.LooseFiles.contents c.remove.new.self) false
+    keeps_but c.args.holdings.now.ledgers c.args.name c.args.files.now.contents c.remove.new.self.contents false
     (not_held (holders_of c.args.holdings.now.ledgers c.args.name) c.requires.free) (c.remove.ensures.others h) (false_is_true _)
 
 pub returns-in-Ok-clause-covers : goal.returns-in-Ok-clause-covers
 returns-in-Ok-clause-covers g c = λ h cover.
-    covers_left (g.S.LooseFiles.contents c.args.files.now) (g.S.LooseFiles.contents c.remove.new.self) (places_of c.args.holdings.now.catalogue) (places_of c.leave.new.self.catalogue) c.args.name cover c.leave.ensures.listed
-    (c.remove.ensures.others h) (ap (λ m. map.get m c.args.name) (c.in-Ok.ensures.ok h) ∙ removed_none (g.S.LooseFiles.contents c.args.files.now) c.args.name)
+    covers_left c.args.files.now.contents c.remove.new.self.contents (places_of c.args.holdings.now.catalogue) (places_of c.leave.new.self.catalogue) c.args.name cover c.leave.ensures.listed
+    (c.remove.ensures.others h) (ap (λ m. map.get m c.args.name) (c.in-Ok.ensures.ok h) ∙ removed_none c.args.files.now.contents c.args.name)
 
 pub returns-in-Err-Device-clause-covers : goal.returns-in-Err-Device-clause-covers
 returns-in-Err-Device-clause-covers g c = λ h cover.
-    covers_failed (g.S.LooseFiles.contents c.args.files.now) (g.S.LooseFiles.contents c.remove.new.self) (places_of c.args.holdings.now.catalogue) c.args.name cover c.requires.next (c.remove.ensures.others h)
+    covers_failed c.args.files.now.contents c.remove.new.self.contents (places_of c.args.holdings.now.catalogue) c.args.name cover c.requires.next (c.remove.ensures.others h)
 
 pub returns-in-Err-Memory-clause-covers : goal.returns-in-Err-Memory-clause-covers
 returns-in-Err-Memory-clause-covers g c = λ h cover.
-    covers_failed (g.S.LooseFiles.contents c.args.files.now) (g.S.LooseFiles.contents c.remove.new.self) (places_of c.args.holdings.now.catalogue) c.args.name cover c.requires.next (c.remove.ensures.others h)
+    covers_failed c.args.files.now.contents c.remove.new.self.contents (places_of c.args.holdings.now.catalogue) c.args.name cover c.requires.next (c.remove.ensures.others h)
 
 pub returns-in-Ok-clause-exact : goal.returns-in-Ok-clause-exact
 returns-in-Ok-clause-exact g c = λ h exact.
-    exact_left (g.S.LooseFiles.contents c.args.files.now) (g.S.LooseFiles.contents c.remove.new.self) (places_of c.args.holdings.now.catalogue) (places_of c.leave.new.self.catalogue) c.args.name c.leave.ensures.listed (c.remove.ensures.others h) exact
+    exact_left c.args.files.now.contents c.remove.new.self.contents (places_of c.args.holdings.now.catalogue) (places_of c.leave.new.self.catalogue) c.args.name c.leave.ensures.listed (c.remove.ensures.others h) exact
+
+pub returns-in-Ok-clause-away : goal.returns-in-Ok-clause-away
+returns-in-Ok-clause-away g c = λ h. away_one c.args.files.now.contents c.remove.new.self.contents c.args.name (c.in-Ok.ensures.ok h)

@@ -3,4 +3,4 @@ use Rattle.fork_ledger.proofs.staging.stage_whole.Goals as goal
 
 pub returns-in-Ok-stage-clause-alone : goal.returns-in-Ok-stage-clause-alone
 returns-in-Ok-stage-clause-alone g c = λ h.
-    stores_alone c.args.sealed (g.S.LooseFiles.contents c.args.files.now) (g.S.LooseFiles.contents c.arrive.new.files) (c.in-Ok-arrive.ensures.whole h) (c.in-Ok-arrive.ensures.others h)
+    stores_alone c.args.sealed c.args.files.now.contents c.arrive.new.files.contents (c.in-Ok-arrive.ensures.whole h) (c.in-Ok-arrive.ensures.others h)

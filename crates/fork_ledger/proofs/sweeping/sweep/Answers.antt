@@ -2,17 +2,17 @@ use Rattle.std.proofs.Common.{◌∙◌, subst, Some, arith}
 use Rattle.catalogue.specs.Counted.{places_of}
 use Rattle.ledgers.specs.Holders.{is_held_in}
 use Rattle.fork_ledger.specs.Store.{CountsFault}
-use Rattle.fork_ledger.proofs.KeepingLemmas.{keeps_more}
+use Rattle.fork_ledger.proofs.KeepingLemmas.{away_more, keeps_more}
 use Rattle.fork_ledger.proofs.LookLemmas.{looks_more, one_most, same_look}
 use Rattle.fork_ledger.proofs.sweeping.sweep.Goals as goal
 
 pub returns-in-Err-clause-keeps : goal.returns-in-Err-clause-keeps
 returns-in-Err-clause-keeps g c = λ h.
-    keeps_more c.args.holdings.now.ledgers c.loop-done.holdings.ledgers (g.S.LooseFiles.contents c.args.files.now) (g.S.LooseFiles.contents c.loop-done.files) (g.S.LooseFiles.contents c.look_once.new.files)
+    keeps_more c.args.holdings.now.ledgers c.loop-done.holdings.ledgers c.args.files.now.contents c.loop-done.files.contents c.look_once.new.files.contents
     c.loop-done.invariant.ledgers (c.loop-done.invariant.keeps h) (c.look_once.ensures.keeps (c.loop-done.invariant.honest ∙ h))
 
 pub returns-in-Err-clause-cause : goal.returns-in-Err-clause-cause
-returns-in-Err-clause-cause g c = subst (λ n. CountsFault n (g.S.LooseFiles.failures c.look_once.new.files) (Some c.in-Err.fault)) c.loop-done.invariant.failures c.in-Err.ensures.cause
+returns-in-Err-clause-cause g c = subst (λ n. CountsFault n c.look_once.new.files.failures (Some c.in-Err.fault)) c.loop-done.invariant.failures c.in-Err.ensures.cause
 
 pub loop-done-preserved : goal.loop-done-preserved
 loop-done-preserved g c =
@@ -30,10 +30,11 @@ loop-done-preserved g c =
       even = omega (arith, e, one_most c.in-Ok.left c.number_of-count.result n);
       count = omega (arith, n, k, i);
       ledgers = c.look_once.ensures.ledgers ∙ c.loop-done.invariant.ledgers;
-      keeps = λ h. keeps_more c.args.holdings.now.ledgers c.loop-done.holdings.ledgers (g.S.LooseFiles.contents c.args.files.now) (g.S.LooseFiles.contents c.loop-done.files) (g.S.LooseFiles.contents c.look_once.new.files)
+      keeps = λ h. keeps_more c.args.holdings.now.ledgers c.loop-done.holdings.ledgers c.args.files.now.contents c.loop-done.files.contents c.look_once.new.files.contents
           c.loop-done.invariant.ledgers (c.loop-done.invariant.keeps h) (c.look_once.ensures.keeps (c.loop-done.invariant.honest ∙ h));
       covers = λ h cover. c.look_once.ensures.covers (c.loop-done.invariant.honest ∙ h) (c.loop-done.invariant.covers h cover);
       exact = λ h exact. c.in-Ok.ensures.exact (c.loop-done.invariant.honest ∙ h) (c.loop-done.invariant.exact h exact);
+      away = λ h. away_more c.args.files.now.contents c.loop-done.files.contents c.look_once.new.files.contents (c.loop-done.invariant.away h) (c.in-Ok.ensures.away (c.loop-done.invariant.honest ∙ h));
       honest = c.look_once.ensures.honest ∙ c.loop-done.invariant.honest;
       failures = c.in-Ok.ensures.cause ∙ c.loop-done.invariant.failures;
     }

@@ -1,3 +1,4 @@
+use Rattle.std.proofs.Common.{refl, ◌∙◌}
 use Rattle.fork_wire.proofs.Ending.{bad_end, clean_end, spent, unread, untold}
 use Rattle.fork_wire.proofs.Going.{going_more, not_yet, unsent, unsent_kept}
 use Rattle.fork_wire.proofs.session.serve_kept.Goals as goal
@@ -8,6 +9,7 @@ loop-init g c = record {
   orderly = c.tenants-tenants.ensures.orderly;
   right = c.tenants-tenants.ensures.right;
   going = not_yet _ _ _ _;
+  whole = refl;
 }
 
 pub loop-preserved : goal.loop-preserved
@@ -19,6 +21,7 @@ loop-preserved g c = record {
       let frame = rw c.in-Ok-Frame.field-0-is at c.in-Ok-Frame.ensures.next in
       going_more _ _ _ _ _ _ _ _ _ _ _ _ c.in-Ok-Frame.frame c.answer_kept-reply.result.0 c.loop.invariant.going frame.0 frame.1 c.loop.invariant.trusted c.answer_kept-reply.ensures.explained c.answer_kept-reply.ensures.faults c.in-Ok.ensures.ok
       (c.answer_kept-reply.ensures.kept c.in-Ok.ensures.kept);
+  whole = c.answer_kept-reply.ensures.whole c.in-Ok.ensures.kept ∙ c.loop.invariant.whole;
 }
 
 pub returns-in-Ok-End-clause-kept : goal.returns-in-Ok-End-clause-kept

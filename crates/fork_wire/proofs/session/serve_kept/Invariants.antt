@@ -1,3 +1,4 @@
+use Rattle.std.proofs.Common.{◌≡◌}
 use Rattle.fork_model.specs.Sound.{IsOrderlyWorld, IsRightWorld}
 use Rattle.fork_host.specs.Shown.{Trusted, world_of}
 use Rattle.fork_wire.proofs.Going.{Going}
@@ -10,4 +11,5 @@ invariant-loop g l = record {
   orderly : IsOrderlyWorld (world_of l.host);
   right : Trusted l.fn.host → IsRightWorld (world_of l.host);
   going : Going l.fn.host l.host (g.R.Read.remaining l.fn.reader) (g.R.Read.remaining l.reader) (g.W.Write.contents l.fn.writer) (g.W.Write.contents l.writer) (g.J.Journal.kept l.fn.journal) (g.J.Journal.kept l.journal);
+  whole : g.J.Journal.is_cut l.journal ≡ g.J.Journal.is_cut l.fn.journal;
 }

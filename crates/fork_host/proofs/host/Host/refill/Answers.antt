@@ -5,6 +5,7 @@ use Rattle.fork_ledger.proofs.BothLemmas.{none_of}
 use Rattle.fork_model.specs.Sound.{IsOrderly, IsRight}
 use Rattle.fork_host.specs.Adding.{new_view}
 use Rattle.fork_host.specs.Own.{Changes, Settles, staged_in, visible_in}
+use Rattle.fork_host.specs.Read.{AreRead}
 use Rattle.fork_host.specs.Refilled.{IsRefilled, IsRefilledIn}
 use Rattle.fork_host.specs.Shown.{Account, Accounts, HostState, seen_by, shown, state_of, world_of}
 use Rattle.fork_host.proofs.AddingLemmas.{orderly_new_view, right_new_view}
@@ -28,6 +29,11 @@ see_in-requires-clause-nothing g c =
     let visible = ap (visible_in c.self.inside.vault) c.name-name.ensures.name ∙ ap (λ v. v.objects) found.2 in
     let staged = ap (staged_in c.self.inside.vault) c.name-name.ensures.name ∙ c.self.invariant.staged t found.0 found.1 in
     λ i. record { visible = visible i; staged = staged i }
+
+pub see_in-requires-clause-read : goal.see_in-requires-clause-read
+see_in-requires-clause-read g c =
+    subst (λ names. AreRead c.self.inside.vault.honest c.self.inside.vault.files names c.args.readings.now) (sym c.seen.ensures)
+    (subst (λ (s : HostState). AreRead s.vault.honest s.vault.files c.args.state.now.seen c.args.readings.now) (sym c.self.view_is) c.requires.read)
 
 -- the account that it had
 account_of : (g : given.Over) (c : goal.After-settle g) → (account : Account) × (map.get c.self.inside.accounts c.args.state.now.name ≡ Some account) × (shown account c.self.inside.vault c.args.state.now.name ≡ new_view c.args.state.now.limit)

@@ -1,4 +1,5 @@
 use Rattle.std.proofs.Common.{◌≡◌, ◌<◌, ◌≤◌, ◌+◌, ◌++◌, ◌∷◌, [], ℕ, ap, subst, sym, ◌∙◌, arith, drop, get_or, length, take, map as mapped}
+use Rattle.std.specs.Prelude.{Contains}
 use Rattle.std.proofs.lemmas.List.{length-map, take_all}
 use Rattle.std.specs.FinMap as map
 use Rattle.loose_store.specs.Files.{Files}
@@ -11,18 +12,26 @@ use Rattle.fork_host.specs.Shown.{HostState}
 use Rattle.fork_host.specs.declared.later.Later.{Later}
 use Rattle.fork_host.proofs.GatherLemmas.{next_by, parts_at, taken_more}
 use Rattle.fork_host.proofs.KeepingLemmas.{room_for}
+use Rattle.fork_host.proofs.ReadingLemmas.{read_at}
 use Rattle.fork_host.proofs.RestoringLemmas.{Going, behind_is, going_more, going_none, len_keys, no_tenants, of_fault, shown_late, told_bad, told_late}
 use Rattle.fork_host.proofs.host.Host.restore.Goals as goal
 
 pub returns-in-Err-clause-refused : goal.returns-in-Err-clause-refused
 returns-in-Err-clause-refused g c = λ h. of_fault (g.S.LooseFiles.contents c.args.files) c.args.states c.of_open.result c.of_open.ensures
 
+pub returns-in-Err-new-clause-refused : goal.returns-in-Err-new-clause-refused
+returns-in-Err-new-clause-refused g c = λ h. of_fault (g.S.LooseFiles.contents c.args.files) c.args.states c.of_open-in-Err-new.result c.of_open-in-Err-new.ensures
+
 pub loop-state-init : goal.loop-state-init
-loop-state-init g c = record {
-  trusted = c.in-Ok.ensures.trusted;
-  going = λ h. going_none (g.S.LooseFiles.contents c.args.files) c.in-Ok.host c.in-Ok.ensures.empty (c.in-Ok.ensures.store.files h);
-  names = no_tenants c.in-Ok.host c.in-Ok.ensures.empty;
-}
+loop-state-init g c =
+    let read = c.read_states.ensures in
+    let told = c.in-Ok-new.ensures in
+    record {
+      trusted = λ h. told.trusted (read.honest ∙ h);
+      going = λ h. going_none (g.S.LooseFiles.contents c.args.files) c.in-Ok-new.host told.empty (told.store.files (read.honest ∙ h) ∙ read.kept h);
+      honest = told.store.honest ∙ read.honest;
+      names = no_tenants c.in-Ok-new.host told.empty;
+    }
 
 -- the state that comes next is one of those that are told
 inside : (items states : States) (i : ℕ) → items ≡ states → i < length items → i < length states
@@ -50,6 +59,18 @@ restore_tenant-judged-requires-clause-few g c =
     let counted = len_keys c.loop-state.host.accounts in
     let same_length = ap length c.loop-state.invariant.names ∙ length-map (take i states) (λ t. t.name) in
     omega (arith, room, counted, same_length)
+
+pub restore_tenant-judged-requires-clause-read : goal.restore_tenant-judged-requires-clause-read
+restore_tenant-judged-requires-clause-read g c =
+    let same = c.as_slice-state-items.ensures.tenants in
+    let i = c.loop-state.state-index in
+    let tenant = c.state-item.result in
+    let states = c.args.states in
+    let before = c.loop-state.invariant in
+    let host = c.loop-state.host in
+    read_at (g.S.LooseFiles.honest c.args.files) host.vault.honest (g.S.LooseFiles.contents c.args.files) host.vault.files tenant.seen c.in-Ok.readings before.honest (λ h. (before.going h).same)
+    (c.in-Ok.ensures.read tenant (subst (λ (ts : States). Contains ts tenant) (sym c.as_slice.ensures.tenants)
+    (i, inside c.as_slice-state-items.result.now states i same c.loop-state-test.true, sym (next c.as_slice-state-items.result.now states i tenant same c.state-item.is))))
 
 pub returns-in-Some-clause-refused : goal.returns-in-Some-clause-refused
 returns-in-Some-clause-refused g c = λ h.
@@ -92,6 +113,7 @@ loop-state-preserved g c =
           (going_more files (take i states) tenant old new c.loop-state.later result
           (subst (λ names. AreBefore names tenant.name) (sym before.names) (next_by (λ t. t.name) states i tenant c.as_slice-state-items.ensures.sound.ordered lt is))
           c.name.ensures.sound.seen_ordered (judged.files (before.trusted h)) (judged.judged (before.trusted h)) none (before.going h)));
+      honest = judged.honest ∙ before.honest;
       names = behind_is tenant.name (map.keys old.accounts) (map.keys new.accounts) result none judged.behind
           ∙ ap (λ names. names ++ tenant.name ∷ []) before.names ∙ sym (map_behind (λ t. t.name) (take i states) tenant) ∙ ap (mapped (λ t. t.name)) (sym more);
     }

@@ -6,6 +6,7 @@ use Rattle.fork_host.specs.Adding.{new_view}
 use Rattle.fork_host.specs.Refilled.{IsJudged}
 use Rattle.fork_host.specs.Shown.{world_of}
 use Rattle.fork_host.proofs.AddingLemmas.{not_refused}
+use Rattle.fork_host.proofs.ReadingLemmas.{read_at}
 use Rattle.fork_host.proofs.RefillLemmas.{added_there}
 use Rattle.fork_host.proofs.RestoringLemmas.{absent_behind, is_behind, judged_more, keys_more, keys_world}
 use Rattle.fork_host.proofs.WorldLemmas.{known_world, len_world}
@@ -21,10 +22,14 @@ add_behind-requires g c =
     not_refused (world_of state) c.copy.result c.limit.result absent few low
 
 pub refill-requires : goal.refill-requires
-refill-requires g c = record {
-  fresh = added_there (world_of c.args.self.now) (world_of c.add_behind.new.self) c.args.state.now.name c.copy.result (new_view c.limit.result) (c.copy.ensures ∙ c.name.ensures.name) c.in-Ok.ensures.ok
-      ∙ ap (λ limit. Some (new_view limit)) c.limit.ensures;
-}
+refill-requires g c =
+    let old = c.args.self.now in
+    let mid = c.add_behind.new.self in
+    record {
+      fresh = added_there (world_of c.args.self.now) (world_of c.add_behind.new.self) c.args.state.now.name c.copy.result (new_view c.limit.result) (c.copy.ensures ∙ c.name.ensures.name) c.in-Ok.ensures.ok
+          ∙ ap (λ limit. Some (new_view limit)) c.limit.ensures;
+      read = read_at old.vault.honest mid.vault.honest old.vault.files mid.vault.files c.args.state.now.seen c.args.readings.now c.in-Ok.ensures.store.honest (λ h. c.in-Ok.ensures.store.files) c.requires.read;
+    }
 
 pub returns-clause-judged : goal.returns-clause-judged
 returns-clause-judged g c = λ trusted.

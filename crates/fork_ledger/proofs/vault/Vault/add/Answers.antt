@@ -11,7 +11,7 @@ use Rattle.fork_ledger.proofs.vault.Vault.add.Goals as goal
 
 pub invariant_of-self : goal.invariant_of-self
 invariant_of-self g c = λ h.
-    let files = g.S.LooseFiles.contents c.self.inside.files in
+    let files = c.self.inside.files.contents in
     let kept = c.self.invariant h in
     record {
       stored = whichever (IsStored (tenants_of files c.add.new.self.ledgers) files) c.add.result c.add.ensures.ok c.add.ensures.err
@@ -22,5 +22,5 @@ invariant_of-self g c = λ h.
 
 pub returns-clause-ok : goal.returns-clause-ok
 returns-clause-ok g c =
-    let files = g.S.LooseFiles.contents c.self.inside.files in
+    let files = c.self.inside.files.contents in
     on_ok_weaker c.add.result (λ is. ap (tenants_of files) is ∙ added_shown files c.self.inside.holdings.ledgers c.args.tenant ∙ ap (λ s. with_tenant s.tenants c.args.tenant) c.self.view_is) c.add.ensures.ok

@@ -6,6 +6,7 @@ use Rattle.looks.specs.Places.{at_start}
 use Rattle.looks.specs.Slices.{Collects}
 use Rattle.catalogue.specs.Counted.{places_of}
 use Rattle.ledgers.specs.Holders.{is_held_in}
+use Rattle.fork_ledger.specs.Kept.{TakesAway}
 use Rattle.fork_ledger.specs.Shown.{tenants_of}
 use Rattle.fork_ledger.specs.Taken.{is_taken}
 use Rattle.fork_ledger.specs.Tenants.{VaultState, shape_of}
@@ -18,19 +19,19 @@ use Rattle.fork_ledger.proofs.vault.Vault.collect.Goals as goal
 pub invariant_of-self : goal.invariant_of-self
 invariant_of-self g c = λ h.
     let was = sym c.collect.ensures.honest ∙ h in
-    kept_after (g.S.LooseFiles.contents c.self.inside.files) (g.S.LooseFiles.contents c.collect.new.files) c.self.inside.holdings.ledgers c.collect.new.holdings.ledgers (places_of c.self.inside.holdings.catalogue) (places_of c.collect.new.holdings.catalogue)
+    kept_after c.self.inside.files.contents c.collect.new.files.contents c.self.inside.holdings.ledgers c.collect.new.holdings.ledgers (places_of c.self.inside.holdings.catalogue) (places_of c.collect.new.holdings.catalogue)
     c.collect.ensures.ledgers (c.collect.ensures.keeps was) (c.collect.ensures.covers was) (c.self.invariant was)
 
 pub returns-clause-kept : goal.returns-clause-kept
 returns-clause-kept g c = λ h.
     let was = ap (λ s. s.honest) c.self.view_is ∙ h in
-    let new = g.S.LooseFiles.contents c.collect.new.files in
-    ap (tenants_of new) c.collect.ensures.ledgers ∙ tenants_keep c.self.inside.holdings.ledgers (g.S.LooseFiles.contents c.self.inside.files) new (c.collect.ensures.keeps was) ∙ ap (λ s. s.tenants) c.self.view_is
+    let new = c.collect.new.files.contents in
+    ap (tenants_of new) c.collect.ensures.ledgers ∙ tenants_keep c.self.inside.holdings.ledgers c.self.inside.files.contents new (c.collect.ensures.keeps was) ∙ ap (λ s. s.tenants) c.self.view_is
 
 pub returns-clause-stays : goal.returns-clause-stays
 returns-clause-stays g c = λ h q held.
     let was = ap (λ s. s.honest) c.self.view_is ∙ h in
-    let old = g.S.LooseFiles.contents c.self.inside.files in
+    let old = c.self.inside.files.contents in
     c.collect.ensures.keeps was q (sym (taken_shown old c.self.inside.holdings.ledgers q) ∙ ap (λ s. is_taken s.tenants q) c.self.view_is ∙ held) ∙ ap (λ s. map.get s.files q) c.self.view_is
 
 pub returns-clause-collects : goal.returns-clause-collects
@@ -39,7 +40,7 @@ returns-clause-collects g c =
     let last = places_of c.collect.new.holdings.catalogue in
     on_ok_weaker c.collect.result (λ looks.
     subst (λ (v : VaultState). Collects (is_taken v.tenants) v.places last) c.self.view_is
-    (subst (λ held. Collects held first last) (sym (same_tests (g.S.LooseFiles.contents c.self.inside.files) c.self.inside.holdings.ledgers)) looks)) c.collect.ensures.collects
+    (subst (λ held. Collects held first last) (sym (same_tests c.self.inside.files.contents c.self.inside.holdings.ledgers)) looks)) c.collect.ensures.collects
 
 pub returns-clause-fault : goal.returns-clause-fault
 returns-clause-fault g c =
@@ -47,12 +48,12 @@ returns-clause-fault g c =
     let last = places_of c.collect.new.holdings.catalogue in
     on_err_weaker c.collect.result (λ looks.
     subst (λ (v : VaultState). (n : ℕ) × Walks (is_taken v.tenants) n (at_start v.places) last) c.self.view_is
-    (subst (λ held. (n : ℕ) × Walks held n (at_start first) last) (sym (same_tests (g.S.LooseFiles.contents c.self.inside.files) c.self.inside.holdings.ledgers)) looks)) c.collect.ensures.fault
+    (subst (λ held. (n : ℕ) × Walks held n (at_start first) last) (sym (same_tests c.self.inside.files.contents c.self.inside.holdings.ledgers)) looks)) c.collect.ensures.fault
 
 pub returns-clause-shape : goal.returns-clause-shape
 returns-clause-shape g c =
-    let new = g.S.LooseFiles.contents c.collect.new.files in
-    ap (λ m. shape_of (tenants_of new m)) c.collect.ensures.ledgers ∙ shape_any (g.S.LooseFiles.contents c.self.inside.files) new c.self.inside.holdings.ledgers ∙ ap (λ s. shape_of s.tenants) c.self.view_is
+    let new = c.collect.new.files.contents in
+    ap (λ m. shape_of (tenants_of new m)) c.collect.ensures.ledgers ∙ shape_any c.self.inside.files.contents new c.self.inside.holdings.ledgers ∙ ap (λ s. shape_of s.tenants) c.self.view_is
 
 pub returns-clause-sharp : goal.returns-clause-sharp
 returns-clause-sharp g c = λ h.
@@ -60,9 +61,9 @@ returns-clause-sharp g c = λ h.
     let m = c.self.inside.holdings.ledgers in
     let first = places_of c.self.inside.holdings.catalogue in
     let last = places_of c.collect.new.holdings.catalogue in
-    let kept = kept_after (g.S.LooseFiles.contents c.self.inside.files) (g.S.LooseFiles.contents c.collect.new.files) m c.collect.new.holdings.ledgers first last
+    let kept = kept_after c.self.inside.files.contents c.collect.new.files.contents m c.collect.new.holdings.ledgers first last
     c.collect.ensures.ledgers (c.collect.ensures.keeps was) (c.collect.ensures.covers was) (c.self.invariant was) in
-    on_ok_weaker c.collect.result (λ round. sharp_files (g.S.LooseFiles.contents c.collect.new.files) c.collect.new.holdings.ledgers last kept
+    on_ok_weaker c.collect.result (λ round. sharp_files c.collect.new.files.contents c.collect.new.holdings.ledgers last kept
     (λ q listed. ap (λ x. is_held_in x q) c.collect.ensures.ledgers ∙ c.sharp_collection.ensures (is_held_in m) first last round q listed)) c.collect.ensures.collects
 
 pub returns-clause-exact : goal.returns-clause-exact
@@ -71,7 +72,12 @@ returns-clause-exact g c = λ h.
     let m = c.self.inside.holdings.ledgers in
     let first = places_of c.self.inside.holdings.catalogue in
     let last = places_of c.collect.new.holdings.catalogue in
-    let kept = kept_after (g.S.LooseFiles.contents c.self.inside.files) (g.S.LooseFiles.contents c.collect.new.files) m c.collect.new.holdings.ledgers first last
+    let kept = kept_after c.self.inside.files.contents c.collect.new.files.contents m c.collect.new.holdings.ledgers first last
     c.collect.ensures.ledgers (c.collect.ensures.keeps was) (c.collect.ensures.covers was) (c.self.invariant was) in
-    on_ok_weaker c.collect.result (λ round. exact_files (g.S.LooseFiles.contents c.collect.new.files) c.collect.new.holdings.ledgers last kept
+    on_ok_weaker c.collect.result (λ round. exact_files c.collect.new.files.contents c.collect.new.holdings.ledgers last kept
     (λ q listed. ap (λ x. is_held_in x q) c.collect.ensures.ledgers ∙ c.sharp_collection.ensures (is_held_in m) first last round q listed)) c.collect.ensures.collects
+
+pub returns-clause-away : goal.returns-clause-away
+returns-clause-away g c = λ h.
+    let was = ap (λ s. s.honest) c.self.view_is ∙ h in
+    on_ok_weaker c.collect.result (λ away. subst (λ (s : VaultState). TakesAway s.files c.collect.new.files.contents) c.self.view_is away) (c.collect.ensures.away was)

@@ -5,4 +5,4 @@ use Rattle.fork_ledger.proofs.vault.Vault.contains.Goals as goal
 
 pub returns : goal.returns
 returns g c =
-    c.contains.ensures ∙ sym (there_shown (g.S.LooseFiles.contents c.self.inside.files) c.self.inside.holdings.ledgers c.args.tenant.now) ∙ ap (λ s. map.contains_key s.tenants c.args.tenant.now) c.self.view_is
+    c.contains.ensures ∙ sym (there_shown c.self.inside.files.contents c.self.inside.holdings.ledgers c.args.tenant.now) ∙ ap (λ s. map.contains_key s.tenants c.args.tenant.now) c.self.view_is

@@ -12,7 +12,7 @@ use Rattle.fork_ledger.proofs.vault.Vault.discard.Goals as goal
 
 pub invariant_of-self : goal.invariant_of-self
 invariant_of-self g c = λ h.
-    let files = g.S.LooseFiles.contents c.self.inside.files in
+    let files = c.self.inside.files.contents in
     let kept = c.self.invariant h in
     let is = ap (tenants_of files) c.discard.ensures.ledgers ∙ changed_shown files c.self.inside.holdings.ledgers c.args.tenant.now discarded_words with_discarded (discarded_own files) in
     record {
@@ -22,6 +22,6 @@ invariant_of-self g c = λ h.
 
 pub returns-clause-tenants : goal.returns-clause-tenants
 returns-clause-tenants g c =
-    let files = g.S.LooseFiles.contents c.self.inside.files in
+    let files = c.self.inside.files.contents in
     ap (tenants_of files) c.discard.ensures.ledgers ∙ changed_shown files c.self.inside.holdings.ledgers c.args.tenant.now discarded_words with_discarded (discarded_own files)
     ∙ ap (λ s. at_tenant s.tenants c.args.tenant.now with_discarded) c.self.view_is

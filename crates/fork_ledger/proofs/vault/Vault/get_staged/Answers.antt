@@ -10,40 +10,40 @@ use Rattle.fork_ledger.proofs.vault.Vault.get_staged.Goals as goal
 
 pub returns-then-not-has_staged-clause-found : goal.returns-then-not-has_staged-clause-found
 returns-then-not-has_staged-clause-found g c = λ h.
-    unstaged (g.S.LooseFiles.contents c.self.inside.files) c.self.inside.holdings.ledgers c.args.tenant.now c.args.name (sym c.has_staged.ensures ∙ c.if-not-has_staged.true)
+    unstaged c.self.inside.files.contents c.self.inside.holdings.ledgers c.args.tenant.now c.args.name (sym c.has_staged.ensures ∙ c.if-not-has_staged.true)
     ∙ ap (λ s. map.get (private_of s.tenants c.args.tenant.now).staged c.args.name) c.self.view_is
 
 pub returns-then-not-has_staged-clause-there : goal.returns-then-not-has_staged-clause-there
 returns-then-not-has_staged-clause-there g c =
-    ap is_some (unstaged (g.S.LooseFiles.contents c.self.inside.files) c.self.inside.holdings.ledgers c.args.tenant.now c.args.name (sym c.has_staged.ensures ∙ c.if-not-has_staged.true))
+    ap is_some (unstaged c.self.inside.files.contents c.self.inside.holdings.ledgers c.args.tenant.now c.args.name (sym c.has_staged.ensures ∙ c.if-not-has_staged.true))
     ∙ ap (λ s. map.contains_key (private_of s.tenants c.args.tenant.now).staged c.args.name) c.self.view_is
 
 pub returns-clause-found : goal.returns-clause-found
 returns-clause-found g c = λ h.
     let was = ap (λ s. s.honest) c.self.view_is ∙ h in
-    let files = g.S.LooseFiles.contents c.self.inside.files in
+    let files = c.self.inside.files.contents in
     let stands = staged_whole files c.self.inside.holdings.ledgers c.args.tenant.now c.args.name (c.self.invariant was).stored (sym c.has_staged.ensures ∙ c.if-not-has_staged.false) in
     IfOk-weaker c.read_held.result _ _ (λ found read.
     read_is files c.args.name _ found stands read ∙ ap (λ s. map.get (private_of s.tenants c.args.tenant.now).staged c.args.name) c.self.view_is) (c.read_held.ensures.whole was)
 
 pub returns-clause-there : goal.returns-clause-there
 returns-clause-there g c =
-    let files = g.S.LooseFiles.contents c.self.inside.files in
+    let files = c.self.inside.files.contents in
     IfOk-weaker c.read_held.result _ _ (λ found there.
     there ∙ sym (staged_there files c.self.inside.holdings.ledgers c.args.tenant.now c.args.name ∙ sym c.has_staged.ensures ∙ c.if-not-has_staged.false)
     ∙ ap (λ s. map.contains_key (private_of s.tenants c.args.tenant.now).staged c.args.name) c.self.view_is) c.read_held.ensures.there
 
 pub returns-clause-shape : goal.returns-clause-shape
 returns-clause-shape g c =
-    shape_any (g.S.LooseFiles.contents c.self.inside.files) (g.S.LooseFiles.contents c.read_held.new.files) c.self.inside.holdings.ledgers ∙ ap (λ s. shape_of s.tenants) c.self.view_is
+    shape_any c.self.inside.files.contents c.read_held.new.files.contents c.self.inside.holdings.ledgers ∙ ap (λ s. shape_of s.tenants) c.self.view_is
 
 pub returns-clause-store : goal.returns-clause-store
 returns-clause-store g c = record {
   honest = c.read_held.ensures.honest ∙ ap (λ s. s.honest) c.self.view_is;
-  counted = subst (λ n. CountsFault n (g.S.LooseFiles.failures c.read_held.new.files) (fault_in c.read_held.result)) (ap (λ s. s.failures) c.self.view_is) c.read_held.ensures.cause;
+  counted = subst (λ n. CountsFault n c.read_held.new.files.failures (fault_in c.read_held.result)) (ap (λ s. s.failures) c.self.view_is) c.read_held.ensures.cause;
   undamaged = λ h.
       let was = ap (λ s. s.honest) c.self.view_is ∙ h in
-      let files = g.S.LooseFiles.contents c.self.inside.files in
+      let files = c.self.inside.files.contents in
       let stands = staged_whole files c.self.inside.holdings.ledgers c.args.tenant.now c.args.name (c.self.invariant was).stored (sym c.has_staged.ensures ∙ c.if-not-has_staged.false) in
       undamaged_in c.read_held.result (undamaged_whole c.read_held.result files c.args.name stands.0 stands.2 (c.read_held.ensures.damaged was));
 }

@@ -9,7 +9,7 @@ use Rattle.fork_ledger.proofs.vault.Vault.is_within.Goals as goal
 
 pub returns : goal.returns
 returns g c =
-    let files = g.S.LooseFiles.contents c.self.inside.files in
+    let files = c.self.inside.files.contents in
     c.is_within.ensures
     ∙ ap (λ n. nat_le n c.args.limit) (total_shown files (ledger_at c.self.inside.holdings.ledgers c.args.tenant.now) ∙ ap (λ own. use_of (both_of own)) (sym (private_shown files c.self.inside.holdings.ledgers c.args.tenant.now))
     ∙ ap (λ s. use_of (both_of (private_of s.tenants c.args.tenant.now))) c.self.view_is)

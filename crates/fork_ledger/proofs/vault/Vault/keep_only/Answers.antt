@@ -14,7 +14,7 @@ use Rattle.fork_ledger.proofs.vault.Vault.keep_only.Goals as goal
 
 pub invariant_of-self : goal.invariant_of-self
 invariant_of-self g c = λ h.
-    let files = g.S.LooseFiles.contents c.self.inside.files in
+    let files = c.self.inside.files.contents in
     let kept = c.self.invariant h in
     let is = ap (tenants_of files) c.keep_only.ensures.ledgers ∙ changed_shown files c.self.inside.holdings.ledgers c.args.tenant.now (kept_words (λ name. contains name_cmp c.args.names.now name)) (with_kept (λ name. contains name_cmp c.args.names.now name)) (kept_own (λ name. contains name_cmp c.args.names.now name) files) in
     record {
@@ -24,6 +24,6 @@ invariant_of-self g c = λ h.
 
 pub returns-clause-tenants : goal.returns-clause-tenants
 returns-clause-tenants g c =
-    let files = g.S.LooseFiles.contents c.self.inside.files in
+    let files = c.self.inside.files.contents in
     ap (tenants_of files) c.keep_only.ensures.ledgers ∙ changed_shown files c.self.inside.holdings.ledgers c.args.tenant.now (kept_words (λ name. contains name_cmp c.args.names.now name)) (with_kept (λ name. contains name_cmp c.args.names.now name)) (kept_own (λ name. contains name_cmp c.args.names.now name) files)
     ∙ ap (λ s. at_tenant s.tenants c.args.tenant.now (with_kept (λ name. contains name_cmp c.args.names.now name))) c.self.view_is

@@ -7,5 +7,5 @@ use Rattle.fork_ledger.proofs.vault.Vault.kind_of.Goals as goal
 
 pub returns : goal.returns
 returns g c =
-    c.held_of.ensures ∙ ap (option_map held_of_word) c.word.ensures ∙ sym (known_shown (g.S.LooseFiles.contents c.self.inside.files) c.self.inside.holdings.ledgers c.args.tenant.now c.args.name)
+    c.held_of.ensures ∙ ap (option_map held_of_word) c.word.ensures ∙ sym (known_shown c.self.inside.files.contents c.self.inside.holdings.ledgers c.args.tenant.now c.args.name)
     ∙ ap (λ s. held_in (private_of s.tenants c.args.tenant.now) c.args.name) c.self.view_is

@@ -1,35 +1,33 @@
-use Rattle.std.proofs.Common.{ap, sym, subst, ◌∙◌}
-use Rattle.std.proofs.lemmas.Result.{IfOk-weaker, on_err_weaker}
-use Rattle.catalogue.specs.Counted.{places_of}
-use Rattle.fork_ledger.specs.Kept.{Covers}
+use Rattle.std.proofs.Common.{sym, subst}
+use Rattle.std.proofs.lemmas.Result.{on_ok_weaker}
+use Rattle.fork_ledger.specs.Known.{IsKnown}
 use Rattle.fork_ledger.specs.Shown.{tenants_of}
 use Rattle.fork_ledger.specs.Store.{Recalls}
-use Rattle.fork_ledger.specs.Tenants.{VaultState, shape_of}
+use Rattle.fork_ledger.specs.Tenants.{VaultState}
 use Rattle.fork_ledger.proofs.RecallLemmas.{recalled_stored, recalled_tenants}
-use Rattle.fork_ledger.proofs.ShownShapes.{shape_any}
+use Rattle.fork_ledger.proofs.vault.Vault.recall.Given as given
 use Rattle.fork_ledger.proofs.vault.Vault.recall.Goals as goal
+
+-- what is known of the object
+known_of : (g : given.Over) (c : goal.After-recall g) → IsKnown c.self.inside.files.honest c.self.inside.files.contents c.args.name c.args.kind c.args.length
+known_of g c = subst (λ (s : VaultState). IsKnown s.honest s.files c.args.name c.args.kind c.args.length) (sym c.self.view_is) c.requires.known
 
 pub invariant_of-self : goal.invariant_of-self
 invariant_of-self g c = λ h.
-    let was = sym c.recall.ensures.honest ∙ h in
-    let old = g.S.LooseFiles.contents c.self.inside.files in
-    let new = g.S.LooseFiles.contents c.recall.new.files in
-    let kept = c.self.invariant was in
+    let files = c.self.inside.files.contents in
+    let kept = c.self.invariant h in
     record {
-      stored = recalled_stored c.recall.result c.args.tenant.now c.args.name old new c.self.inside.holdings.ledgers c.recall.new.holdings.ledgers (g.S.LooseFiles.honest c.self.inside.files) was (c.recall.ensures.kept was) c.recall.ensures.recalls c.recall.ensures.err kept.stored;
-      covers = subst (λ files. Covers files (places_of c.recall.new.holdings.catalogue)) (sym (c.recall.ensures.kept was)) (c.recall.ensures.covers was kept.covers);
+      stored = recalled_stored c.recall.result c.args.tenant.now c.args.name files c.self.inside.holdings.ledgers c.recall.new.holdings.ledgers c.self.inside.files.honest c.args.kind c.args.length (known_of g c) h c.recall.ensures.ok c.recall.ensures.err kept.stored;
+      covers = c.recall.ensures.covers files kept.covers;
     }
 
 pub returns-clause-recalls : goal.returns-clause-recalls
 returns-clause-recalls g c =
-    let old = g.S.LooseFiles.contents c.self.inside.files in
-    let new = g.S.LooseFiles.contents c.recall.new.files in
-    IfOk-weaker c.recall.result _ _ (λ recalled is.
-    subst (λ (s : VaultState). Recalls s.honest c.args.tenant.now c.args.name s.files s.tenants (tenants_of new c.recall.new.holdings.ledgers) recalled) c.self.view_is
-    (recalled_tenants recalled c.args.tenant.now c.args.name old new c.self.inside.holdings.ledgers c.recall.new.holdings.ledgers (g.S.LooseFiles.honest c.self.inside.files) c.recall.ensures.kept is)) c.recall.ensures.recalls
-
-pub returns-clause-kept : goal.returns-clause-kept
-returns-clause-kept g c =
-    let old = g.S.LooseFiles.contents c.self.inside.files in
-    let new = g.S.LooseFiles.contents c.recall.new.files in
-    on_err_weaker c.recall.result (λ same. ap (λ m. shape_of (tenants_of new m)) same ∙ shape_any old new c.self.inside.holdings.ledgers ∙ ap (λ s. shape_of s.tenants) c.self.view_is) c.recall.ensures.err
+    let files = c.self.inside.files.contents in
+    let honest = c.self.inside.files.honest in
+    let old = c.self.inside.holdings.ledgers in
+    let new = c.recall.new.holdings.ledgers in
+    let t = c.args.tenant.now in
+    on_ok_weaker c.recall.result (λ is.
+    subst (λ (s : VaultState). Recalls s.honest t c.args.name s.files s.tenants (tenants_of files new)) c.self.view_is
+    (recalled_tenants t c.args.name files old new honest c.args.kind c.args.length (known_of g c) is)) c.recall.ensures.ok

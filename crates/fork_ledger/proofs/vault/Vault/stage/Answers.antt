@@ -17,8 +17,8 @@ pub invariant_of-self : goal.invariant_of-self
 invariant_of-self g c = λ h.
     let was = sym c.stage_whole.ensures.honest ∙ h in
     let m = c.self.inside.holdings.ledgers in
-    let old = g.S.LooseFiles.contents c.self.inside.files in
-    let new = g.S.LooseFiles.contents c.stage_whole.new.files in
+    let old = c.self.inside.files.contents in
+    let new = c.stage_whole.new.files.contents in
     let keeps = c.stage_whole.ensures.keeps was in
     let kept = c.self.invariant was in
     record {
@@ -31,8 +31,8 @@ invariant_of-self g c = λ h.
 pub returns-clause-ok : goal.returns-clause-ok
 returns-clause-ok g c = λ h.
     let was = ap (λ s. s.honest) c.self.view_is ∙ h in
-    let old = g.S.LooseFiles.contents c.self.inside.files in
-    let new = g.S.LooseFiles.contents c.stage_whole.new.files in
+    let old = c.self.inside.files.contents in
+    let new = c.stage_whole.new.files.contents in
     on_ok_weaker c.stage_whole.result (λ both.
     ap (tenants_of new) both.1 ∙ staged_tenants old new c.self.inside.holdings.ledgers c.args.tenant.now c.args.sealed (c.stage_whole.ensures.keeps was) both.0
     ∙ ap (λ s. at_tenant s.tenants c.args.tenant.now (with_staged c.args.sealed)) c.self.view_is)
@@ -41,9 +41,9 @@ returns-clause-ok g c = λ h.
 pub returns-clause-err : goal.returns-clause-err
 returns-clause-err g c = λ h.
     let was = ap (λ s. s.honest) c.self.view_is ∙ h in
-    let new = g.S.LooseFiles.contents c.stage_whole.new.files in
+    let new = c.stage_whole.new.files.contents in
     on_err_weaker c.stage_whole.result (λ same.
-    ap (tenants_of new) same ∙ tenants_keep c.self.inside.holdings.ledgers (g.S.LooseFiles.contents c.self.inside.files) new (c.stage_whole.ensures.keeps was) ∙ ap (λ s. s.tenants) c.self.view_is) c.stage_whole.ensures.err
+    ap (tenants_of new) same ∙ tenants_keep c.self.inside.holdings.ledgers c.self.inside.files.contents new (c.stage_whole.ensures.keeps was) ∙ ap (λ s. s.tenants) c.self.view_is) c.stage_whole.ensures.err
 
 pub returns-clause-exact : goal.returns-clause-exact
 returns-clause-exact g c = λ h.
@@ -52,23 +52,23 @@ returns-clause-exact g c = λ h.
 
 pub returns-clause-shape : goal.returns-clause-shape
 returns-clause-shape g c =
-    let old = g.S.LooseFiles.contents c.self.inside.files in
-    let new = g.S.LooseFiles.contents c.stage_whole.new.files in
+    let old = c.self.inside.files.contents in
+    let new = c.stage_whole.new.files.contents in
     on_ok_weaker c.stage_whole.result (λ is.
     ap (λ m. shape_of (tenants_of new m)) is ∙ staged_shape old new c.self.inside.holdings.ledgers c.args.tenant.now c.args.sealed
     ∙ ap (λ s. shape_of (at_tenant s.tenants c.args.tenant.now (with_staged c.args.sealed))) c.self.view_is) c.stage_whole.ensures.ok
 
 pub returns-clause-kept : goal.returns-clause-kept
 returns-clause-kept g c =
-    let old = g.S.LooseFiles.contents c.self.inside.files in
-    let new = g.S.LooseFiles.contents c.stage_whole.new.files in
+    let old = c.self.inside.files.contents in
+    let new = c.stage_whole.new.files.contents in
     on_err_weaker c.stage_whole.result (λ same. ap (λ m. shape_of (tenants_of new m)) same ∙ shape_any old new c.self.inside.holdings.ledgers ∙ ap (λ s. shape_of s.tenants) c.self.view_is) c.stage_whole.ensures.err
 
 pub returns-clause-store : goal.returns-clause-store
 returns-clause-store g c = record {
   honest = c.stage_whole.ensures.honest ∙ ap (λ s. s.honest) c.self.view_is;
-  counted = subst (λ n. CountsFault n (g.S.LooseFiles.failures c.stage_whole.new.files) (fault_in c.stage_whole.result)) (ap (λ s. s.failures) c.self.view_is) c.stage_whole.ensures.cause;
+  counted = subst (λ n. CountsFault n c.stage_whole.new.files.failures (fault_in c.stage_whole.result)) (ap (λ s. s.failures) c.self.view_is) c.stage_whole.ensures.cause;
   undamaged = λ h.
       let was = ap (λ s. s.honest) c.self.view_is ∙ h in
-      undamaged_in c.stage_whole.result (staged_undamaged c.stage_whole.result (g.S.LooseFiles.contents c.self.inside.files) c.self.inside.holdings.ledgers (object_name c.args.sealed) (c.self.invariant was).stored (c.stage_whole.ensures.damaged was));
+      undamaged_in c.stage_whole.result (staged_undamaged c.stage_whole.result c.self.inside.files.contents c.self.inside.holdings.ledgers (object_name c.args.sealed) (c.self.invariant was).stored (c.stage_whole.ensures.damaged was));
 }

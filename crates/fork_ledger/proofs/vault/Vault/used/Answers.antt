@@ -9,6 +9,6 @@ use Rattle.fork_ledger.proofs.vault.Vault.used.Goals as goal
 
 pub returns : goal.returns
 returns g c =
-    let files = g.S.LooseFiles.contents c.self.inside.files in
+    let files = c.self.inside.files.contents in
     c.used.ensures ∙ ap capped (used_shown files (ledger_at c.self.inside.holdings.ledgers c.args.tenant.now) ∙ ap (λ own. use_of own.visible) (sym (private_shown files c.self.inside.holdings.ledgers c.args.tenant.now))
     ∙ ap (λ s. use_of (private_of s.tenants c.args.tenant.now).visible) c.self.view_is)

@@ -1,23 +1,10 @@
 use Rattle.std.proofs.Common.{ap, sym, ◌∙◌}
-use Rattle.std.specs.FinMap as map
-use Rattle.git_name.specs.Name.{name_cmp}
-use Rattle.git_name.proofs.Names.{name_total}
 use Rattle.ledgers.specs.Totals.{capped, total_of, used_by}
-use Rattle.ledgers.specs.Words.{discarded_words, unstaged_word}
-use Rattle.ledgers.proofs.ChosenLemmas.{chosen_of_ordered}
 use Rattle.ledgers.proofs.TotalLemmas.{total_discarded, used_discarded}
 use Rattle.ledgers.proofs.ledger.Ledger.discard.Goals as goal
 
 pub invariant_of-self : goal.invariant_of-self
-invariant_of-self c =
-    let es = c.self.inside.words.entries in
-    let is = ap (λ fs. map.from_entries {R = name_cmp} fs) c.unstage_all.ensures.entries ∙ chosen_of_ordered name_total (λ _ word. unstaged_word word) es c.unstage_all.ensures.ordered in
-    record {
-      visible = c.self.invariant.visible ∙ ap capped (sym (ap used_by is ∙ used_discarded (map.from_entries es)));
-      both = c.self.invariant.visible ∙ ap capped (sym (ap total_of is ∙ total_discarded (map.from_entries es)));
-    }
-
-pub returns : goal.returns
-returns c =
-    let es = c.self.inside.words.entries in
-    ap (λ fs. map.from_entries {R = name_cmp} fs) c.unstage_all.ensures.entries ∙ chosen_of_ordered name_total (λ _ word. unstaged_word word) es c.unstage_all.ensures.ordered ∙ ap discarded_words c.self.view_is
+invariant_of-self c = record {
+  visible = c.self.invariant.visible ∙ ap capped (sym (ap used_by c.discard.ensures.words ∙ used_discarded c.self.inside.words));
+  both = c.self.invariant.visible ∙ ap capped (sym (ap total_of c.discard.ensures.words ∙ total_discarded c.self.inside.words));
+}

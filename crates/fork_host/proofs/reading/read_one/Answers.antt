@@ -1,0 +1,17 @@
+use Rattle.std.proofs.Common.{◌≡◌, Ok, subst}
+use Rattle.std.specs.Prelude.{IfSome}
+use Rattle.std.proofs.lemmas.Result.{on_ok_weaker}
+use Rattle.git_name.specs.Object.{object_name}
+use Rattle.loose_store.specs.Stored.{ReadsTo}
+use Rattle.fork_host.proofs.ReadingLemmas.{reads_one}
+use Rattle.fork_host.proofs.reading.read_one.Goals as goal
+
+pub returns-in-Ok-Some-clause-reads : goal.returns-in-Ok-Some-clause-reads
+returns-in-Ok-Some-clause-reads g c =
+    let files = g.S.LooseFiles.contents c.args.files.now in
+    let told = c.in-Ok-Some.ensures in
+    let is = c.in-Ok-Some.field-0-is in
+    on_ok_weaker c.keep.result
+    (reads_one (g.S.LooseFiles.honest c.args.files.now) files c.args.name c.in-Ok-Some.sealed c.args.readings.now c.keep.new.readings
+    (subst (λ o. IfSome o (λ object. object_name object ≡ c.args.name)) is told.named) (λ h. subst (λ o. ReadsTo files c.args.name (Ok o)) is (told.reads h)))
+    c.keep.ensures

@@ -1,0 +1,30 @@
+use Rattle.std.proofs.Common.{arith, refl, subst, ◌∙◌}
+use Rattle.fork_host.specs.Read.{Reads}
+use Rattle.fork_host.proofs.ReadingLemmas.{states_all, states_more, states_none}
+use Rattle.fork_host.proofs.reading.read_states.Goals as goal
+
+pub loop-state-init : goal.loop-state-init
+loop-state-init g c = record {
+  read = states_none (g.S.LooseFiles.honest c.args.files.now) (g.S.LooseFiles.contents c.args.files.now) c.new-readings.result c.new-readings.ensures;
+  kept = λ h. refl;
+  honest = refl;
+}
+
+pub loop-state-preserved : goal.loop-state-preserved
+loop-state-preserved g c =
+    let first = c.args.files.now in
+    let mid = c.loop-state.files in
+    let before = c.loop-state.invariant in
+    let told = c.read_seen.ensures in
+    let state = c.state-item.result in
+    record {
+      read = states_more (g.S.LooseFiles.honest first) (g.S.LooseFiles.honest mid) (g.S.LooseFiles.contents first) (g.S.LooseFiles.contents mid) c.args.states.now c.loop-state.state-index state c.loop-state.readings c.read_seen.new.readings
+          before.honest before.kept c.loop-state-test.true c.state-item.is
+          (subst (λ names. Reads (g.S.LooseFiles.honest mid) (g.S.LooseFiles.contents mid) names c.loop-state.readings c.read_seen.new.readings) c.seen.ensures c.in-Ok.ensures.reads) before.read;
+      kept = λ h. told.kept (before.honest ∙ h) ∙ before.kept h;
+      honest = told.honest ∙ before.honest;
+    }
+
+pub returns-clause-read : goal.returns-clause-read
+returns-clause-read g c =
+    states_all (g.S.LooseFiles.honest c.args.files.now) (g.S.LooseFiles.contents c.args.files.now) c.args.states.now c.loop-state.state-index c.loop-state.readings (omega arith) c.loop-state.invariant.read

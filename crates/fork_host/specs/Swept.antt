@@ -1,0 +1,98 @@
+-- What requests of the host itself do with the store (own): sweeps, collections and the census. They change no view.
+use Rattle.std.specs.Prelude.{◌≡◌, ◌⊎◌, ◌<◌, ◌≤◌, ◌+◌, ◌*◌, ℕ, Bool, true, IsTrue, List, [], ◌∷◌, length, map, sum, ⊤}
+use Rattle.std.specs.FinMap.{contains_key, get}
+use Rattle.std.specs.List.{AllByRecursion}
+use Rattle.fork_request.specs.Told.{is_done}
+use Rattle.fork_request.specs.declared.host_request.HostRequest.{HostRequest}
+use Rattle.fork_request.specs.declared.host_request.HostRequest.TheVariants.{Sweep, Collect, Census, Bad}
+use Rattle.fork_request.specs.declared.refusal.Refusal.TheVariants.{BadRequest}
+use Rattle.fork_request.specs.declared.reply.Reply.{Reply}
+use Rattle.fork_request.specs.declared.reply.Reply.TheVariants.{Done, Refused, Failed}
+use Rattle.fork_model.specs.Runs.{Asks, HostAsks}
+use Rattle.fork_model.specs.World.{Event, number_line}
+use Rattle.looks.specs.Looks.{Looks, Walks}
+use Rattle.looks.specs.Places.{Places, at_start}
+use Rattle.looks.specs.Slices.{Collects, Sweeps}
+use Rattle.fork_ledger.specs.Taken.{is_taken}
+use Rattle.fork_ledger.specs.Tenants.{VaultState}
+use Rattle.fork_host.specs.Shown.{HostState}
+
+-- the store has files of just the names of which some tenant has an object
+abbrev pub IsSharp : VaultState → Type 0
+IsSharp vault = (name : List ℕ) → contains_key vault.files name ≡ is_taken vault.tenants name
+
+-- the files of names of which some tenant has an object are as they were
+abbrev pub KeepsTaken : VaultState → VaultState → Type 0
+KeepsTaken old new = (name : List ℕ) → is_taken old.tenants name ≡ true → get new.files name ≡ get old.files name
+
+-- looks that a fault ended before the last of so many, or none at all
+abbrev pub LooksBefore : (List ℕ → Bool) → ℕ → Places → Places → Type 0
+LooksBefore held most old new = (new ≡ old) ⊎ ((count : ℕ) × (count < most) × Looks held count old new)
+
+-- looks from the beginning on, or none at all
+abbrev pub WalksOn : (List ℕ → Bool) → Places → Places → Type 0
+WalksOn held old new = (new ≡ old) ⊎ ((count : ℕ) × Walks held count (at_start old) new)
+
+-- a number is told, and by this many names the catalogue shrank
+pub record Shrinks (old new : Places) (text : List ℕ) : Type 0 where
+  pub count : ℕ
+  pub told : text ≡ number_line count
+  pub left : length new.names + count ≡ length old.names
+
+-- a sweep: so many looks at the most, and fewer where a fault ends it
+abbrev pub IsSweep : ℕ → VaultState → Reply → VaultState → Type 0
+IsSweep most old (Done text) new = Sweeps (is_taken old.tenants) most old.places new.places × Shrinks old.places new.places text
+IsSweep most old (Refused refusal) new = ⊥
+IsSweep most old (Failed fault) new = LooksBefore (is_taken old.tenants) most old.places new.places
+
+-- a collection: one whole round of looks, or a part of it where a fault ends it
+abbrev pub IsCollection : VaultState → Reply → VaultState → Type 0
+IsCollection old (Done text) new = Collects (is_taken old.tenants) old.places new.places × Shrinks old.places new.places text
+IsCollection old (Refused refusal) new = ⊥
+IsCollection old (Failed fault) new = WalksOn (is_taken old.tenants) old.places new.places
+
+-- the census: how many names are catalogued is told, and nothing changes
+abbrev pub IsCensus : VaultState → Reply → VaultState → Type 0
+IsCensus old (Done text) new = (text ≡ number_line (length old.places.names)) × (new ≡ old)
+IsCensus old (Refused refusal) new = ⊥
+IsCensus old (Failed fault) new = new ≡ old
+
+-- what is told and done, by what is asked
+abbrev pub IsTended : HostRequest → VaultState → Reply → VaultState → Type 0
+IsTended (Sweep most) old reply new = IsSweep most old reply new
+IsTended Collect old reply new = IsCollection old reply new
+IsTended Census old reply new = IsCensus old reply new
+IsTended Bad old reply new = (reply ≡ Refused BadRequest) × (new ≡ old)
+
+-- what a request of the host itself does: over any store with the catalogue, and over an honest one with the files
+pub record Tends (request : HostRequest) (old : VaultState) (reply : Reply) (new : VaultState) : Type 0 where
+  pub tended : IsTended request old reply new
+  pub honest : new.honest ≡ old.honest
+  pub kept : IsTrue old.honest → new.tenants ≡ old.tenants
+  pub stays : IsTrue old.honest → KeepsTaken old new
+  pub sharp : IsTrue old.honest → request ≡ Collect → is_done reply ≡ true → IsSharp new
+
+-- the same of a step, where the host itself is asked
+abbrev pub TendsAt : HostState → Event → Reply → HostState → Type 0
+TendsAt old (Asks tenant ask) reply new = ⊤
+TendsAt old (HostAsks request) reply new = Tends request old.vault reply new.vault
+
+-- the same of each step of a run, from state to state
+abbrev pub TendsAlong : HostState → List Event → List Reply → HostState → Type 0
+TendsAlong old [] [] new = new ≡ old
+TendsAlong old (event ∷ events) (reply ∷ replies) new = (mid : HostState) × TendsAt old event reply mid × TendsAlong mid events replies new
+TendsAlong old [] (reply ∷ replies) new = ⊥
+TendsAlong old (event ∷ events) [] new = ⊥
+
+-- sweeps of so many looks at the most, one after another
+abbrev pub sweeps : List ℕ → List Event
+sweeps slices = map (λ most. HostAsks (Sweep most)) slices
+
+-- each of them was answered
+abbrev pub AreDone : List Reply → Type 0
+AreDone replies = AllByRecursion (λ reply. is_done reply ≡ true) replies
+
+-- after sweeps alone that were answered, and that add up to at least twice the number of names that were catalogued, the store has
+-- files of just the names of which some tenant has an object
+abbrev pub SharpAfterSweeps : VaultState → List Event → List Reply → VaultState → Type 0
+SharpAfterSweeps old events replies new = (slices : List ℕ) → events ≡ sweeps slices → AreDone replies → 2 * length old.places.names ≤ sum slices → IsSharp new

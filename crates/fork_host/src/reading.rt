@@ -1,0 +1,109 @@
+// What stands on the store of the objects that tenants saw, each read once.
+ghost use Rattle.std.specs.Prelude.{◌≡◌, ◌∷◌, [], Contains, IfOk, IsTrue, OnOk};
+ghost use Rattle.std.specs.FinMap as map;
+ghost use Rattle.fork_sound.specs.Reading.{reading_of};
+ghost use Rattle.fork_host.specs.Read.{AreRead, Reads};
+ghost use Rattle.state_text.specs.States.{TenantState as State};
+
+use crate::open_error::OpenError;
+use fork_sound::{Reading, Readings};
+use git_name::{Name, Sealed};
+use loose_store::{LooseFiles, StoreFault, read_checked};
+use state_text::TenantState;
+use std::alloc::Global;
+
+// Reads the objects of the names that these tenants saw, each name once.
+pub(crate) fn read_states<S: LooseFiles>(
+    alloc: Global,
+    files: &mut S,
+    states: &[TenantState],
+) -> Result<Readings, OpenError>
+    ensures read { IfOk result (λ readings. (state : State) → Contains states.now state → AreRead (S.honest files.old) (S.contents files.old) state.seen readings) }
+    ensures kept { IsTrue (S.honest files.old) → S.contents files.new ≡ S.contents files.old }
+    ensures honest { S.honest files.new ≡ S.honest files.old }
+{
+    let mut readings = Readings::new(alloc);
+    for state in states {
+        match read_seen(alloc, files, &mut readings, state.seen()) {
+            Ok(()) => {}
+            Err(error) => return Err(error),
+        }
+    }
+    Ok(readings)
+}
+
+// Reads the objects of these names, but those that were read.
+fn read_seen<S: LooseFiles>(
+    alloc: Global,
+    files: &mut S,
+    readings: &mut Readings,
+    names: &[Name],
+) -> Result<(), OpenError>
+    ensures reads { OnOk result (Reads (S.honest files.old) (S.contents files.old) names.now readings.old readings.new) }
+    ensures kept { IsTrue (S.honest files.old) → S.contents files.new ≡ S.contents files.old }
+    ensures honest { S.honest files.new ≡ S.honest files.old }
+{
+    for name in names {
+        match read_new(alloc, files, readings, *name) {
+            Ok(()) => {}
+            Err(error) => return Err(error),
+        }
+    }
+    Ok(())
+}
+
+// Reads the object of this name, unless it was read.
+fn read_new<S: LooseFiles>(
+    alloc: Global,
+    files: &mut S,
+    readings: &mut Readings,
+    name: Name,
+) -> Result<(), OpenError>
+    ensures reads { OnOk result (Reads (S.honest files.old) (S.contents files.old) (name ∷ []) readings.old readings.new) }
+    ensures kept { IsTrue (S.honest files.old) → S.contents files.new ≡ S.contents files.old }
+    ensures honest { S.honest files.new ≡ S.honest files.old }
+{
+    if readings.contains(name) {
+        return Ok(());
+    }
+    read_one(alloc, files, readings, name)
+}
+
+// Reads the object of this name, where the store has it whole.
+fn read_one<S: LooseFiles>(
+    alloc: Global,
+    files: &mut S,
+    readings: &mut Readings,
+    name: Name,
+) -> Result<(), OpenError>
+    ensures reads { OnOk result (Reads (S.honest files.old) (S.contents files.old) (name ∷ []) readings.old readings.new) }
+    ensures kept { IsTrue (S.honest files.old) → S.contents files.new ≡ S.contents files.old }
+    ensures honest { S.honest files.new ≡ S.honest files.old }
+{
+    match read_checked(alloc, files, name) {
+        Ok(Some(sealed)) => keep(alloc, readings, name, &sealed),
+        // What is not there whole is judged once all is there that is.
+        Ok(None) => Ok(()),
+        Err(StoreFault::Damaged) => Ok(()),
+        Err(StoreFault::Device) => Err(OpenError::Store),
+        Err(StoreFault::Memory) => Err(OpenError::Memory),
+    }
+}
+
+// Keeps what is known of an object that was read.
+fn keep(
+    alloc: Global,
+    readings: &mut Readings,
+    name: Name,
+    sealed: &Sealed,
+) -> Result<(), OpenError>
+    ensures { OnOk result (readings.new ≡ map.insert readings.old name (reading_of sealed.now)) }
+{
+    let Ok(reading) = Reading::of(alloc, sealed) else {
+        return Err(OpenError::Memory);
+    };
+    let Ok(()) = readings.insert(name, reading) else {
+        return Err(OpenError::Memory);
+    };
+    Ok(())
+}

@@ -1,0 +1,111 @@
+// What is asked of the host itself: its store is swept, and its catalogue is counted.
+ghost use Rattle.std.specs.Prelude.{◌≡◌, ◌⊎◌, ◌≤◌, [], IfOk, length, true};
+ghost use Rattle.std.specs.Vec.{vec_capacity, vec_len};
+ghost use Rattle.fork_request.specs.Told.{is_host_fault};
+ghost use Rattle.fork_ledger.specs.Tenants.{shape_of};
+ghost use Rattle.fork_model.specs.World.{HostSays, number_line};
+ghost use Rattle.fork_host.specs.Bounds.{IsBounded};
+ghost use Rattle.fork_host.specs.Faults.{HostFaults};
+ghost use Rattle.fork_host.specs.Swept.{Tends};
+
+use crate::replies::vault_fault;
+use fork_ledger::Vault;
+use fork_request::{ByteString, HostFault, HostRequest, Refusal, Reply};
+use itoa::Buffer;
+use loose_store::LooseFiles;
+use std::alloc::{AllocError, Global};
+
+// The most bytes that a number and LF have.
+const MOST: usize = 21;
+
+// Memory for a number and LF. It is asked for before anything is done, so that what was done is told.
+fn room(alloc: Global) -> Result<Vec<u8>, AllocError>
+    ensures empty { IfOk result (λ text. text.items ≡ []) }
+    ensures len { IfOk result (λ text. vec_len text ≡ 0) }
+    ensures capacity { IfOk result (λ text. 21 ≤ vec_capacity text) }
+{
+    Vec::with_capacity(alloc, MOST)
+}
+
+// The number and LF are told.
+fn told_number(text: Vec<u8>, number: u64) -> Reply
+    requires empty { text.items ≡ [] }
+    requires len { vec_len text ≡ 0 }
+    requires capacity { 21 ≤ vec_capacity text }
+    ensures { result ≡ Reply.Done (number_line number) }
+{
+    let mut text = text;
+    let mut digits = Buffer::new();
+    let Ok(()) = text.extend_from_slice(digits.format(number).as_bytes()) else {
+        unreachable!()
+    };
+    text.push_reserved(b'\n');
+    Reply::Done(ByteString::new(text))
+}
+
+// So many looks at the most.
+fn sweep<S: LooseFiles>(alloc: Global, vault: &mut Vault<S>, most: u64) -> Reply
+    ensures says { HostSays (HostRequest.Sweep most) result ⊎ (is_host_fault result ≡ true) }
+    ensures tends { Tends (HostRequest.Sweep most) vault.old result vault.new }
+    ensures shape { shape_of vault.new.tenants ≡ shape_of vault.old.tenants }
+    ensures faults { HostFaults (HostRequest.Sweep most) result }
+    ensures bounds { IsBounded [] vault.old vault.new result }
+{
+    let Ok(text) = room(alloc) else {
+        return Reply::Failed(HostFault::Memory);
+    };
+    match vault.sweep(alloc, most) {
+        Ok(count) => told_number(text, count),
+        Err(fault) => Reply::Failed(vault_fault(fault)),
+    }
+}
+
+// One whole round of looks.
+fn collect<S: LooseFiles>(alloc: Global, vault: &mut Vault<S>) -> Reply
+    ensures says { HostSays HostRequest.Collect result ⊎ (is_host_fault result ≡ true) }
+    ensures tends { Tends HostRequest.Collect vault.old result vault.new }
+    ensures shape { shape_of vault.new.tenants ≡ shape_of vault.old.tenants }
+    ensures faults { HostFaults HostRequest.Collect result }
+    ensures bounds { IsBounded [] vault.old vault.new result }
+{
+    let Ok(text) = room(alloc) else {
+        return Reply::Failed(HostFault::Memory);
+    };
+    match vault.collect(alloc) {
+        Ok(left) => told_number(text, left),
+        Err(fault) => Reply::Failed(vault_fault(fault)),
+    }
+}
+
+// How many names are catalogued.
+fn census<S: LooseFiles>(alloc: Global, vault: &Vault<S>) -> Reply
+    ensures says { HostSays HostRequest.Census result ⊎ (is_host_fault result ≡ true) }
+    ensures tends { Tends HostRequest.Census vault.now result vault.now }
+    ensures faults { HostFaults HostRequest.Census result }
+    ensures bounds { IsBounded [] vault.now vault.now result }
+{
+    let Ok(text) = room(alloc) else {
+        return Reply::Failed(HostFault::Memory);
+    };
+    told_number(text, vault.census())
+}
+
+// Answers what is asked of the host itself.
+pub(crate) fn tend<S: LooseFiles>(
+    alloc: Global,
+    vault: &mut Vault<S>,
+    request: HostRequest,
+) -> Reply
+    ensures says { HostSays request result ⊎ (is_host_fault result ≡ true) }
+    ensures tends { Tends request vault.old result vault.new }
+    ensures shape { shape_of vault.new.tenants ≡ shape_of vault.old.tenants }
+    ensures faults { HostFaults request result }
+    ensures bounds { IsBounded [] vault.old vault.new result }
+{
+    match request {
+        HostRequest::Sweep(most) => sweep(alloc, vault, most),
+        HostRequest::Collect => collect(alloc, vault),
+        HostRequest::Census => census(alloc, vault),
+        HostRequest::Bad => Reply::Refused(Refusal::BadRequest),
+    }
+}

@@ -1,0 +1,8 @@
+use Rattle.fork_model.proofs.HostLemmas.{good_reply, same_world}
+use Rattle.fork_model.proofs.host_requests_leave_the_world.Goals as goal
+
+pub returns-clause-world : goal.returns-clause-world
+returns-clause-world c = same_world
+
+pub returns-clause-reply : goal.returns-clause-reply
+returns-clause-reply c = good_reply

@@ -1,0 +1,8 @@
+use Rattle.std.specs.BTreeSet.{contains}
+use Rattle.git_name.specs.Name.{name_cmp}
+use Rattle.ledgers.proofs.SettleLemmas.{taken_back}
+use Rattle.ledgers.proofs.words.put_staged.Goals as goal
+
+pub returns-in_default-insert-clause-kept : goal.returns-in_default-insert-clause-kept
+returns-in_default-insert-clause-kept c =
+    taken_back (contains name_cmp c.args.staged.now) (contains name_cmp c.insert.new.self) (contains name_cmp c.remove.new.self) c.args.name c.requires.fresh c.in-Ok.ensures.updates.0 c.remove.ensures.updates.0

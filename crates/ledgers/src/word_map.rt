@@ -1,0 +1,125 @@
+ghost use Rattle.std.specs.Prelude.{◌≡◌, ◌≤◌, ◌+◌, List, ℕ, OnOk, OnErr, IfOk};
+ghost use Rattle.std.specs.BTreeSet.{contains};
+ghost use Rattle.std.specs.FinMap as map;
+ghost use Rattle.git_name.specs.Name.{name_cmp};
+ghost use Rattle.catalogue.specs.Counted.{count_of, places_of};
+ghost use Rattle.ledgers.specs.Due.{due_at, leaves_discarded, leaves_kept};
+ghost use Rattle.ledgers.specs.Totals.{capped, total_of, used_by};
+ghost use Rattle.ledgers.specs.Words.{discarded_words, is_visible, kept_words, published_words, staged_words, words_that};
+
+use crate::counting::lower_left;
+use crate::word::{Word, word_over};
+use crate::words::{keep_among, put_staged, see_all, seen_names, unstage_all, uses, word_at};
+use catalogue::Catalogue;
+use git_name::{Kind, Name};
+use std::alloc::{AllocError, Global};
+use std::collections::{BTreeMap, BTreeSet};
+use std::marker::Model;
+
+/// Words by the names of their objects, and beside them the names of those that are staged, so that to
+/// publish or to discard these walks no others.
+#[derive(Drop)]
+pub(crate) struct WordMap {
+    words: BTreeMap<Name, Word>,
+    staged: BTreeSet<Name>,
+}
+
+impl Model for WordMap {
+    ghost use Rattle.std.specs.FinMap.{from_entries};
+    ghost use Rattle.ledgers.specs.Settled.{AreStaged};
+    ghost use Rattle.ledgers.specs.Words.{Words, words_code};
+
+    ghost Value = { Words };
+
+    ghost coded = { words_code };
+
+    ghost view = { λ a. from_entries a.words.entries };
+
+    ghost invariant = { λ a. AreStaged a.staged.keys (from_entries a.words.entries) };
+}
+
+impl WordMap {
+    /// No words.
+    pub fn new(alloc: Global) -> WordMap
+        ensures { result ≡ map.empty }
+    {
+        WordMap {
+            words: BTreeMap::new(alloc),
+            staged: BTreeSet::new(alloc),
+        }
+    }
+
+    /// The word of a name.
+    pub fn get(&self, name: Name) -> Option<Word>
+        ensures { result ≡ map.get self.now name }
+    {
+        word_at(&self.words, name)
+    }
+
+    /// The names of what is seen, ascending.
+    pub fn names(&self, alloc: Global) -> Result<Vec<Name>, AllocError>
+        ensures { IfOk result (λ names. names.items ≡ map.keys (words_that is_visible self.now)) }
+    {
+        seen_names(alloc, &self.words)
+    }
+
+    /// What the objects use that are seen, and what all use, in one pass.
+    pub fn uses(&self) -> (u128, u128)
+        ensures visible { result.0 ≡ capped (used_by self.now) }
+        ensures both { result.1 ≡ capped (total_of self.now) }
+    {
+        uses(&self.words)
+    }
+
+    /// Stages an object. Where there is a word of its name, that one's kind and length stay.
+    pub fn stage(&mut self, name: Name, kind: Kind, length: u64) -> Result<(), AllocError>
+        ensures ok { OnOk result (self.new ≡ staged_words name kind length self.old) }
+        ensures err { OnErr result (self.new ≡ self.old) }
+    {
+        if self.staged.contains(&name) {
+            return Ok(());
+        }
+        let word = word_over(kind, length, self.get(name));
+        let Ok(()) = put_staged(&mut self.words, &mut self.staged, name, word) else {
+            return Err(AllocError);
+        };
+        Ok(())
+    }
+
+    /// What is staged becomes visible. It takes no memory, and walks what is staged alone.
+    pub fn publish(&mut self)
+        ensures { self.new ≡ published_words self.old }
+    {
+        see_all(&mut self.words, &self.staged);
+        self.staged.clear();
+    }
+
+    /// What is staged goes, and the numbers of the names that leave are lowered. It takes no memory,
+    /// and walks what is staged alone.
+    pub fn discard(&mut self, catalogue: &mut Catalogue)
+        requires { (q : List ℕ) → due_at leaves_discarded self.old q ≤ count_of catalogue.old q }
+        ensures words { self.new ≡ discarded_words self.old }
+        ensures places { places_of catalogue.new ≡ places_of catalogue.old }
+        ensures counts { (q : List ℕ) → count_of catalogue.new q + due_at leaves_discarded self.old q ≡ count_of catalogue.old q }
+    {
+        unstage_all(&mut self.words, &self.staged, catalogue);
+        self.staged.clear();
+    }
+
+    /// Of what is visible keeps these names alone. It takes no memory.
+    pub fn keep_only(&mut self, names: &BTreeSet<Name>)
+        ensures { self.new ≡ kept_words (λ name. contains name_cmp names.now name) self.old }
+    {
+        keep_among(&mut self.words, names);
+    }
+
+    /// Lowers the numbers of the names that leave by `keep_only`. It takes no memory.
+    pub fn lower_others(&self, names: &BTreeSet<Name>, catalogue: &mut Catalogue)
+        requires { (q : List ℕ) → due_at (leaves_kept (contains name_cmp names.now)) self.now q ≤ count_of catalogue.old q }
+        ensures places { places_of catalogue.new ≡ places_of catalogue.old }
+        ensures counts { (q : List ℕ) → count_of catalogue.new q + due_at (leaves_kept (contains name_cmp names.now)) self.now q ≡ count_of catalogue.old q }
+    {
+        let _count = self.words.len();
+        lower_left(&self.words, names, catalogue);
+    }
+}

@@ -1,0 +1,26 @@
+-- What is kept stands whole, as files change.
+use Rattle.std.proofs.Common.{◌≡◌, ◌≢◌, ◌⊎◌, inl, inr, ℕ, List, Contains, subst, sym, ◌∙◌}
+use Rattle.git_name.specs.Object.{Object, object_name}
+use Rattle.loose_store.specs.Files.{Files, SameBut}
+use Rattle.loose_store.specs.Stored.{Whole}
+use Rattle.read_cache.specs.Cached.{AreWhole, Cached}
+
+-- the same files, and nothing more is kept
+pub whole_less : (es fs : Cached) (old new : Files) → ((n : List ℕ) (o : Object) → Contains fs (n, o) → Contains es (n, o)) → new ≡ old → AreWhole es old → AreWhole fs new
+whole_less es fs old new less same whole n o there = subst (λ files. Whole files n o) (sym same) (whole n o (less n o there))
+
+-- one file changes, whose object is not kept
+pub whole_but : (es fs : Cached) (old new : Files) (name : List ℕ) → ((n : List ℕ) (o : Object) → Contains fs (n, o) → Contains es (n, o) × (n ≢ name)) → SameBut name old new → AreWhole es old → AreWhole fs new
+whole_but es fs old new name apart but whole n o there =
+    let was = apart n o there in
+    let is = whole n o was.0 in
+    record { file = but n was.1 ∙ is.file; named = is.named }
+
+-- the same files, and an object more that stands whole
+pub whole_more : (es fs : Cached) (old new : Files) (object : Object) → ((n : List ℕ) (o : Object) → Contains fs (n, o) → Contains es (n, o) ⊎ ((n ≡ object_name object) × (o ≡ object))) → new ≡ old → Whole old (object_name object) object
+    → AreWhole es old → AreWhole fs new
+whole_more es fs old new object more same one whole n o there = subst (λ files. Whole files n o) (sym same) (by (more n o there))
+  where
+    by : Contains es (n, o) ⊎ ((n ≡ object_name object) × (o ≡ object)) → Whole old n o
+    by (inl was) = whole n o was
+    by (inr (name, is)) = subst (λ m. Whole old m o) (sym name) (subst (λ p. Whole old (object_name object) p) (sym is) one)

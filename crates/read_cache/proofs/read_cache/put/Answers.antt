@@ -1,0 +1,12 @@
+use Rattle.std.proofs.Common.{inl, inr, ◌∙◌, ap}
+use Rattle.lru.specs.LruCache.{put_entries}
+use Rattle.git_name.specs.Object.{object_name}
+use Rattle.looks.specs.Places.{same_name}
+use Rattle.read_cache.proofs.CacheLemmas.{whichever}
+use Rattle.read_cache.proofs.read_cache.put.Goals as goal
+
+pub returns : goal.returns
+returns c =
+    whichever _ c.put-kept.result c.put-kept.ensures.entries c.put-kept.ensures.err
+    (λ is. inr (ap (λ l. l.entries) is ∙ ap (λ k. put_entries same_name c.args.kept.now k c.in-Ok.copy) c.name.ensures ∙ ap (put_entries same_name c.args.kept.now (object_name c.args.sealed.now)) c.in-Ok.ensures.cases))
+    (λ same. inl (ap (λ l. l.entries) same))

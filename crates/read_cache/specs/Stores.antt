@@ -1,0 +1,26 @@
+-- A store, whatever keeps its files: what it holds, whether it is honest, and how often it failed (own).
+use Rattle.std.specs.Prelude.{◌≡◌, ℕ, Bool, Result, Ok, Err, refl}
+use Rattle.std.specs.Coded.{Coded, code_by, coded×, coded_bool, coded_list, coded_ℕ}
+use Rattle.std.specs.FinMap as map
+use Rattle.loose_store.specs.Files.{Files}
+use Rattle.loose_store.specs.Failures.{Rises}
+use Rattle.loose_store.specs.declared.checked.StoreFault.{StoreFault}
+use Rattle.loose_store.specs.declared.checked.StoreFault.TheVariants.{Device, Damaged, Memory}
+
+pub record StoreState : Type 0 where
+  pub contents : Files
+  pub honest : Bool
+  pub failures : ℕ
+
+-- it has a code, so that it can be a model's value
+abbrev pub store_code : Coded StoreState
+store_code =
+    code_by (Files × (Bool × ℕ)) (coded× (map.code (coded_list coded_ℕ) (coded_list coded_ℕ)) (coded× coded_bool coded_ℕ))
+    (λ s. (s.contents, (s.honest, s.failures))) (λ p. record { contents = p.0; honest = p.1.0; failures = p.1.1 }) (λ _. refl)
+
+-- a fault of the device is counted, and nothing else is
+abbrev pub CountsRead : {A : Type 0} → ℕ → ℕ → Result A StoreFault → Type 0
+CountsRead before now (Ok answer) = now ≡ before
+CountsRead before now (Err Device) = Rises before now
+CountsRead before now (Err Damaged) = now ≡ before
+CountsRead before now (Err Memory) = now ≡ before

@@ -1,0 +1,160 @@
+ghost use Rattle.std.specs.Prelude.{◌≡◌, IsTrue, IfOk, IfSome, OnOk};
+ghost use Rattle.std.specs.FinMap as map;
+ghost use Rattle.git_name.specs.Object.{object_name};
+ghost use Rattle.loose_store.specs.Files.{SameBut};
+ghost use Rattle.loose_store.specs.Failures.{Counts};
+ghost use Rattle.loose_store.specs.Stored.{ReadsTo};
+ghost use Rattle.read_cache.specs.Stores.{CountsRead};
+
+use crate::read_cache::ReadCache;
+use git_name::{Name, Sealed};
+use loose_store::{FileFault, LooseFiles, StoreFault, read_checked};
+use std::alloc::{AllocError, Global};
+use std::marker::Model;
+
+/// A store, and the objects that were read from it last. Seen from outside it is the store alone; over
+/// an honest one each object that is kept stands whole in its file.
+#[derive(Drop)]
+pub struct CachedStore<S: LooseFiles> {
+    files: S,
+    cache: ReadCache,
+}
+
+impl<S: LooseFiles> Model for CachedStore<S> {
+    ghost use Rattle.std.specs.Prelude.{IsTrue};
+    ghost use Rattle.read_cache.specs.Cached.{AreWhole};
+    ghost use Rattle.read_cache.specs.Stores.{StoreState, store_code};
+
+    ghost Value = { StoreState };
+
+    ghost coded = { store_code };
+
+    ghost view = { λ a. record {
+      contents = S.contents a.files;
+      honest = S.honest a.files;
+      failures = S.failures a.files;
+    } };
+
+    ghost invariant = { λ a. IsTrue (S.honest a.files) → AreWhole a.cache (S.contents a.files) };
+}
+
+impl<S: LooseFiles + Drop> CachedStore<S> {
+    /// Over this store, with nothing kept.
+    pub fn new(alloc: Global, files: S) -> Result<CachedStore<S>, AllocError>
+        ensures contents { IfOk result (λ store. store.contents ≡ S.contents files) }
+        ensures honest { IfOk result (λ store. store.honest ≡ S.honest files) }
+        ensures failures { IfOk result (λ store. store.failures ≡ S.failures files) }
+    {
+        let cache = ReadCache::new(alloc)?;
+        Ok(CachedStore { files, cache })
+    }
+}
+
+impl<S: LooseFiles> CachedStore<S> {
+    /// The store.
+    pub fn close(self) -> S
+        ensures contents { S.contents result ≡ self.contents }
+        ensures honest { S.honest result ≡ self.honest }
+        ensures failures { S.failures result ≡ self.failures }
+    {
+        self.files
+    }
+
+    /// The object of this name, if a file stands there, and a copy of it where it is kept. What is read
+    /// from the store is kept.
+    pub fn read(&mut self, alloc: Global, name: Name) -> Result<Option<Sealed>, StoreFault>
+        ensures reads { IsTrue self.old.honest → ReadsTo self.old.contents name result }
+        ensures kept { IsTrue self.old.honest → self.new.contents ≡ self.old.contents }
+        // Over any store.
+        ensures named { IfOk result (λ found. IfSome found (λ sealed. object_name sealed ≡ name)) }
+        ensures honest { self.new.honest ≡ self.old.honest }
+        ensures cause { CountsRead self.old.failures self.new.failures result }
+    {
+        read_through(alloc, &mut self.files, &mut self.cache, name)
+    }
+
+    /// The same, asked of the store alone. Nothing is kept.
+    pub fn read_past(&mut self, alloc: Global, name: Name) -> Result<Option<Sealed>, StoreFault>
+        ensures reads { IsTrue self.old.honest → ReadsTo self.old.contents name result }
+        ensures kept { IsTrue self.old.honest → self.new.contents ≡ self.old.contents }
+        // Over any store.
+        ensures named { IfOk result (λ found. IfSome found (λ sealed. object_name sealed ≡ name)) }
+        ensures honest { self.new.honest ≡ self.old.honest }
+        ensures cause { CountsRead self.old.failures self.new.failures result }
+    {
+        read_checked(alloc, &mut self.files, name)
+    }
+
+    /// Writes one file whole, in the place of one that is there.
+    pub fn put(&mut self, alloc: Global, name: Name, bytes: &[u8]) -> Result<(), FileFault>
+        ensures ok { IsTrue self.old.honest → OnOk result (self.new.contents ≡ map.insert self.old.contents name bytes.now) }
+        ensures others { IsTrue self.old.honest → SameBut name self.old.contents self.new.contents }
+        ensures honest { self.new.honest ≡ self.old.honest }
+        ensures cause { Counts self.old.failures self.new.failures result }
+    {
+        self.cache.forget(name);
+        self.files.put(alloc, name, bytes)
+    }
+
+    /// Takes one file away. Where none is there it succeeds and changes nothing.
+    pub fn remove(&mut self, alloc: Global, name: Name) -> Result<(), FileFault>
+        ensures ok { IsTrue self.old.honest → OnOk result (self.new.contents ≡ map.remove self.old.contents name) }
+        ensures others { IsTrue self.old.honest → SameBut name self.old.contents self.new.contents }
+        ensures honest { self.new.honest ≡ self.old.honest }
+        ensures cause { Counts self.old.failures self.new.failures result }
+    {
+        self.cache.forget(name);
+        self.files.remove(alloc, name)
+    }
+}
+
+ghost use Rattle.read_cache.specs.Cached.{AreWhole};
+
+// The object of a name, out of the cache or from the store.
+fn read_through<S: LooseFiles>(
+    alloc: Global,
+    files: &mut S,
+    cache: &mut ReadCache,
+    name: Name,
+) -> Result<Option<Sealed>, StoreFault>
+    requires { IsTrue (S.honest files.old) → AreWhole cache.old (S.contents files.old) }
+    ensures reads { IsTrue (S.honest files.old) → ReadsTo (S.contents files.old) name result }
+    ensures kept { IsTrue (S.honest files.old) → S.contents files.new ≡ S.contents files.old }
+    ensures whole { IsTrue (S.honest files.old) → AreWhole cache.new (S.contents files.new) }
+    ensures named { IfOk result (λ found. IfSome found (λ sealed. object_name sealed ≡ name)) }
+    ensures honest { S.honest files.new ≡ S.honest files.old }
+    ensures cause { CountsRead (S.failures files.old) (S.failures files.new) result }
+{
+    let Ok(kept) = cache.find(name) else {
+        return Err(StoreFault::Memory);
+    };
+    if let Some(sealed) = kept {
+        return Ok(Some(sealed));
+    }
+    read_and_keep(alloc, files, cache, name)
+}
+
+// The object of a name, from the store, which is kept.
+fn read_and_keep<S: LooseFiles>(
+    alloc: Global,
+    files: &mut S,
+    cache: &mut ReadCache,
+    name: Name,
+) -> Result<Option<Sealed>, StoreFault>
+    requires { IsTrue (S.honest files.old) → AreWhole cache.old (S.contents files.old) }
+    ensures reads { IsTrue (S.honest files.old) → ReadsTo (S.contents files.old) name result }
+    ensures kept { IsTrue (S.honest files.old) → S.contents files.new ≡ S.contents files.old }
+    ensures whole { IsTrue (S.honest files.old) → AreWhole cache.new (S.contents files.new) }
+    ensures named { IfOk result (λ found. IfSome found (λ sealed. object_name sealed ≡ name)) }
+    ensures honest { S.honest files.new ≡ S.honest files.old }
+    ensures cause { CountsRead (S.failures files.old) (S.failures files.new) result }
+{
+    match read_checked(alloc, files, name) {
+        Ok(Some(sealed)) => {
+            cache.keep(&sealed);
+            Ok(Some(sealed))
+        }
+        Ok(None) => Ok(None),
+        Err(fault) => Err(fault),
+    }
+}

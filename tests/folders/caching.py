@@ -1,0 +1,122 @@
+"""What is kept of reads: the objects that were read last, for all who see them and for nobody else."""
+import os
+
+from checks import Checks
+from folder import Folder
+from forkhost_client.frames import frames, framed
+from live import Live
+from objects import name_of, record, stored
+from program import done
+
+ALICE, BOB, CAROL, HOST = b"alice", b"bob", b"carol", b"@host"
+TENANTS = ["alice=10000000", "bob=10000000", "carol=10000000"]
+KEPT = 256
+LONGEST = 65536
+
+
+def ask_of(name):
+    return b"cat-file %s\n" % name
+
+
+def told_of(content):
+    return b"ok\n" + record(b"blob", content)
+
+
+def tag_of(name):
+    return b"refs/tags/%s" % name[:16]
+
+
+def push_of(contents):
+    """A push of blobs, with a tag at the first of them."""
+    first = name_of(b"blob", contents[0])
+    return b"push r\ncreate %s %s\n\n" % (tag_of(first), first) + b"".join(record(b"blob", content) for content in contents)
+
+
+def begun(checks, program, *words):
+    live = Live(program, *words, *TENANTS)
+    for who in (ALICE, BOB, CAROL):
+        checks.same("init", b"ok\n", live.asked(who, b"init r\n"))
+    return live
+
+
+def spoil(folder, content):
+    """A folder lies where the object's file was, so that no read of it succeeds."""
+    path = folder.file_of(name_of(b"blob", content))
+    os.remove(path)
+    os.mkdir(path)
+
+
+def mend(folder, content):
+    name = name_of(b"blob", content)
+    os.rmdir(folder.file_of(name))
+    folder.keep(name, stored(b"blob", content))
+
+
+def show_kept_objects(checks: Checks, program, work):
+    """What was read is told again when its file can't be read, if it is not too long; and to those alone who see it."""
+    folder = Folder(os.path.join(work, "kept"))
+    live = begun(checks, program, "--dir", folder.path)
+    short, long = b"s" * LONGEST, b"l" * (LONGEST + 1)
+    for who in (ALICE, BOB):
+        checks.same("a push", b"ok\n", live.asked(who, push_of([short, long])))
+    for content in (short, long):
+        checks.same("a first read", told_of(content), live.asked(ALICE, ask_of(name_of(b"blob", content))))
+        spoil(folder, content)
+    for who in (ALICE, BOB):
+        checks.same("one that is kept", told_of(short), live.asked(who, ask_of(name_of(b"blob", short))))
+        checks.same("one that is too long", b"host store\n", live.asked(who, ask_of(name_of(b"blob", long))))
+    for content in (short, long):
+        name = name_of(b"blob", content)
+        checks.same("who sees none is told so", b"no missing %s\n" % name, live.asked(CAROL, ask_of(name)))
+        mend(folder, content)
+        checks.same("what is put back", told_of(content), live.asked(BOB, ask_of(name)))
+    checks.same("its end", done(), live.ended())
+
+
+def show_oldest_goes(checks: Checks, program, work):
+    """The object that was read longest ago goes when there is no more room."""
+    folder = Folder(os.path.join(work, "oldest"))
+    live = begun(checks, program, "--dir", folder.path)
+    contents = [b"%d" % number for number in range(KEPT + 1)]
+    checks.same("a push", b"ok\n", live.asked(ALICE, push_of(contents)))
+    first = name_of(b"blob", contents[0])
+    checks.same("the first", told_of(contents[0]), live.asked(ALICE, ask_of(first)))
+    spoil(folder, contents[0])
+    for content in contents[1:KEPT]:
+        checks.same("another", told_of(content), live.asked(ALICE, ask_of(name_of(b"blob", content))))
+    checks.same("it is kept", told_of(contents[0]), live.asked(ALICE, ask_of(first)))
+    for content in contents[1:]:
+        checks.same("another", told_of(content), live.asked(ALICE, ask_of(name_of(b"blob", content))))
+    checks.same("it is gone", b"host store\n", live.asked(ALICE, ask_of(first)))
+    mend(folder, contents[0])
+    checks.same("its end", done(), live.ended())
+
+
+def show_read_twice(checks: Checks, program, work):
+    """One object more than are kept, read twice over, in memory and in a folder."""
+    contents = [b"twice %d" % number for number in range(KEPT + 1)]
+    asks = [(ALICE, ask_of(name_of(b"blob", content))) for content in contents] * 2
+    given = frames([(ALICE, b"init r\n"), (ALICE, push_of(contents)), *asks])
+    wanted = framed(b"ok\n") * 2 + b"".join(framed(told_of(content)) for content in contents) * 2
+    for words in ([], ["--dir", os.path.join(work, "twice")]):
+        checks.same("read twice over", done(wanted), program.ran("run", *words, *TENANTS, given=given))
+
+
+def show_swept_and_sent_again(checks: Checks, program, work):
+    """An object that was pushed, read, held no more, swept, and pushed again is read right, and not between."""
+    folder = Folder(os.path.join(work, "again"))
+    live = begun(checks, program, "--dir", folder.path)
+    content = b"again and again"
+    name = name_of(b"blob", content)
+    gone = b"update-refs r\ndelete %s %s\n" % (tag_of(name), name)
+    for _ in range(3):
+        checks.same("a push", b"ok\n", live.asked(ALICE, push_of([content])))
+        checks.same("a read", told_of(content), live.asked(ALICE, ask_of(name)))
+        checks.same("its tag goes", b"ok\n", live.asked(ALICE, gone))
+        checks.same("a prune", b"ok\n", live.asked(ALICE, b"prune\n"))
+        checks.same("it is not seen", b"no missing %s\n" % name, live.asked(ALICE, ask_of(name)))
+        checks.same("it is swept", b"ok\n1\n", live.asked(HOST, b"collect\n"))
+        checks.same("nothing is left", b"ok\n0\n", live.asked(HOST, b"census\n"))
+        checks.same("nor is it seen then", b"no missing %s\n" % name, live.asked(ALICE, ask_of(name)))
+        checks.same("its file is gone", {}, folder.files())
+    checks.same("its end", done(), live.ended())

@@ -11,14 +11,12 @@ use Rattle.std.proofs.lemmas.List.Elements.{Contains-push_cases}
 use Rattle.std.proofs.lemmas.Option.{same_Some}
 use Rattle.git_name.specs.Name.{name_cmp}
 use Rattle.git_name.specs.Object.{Object, object_name}
-use Rattle.git_name.specs.declared.kind.Kind.{Kind}
 use Rattle.git_name.proofs.Names.{name_total}
 use Rattle.loose_store.specs.Files.{Files}
 use Rattle.loose_store.specs.Stored.{Whole}
 use Rattle.fork_reach.specs.Source.{Objects}
 use Rattle.fork_reach.proofs.KeptObjects.{tied_names}
 use Rattle.fork_reach.proofs.SeeingLemmas.{sole, sole_there}
-use Rattle.fork_ledger.specs.Known.{IsKnown}
 use Rattle.fork_sound.specs.Reading.{AreReadings, ReadingMap, ReadingValue, reading_of}
 use Rattle.state_text.specs.States.{States, TenantState}
 use Rattle.fork_host.specs.Read.{AllRead, AreRead, EachRead, IsRead, Reads}
@@ -26,16 +24,6 @@ use Rattle.fork_host.specs.Restored.{AreOnStore}
 use Rattle.fork_host.proofs.GatherLemmas.{taken_more}
 use Rattle.fork_host.proofs.RecallLemmas.{one_whole}
 use Rattle.fork_host.proofs.RestoreLemmas.{of_one}
-
--- what was read tells what a ledger keeps
-pub known_read : (honest : Bool) (files : Files) (name : List ℕ) (reading : ReadingValue) (kind : Kind) (size : ℕ) → kind ≡ reading.kind → size ≡ reading.size → IsRead honest files name reading → IsKnown honest files name kind size
-known_read honest files name reading kind size kinds sizes read = record {
-  object = read.object;
-  named = read.named;
-  same_kind = ap (λ r. r.kind) (sym read.is) ∙ sym kinds;
-  same_size = ap (λ r. r.size) (sym read.is) ∙ sym sizes;
-  whole = read.whole;
-}
 
 -- it stands as it was where the store is as it was
 pub each_at : (h k : Bool) (fs gs : Files) (readings : ReadingMap) → k ≡ h → (IsTrue h → gs ≡ fs) → EachRead h fs readings → EachRead k gs readings

@@ -29,6 +29,7 @@ use fork_ledger::{Vault, VaultFault, sharp_slices};
 use fork_model::{MAX_TENANTS, a_run_is_private, what_runs_show_was_seen_or_sent};
 use fork_request::{HostRequest, MAX_LIMIT, Reply, Request, TenantName};
 use loose_store::LooseFiles;
+use read_cache::CachedStore;
 use state_text::States;
 use std::alloc::{AllocError, Global};
 use std::marker::Model;
@@ -65,7 +66,19 @@ impl<S: LooseFiles + Drop> Host<S> {
         ensures trusted { IfOk result (λ host. IsTrue (S.honest files) → Trusted host) }
         ensures store { IfOk result (λ host. IsOver (S.contents files) (S.honest files) (S.failures files) host.vault) }
     {
-        match Vault::open(alloc, files) {
+        let Ok(files) = CachedStore::new(alloc, files) else {
+            return Err(OpenError::Memory);
+        };
+        Host::over(alloc, files)
+    }
+
+    // The same over a store of which a survey may have been made.
+    pub(crate) fn over(alloc: Global, files: CachedStore<S>) -> Result<Host<S>, OpenError>
+        ensures empty { IfOk result (λ host. world_of host ≡ map.empty) }
+        ensures trusted { IfOk result (λ host. IsTrue files.honest → Trusted host) }
+        ensures store { IfOk result (λ host. IsOver files.contents files.honest files.failures host.vault) }
+    {
+        match Vault::over(alloc, files) {
             Ok(vault) => Ok(Host {
                 accounts: Accounts::new(alloc),
                 vault,

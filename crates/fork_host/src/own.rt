@@ -9,7 +9,6 @@ ghost use Rattle.fork_reach.specs.Faults.{fault_in as source_fault_in};
 ghost use Rattle.fork_reach.specs.Objects.{use_of};
 ghost use Rattle.fork_reach.specs.Reach.{is_reached, linked_names};
 ghost use Rattle.fork_reach.specs.Source.{kind_in};
-ghost use Rattle.fork_ledger.specs.Known.{IsKnown};
 ghost use Rattle.fork_ledger.specs.Private.{with_discarded, with_kept, with_published, with_staged};
 ghost use Rattle.fork_ledger.specs.Store.{AsksStore, LeavesStore, Meets, Recalls, StoresAlone, fault_in};
 ghost use Rattle.fork_ledger.specs.Tenants.{at_tenant, shape_of};
@@ -20,7 +19,7 @@ ghost use Rattle.fork_host.specs.Bounds.{IsRead};
 ghost use Rattle.std.specs.Prelude.{ℕ, List, Contains, true};
 
 use crate::both::Both;
-use fork_ledger::{Held, Vault, VaultFault};
+use fork_ledger::{Held, RecallFault, Vault, VaultFault};
 use fork_push::{Verdict, judge};
 use fork_reach::{SourceFault, reach};
 use fork_request::TenantName;
@@ -89,9 +88,9 @@ impl<'a, S: LooseFiles> Own<'a, S> {
         self.vault.stage(alloc, self.tenant, sealed)
     }
 
-    // Stages the object of this name, of which is known what its ledger keeps.
-    pub(crate) fn recall(&mut self, name: Name, kind: Kind, length: u64) -> Result<(), AllocError>
-        requires known { IsKnown self.old.vault.now.honest self.old.vault.now.files name kind length }
+    // Stages the object of this name, where a survey of the store found it there, of this kind and of
+    // so many bytes.
+    pub(crate) fn recall(&mut self, name: Name, kind: Kind, length: u64) -> Result<(), RecallFault>
         ensures recalls { OnOk result (Recalls self.old.vault.now.honest self.old.tenant.now name self.old.vault.now.files self.old.vault.now.tenants self.new.vault.now.tenants) }
         ensures err { OnErr result (self.new.vault.now.tenants ≡ self.old.vault.now.tenants) }
         ensures files { self.new.vault.now.files ≡ self.old.vault.now.files }

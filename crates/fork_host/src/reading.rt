@@ -8,19 +8,20 @@ ghost use Rattle.state_text.specs.States.{TenantState as State};
 use crate::open_error::OpenError;
 use fork_sound::{Reading, Readings};
 use git_name::{Name, Sealed};
-use loose_store::{LooseFiles, StoreFault, read_checked};
+use loose_store::{LooseFiles, StoreFault};
+use read_cache::CachedStore;
 use state_text::TenantState;
 use std::alloc::Global;
 
 // Reads the objects of the names that these tenants saw, each name once.
 pub(crate) fn read_states<S: LooseFiles>(
     alloc: Global,
-    files: &mut S,
+    files: &mut CachedStore<S>,
     states: &[TenantState],
 ) -> Result<Readings, OpenError>
-    ensures read { IfOk result (λ readings. (state : State) → Contains states.now state → AreRead (S.honest files.old) (S.contents files.old) state.seen readings) }
-    ensures kept { IsTrue (S.honest files.old) → S.contents files.new ≡ S.contents files.old }
-    ensures honest { S.honest files.new ≡ S.honest files.old }
+    ensures read { IfOk result (λ readings. (state : State) → Contains states.now state → AreRead files.old.honest files.old.contents state.seen readings) }
+    ensures kept { IsTrue files.old.honest → files.new.contents ≡ files.old.contents }
+    ensures honest { files.new.honest ≡ files.old.honest }
 {
     let mut readings = Readings::new(alloc);
     for state in states {
@@ -35,13 +36,13 @@ pub(crate) fn read_states<S: LooseFiles>(
 // Reads the objects of these names, but those that were read.
 fn read_seen<S: LooseFiles>(
     alloc: Global,
-    files: &mut S,
+    files: &mut CachedStore<S>,
     readings: &mut Readings,
     names: &[Name],
 ) -> Result<(), OpenError>
-    ensures reads { OnOk result (Reads (S.honest files.old) (S.contents files.old) names.now readings.old readings.new) }
-    ensures kept { IsTrue (S.honest files.old) → S.contents files.new ≡ S.contents files.old }
-    ensures honest { S.honest files.new ≡ S.honest files.old }
+    ensures reads { OnOk result (Reads files.old.honest files.old.contents names.now readings.old readings.new) }
+    ensures kept { IsTrue files.old.honest → files.new.contents ≡ files.old.contents }
+    ensures honest { files.new.honest ≡ files.old.honest }
 {
     for name in names {
         match read_new(alloc, files, readings, *name) {
@@ -55,13 +56,13 @@ fn read_seen<S: LooseFiles>(
 // Reads the object of this name, unless it was read.
 fn read_new<S: LooseFiles>(
     alloc: Global,
-    files: &mut S,
+    files: &mut CachedStore<S>,
     readings: &mut Readings,
     name: Name,
 ) -> Result<(), OpenError>
-    ensures reads { OnOk result (Reads (S.honest files.old) (S.contents files.old) (name ∷ []) readings.old readings.new) }
-    ensures kept { IsTrue (S.honest files.old) → S.contents files.new ≡ S.contents files.old }
-    ensures honest { S.honest files.new ≡ S.honest files.old }
+    ensures reads { OnOk result (Reads files.old.honest files.old.contents (name ∷ []) readings.old readings.new) }
+    ensures kept { IsTrue files.old.honest → files.new.contents ≡ files.old.contents }
+    ensures honest { files.new.honest ≡ files.old.honest }
 {
     if readings.contains(name) {
         return Ok(());
@@ -72,15 +73,15 @@ fn read_new<S: LooseFiles>(
 // Reads the object of this name, where the store has it whole.
 fn read_one<S: LooseFiles>(
     alloc: Global,
-    files: &mut S,
+    files: &mut CachedStore<S>,
     readings: &mut Readings,
     name: Name,
 ) -> Result<(), OpenError>
-    ensures reads { OnOk result (Reads (S.honest files.old) (S.contents files.old) (name ∷ []) readings.old readings.new) }
-    ensures kept { IsTrue (S.honest files.old) → S.contents files.new ≡ S.contents files.old }
-    ensures honest { S.honest files.new ≡ S.honest files.old }
+    ensures reads { OnOk result (Reads files.old.honest files.old.contents (name ∷ []) readings.old readings.new) }
+    ensures kept { IsTrue files.old.honest → files.new.contents ≡ files.old.contents }
+    ensures honest { files.new.honest ≡ files.old.honest }
 {
-    match read_checked(alloc, files, name) {
+    match files.survey(alloc, name) {
         Ok(Some(sealed)) => keep(alloc, readings, name, &sealed),
         // What is not there whole is judged once all is there that is.
         Ok(None) => Ok(()),

@@ -8,10 +8,10 @@ ghost use Rattle.fork_host.specs.Refilled.{SeesAgain};
 
 use crate::own::Own;
 use crate::staging::{discard, publish};
+use fork_ledger::RecallFault;
 use fork_sound::Readings;
 use git_name::Name;
 use loose_store::LooseFiles;
-use std::alloc::AllocError;
 
 // Lets a tenant see the objects of these names that were read. Where it fails, the tenant sees what it
 // saw.
@@ -19,7 +19,7 @@ pub(crate) fn recall_all<S: LooseFiles>(
     own: &mut Own<'_, S>,
     readings: &Readings,
     names: &[Name],
-) -> Result<(), AllocError>
+) -> Result<(), RecallFault>
     requires there { map.contains_key own.old.vault.now.tenants own.old.tenant.now ≡ true }
     requires read { AreRead own.old.vault.now.honest own.old.vault.now.files names.now readings.now }
     ensures ok { OnOk result (SeesAgain own.old.tenant.now names.now own.old.vault.now own.new.vault.now) }
@@ -46,8 +46,7 @@ fn recall_read<S: LooseFiles>(
     own: &mut Own<'_, S>,
     readings: &Readings,
     name: Name,
-) -> Result<(), AllocError>
-    requires read { EachRead own.old.vault.now.honest own.old.vault.now.files readings.now }
+) -> Result<(), RecallFault>
     ensures recalls { OnOk result (RecallsRead own.old.vault.now.honest own.old.tenant.now name own.old.vault.now.files own.old.vault.now.tenants own.new.vault.now.tenants (map.get readings.now name)) }
     ensures err { OnErr result (own.new.vault.now.tenants ≡ own.old.vault.now.tenants) }
     ensures files { own.new.vault.now.files ≡ own.old.vault.now.files }

@@ -29,6 +29,7 @@ use fork_sound::Readings;
 use git_name::Name;
 use git_reftx::Refs;
 use loose_store::{LooseFiles, StoreFault, read_checked};
+use read_cache::CachedStore;
 use state_text::{States, TenantState};
 use std::alloc::{AllocError, Global};
 
@@ -42,12 +43,14 @@ impl<S: LooseFiles + Drop> Host<S> {
         ensures shown { IfOk result (λ host. IsTrue (S.honest files) → IsShownAgain (S.contents files) states (world_of host)) }
         ensures refused { IfErr result (λ error. IsTrue (S.honest files) → IsRefused (S.contents files) states error) }
     {
-        let mut files = files;
+        let Ok(mut files) = CachedStore::new(alloc, files) else {
+            return Err(RestoreError::Memory);
+        };
         let readings = match read_states(alloc, &mut files, states.as_slice()) {
             Ok(readings) => readings,
             Err(error) => return Err(of_open(error)),
         };
-        let mut host = match Host::new(alloc, files) {
+        let mut host = match Host::over(alloc, files) {
             Ok(host) => host,
             Err(error) => return Err(of_open(error)),
         };
@@ -60,12 +63,22 @@ impl<S: LooseFiles + Drop> Host<S> {
         }
         match later.told() {
             Some(error) => Err(error),
-            None => Ok(host),
+            None => {
+                host.end_survey();
+                Ok(host)
+            }
         }
     }
 }
 
 impl<S: LooseFiles> Host<S> {
+    // What was read of the store is forgotten.
+    fn end_survey(&mut self)
+        ensures { self.new ≡ self.old }
+    {
+        self.vault.end_survey();
+    }
+
     // Adds a tenant behind the others, which sees again what it saw.
     fn restore_tenant(
         &mut self,

@@ -7,7 +7,7 @@ use Rattle.ledgers.specs.Ledgers.{AllWords, at_ledger}
 use Rattle.ledgers.specs.Words.{staged_words}
 use Rattle.loose_store.specs.Files.{Files}
 use Rattle.loose_store.specs.Stored.{Whole}
-use Rattle.fork_ledger.specs.Known.{IsKnown}
+use Rattle.read_cache.specs.Known.{IsKnown}
 use Rattle.fork_ledger.specs.Private.{with_staged}
 use Rattle.fork_ledger.specs.Shown.{tenants_of}
 use Rattle.fork_ledger.specs.Store.{Becomes, IsStored, Recalls}
@@ -44,9 +44,9 @@ recalled_tenants t name files m n honest kind size known is = record {
   becomes = became_staged files m n t known.object honest (λ h. under_own files name known.object known.named (known.whole h)) (known_word t name files m n honest kind size known is);
 }
 
-pub recalled_stored : {A E : Type 0} (r : Result A E) (t name : List ℕ) (files : Files) (m n : AllWords) (honest : Bool) (kind : Kind) (size : ℕ) → IsKnown honest files name kind size → IsTrue honest → OnOk r (n ≡ at_ledger m t (staged_words name kind size)) → OnErr r (n ≡ m)
-    → IsStored (tenants_of files m) files → IsStored (tenants_of files n) files
-recalled_stored (Ok a) t name files m n honest kind size known h is err stored =
+pub recalled_stored : {A E : Type 0} (r : Result A E) (t name : List ℕ) (files : Files) (m n : AllWords) (honest : Bool) (kind : Kind) (size : ℕ) → IsTrue honest
+    → OnOk r (IsKnown honest files name kind size × (n ≡ at_ledger m t (staged_words name kind size))) → OnErr r (n ≡ m) → IsStored (tenants_of files m) files → IsStored (tenants_of files n) files
+recalled_stored (Ok a) t name files m n honest kind size h (known, is) err stored =
     subst (λ x. IsStored (tenants_of files x) files) (sym (known_word t name files m n honest kind size known is))
     (staged_stored files files m t known.object (keeps_same m files files refl) (under_own files name known.object known.named (known.whole h)) stored)
-recalled_stored (Err e) t name files m n honest kind size known h is err stored = subst (λ x. IsStored (tenants_of files x) files) (sym err) stored
+recalled_stored (Err e) t name files m n honest kind size h is err stored = subst (λ x. IsStored (tenants_of files x) files) (sym err) stored

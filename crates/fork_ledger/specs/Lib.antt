@@ -1,5 +1,4 @@
 pub mod Kept
-pub mod Known
 pub mod Private
 pub mod Shown
 pub mod Store

@@ -18,4 +18,5 @@ mod vault;
 pub use crate::fault::VaultFault;
 pub use crate::held::Held;
 pub use crate::laws::sharp_slices;
+pub use crate::recalling::RecallFault;
 pub use crate::vault::Vault;

@@ -1,19 +1,55 @@
 // Objects that a tenant saw before, of which all is known that its ledger keeps.
-ghost use Rattle.std.specs.Prelude.{◌≡◌, true, OnErr, OnOk};
+ghost use Rattle.std.specs.Prelude.{◌≡◌, true, IsTrue, OnErr, OnOk};
 ghost use Rattle.std.specs.FinMap.{contains_key};
 ghost use Rattle.catalogue.specs.Counted.{places_of};
 ghost use Rattle.ledgers.specs.Ledgers.{at_ledger};
 ghost use Rattle.ledgers.specs.Words.{staged_words};
 ghost use Rattle.loose_store.specs.Files.{Files};
+ghost use Rattle.read_cache.specs.Known.{IsKnown};
 ghost use Rattle.fork_ledger.specs.Kept.{Covers, IsExact};
 
 use fork_request::TenantName;
 use git_name::{Kind, Name};
 use ledgers::Holdings;
-use std::alloc::{AllocError, Global};
+use loose_store::LooseFiles;
+use read_cache::CachedStore;
+use std::alloc::AllocError;
+use thiserror::Error;
+
+/// Why an object was not recalled.
+#[derive(Clone, Copy, Debug, PartialEq, Eq, Error)]
+pub enum RecallFault {
+    #[error("no survey found the object")]
+    Unknown,
+    #[error("no memory")]
+    Memory,
+}
+
+// Stages an object that a survey of the store found, and catalogues its name where it is not.
+pub(crate) fn recall_known<S: LooseFiles>(
+    files: &CachedStore<S>,
+    holdings: &mut Holdings,
+    tenant: &TenantName,
+    name: Name,
+    kind: Kind,
+    length: u64,
+) -> Result<(), RecallFault>
+    ensures ok { OnOk result (IsKnown files.now.honest files.now.contents name kind length × (holdings.new.ledgers ≡ at_ledger holdings.old.ledgers tenant.now (staged_words name kind length))) }
+    ensures err { OnErr result (holdings.new.ledgers ≡ holdings.old.ledgers) }
+    ensures covers { (stored : Files) → Covers stored (places_of holdings.old.catalogue) → Covers stored (places_of holdings.new.catalogue) }
+    ensures exact { IsTrue files.now.honest → IsExact files.now.contents (places_of holdings.old.catalogue) → IsExact files.now.contents (places_of holdings.new.catalogue) }
+{
+    if !files.knows(name, kind, length) {
+        return Err(RecallFault::Unknown);
+    }
+    let Ok(()) = recall(holdings, tenant, name, kind, length) else {
+        return Err(RecallFault::Memory);
+    };
+    Ok(())
+}
 
 // Stages an object of this name, kind and length, and catalogues its name where it is not.
-pub(crate) fn recall(
+fn recall(
     holdings: &mut Holdings,
     tenant: &TenantName,
     name: Name,

@@ -8,7 +8,6 @@ ghost use Rattle.looks.specs.Looks.{Looks, Walks};
 ghost use Rattle.looks.specs.Places.{at_start, is_listed};
 ghost use Rattle.looks.specs.Slices.{Collects, Sweeps};
 ghost use Rattle.fork_ledger.specs.Kept.{IsExact, TakesAway};
-ghost use Rattle.fork_ledger.specs.Known.{IsKnown};
 ghost use Rattle.fork_ledger.specs.Private.{both_of, held_in, with_discarded, with_kept, with_published, with_staged};
 ghost use Rattle.fork_ledger.specs.Store.{AsksStore, IsOver, LeavesStore, Meets, Recalls, StoresAlone, fault_in};
 ghost use Rattle.fork_ledger.specs.Swept.{IsAccounted};
@@ -20,7 +19,7 @@ use crate::arrival::store_fault;
 use crate::fault::VaultFault;
 use crate::held::{Held, held_of};
 use crate::reading::read_held;
-use crate::recalling::recall;
+use crate::recalling::{RecallFault, recall_known};
 use crate::staging::stage_whole;
 use crate::sweeping::{collect, sweep};
 use catalogue::Catalogue;
@@ -78,15 +77,26 @@ impl<S: LooseFiles + Drop> Vault<S> {
         ensures place { IfOk result (λ vault. vault.places.place ≡ 0) }
         ensures cause { IfErr result (λ fault. (fault ≡ VaultFault.Store) ⊎ (fault ≡ VaultFault.Memory)) }
     {
+        let Ok(files) = CachedStore::new(alloc, files) else {
+            return Err(VaultFault::Memory);
+        };
+        Vault::over(alloc, files)
+    }
+
+    /// The same over a store of which a survey may have been made.
+    pub fn over(alloc: Global, files: CachedStore<S>) -> Result<Vault<S>, VaultFault>
+        ensures empty { IfOk result (λ vault. vault.tenants ≡ map.empty) }
+        ensures store { IfOk result (λ vault. IsOver files.contents files.honest files.failures vault) }
+        ensures catalogued { IsTrue files.honest → IfOk result (λ vault. (name : List ℕ) → is_listed vault.places.names name ≡ map.contains_key files.contents name) }
+        ensures place { IfOk result (λ vault. vault.places.place ≡ 0) }
+        ensures cause { IfErr result (λ fault. (fault ≡ VaultFault.Store) ⊎ (fault ≡ VaultFault.Memory)) }
+    {
         let mut files = files;
         let names = match files.names(alloc) {
             Ok(names) => names,
             Err(fault) => return Err(store_fault(fault)),
         };
         let Ok(catalogue) = Catalogue::of(alloc, names.as_slice()) else {
-            return Err(VaultFault::Memory);
-        };
-        let Ok(files) = CachedStore::new(alloc, files) else {
             return Err(VaultFault::Memory);
         };
         let holdings = Holdings::new(alloc, catalogue);
@@ -200,16 +210,15 @@ impl<S: LooseFiles> Vault<S> {
         stage_whole(alloc, &mut self.files, &mut self.holdings, tenant, sealed)
     }
 
-    /// Stages the object of this name for a tenant that saw it before, where its kind and its bytes of
-    /// content are known, and that the store has it. It asks no store.
+    /// Stages the object of this name for a tenant that saw it before, where a survey of the store found
+    /// it there, of this kind and of so many bytes. It asks no store.
     pub fn recall(
         &mut self,
         tenant: &TenantName,
         name: Name,
         kind: Kind,
         length: u64,
-    ) -> Result<(), AllocError>
-        requires known { IsKnown self.old.honest self.old.files name kind length }
+    ) -> Result<(), RecallFault>
         ensures recalls { OnOk result (Recalls self.old.honest tenant.now name self.old.files self.old.tenants self.new.tenants) }
         ensures err { OnErr result (self.new.tenants ≡ self.old.tenants) }
         ensures exact { IsTrue self.old.honest → IsExact self.old.files self.old.places → IsExact self.new.files self.new.places }
@@ -217,7 +226,14 @@ impl<S: LooseFiles> Vault<S> {
         ensures honest { self.new.honest ≡ self.old.honest }
         ensures failures { self.new.failures ≡ self.old.failures }
     {
-        recall(&mut self.holdings, tenant, name, kind, length)
+        recall_known(&self.files, &mut self.holdings, tenant, name, kind, length)
+    }
+
+    /// Forgets what was surveyed.
+    pub fn end_survey(&mut self)
+        ensures { self.new ≡ self.old }
+    {
+        self.files.end_survey();
     }
 
     /// The names of what a tenant sees, ascending.

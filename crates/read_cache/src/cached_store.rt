@@ -1,28 +1,33 @@
-ghost use Rattle.std.specs.Prelude.{◌≡◌, IsTrue, IfOk, IfSome, OnOk};
+ghost use Rattle.std.specs.Prelude.{◌≡◌, IsTrue, IfOk, IfSome, OnOk, Some, true};
 ghost use Rattle.std.specs.FinMap as map;
 ghost use Rattle.git_name.specs.Object.{object_name};
 ghost use Rattle.loose_store.specs.Files.{SameBut};
 ghost use Rattle.loose_store.specs.Failures.{Counts};
 ghost use Rattle.loose_store.specs.Stored.{ReadsTo};
+ghost use Rattle.read_cache.specs.Known.{AreKnown, IsKnown};
 ghost use Rattle.read_cache.specs.Stores.{CountsRead};
 
 use crate::read_cache::ReadCache;
-use git_name::{Name, Sealed};
+use crate::survey::Survey;
+use git_name::{Kind, Name, Sealed};
 use loose_store::{FileFault, LooseFiles, StoreFault, read_checked};
 use std::alloc::{AllocError, Global};
 use std::marker::Model;
 
-/// A store, and the objects that were read from it last. Seen from outside it is the store alone; over
-/// an honest one each object that is kept stands whole in its file.
+/// A store, the objects that were read from it last, and what a survey of it found. Seen from outside
+/// it is the store alone; over an honest one each object that is kept or was surveyed stands whole in
+/// its file.
 #[derive(Drop)]
 pub struct CachedStore<S: LooseFiles> {
     files: S,
     cache: ReadCache,
+    survey: Survey,
 }
 
 impl<S: LooseFiles> Model for CachedStore<S> {
     ghost use Rattle.std.specs.Prelude.{IsTrue};
     ghost use Rattle.read_cache.specs.Cached.{AreWhole};
+    ghost use Rattle.read_cache.specs.Known.{AreKnown};
     ghost use Rattle.read_cache.specs.Stores.{StoreState, store_code};
 
     ghost Value = { StoreState };
@@ -35,7 +40,7 @@ impl<S: LooseFiles> Model for CachedStore<S> {
       failures = S.failures a.files;
     } };
 
-    ghost invariant = { λ a. IsTrue (S.honest a.files) → AreWhole a.cache (S.contents a.files) };
+    ghost invariant = { λ a. (IsTrue (S.honest a.files) → AreWhole a.cache (S.contents a.files)) × AreKnown (S.honest a.files) (S.contents a.files) a.survey };
 }
 
 impl<S: LooseFiles + Drop> CachedStore<S> {
@@ -46,7 +51,12 @@ impl<S: LooseFiles + Drop> CachedStore<S> {
         ensures failures { IfOk result (λ store. store.failures ≡ S.failures files) }
     {
         let cache = ReadCache::new(alloc)?;
-        Ok(CachedStore { files, cache })
+        let survey = Survey::new(alloc);
+        Ok(CachedStore {
+            files,
+            cache,
+            survey,
+        })
     }
 }
 
@@ -85,6 +95,44 @@ impl<S: LooseFiles> CachedStore<S> {
         read_checked(alloc, &mut self.files, name)
     }
 
+    /// The same as `read_past`, and what stands there is noted, so that `knows` tells of it.
+    pub fn survey(&mut self, alloc: Global, name: Name) -> Result<Option<Sealed>, StoreFault>
+        ensures reads { IsTrue self.old.honest → ReadsTo self.old.contents name result }
+        ensures kept { IsTrue self.old.honest → self.new.contents ≡ self.old.contents }
+        // Over any store.
+        ensures named { IfOk result (λ found. IfSome found (λ sealed. object_name sealed ≡ name)) }
+        ensures honest { self.new.honest ≡ self.old.honest }
+        ensures cause { CountsRead self.old.failures self.new.failures result }
+    {
+        read_and_note(alloc, &mut self.files, &mut self.survey, name)
+    }
+
+    /// Whether a survey found the object of this name, of this kind and of so many bytes, and no file
+    /// changed since.
+    pub fn knows(&self, name: Name, kind: Kind, length: u64) -> bool
+        ensures { result ≡ true → IsKnown self.now.honest self.now.contents name kind length }
+    {
+        has(&self.survey, name, kind, length)
+    }
+
+    /// Forgets what was surveyed.
+    pub fn end_survey(&mut self)
+        ensures { self.new ≡ self.old }
+    {
+        self.survey.end();
+    }
+
+    /// The names of the files, ascending.
+    pub fn names(&mut self, alloc: Global) -> Result<Vec<Name>, FileFault>
+        ensures found { IsTrue self.old.honest → IfOk result (λ names. names.items ≡ map.keys self.old.contents) }
+        ensures kept { IsTrue self.old.honest → self.new.contents ≡ self.old.contents }
+        // Over any store.
+        ensures honest { self.new.honest ≡ self.old.honest }
+        ensures cause { Counts self.old.failures self.new.failures result }
+    {
+        self.files.names(alloc)
+    }
+
     /// Writes one file whole, in the place of one that is there.
     pub fn put(&mut self, alloc: Global, name: Name, bytes: &[u8]) -> Result<(), FileFault>
         ensures ok { IsTrue self.old.honest → OnOk result (self.new.contents ≡ map.insert self.old.contents name bytes.now) }
@@ -93,6 +141,7 @@ impl<S: LooseFiles> CachedStore<S> {
         ensures cause { Counts self.old.failures self.new.failures result }
     {
         self.cache.forget(name);
+        self.survey.end();
         self.files.put(alloc, name, bytes)
     }
 
@@ -104,6 +153,7 @@ impl<S: LooseFiles> CachedStore<S> {
         ensures cause { Counts self.old.failures self.new.failures result }
     {
         self.cache.forget(name);
+        self.survey.end();
         self.files.remove(alloc, name)
     }
 }
@@ -156,5 +206,40 @@ fn read_and_keep<S: LooseFiles>(
         }
         Ok(None) => Ok(None),
         Err(fault) => Err(fault),
+    }
+}
+
+// The object of a name, from the store, which is noted.
+fn read_and_note<S: LooseFiles>(
+    alloc: Global,
+    files: &mut S,
+    survey: &mut Survey,
+    name: Name,
+) -> Result<Option<Sealed>, StoreFault>
+    requires { AreKnown (S.honest files.old) (S.contents files.old) survey.old }
+    ensures reads { IsTrue (S.honest files.old) → ReadsTo (S.contents files.old) name result }
+    ensures kept { IsTrue (S.honest files.old) → S.contents files.new ≡ S.contents files.old }
+    ensures known { AreKnown (S.honest files.new) (S.contents files.new) survey.new }
+    ensures named { IfOk result (λ found. IfSome found (λ sealed. object_name sealed ≡ name)) }
+    ensures honest { S.honest files.new ≡ S.honest files.old }
+    ensures cause { CountsRead (S.failures files.old) (S.failures files.new) result }
+{
+    match read_checked(alloc, files, name) {
+        Ok(Some(sealed)) => match survey.note(&sealed) {
+            Ok(()) => Ok(Some(sealed)),
+            Err(_) => Err(StoreFault::Memory),
+        },
+        Ok(None) => Ok(None),
+        Err(fault) => Err(fault),
+    }
+}
+
+// Whether it was noted that the object of this name is of this kind and of so many bytes.
+fn has(survey: &Survey, name: Name, kind: Kind, length: u64) -> bool
+    ensures { result ≡ true → map.get survey.now name ≡ Some (kind, length) }
+{
+    match survey.get(name) {
+        Some(found) => found.0 == kind && found.1 == length,
+        None => false,
     }
 }

@@ -5,7 +5,7 @@ use Rattle.fork_host.proofs.reading.read_states.Goals as goal
 
 pub loop-state-init : goal.loop-state-init
 loop-state-init g c = record {
-  read = states_none (g.S.LooseFiles.honest c.args.files.now) (g.S.LooseFiles.contents c.args.files.now) c.new-readings.result c.new-readings.ensures;
+  read = states_none c.args.files.now.honest c.args.files.now.contents c.new-readings.result c.new-readings.ensures;
   kept = λ h. refl;
   honest = refl;
 }
@@ -18,13 +18,13 @@ loop-state-preserved g c =
     let told = c.read_seen.ensures in
     let state = c.state-item.result in
     record {
-      read = states_more (g.S.LooseFiles.honest first) (g.S.LooseFiles.honest mid) (g.S.LooseFiles.contents first) (g.S.LooseFiles.contents mid) c.args.states.now c.loop-state.state-index state c.loop-state.readings c.read_seen.new.readings
+      read = states_more first.honest mid.honest first.contents mid.contents c.args.states.now c.loop-state.state-index state c.loop-state.readings c.read_seen.new.readings
           before.honest before.kept c.loop-state-test.true c.state-item.is
-          (subst (λ names. Reads (g.S.LooseFiles.honest mid) (g.S.LooseFiles.contents mid) names c.loop-state.readings c.read_seen.new.readings) c.seen.ensures c.in-Ok.ensures.reads) before.read;
+          (subst (λ names. Reads mid.honest mid.contents names c.loop-state.readings c.read_seen.new.readings) c.seen.ensures c.in-Ok.ensures.reads) before.read;
       kept = λ h. told.kept (before.honest ∙ h) ∙ before.kept h;
       honest = told.honest ∙ before.honest;
     }
 
 pub returns-clause-read : goal.returns-clause-read
 returns-clause-read g c =
-    states_all (g.S.LooseFiles.honest c.args.files.now) (g.S.LooseFiles.contents c.args.files.now) c.args.states.now c.loop-state.state-index c.loop-state.readings (omega arith) c.loop-state.invariant.read
+    states_all c.args.files.now.honest c.args.files.now.contents c.args.states.now c.loop-state.state-index c.loop-state.readings (omega arith) c.loop-state.invariant.read

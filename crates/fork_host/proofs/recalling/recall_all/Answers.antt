@@ -7,7 +7,6 @@ use Rattle.fork_host.specs.Own.{Changes, Settles, Stages, visible_in}
 use Rattle.fork_host.specs.Read.{RecallsRead}
 use Rattle.fork_host.proofs.HandleLemmas.{same_own, same_then}
 use Rattle.fork_host.proofs.OwnLemmas.{changes_none, changes_still, here_changed, stages_none}
-use Rattle.fork_host.proofs.ReadingLemmas.{each_at}
 use Rattle.fork_host.proofs.RecallLemmas.{came_all, came_none, came_read}
 use Rattle.fork_host.proofs.recalling.recall_all.Goals as goal
 
@@ -18,13 +17,6 @@ loop-name-init g c =
       same = same_own first;
       so_far = came_none first.tenant.now c.args.names.now (both_by first) first.vault.now (changes_none (Stages first.tenant.now (both_by first)) first.vault.now (stages_none first.vault.now.tenants first.tenant.now));
     }
-
-pub recall_read-requires : goal.recall_read-requires
-recall_read-requires g c =
-    let before = c.loop-name.invariant in
-    let first = c.args.own.now in
-    let old = c.loop-name.own in
-    record { read = each_at first.vault.now.honest old.vault.now.honest first.vault.now.files old.vault.now.files c.args.readings.now before.so_far.stages.honest (λ h. before.so_far.files) c.requires.read.each }
 
 pub loop-name-preserved : goal.loop-name-preserved
 loop-name-preserved g c =

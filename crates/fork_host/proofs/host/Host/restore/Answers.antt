@@ -8,7 +8,9 @@ use Rattle.state_text.specs.States.{States, TenantState}
 use Rattle.state_text.proofs.BehindLemmas.{map_behind}
 use Rattle.fork_model.specs.declared.limits.TheConstants.{MAX_TENANTS}
 use Rattle.fork_host.specs.Refilled.{IsWhy, with_judged}
-use Rattle.fork_host.specs.Shown.{HostState}
+use Rattle.fork_host.specs.Restored.{IsShownAgain}
+use Rattle.fork_host.specs.Restored.IsRefused.{WantsMemory}
+use Rattle.fork_host.specs.Shown.{HostState, Trusted, world_of}
 use Rattle.fork_host.specs.declared.later.Later.{Later}
 use Rattle.fork_host.proofs.GatherLemmas.{next_by, parts_at, taken_more}
 use Rattle.fork_host.proofs.KeepingLemmas.{room_for}
@@ -16,21 +18,26 @@ use Rattle.fork_host.proofs.ReadingLemmas.{read_at}
 use Rattle.fork_host.proofs.RestoringLemmas.{Going, behind_is, going_more, going_none, len_keys, no_tenants, of_fault, shown_late, told_bad, told_late}
 use Rattle.fork_host.proofs.host.Host.restore.Goals as goal
 
+pub returns-in_default-clause-refused : goal.returns-in_default-clause-refused
+returns-in_default-clause-refused g c = λ h. WantsMemory
+
 pub returns-in-Err-clause-refused : goal.returns-in-Err-clause-refused
 returns-in-Err-clause-refused g c = λ h. of_fault (g.S.LooseFiles.contents c.args.files) c.args.states c.of_open.result c.of_open.ensures
 
-pub returns-in-Err-new-clause-refused : goal.returns-in-Err-new-clause-refused
-returns-in-Err-new-clause-refused g c = λ h. of_fault (g.S.LooseFiles.contents c.args.files) c.args.states c.of_open-in-Err-new.result c.of_open-in-Err-new.ensures
+pub returns-in-Err-over-clause-refused : goal.returns-in-Err-over-clause-refused
+returns-in-Err-over-clause-refused g c = λ h. of_fault (g.S.LooseFiles.contents c.args.files) c.args.states c.of_open-in-Err-over.result c.of_open-in-Err-over.ensures
 
 pub loop-state-init : goal.loop-state-init
 loop-state-init g c =
     let read = c.read_states.ensures in
-    let told = c.in-Ok-new.ensures in
+    let told = c.in-Ok-over.ensures in
     record {
-      trusted = λ h. told.trusted (read.honest ∙ h);
-      going = λ h. going_none (g.S.LooseFiles.contents c.args.files) c.in-Ok-new.host told.empty (told.store.files (read.honest ∙ h) ∙ read.kept h);
-      honest = told.store.honest ∙ read.honest;
-      names = no_tenants c.in-Ok-new.host told.empty;
+      trusted = λ h. told.trusted (read.honest ∙ c.in-Ok.ensures.honest ∙ h);
+      going = λ h.
+          let was = c.in-Ok.ensures.honest ∙ h in
+          going_none (g.S.LooseFiles.contents c.args.files) c.in-Ok-over.host told.empty (told.store.files (read.honest ∙ was) ∙ read.kept was ∙ c.in-Ok.ensures.contents);
+      honest = told.store.honest ∙ read.honest ∙ c.in-Ok.ensures.honest;
+      names = no_tenants c.in-Ok-over.host told.empty;
     }
 
 -- the state that comes next is one of those that are told
@@ -68,8 +75,9 @@ restore_tenant-judged-requires-clause-read g c =
     let states = c.args.states in
     let before = c.loop-state.invariant in
     let host = c.loop-state.host in
-    read_at (g.S.LooseFiles.honest c.args.files) host.vault.honest (g.S.LooseFiles.contents c.args.files) host.vault.files tenant.seen c.in-Ok.readings before.honest (λ h. (before.going h).same)
-    (c.in-Ok.ensures.read tenant (subst (λ (ts : States). Contains ts tenant) (sym c.as_slice.ensures.tenants)
+    let store = c.in-Ok.ensures in
+    read_at c.in-Ok.files.honest host.vault.honest c.in-Ok.files.contents host.vault.files tenant.seen c.in-Ok-read_states.readings (before.honest ∙ sym store.honest) (λ h. (before.going (sym store.honest ∙ h)).same ∙ sym store.contents)
+    (c.in-Ok-read_states.ensures.read tenant (subst (λ (ts : States). Contains ts tenant) (sym c.as_slice.ensures.tenants)
     (i, inside c.as_slice-state-items.result.now states i same c.loop-state-test.true, sym (next c.as_slice-state-items.result.now states i tenant same c.state-item.is))))
 
 pub returns-in-Some-clause-refused : goal.returns-in-Some-clause-refused
@@ -103,7 +111,7 @@ loop-state-preserved g c =
     let lt = inside c.as_slice-state-items.result.now states i same c.loop-state-test.true in
     let is = next c.as_slice-state-items.result.now states i tenant same c.state-item.is in
     let more = taken_more states i tenant lt is in
-    let none = sym c.note.ensures.told ∙ c.in_default.is in
+    let none = sym c.note.ensures.told ∙ c.in_default-note.is in
     let noted = c.note.ensures.noted ∙ ap (λ name. with_judged c.loop-state.later name result) c.name.ensures.name in
     record {
       trusted = λ h. judged.trusted (before.trusted h);
@@ -130,10 +138,11 @@ returns-in-Some-told-clause-refused g c = λ h.
     told_late files c.args.states c.loop-state.host c.loop-state.later c.in-Some-told.error going (sym c.told.ensures ∙ c.in-Some-told.is)
 
 pub returns-clause-trusted : goal.returns-clause-trusted
-returns-clause-trusted g c = c.loop-state.invariant.trusted
+returns-clause-trusted g c = λ h. subst Trusted (sym c.end_survey.ensures) (c.loop-state.invariant.trusted h)
 
 pub returns-clause-shown : goal.returns-clause-shown
 returns-clause-shown g c = λ h.
     let files = g.S.LooseFiles.contents c.args.files in
     let going = all_of files c.as_slice-state-items.result.now c.args.states c.loop-state.state-index c.loop-state.host c.loop-state.later c.as_slice-state-items.ensures.tenants (omega arith) (c.loop-state.invariant.going h) in
-    shown_late files c.args.states c.loop-state.host c.loop-state.later going (sym c.told.ensures ∙ c.in-None.is)
+    subst (λ (s : HostState). IsShownAgain files c.args.states (world_of s)) (sym c.end_survey.ensures)
+    (shown_late files c.args.states c.loop-state.host c.loop-state.later going (sym c.told.ensures ∙ c.in-None.is))

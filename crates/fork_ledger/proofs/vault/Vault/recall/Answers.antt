@@ -1,24 +1,18 @@
-use Rattle.std.proofs.Common.{sym, subst}
+use Rattle.std.proofs.Common.{subst}
 use Rattle.std.proofs.lemmas.Result.{on_ok_weaker}
-use Rattle.fork_ledger.specs.Known.{IsKnown}
 use Rattle.fork_ledger.specs.Shown.{tenants_of}
 use Rattle.fork_ledger.specs.Store.{Recalls}
 use Rattle.fork_ledger.specs.Tenants.{VaultState}
 use Rattle.fork_ledger.proofs.RecallLemmas.{recalled_stored, recalled_tenants}
-use Rattle.fork_ledger.proofs.vault.Vault.recall.Given as given
 use Rattle.fork_ledger.proofs.vault.Vault.recall.Goals as goal
-
--- what is known of the object
-known_of : (g : given.Over) (c : goal.After-recall g) → IsKnown c.self.inside.files.honest c.self.inside.files.contents c.args.name c.args.kind c.args.length
-known_of g c = subst (λ (s : VaultState). IsKnown s.honest s.files c.args.name c.args.kind c.args.length) (sym c.self.view_is) c.requires.known
 
 pub invariant_of-self : goal.invariant_of-self
 invariant_of-self g c = λ h.
     let files = c.self.inside.files.contents in
     let kept = c.self.invariant h in
     record {
-      stored = recalled_stored c.recall.result c.args.tenant.now c.args.name files c.self.inside.holdings.ledgers c.recall.new.holdings.ledgers c.self.inside.files.honest c.args.kind c.args.length (known_of g c) h c.recall.ensures.ok c.recall.ensures.err kept.stored;
-      covers = c.recall.ensures.covers files kept.covers;
+      stored = recalled_stored c.recall_known.result c.args.tenant.now c.args.name files c.self.inside.holdings.ledgers c.recall_known.new.holdings.ledgers c.self.inside.files.honest c.args.kind c.args.length h c.recall_known.ensures.ok c.recall_known.ensures.err kept.stored;
+      covers = c.recall_known.ensures.covers files kept.covers;
     }
 
 pub returns-clause-recalls : goal.returns-clause-recalls
@@ -26,8 +20,8 @@ returns-clause-recalls g c =
     let files = c.self.inside.files.contents in
     let honest = c.self.inside.files.honest in
     let old = c.self.inside.holdings.ledgers in
-    let new = c.recall.new.holdings.ledgers in
+    let new = c.recall_known.new.holdings.ledgers in
     let t = c.args.tenant.now in
-    on_ok_weaker c.recall.result (λ is.
+    on_ok_weaker c.recall_known.result (λ told.
     subst (λ (s : VaultState). Recalls s.honest t c.args.name s.files s.tenants (tenants_of files new)) c.self.view_is
-    (recalled_tenants t c.args.name files old new honest c.args.kind c.args.length (known_of g c) is)) c.recall.ensures.ok
+    (recalled_tenants t c.args.name files old new honest c.args.kind c.args.length told.0 told.1)) c.recall_known.ensures.ok

@@ -1,8 +1,12 @@
 use Rattle.std.proofs.Common.{sym, ◌∙◌}
+use Rattle.read_cache.proofs.KnownLemmas.{known_none}
 use Rattle.read_cache.proofs.WholeLemmas.{whole_but}
 use Rattle.read_cache.proofs.cached_store.CachedStore.remove.Goals as goal
 
 pub invariant_of-self : goal.invariant_of-self
-invariant_of-self g c = λ h.
-    let was = sym c.remove.ensures.honest ∙ h in
-    whole_but c.self.inside.cache c.forget.new.self (g.S.LooseFiles.contents c.self.inside.files) (g.S.LooseFiles.contents c.remove.new.self) c.args.name c.forget.ensures (c.remove.ensures.others was) (c.self.invariant was)
+invariant_of-self g c = (
+  λ h.
+      let was = sym c.remove.ensures.honest ∙ h in
+      whole_but c.self.inside.cache c.forget.new.self (g.S.LooseFiles.contents c.self.inside.files) (g.S.LooseFiles.contents c.remove.new.self) c.args.name c.forget.ensures (c.remove.ensures.others was) (c.self.invariant.0 was),
+  known_none (g.S.LooseFiles.honest c.remove.new.self) (g.S.LooseFiles.contents c.remove.new.self) c.end.new.self c.end.ensures,
+)

@@ -1,0 +1,9 @@
+use Rattle.std.proofs.Common.{sym, ◌∙◌}
+use Rattle.read_cache.proofs.WholeLemmas.{whole_less}
+use Rattle.read_cache.proofs.cached_store.CachedStore.survey.Goals as goal
+
+pub invariant_of-self : goal.invariant_of-self
+invariant_of-self g c = (
+  λ h. (let was = sym c.read_and_note.ensures.honest ∙ h in whole_less c.self.inside.cache c.self.inside.cache (g.S.LooseFiles.contents c.self.inside.files) (g.S.LooseFiles.contents c.read_and_note.new.files) (λ n o there. there) (c.read_and_note.ensures.kept was) (c.self.invariant.0 was)),
+  c.read_and_note.ensures.known,
+)

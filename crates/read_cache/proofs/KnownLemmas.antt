@@ -1,6 +1,5 @@
 -- What a survey noted, as files and notes change.
-use Rattle.std.proofs.Common.{◌≡◌, ℕ, Bool, true, false, cond, List, Option, Some, None, refl, sym, ap, subst, ◌∙◌, IsTrue, length}
-use Rattle.std.specs.Cmp.{eq_by_cmp_equiv}
+use Rattle.std.proofs.Common.{◌≡◌, ℕ, Bool, true, false, cond, List, Some, refl, sym, ap, subst, ◌∙◌, IsTrue, length}
 use Rattle.std.specs.FinMap.{empty, get, get-empty, get-insert, insert}
 use Rattle.std.specs.declared.cmp.Ordering.{Ordering}
 use Rattle.std.specs.declared.cmp.Ordering.TheVariants.{Less, Equal, Greater}

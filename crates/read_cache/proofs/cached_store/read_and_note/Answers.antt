@@ -1,7 +1,7 @@
-use Rattle.std.proofs.Common.{Ok, ap, sym, subst, ◌∙◌}
+use Rattle.std.proofs.Common.{Ok, sym, subst, ◌∙◌}
 use Rattle.git_name.specs.Object.{object_name}
 use Rattle.loose_store.specs.Stored.{ReadsTo, Whole}
-use Rattle.read_cache.specs.Known.{AreKnown, Surveyed}
+use Rattle.read_cache.specs.Known.{AreKnown}
 use Rattle.read_cache.proofs.KnownLemmas.{known_at, known_more}
 use Rattle.read_cache.proofs.cached_store.read_and_note.Goals as goal
 

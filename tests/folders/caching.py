@@ -40,15 +40,15 @@ def begun(checks, program, *words):
 
 
 def spoil(folder, content):
-    """A folder lies where the object's file was, so that no read of it succeeds."""
+    """A link to itself lies where the object's file was, so that no read of it succeeds."""
     path = folder.file_of(name_of(b"blob", content))
     os.remove(path)
-    os.mkdir(path)
+    os.symlink(path, path)
 
 
 def mend(folder, content):
     name = name_of(b"blob", content)
-    os.rmdir(folder.file_of(name))
+    os.remove(folder.file_of(name))
     folder.keep(name, stored(b"blob", content))
 
 

@@ -1,6 +1,7 @@
 """What a running host meets in its folder: files that can't be written, that are altered, and that are gone."""
 import os
 import shutil
+import subprocess
 
 from cases import B, C, D, FILES, O, OBJECTS, alone
 from checks import Checks
@@ -13,6 +14,7 @@ from state_text import Repository, Tenant, spelled
 
 PUSH = b"push r\ncreate refs/heads/main %s\n\n" % D + b"".join(record(*thing) for thing in OBJECTS.values())
 ALICE, BOB = b"alice", b"bob"
+NAME_OF_NOTHING = name_of(b"blob", b"") + b"\n"
 SAVED = alone(OBJECTS, (b"refs/heads/main", D))
 
 
@@ -27,6 +29,7 @@ def show_devices(checks, program, work):
     show_shared(checks, program, Folder(os.path.join(work, "shared")))
     show_leftovers(checks, program, Folder(os.path.join(work, "leftovers")))
     show_streams(checks, program, Folder(os.path.join(work, "streams")))
+    show_untold(checks, program, work)
     for rest, fault in ((b"", "state not saved"), (b"alice", "bad frame")):
         show_saves(checks, program, Folder(os.path.join(work, f"saves{len(rest)}")), rest, fault)
 
@@ -50,6 +53,26 @@ def show_streams(checks: Checks, program, folder):
     checks.same("an input that can't be read", failed("read"), ended(child, None))
     os.close(place)
     checks.same("the state stays", made, folder.state())
+
+
+def show_untold(checks: Checks, program, work):
+    """Standard error takes nothing: the status stays what it is."""
+    absent = os.path.join(work, "absent")
+    rows = {
+        ("hash-object",): (0, NAME_OF_NOTHING),
+        ("--help",): (0, None),
+        ("hash-object", "--type=tag"): (1, b""),
+        ("check", "--dir", absent): (1, b""),
+        ("run", "--dir", os.path.join(work, "file", "in")): (1, b""),
+        ("hash",): (2, b""),
+        ("run", "alice"): (2, b""),
+        (b"\xff",): (2, b""),
+    }
+    with open(os.path.join(work, "file"), "wb"), open("/dev/full", "wb") as full:
+        for words, (status, output) in rows.items():
+            ran = subprocess.run([program.path, *words], input=b"", stdout=subprocess.PIPE, stderr=full)
+            checks.same(f"the status of {words}", status, ran.returncode)
+            checks.same(f"the output of {words}", ran.stdout if output is None else output, ran.stdout)
 
 
 def show_writes(checks: Checks, program, folder):
@@ -134,22 +157,24 @@ def show_reads(checks: Checks, program, folder):
 
 
 def spoil_one(checks, live, folder):
-    """The commit's file is spoiled in some ways, and then put back."""
-    spoiled = [("cut", FILES[C][:-1]), ("empty", b""), ("another's", FILES[B]), ("gone", None), ("a folder", b"")]
-    for label, file in spoiled:
-        os.remove(folder.file_of(C))
-        fault = b"host store\n" if label == "a folder" else b"host damaged\n"
-        if label == "a folder":
-            os.mkdir(folder.file_of(C))
-        elif file is not None:
-            folder.keep(C, file)
+    """Something else stands where the commit's file was, and then the file again. For one that is gone see `harms.py`."""
+    path = folder.file_of(C)
+    spoiled = {
+        "cut": (lambda: folder.keep(C, FILES[C][:-1]), b"host damaged\n"),
+        "empty": (lambda: folder.keep(C, b""), b"host damaged\n"),
+        "another's": (lambda: folder.keep(C, FILES[B]), b"host damaged\n"),
+        "a pipe": (lambda: os.mkfifo(path), b"host damaged\n"),
+        "a link to itself": (lambda: os.symlink(path, path), b"host store\n"),
+    }
+    for label, (lay, fault) in spoiled.items():
+        os.remove(path)
+        lay()
         told = live.asked(ALICE, b"cat-file %s\n" % C)
         checks.holds(f"a file that is {label}", is_right(told, fault))
         checks.same(f"a push to one that is {label}", fault, live.asked(BOB, PUSH))
         checks.same("it changes nothing", b"ok\n0 10000\n", live.asked(BOB, b"quota\n"))
         checks.same("one who sees none is told so", b"no missing %s\n" % C, live.asked(BOB, b"cat-file %s\n" % C))
-        if label == "a folder":
-            os.rmdir(folder.file_of(C))
+        os.remove(path)
         folder.keep(C, FILES[C])
 
 

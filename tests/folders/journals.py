@@ -89,6 +89,28 @@ def show_cuts(checks, program, work):
     checks.same("a start", failed("journal unreadable"), program.ran("run", "--dir", base.path))
 
 
+def show_altered(checks, program, work):
+    """A request that is refused where it was done before is told, unless it is the last one of its journal."""
+    folder = Folder(os.path.join(work, "altered"))
+    live = Live(program, "--dir", folder.path, "alice=60000", "bob=60000")
+    for turn in (INIT, (ALICE, PUSH), (BOB, b"init s\n"), (ALICE, b"init last\n")):
+        checks.same(f"{turn[1][:10]!r}", b"ok\n", live.asked(*turn))
+    killed(live)
+    path, whole = folder.journal_path(), folder.journal()
+    at = whole.index(record(*OBJECTS[C])) + 90
+    flipped = whole[:at] + bytes([whole[at] ^ 1]) + whole[at + 1 :]
+    rows = {"a content": flipped, "a name": whole.replace(b"init s", b"init S"), "a tenant": whole.replace(b"bob", b"rob")}
+    for label, row in rows.items():
+        write(path, row)
+        checks.same(f"check of {label}", failed("journal unreadable"), program.checked(folder.path))
+        checks.same(f"a start over {label}", failed("journal unreadable"), program.ran("run", "--dir", folder.path))
+        checks.same("the journal stays", row, folder.journal())
+    write(path, whole.replace(b"init last", b"init lasT"))
+    asks = [(ALICE, b"for-each-ref last\n"), (BOB, b"for-each-ref s\n")]
+    told = done(b"".join(map(framed, (b"no no-repository last\n", b"ok\n"))))
+    checks.same("the last request", told, program.ran("run", "--dir", folder.path, given=frames(asks)))
+
+
 def show_uploads(checks, program, work):
     """Open uploads outlive a kill and a clean end, however long they are."""
     folder = Folder(os.path.join(work, "kept"))

@@ -1,4 +1,4 @@
-ghost use Rattle.std.specs.Prelude.{◌≡◌, ◌≤◌, ◌<◌, ◌+◌, ◌^◌, ◌++◌, ◌∷◌, [], ◌⊎◌, ◌&&◌, ◌||◌, true, not, ℕ, List, OnOk, OnErr, IfOk, IfSome, IfNone, length, IsPermutation};
+ghost use Rattle.std.specs.Prelude.{◌≡◌, ◌≤◌, ◌<◌, ◌+◌, ◌^◌, ◌++◌, ◌∷◌, [], ◌⊎◌, ◌&&◌, ◌||◌, true, false, not, ℕ, List, OnOk, OnErr, IfOk, IfSome, IfNone, Some, length, slice_get, take, IsPermutation};
 ghost use Rattle.looks.specs.Places.{is_listed, looked_at, same_name};
 ghost use Rattle.catalogue.specs.Counted.{IsNext, count_of, one_if, places_of};
 
@@ -113,6 +113,18 @@ impl Catalogue {
             return None;
         };
         if entry.1 > 0 { None } else { Some(entry.0) }
+    }
+
+    /// The name at a place, if somebody holds it. Each name stands at one place.
+    pub fn held_name(&self, at: usize) -> Option<Name>
+        ensures some { IfSome result (λ name. (slice_get (places_of self.now).names at ≡ Some name) × (0 < count_of self.now name)) }
+        ensures first { IfSome result (λ name. is_listed (take at (places_of self.now).names) name ≡ false) }
+        ensures none { IfNone result ((name : List ℕ) → slice_get (places_of self.now).names at ≡ Some name → count_of self.now name ≡ 0) }
+    {
+        let Some(entry) = entry_at(&self.holders, at) else {
+            return None;
+        };
+        if entry.1 > 0 { Some(entry.0) } else { None }
     }
 
     /// Passes over the name that the next look falls at.

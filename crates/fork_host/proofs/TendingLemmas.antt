@@ -32,7 +32,7 @@ use Rattle.fork_host.proofs.WorldLemmas.{get_world, known_world, len_world}
 
 -- a request that was refused memory did nothing
 pub tends_none : (request : HostRequest) (vault : VaultState) → IsTended request vault (Failed Memory) vault → Tends request vault (Failed Memory) vault
-tends_none request vault tended = record { tended = tended; honest = refl; kept = λ h. refl; stays = λ h name held. refl; sharp = λ h is done. absurd (cc) }
+tends_none request vault tended = record { tended = tended; honest = refl; kept = λ h. refl; stays = λ h name held. refl; sharp = λ h is done. absurd (cc); sound = λ h is done. absurd (cc) }
 
 pub done_none : (text : List ℕ) → NoneOfObjects (Done text)
 done_none text = record { undamaged = λ is. cc; apart = λ is. cc }

@@ -5,7 +5,7 @@ use Rattle.git_name.specs.Object.{Object}
 use Rattle.fork_request.specs.declared.host_fault.HostFault.TheVariants.{Store, Damaged, Memory, Collision}
 use Rattle.fork_request.specs.Told.{is_host_fault}
 use Rattle.fork_request.specs.declared.host_request.HostRequest.{HostRequest}
-use Rattle.fork_request.specs.declared.host_request.HostRequest.TheVariants.{Sweep, Collect, Census, Bad}
+use Rattle.fork_request.specs.declared.host_request.HostRequest.TheVariants.{Sweep, Collect, Census, Fsck, Bad}
 use Rattle.fork_request.specs.declared.reply.Reply.{Reply}
 use Rattle.fork_request.specs.declared.reply.Reply.TheVariants.{Failed}
 use Rattle.fork_model.specs.Runs.{Asks, HostAsks}
@@ -14,16 +14,17 @@ use Rattle.fork_host.specs.Bounds.{IsBounded, IsCollision}
 use Rattle.fork_host.specs.Sent.{sent_in_world}
 use Rattle.fork_host.specs.Shown.{HostState, Trusted, world_of}
 
--- no object is read, and none comes: no host fault tells of one
+-- no object is given or comes: no host fault tells of one
 pub record NoneOfObjects (reply : Reply) : Type 0 where
   pub undamaged : reply ≢ Failed Damaged
   pub apart : reply ≢ Failed Collision
 
--- the host faults of a request of the host's own: of a sweep and a collection want of memory and failures of the store, of the
--- census want of memory, and of a bad request none
+-- the host faults of a request of the host's own: of a sweep, a collection and a check want of memory and failures of the store, of
+-- the census want of memory, and of a bad request none
 abbrev pub HostFaults : HostRequest → Reply → Type 0
 HostFaults (Sweep most) reply = NoneOfObjects reply
 HostFaults Collect reply = NoneOfObjects reply
+HostFaults Fsck reply = NoneOfObjects reply
 HostFaults Census reply = (is_host_fault reply ≡ false) ⊎ (reply ≡ Failed Memory)
 HostFaults Bad reply = is_host_fault reply ≡ false
 

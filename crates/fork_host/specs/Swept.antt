@@ -1,10 +1,11 @@
--- What requests of the host itself do with the store (own): sweeps, collections and the census. They change no view.
+-- What requests of the host itself do with the store (own): sweeps, collections, the census and the check. They change no view.
 use Rattle.std.specs.Prelude.{◌≡◌, ◌⊎◌, ◌<◌, ◌≤◌, ◌+◌, ◌*◌, ℕ, Bool, true, IsTrue, List, [], ◌∷◌, length, map, sum, ⊤}
 use Rattle.std.specs.FinMap.{contains_key, get}
 use Rattle.std.specs.List.{AllByRecursion}
+use Rattle.fork_request.specs.Harms.{Harmed, harm_lines}
 use Rattle.fork_request.specs.Told.{is_done}
 use Rattle.fork_request.specs.declared.host_request.HostRequest.{HostRequest}
-use Rattle.fork_request.specs.declared.host_request.HostRequest.TheVariants.{Sweep, Collect, Census, Bad}
+use Rattle.fork_request.specs.declared.host_request.HostRequest.TheVariants.{Sweep, Collect, Census, Fsck, Bad}
 use Rattle.fork_request.specs.declared.refusal.Refusal.TheVariants.{BadRequest}
 use Rattle.fork_request.specs.declared.reply.Reply.{Reply}
 use Rattle.fork_request.specs.declared.reply.Reply.TheVariants.{Done, Refused, Failed}
@@ -13,6 +14,7 @@ use Rattle.fork_model.specs.World.{Event, number_line}
 use Rattle.looks.specs.Looks.{Looks, Walks}
 use Rattle.looks.specs.Places.{Places, at_start}
 use Rattle.looks.specs.Slices.{Collects, Sweeps}
+use Rattle.fork_ledger.specs.Harms.{AreFound}
 use Rattle.fork_ledger.specs.Taken.{is_taken}
 use Rattle.fork_ledger.specs.Tenants.{VaultState}
 use Rattle.fork_host.specs.Shown.{HostState}
@@ -51,17 +53,29 @@ IsCollection old (Done text) new = Collects (is_taken old.tenants) old.places ne
 IsCollection old (Refused refusal) new = ⊥
 IsCollection old (Failed fault) new = WalksOn (is_taken old.tenants) old.places new.places
 
+-- the catalogue stays, and so do the files of an honest store
+pub record IsLeft (old new : VaultState) : Type 0 where
+  pub places : new.places ≡ old.places
+  pub files : IsTrue old.honest → new.files ≡ old.files
+
 -- the census: how many names are catalogued is told, and nothing changes
 abbrev pub IsCensus : VaultState → Reply → VaultState → Type 0
 IsCensus old (Done text) new = (text ≡ number_line (length old.places.names)) × (new ≡ old)
 IsCensus old (Refused refusal) new = ⊥
 IsCensus old (Failed fault) new = new ≡ old
 
+-- the check: the harms of the files are told, and of the catalogue and of an honest store nothing changes
+abbrev pub IsCheck : VaultState → Reply → VaultState → Type 0
+IsCheck old (Done text) new = ((harms : Harmed) × (text ≡ harm_lines harms) × AreFound harms old) × IsLeft old new
+IsCheck old (Refused refusal) new = ⊥
+IsCheck old (Failed fault) new = IsLeft old new
+
 -- what is told and done, by what is asked
 abbrev pub IsTended : HostRequest → VaultState → Reply → VaultState → Type 0
 IsTended (Sweep most) old reply new = IsSweep most old reply new
 IsTended Collect old reply new = IsCollection old reply new
 IsTended Census old reply new = IsCensus old reply new
+IsTended Fsck old reply new = IsCheck old reply new
 IsTended Bad old reply new = (reply ≡ Refused BadRequest) × (new ≡ old)
 
 -- what a request of the host itself does: over any store with the catalogue, and over an honest one with the files
@@ -71,6 +85,7 @@ pub record Tends (request : HostRequest) (old : VaultState) (reply : Reply) (new
   pub kept : IsTrue old.honest → new.tenants ≡ old.tenants
   pub stays : IsTrue old.honest → KeepsTaken old new
   pub sharp : IsTrue old.honest → request ≡ Collect → is_done reply ≡ true → IsSharp new
+  pub sound : IsTrue old.honest → request ≡ Fsck → is_done reply ≡ true → reply ≡ Done []
 
 -- the same of a step, where the host itself is asked
 abbrev pub TendsAt : HostState → Event → Reply → HostState → Type 0

@@ -1,4 +1,4 @@
-ghost use Rattle.std.specs.Prelude.{◌≡◌, ◌≢◌, ◌⊎◌, IsTrue, IfOk, IfErr, OnOk, OnErr, List, ℕ, Some, None, false, true, map as each};
+ghost use Rattle.std.specs.Prelude.{◌≡◌, ◌≢◌, ◌⊎◌, IsTrue, IfOk, IfErr, OnOk, OnErr, List, [], ℕ, Some, None, false, true, map as each};
 ghost use Rattle.push_stream.specs.Upload.{upload_of};
 ghost use Rattle.fork_host.specs.Uploads.{uploads_of};
 ghost use Rattle.std.specs.FinMap as map;
@@ -193,7 +193,11 @@ impl<S: LooseFiles> Host<S> {
         ensures sharp { Trusted self.old → request ≡ HostRequest.Collect → is_done result ≡ true → IsSharp self.new.vault }
         ensures stays { Trusted self.old → KeepsTaken self.old.vault self.new.vault }
 
-        // Over any store too: how many looks at the catalogue, and by how many names it shrank.
+        // Over an honest store a check finds nothing.
+        ensures sound { Trusted self.old → request ≡ HostRequest.Fsck → is_done result ≡ true → result ≡ Reply.Done [] }
+
+        // Over any store too: how many looks at the catalogue, and by how many names it shrank; and which
+        // harms a check tells.
         ensures tends { Tends request self.old.vault result self.new.vault }
     {
         tend(alloc, &mut self.vault, request)

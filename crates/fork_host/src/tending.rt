@@ -1,6 +1,8 @@
-// What is asked of the host itself: its store is swept, and its catalogue is counted.
+// What is asked of the host itself: its store is swept and checked, and its catalogue is counted.
 ghost use Rattle.std.specs.Prelude.{◌≡◌, ◌⊎◌, ◌≤◌, [], IfOk, length, true};
 ghost use Rattle.std.specs.Vec.{vec_capacity, vec_len};
+ghost use Rattle.std.specs.FinMap as map;
+ghost use Rattle.fork_request.specs.Harms.{harm_lines};
 ghost use Rattle.fork_request.specs.Told.{is_host_fault};
 ghost use Rattle.fork_ledger.specs.Tenants.{shape_of};
 ghost use Rattle.fork_model.specs.World.{HostSays, number_line};
@@ -9,7 +11,7 @@ ghost use Rattle.fork_host.specs.Faults.{HostFaults};
 ghost use Rattle.fork_host.specs.Swept.{Tends};
 
 use crate::replies::vault_fault;
-use fork_ledger::Vault;
+use fork_ledger::{Harms, Vault};
 use fork_request::{ByteString, HostFault, HostRequest, Refusal, Reply};
 use itoa::Buffer;
 use loose_store::LooseFiles;
@@ -90,6 +92,30 @@ fn census<S: LooseFiles>(alloc: Global, vault: &Vault<S>) -> Reply
     told_number(text, vault.census())
 }
 
+// The lines of harms are told.
+fn told_harms(alloc: Global, harms: &Harms) -> Reply
+    ensures { (result ≡ Reply.Done (harm_lines (map.entries harms.now))) ⊎ (result ≡ Reply.Failed HostFault.Memory) }
+{
+    let Ok(text) = harms.lines(alloc) else {
+        return Reply::Failed(HostFault::Memory);
+    };
+    Reply::Done(ByteString::new(text))
+}
+
+// What is wrong with the files of objects that tenants hold.
+fn fsck<S: LooseFiles>(alloc: Global, vault: &mut Vault<S>) -> Reply
+    ensures says { HostSays HostRequest.Fsck result ⊎ (is_host_fault result ≡ true) }
+    ensures tends { Tends HostRequest.Fsck vault.old result vault.new }
+    ensures shape { shape_of vault.new.tenants ≡ shape_of vault.old.tenants }
+    ensures faults { HostFaults HostRequest.Fsck result }
+    ensures bounds { IsBounded [] vault.old vault.new result }
+{
+    match vault.faulty(alloc) {
+        Ok(harms) => told_harms(alloc, &harms),
+        Err(fault) => Reply::Failed(vault_fault(fault)),
+    }
+}
+
 // Answers what is asked of the host itself.
 pub(crate) fn tend<S: LooseFiles>(
     alloc: Global,
@@ -106,6 +132,7 @@ pub(crate) fn tend<S: LooseFiles>(
         HostRequest::Sweep(most) => sweep(alloc, vault, most),
         HostRequest::Collect => collect(alloc, vault),
         HostRequest::Census => census(alloc, vault),
+        HostRequest::Fsck => fsck(alloc, vault),
         HostRequest::Bad => Reply::Refused(Refusal::BadRequest),
     }
 }

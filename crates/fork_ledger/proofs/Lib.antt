@@ -1,5 +1,7 @@
 pub mod BothLemmas
+pub mod CheckLemmas
 pub mod CoverLemmas
+pub mod HarmLemmas
 pub mod HeldLemmas
 pub mod KeepingLemmas
 pub mod LookLemmas
@@ -17,3 +19,4 @@ pub mod TakenLemmas
 pub mod TenantLemmas
 pub mod ToldLemmas
 pub mod UpdateLemmas
+pub mod WholeLemmas

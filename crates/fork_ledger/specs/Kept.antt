@@ -16,6 +16,10 @@ Covers files places = (name : List ℕ) → contains_key files name ≡ true →
 abbrev pub IsExact : Files → Places → Type 0
 IsExact files places = (name : List ℕ) → is_listed places.names name ≡ true → contains_key files name ≡ true
 
+-- each held name has a file
+abbrev pub HasFiles : AllWords → Files → Type 0
+HasFiles ledgers files = (name : List ℕ) → is_held_in ledgers name ≡ true → contains_key files name ≡ true
+
 -- the files of held names are as they were
 abbrev pub KeepsHeld : AllWords → Files → Files → Type 0
 KeepsHeld ledgers old new = (name : List ℕ) → is_held_in ledgers name ≡ true → get new name ≡ get old name

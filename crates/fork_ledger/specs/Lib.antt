@@ -1,3 +1,5 @@
+pub mod Checked
+pub mod Harms
 pub mod Kept
 pub mod Private
 pub mod Shown

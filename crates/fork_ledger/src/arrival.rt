@@ -1,5 +1,6 @@
 // Objects that arrive at the store.
 ghost use Rattle.std.specs.Prelude.{◌≡◌, ◌≢◌, true, false, IsTrue, IfErr, OnOk};
+ghost use Rattle.std.specs.FinMap.{contains_key};
 ghost use Rattle.git_name.specs.Object.{Object, object_name};
 ghost use Rattle.loose_store.specs.Files.{SameBut};
 ghost use Rattle.loose_store.specs.Stored.{Whole};
@@ -22,8 +23,9 @@ pub(crate) fn store_fault(fault: FileFault) -> VaultFault
     }
 }
 
-// Sees to it that the file of an object is whole. A whole file is compared and never written over; one
-// that is not whole is written anew, where no tenant holds the name.
+// Sees to it that the file of an object is whole. Where none stands one is written. A whole file is
+// compared and never written over; one that is not whole is written anew, where no tenant holds the
+// name.
 pub(crate) fn arrive<S: LooseFiles>(
     alloc: Global,
     files: &mut CachedStore<S>,
@@ -32,7 +34,7 @@ pub(crate) fn arrive<S: LooseFiles>(
 ) -> Result<(), VaultFault>
     ensures whole { IsTrue files.old.honest → OnOk result (Whole files.new.contents (object_name sealed.now) sealed.now) }
     ensures others { IsTrue files.old.honest → SameBut (object_name sealed.now) files.old.contents files.new.contents }
-    ensures held { IsTrue files.old.honest → is_held ≡ true → files.new.contents ≡ files.old.contents }
+    ensures held { IsTrue files.old.honest → is_held ≡ true → contains_key files.old.contents (object_name sealed.now) ≡ true → files.new.contents ≡ files.old.contents }
     ensures damaged { IsTrue files.old.honest → IfErr result (λ fault. fault ≡ VaultFault.Damaged
         → (is_held ≡ true) × ((object : Object) → Whole files.old.contents (object_name sealed.now) object → ⊥)) }
     ensures collision { IsTrue files.old.honest → IfErr result (λ fault. fault ≡ VaultFault.Collision → Meets sealed.now files.old.contents) }
@@ -49,7 +51,8 @@ pub(crate) fn arrive<S: LooseFiles>(
                 Err(VaultFault::Collision)
             }
         }
-        Ok(None) | Err(StoreFault::Damaged) => {
+        Ok(None) => put_whole(alloc, files, sealed),
+        Err(StoreFault::Damaged) => {
             if is_held {
                 Err(VaultFault::Damaged)
             } else {

@@ -1,10 +1,18 @@
-ghost use Rattle.std.specs.Prelude.{◌≡◌, ◌≤◌, ◌*◌, ℕ, List, length, sum};
+ghost use Rattle.std.specs.Prelude.{◌≡◌, ◌≤◌, ◌*◌, ℕ, Bool, List, length, sum};
 ghost use Rattle.std.specs.FinMap.{contains_key};
+ghost use Rattle.fork_request.specs.Harms.{Harmed};
+ghost use Rattle.loose_store.specs.Files.{Files};
+ghost use Rattle.fork_ledger.specs.Harms.{AreHarms};
 ghost use Rattle.fork_ledger.specs.Swept.{AreSwept, IsAccounted};
 ghost use Rattle.fork_ledger.specs.Taken.{is_taken};
 ghost use Rattle.fork_ledger.specs.Tenants.{VaultState};
 
 use looks::sharp_sweeps;
+
+/// A law, and no work: two lists are equal that are the harms of the same files and held names.
+pub fn one_list_of_harms()
+    ensures { (files : Files) (held : List ℕ → Bool) (first second : Harmed) → AreHarms first files held → AreHarms second files held → first ≡ second }
+{}
 
 /// After slices that add up to at least twice the number of names that were catalogued, with no other
 /// call between, an honest store has files of just the names of which some tenant has an object.

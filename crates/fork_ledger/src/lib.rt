@@ -5,7 +5,9 @@
 #![tactic(auto)]
 
 mod arrival;
+mod checking;
 mod fault;
+mod harms;
 mod held;
 mod laws;
 mod looking;
@@ -16,7 +18,8 @@ mod sweeping;
 mod vault;
 
 pub use crate::fault::VaultFault;
+pub use crate::harms::Harms;
 pub use crate::held::Held;
-pub use crate::laws::sharp_slices;
+pub use crate::laws::{one_list_of_harms, sharp_slices};
 pub use crate::recalling::RecallFault;
 pub use crate::vault::Vault;

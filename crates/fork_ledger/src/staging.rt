@@ -6,7 +6,7 @@ ghost use Rattle.ledgers.specs.Holders.{is_held_in};
 ghost use Rattle.ledgers.specs.Ledgers.{at_ledger};
 ghost use Rattle.ledgers.specs.Words.{staged_words};
 ghost use Rattle.loose_store.specs.Stored.{Whole};
-ghost use Rattle.fork_ledger.specs.Kept.{Covers, IsExact, KeepsHeld};
+ghost use Rattle.fork_ledger.specs.Kept.{Covers, HasFiles, IsExact, KeepsHeld};
 ghost use Rattle.fork_ledger.specs.Store.{CountsFault, Meets, StoresAlone, fault_in};
 
 use crate::arrival::arrive;
@@ -29,7 +29,7 @@ pub(crate) fn stage_whole<S: LooseFiles>(
     ensures ok { OnOk result (holdings.new.ledgers ≡ at_ledger holdings.old.ledgers tenant.now (staged_words (object_name sealed) sealed.kind (length sealed.bytes))) }
     ensures err { OnErr result (holdings.new.ledgers ≡ holdings.old.ledgers) }
     ensures whole { IsTrue files.old.honest → OnOk result (Whole files.new.contents (object_name sealed) sealed) }
-    ensures keeps { IsTrue files.old.honest → KeepsHeld holdings.old.ledgers files.old.contents files.new.contents }
+    ensures keeps { IsTrue files.old.honest → HasFiles holdings.old.ledgers files.old.contents → KeepsHeld holdings.old.ledgers files.old.contents files.new.contents }
     ensures covers { IsTrue files.old.honest → Covers files.old.contents (places_of holdings.old.catalogue) → Covers files.new.contents (places_of holdings.new.catalogue) }
     ensures exact { IsTrue files.old.honest → OnOk result (IsExact files.old.contents (places_of holdings.old.catalogue) → IsExact files.new.contents (places_of holdings.new.catalogue)) }
     ensures alone { IsTrue files.old.honest → OnOk result (StoresAlone sealed files.old.contents files.new.contents) }

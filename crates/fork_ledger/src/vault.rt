@@ -1,4 +1,4 @@
-ghost use Rattle.std.specs.Prelude.{◌≡◌, ◌≢◌, ◌⊎◌, ◌≤◌, ◌<◌, ◌+◌, ℕ, List, true, length, IsTrue, OnOk, OnErr, IfOk, IfErr, IfSome, is_some, nat_le};
+ghost use Rattle.std.specs.Prelude.{◌≡◌, ◌≢◌, ◌⊎◌, ◌≤◌, ◌<◌, ◌+◌, ℕ, List, [], true, length, IsTrue, OnOk, OnErr, IfOk, IfErr, IfSome, is_some, nat_le};
 ghost use Rattle.std.specs.FinMap as map;
 ghost use Rattle.std.specs.BTreeSet.{contains};
 ghost use Rattle.git_name.specs.Name.{name_cmp};
@@ -7,6 +7,8 @@ ghost use Rattle.fork_reach.specs.Objects.{use_of};
 ghost use Rattle.looks.specs.Looks.{Looks, Walks};
 ghost use Rattle.looks.specs.Places.{at_start, is_listed};
 ghost use Rattle.looks.specs.Slices.{Collects, Sweeps};
+ghost use Rattle.fork_ledger.specs.Checked.{WasAsked};
+ghost use Rattle.fork_ledger.specs.Harms.{AreFound};
 ghost use Rattle.fork_ledger.specs.Kept.{IsExact, TakesAway};
 ghost use Rattle.fork_ledger.specs.Private.{both_of, held_in, with_discarded, with_kept, with_published, with_staged};
 ghost use Rattle.fork_ledger.specs.Store.{AsksStore, IsOver, LeavesStore, Meets, Recalls, StoresAlone, fault_in};
@@ -16,7 +18,9 @@ ghost use Rattle.fork_ledger.specs.Tenants.{at_tenant, private_of, shape_of, wit
 ghost use Rattle.fork_ledger.specs.Used.{capped};
 
 use crate::arrival::store_fault;
+use crate::checking::check_all;
 use crate::fault::VaultFault;
+use crate::harms::Harms;
 use crate::held::{Held, held_of};
 use crate::reading::read_held;
 use crate::recalling::{RecallFault, recall_known};
@@ -186,9 +190,9 @@ impl<S: LooseFiles> Vault<S> {
     }
 
     /// Stages an object for a tenant. Where the tenant has staged one of its name, that one stays;
-    /// where it sees one, that one stands for it. A whole file of the name is compared and never
-    /// written over; one that is not whole is written anew, where no tenant sees the name or has staged
-    /// it.
+    /// where it sees one, that one stands for it. Where no file of the name stands one is written. A
+    /// whole file is compared and never written over; one that is not whole is written anew, where no
+    /// tenant sees the name or has staged it.
     pub fn stage(
         &mut self,
         alloc: Global,
@@ -328,6 +332,25 @@ impl<S: LooseFiles> Vault<S> {
     {
         sharp_collection();
         collect(alloc, &mut self.files, &mut self.holdings)
+    }
+
+    /// What is wrong with the files of names that some tenant holds. Each of them is read once, past all
+    /// copies, and nothing is changed.
+    pub fn faulty(&mut self, alloc: Global) -> Result<Harms, VaultFault>
+        ensures sound { IsTrue self.old.honest → IfOk result (λ harms. map.entries harms ≡ []) }
+        ensures kept { IsTrue self.old.honest → self.new.tenants ≡ self.old.tenants }
+        ensures files { IsTrue self.old.honest → self.new.files ≡ self.old.files }
+
+        // Over any store.
+        ensures found { IfOk result (λ harms. AreFound (map.entries harms) self.old) }
+        ensures asked { IfOk result (λ harms. WasAsked self.old.failures (is_taken self.old.tenants)) }
+        ensures shape { shape_of self.new.tenants ≡ shape_of self.old.tenants }
+        ensures places { self.new.places ≡ self.old.places }
+        ensures undamaged { IfErr result (λ fault. fault ≢ VaultFault.Damaged) }
+        ensures apart { IfErr result (λ fault. fault ≢ VaultFault.Collision) }
+        ensures store { AsksStore self.old self.new (fault_in result) }
+    {
+        check_all(alloc, &mut self.files, &self.holdings)
     }
 
     /// How many names are catalogued.

@@ -2,7 +2,7 @@
 use Rattle.std.proofs.Common.{◌≡◌, ◌≢◌, ◌⊎◌, true, inl, inr, refl, ap}
 use Rattle.fork_request.specs.Told.{is_done, is_host_fault}
 use Rattle.fork_request.specs.declared.host_request.HostRequest.{HostRequest}
-use Rattle.fork_request.specs.declared.host_request.HostRequest.TheVariants.{Sweep, Collect, Census, Bad}
+use Rattle.fork_request.specs.declared.host_request.HostRequest.TheVariants.{Sweep, Collect, Census, Fsck, Bad}
 use Rattle.fork_request.specs.declared.refusal.Refusal.TheVariants.{BadRequest}
 use Rattle.fork_request.specs.declared.reply.Reply.{Reply}
 use Rattle.fork_request.specs.declared.reply.Reply.TheVariants.{Refused}
@@ -22,6 +22,7 @@ told_done : (request : HostRequest) (reply : Reply) → HostSays request reply �
 told_done (Sweep most) reply says good = ap is_done says.2
 told_done Collect reply says good = ap is_done says.1
 told_done Census reply says good = ap is_done says.1
+told_done Fsck reply says good = ap is_done says.1
 told_done Bad reply says good = absurd (good refl)
 
 pub good_reply : (old new : World) (request : HostRequest) (reply : Reply) → Steps old (HostAsks request) reply new → request ≢ Bad → (is_done reply ≡ true) ⊎ (is_host_fault reply ≡ true)

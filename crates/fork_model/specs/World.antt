@@ -3,9 +3,10 @@ use Rattle.std.specs.Prelude.{◌≡◌, ◌≤◌, ◌++◌, ℕ, List, codes, 
 use Rattle.std.specs.FinMap.{FinMap, get}
 use Rattle.git_name.specs.Name.{name_cmp}
 use Rattle.fork_request.specs.Asked.{Ask}
+use Rattle.fork_request.specs.Harms.{Harmed, harm_lines}
 use Rattle.fork_request.specs.Told.{is_host_fault}
 use Rattle.fork_request.specs.declared.host_request.HostRequest.{HostRequest}
-use Rattle.fork_request.specs.declared.host_request.HostRequest.TheVariants.{Sweep, Collect, Census, Bad}
+use Rattle.fork_request.specs.declared.host_request.HostRequest.TheVariants.{Sweep, Collect, Census, Fsck, Bad}
 use Rattle.fork_request.specs.declared.refusal.Refusal.TheVariants.{BadRequest, UnknownTenant}
 use Rattle.fork_request.specs.declared.reply.Reply.{Reply}
 use Rattle.fork_request.specs.declared.reply.Reply.TheVariants.{Done, Refused}
@@ -25,12 +26,13 @@ Event = Runs.Event (List ℕ) Ask HostRequest
 abbrev pub number_line : ℕ → List ℕ
 number_line n = decimal n ++ codes "\n"
 
--- what may be told of the host: how many names left its catalogue or are in it, and of a sweep no more than it looked at. Which
--- number it is the store settles, and no world. A bad request is refused
+-- what may be told of the host: how many names left its catalogue or are in it, and of a sweep no more than it looked at; what is
+-- wrong with the files of objects. Which number and which harms these are the store settles, and no world. A bad request is refused
 abbrev pub HostSays : HostRequest → Reply → Type 0
 HostSays (Sweep most) reply = (n : ℕ) × (n ≤ most) × (reply ≡ Done (number_line n))
 HostSays Collect reply = (n : ℕ) × (reply ≡ Done (number_line n))
 HostSays Census reply = (n : ℕ) × (reply ≡ Done (number_line n))
+HostSays Fsck reply = (harms : Harmed) × (reply ≡ Done (harm_lines harms))
 HostSays Bad reply = reply ≡ Refused BadRequest
 
 -- one step may go from the old world to the new one with this reply

@@ -9,8 +9,6 @@ mod linking;
 mod refusal;
 mod sent;
 mod sides;
-#[cfg(test)]
-mod tests;
 mod verdict;
 
 pub use crate::judging::judge;

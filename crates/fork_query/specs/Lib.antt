@@ -1,5 +1,6 @@
 pub mod Dates
 pub mod Fetch
+pub mod Followed
 pub mod Items
 pub mod MergeBase
 pub mod NotedBases

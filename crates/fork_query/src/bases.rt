@@ -11,6 +11,7 @@ ghost use Rattle.fork_query.specs.Objects.{name_lines};
 ghost use Rattle.fork_query.specs.Told.{Tells, fault_told};
 ghost use Rattle.std.specs.List.{list_any};
 
+use crate::followed::Followed;
 use crate::items::named_item;
 use crate::name_lines::write_names;
 use crate::query_error::QueryError;
@@ -121,11 +122,12 @@ pub fn merge_base<S: Source>(
     // Over any source.
     ensures asked { IsAsked (S.state source.old) (S.state source.new) (fault_told result) }
 {
-    let a = match named_item(alloc, Want::Commit, source, references, a) {
+    let mut followed = Followed::new(alloc);
+    let a = match named_item(alloc, Want::Commit, source, &mut followed, references, a) {
         Ok(name) => name,
         Err(error) => return Err(error),
     };
-    let b = match named_item(alloc, Want::Commit, source, references, b) {
+    let b = match named_item(alloc, Want::Commit, source, &mut followed, references, b) {
         Ok(name) => name,
         Err(error) => return Err(error),
     };

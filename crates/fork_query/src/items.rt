@@ -1,12 +1,14 @@
-ghost use Rattle.std.specs.Prelude.{◌≡◌, IsTrue};
+ghost use Rattle.std.specs.Prelude.{◌≡◌, IsTrue, OnOk};
 ghost use Rattle.std.specs.FinMap as map;
 ghost use Rattle.git_reftx.specs.Transaction.{is_commit};
 ghost use Rattle.fork_reach.specs.Faults.{IsAsked};
 ghost use Rattle.fork_reach.specs.Source.{kind_in};
+ghost use Rattle.fork_query.specs.Followed.{AreEnds};
 ghost use Rattle.fork_query.specs.Items.{found_commit, named_by, named_item, object_of_item};
 ghost use Rattle.fork_query.specs.Peel.{peeled};
 ghost use Rattle.fork_query.specs.Told.{Tells, fault_told};
 
+use crate::followed::Followed;
 use crate::peeling::peel;
 use crate::query_error::QueryError;
 use crate::want::Want;
@@ -71,11 +73,17 @@ pub(crate) fn is_commit<S: Source>(source: &S, name: Name) -> bool
 }
 
 // The name of the commit that this name leads to. Tags are read, and no commit.
-fn commit_at<S: Source>(alloc: Global, source: &mut S, name: Name) -> Result<Name, QueryError>
-    ensures told { IsTrue (S.state source.old).honest → Tells (λ name. name) (found_commit (S.state source.old).objects name (peeled (S.state source.old).objects name)) result }
+fn commit_at<S: Source>(
+    alloc: Global,
+    source: &mut S,
+    followed: &mut Followed,
+    name: Name,
+) -> Result<Name, QueryError>
+    ensures told { IsTrue (S.state source.old).honest → AreEnds (S.state source.old).objects followed.old → Tells (λ name. name) (found_commit (S.state source.old).objects name (peeled (S.state source.old).objects name)) result }
+    ensures known { IsTrue (S.state source.old).honest → AreEnds (S.state source.old).objects followed.old → OnOk result (AreEnds (S.state source.old).objects followed.new) }
     ensures asked { IsAsked (S.state source.old) (S.state source.new) (fault_told result) }
 {
-    let end = match peel(alloc, source, name) {
+    let end = match peel(alloc, source, followed, name) {
         Ok(end) => end,
         Err(fault) => return Err(QueryError::Failed(fault)),
     };
@@ -93,10 +101,12 @@ pub(crate) fn named_item<S: Source>(
     alloc: Global,
     want: Want,
     source: &mut S,
+    followed: &mut Followed,
     references: &Refs,
     item: &[u8],
 ) -> Result<Name, QueryError>
-    ensures told { IsTrue (S.state source.old).honest → Tells (λ name. name) (named_item want (S.state source.old).objects references.now item.now) result }
+    ensures told { IsTrue (S.state source.old).honest → AreEnds (S.state source.old).objects followed.old → Tells (λ name. name) (named_item want (S.state source.old).objects references.now item.now) result }
+    ensures known { IsTrue (S.state source.old).honest → AreEnds (S.state source.old).objects followed.old → OnOk result (AreEnds (S.state source.old).objects followed.new) }
     ensures asked { IsAsked (S.state source.old) (S.state source.new) (fault_told result) }
 {
     let name = match object_of_item(alloc, source, references, item) {
@@ -105,6 +115,6 @@ pub(crate) fn named_item<S: Source>(
     };
     match want {
         Want::Object => Ok(name),
-        Want::Commit => commit_at(alloc, source, name),
+        Want::Commit => commit_at(alloc, source, followed, name),
     }
 }

@@ -5,6 +5,7 @@
 mod bases;
 mod dated;
 mod fetching;
+mod followed;
 mod items;
 mod laws;
 mod name_lines;
@@ -14,8 +15,6 @@ mod query_error;
 mod references;
 mod revisions;
 mod sides;
-#[cfg(test)]
-mod tests;
 mod trees;
 mod want;
 

@@ -1,13 +1,17 @@
-ghost use Rattle.std.specs.Prelude.{◌≡◌, ◌≢◌, Some, IsTrue, IfOk};
+ghost use Rattle.std.specs.Prelude.{◌≡◌, ◌≢◌, ℕ, List, Some, true, IsTrue, IfOk, OnOk};
 ghost use Rattle.std.specs.Bool.{OnFalse, OnTrue};
+ghost use Rattle.std.specs.BTreeSet.{contains};
+ghost use Rattle.git_name.specs.Name.{name_cmp};
 ghost use Rattle.fork_reach.specs.Faults.{IsAsked, fault_in};
-ghost use Rattle.fork_reach.specs.Source.{kind_in};
+ghost use Rattle.fork_reach.specs.Source.{Objects, kind_in};
+ghost use Rattle.fork_query.specs.Followed.{AreEnds};
 ghost use Rattle.fork_query.specs.Peel.{peeled, tag_target, target_in};
 
+use crate::followed::Followed;
 use fork_reach::{Source, SourceFault};
 use git_name::{Kind, Name, Sealed};
 use git_object::Tag;
-use std::alloc::Global;
+use std::alloc::{AllocError, Global};
 use std::collections::BTreeSet;
 
 // Whether the object of this name is a tag. It reads no bytes of it.
@@ -50,33 +54,87 @@ fn read_target<S: Source>(
     }
 }
 
-// What the name stands for once tags are followed. Each tag is read once, and nothing else. A tag that
-// comes again is of a circle, which ends nowhere.
-pub(crate) fn peel<S: Source>(
+// A walk along tags: those that it met, and the name to which it led, none where it came back to one of
+// them.
+#[derive(Drop)]
+struct Trail {
+    tags: BTreeSet<Name>,
+    end: Option<Name>,
+}
+
+// Follows tags from this name, up to one that was followed before. Each is read once, and nothing else.
+fn walk<S: Source>(
     alloc: Global,
     source: &mut S,
+    followed: &Followed,
     name: Name,
-) -> Result<Option<Name>, SourceFault>
-    ensures peeled { IsTrue (S.state source.old).honest → IfOk result (λ end. end ≡ peeled (S.state source.old).objects name) }
+) -> Result<Trail, SourceFault>
+    ensures led { IsTrue (S.state source.old).honest → AreEnds (S.state source.old).objects followed.now → IfOk result (λ trail. trail.end ≡ peeled (S.state source.old).objects name) }
+    ensures tags { IsTrue (S.state source.old).honest → AreEnds (S.state source.old).objects followed.now → IfOk result (λ trail. (tag : List ℕ) → contains name_cmp trail.tags tag ≡ true → trail.end ≡ peeled (S.state source.old).objects tag) }
     ensures asked { IsAsked (S.state source.old) (S.state source.new) (fault_in result) }
 {
-    let mut seen = BTreeSet::new(alloc);
+    let mut tags = BTreeSet::new(alloc);
     let mut at = name;
     'tags: while is_tag(source, at) {
-        let Ok(is_new) = seen.insert(at) else {
+        if let Some(end) = followed.end_of(at) {
+            return Ok(Trail { tags, end });
+        }
+        let Ok(is_new) = tags.insert(at) else {
             return Err(SourceFault::Memory);
         };
         if !is_new {
-            return Ok(None);
+            return Ok(Trail { tags, end: None });
         }
         let target = match read_target(alloc, source, at) {
             Ok(target) => target,
             Err(fault) => return Err(fault),
         };
         let Some(target) = target else {
-            return Ok(Some(at));
+            return Ok(Trail {
+                tags,
+                end: Some(at),
+            });
         };
         at = target;
     }
-    Ok(Some(at))
+    Ok(Trail {
+        tags,
+        end: Some(at),
+    })
+}
+
+// Notes that all these tags stand for this.
+fn note_all(
+    followed: &mut Followed,
+    tags: &BTreeSet<Name>,
+    end: &Option<Name>,
+) -> Result<(), AllocError>
+    ensures { (objects : Objects) → AreEnds objects followed.old → ((tag : List ℕ) → contains name_cmp tags.now tag ≡ true → end.now ≡ peeled objects tag) → OnOk result (AreEnds objects followed.new) }
+{
+    for tag in tags {
+        followed.note(*tag, *end)?;
+    }
+    Ok(())
+}
+
+// What the name stands for once tags are followed. Each tag is read once for all names of a query, and
+// nothing else is.
+pub(crate) fn peel<S: Source>(
+    alloc: Global,
+    source: &mut S,
+    followed: &mut Followed,
+    name: Name,
+) -> Result<Option<Name>, SourceFault>
+    ensures peeled { IsTrue (S.state source.old).honest → AreEnds (S.state source.old).objects followed.old → IfOk result (λ end. end ≡ peeled (S.state source.old).objects name) }
+    ensures known { IsTrue (S.state source.old).honest → AreEnds (S.state source.old).objects followed.old → OnOk result (AreEnds (S.state source.old).objects followed.new) }
+    ensures asked { IsAsked (S.state source.old) (S.state source.new) (fault_in result) }
+{
+    let trail = match walk(alloc, source, followed, name) {
+        Ok(trail) => trail,
+        Err(fault) => return Err(fault),
+    };
+    match note_all(followed, &trail.tags, &trail.end) {
+        Ok(()) => Ok(trail.end),
+        Err(_) => Err(SourceFault::Memory),
+    }
 }

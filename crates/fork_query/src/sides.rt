@@ -1,10 +1,12 @@
 ghost use Rattle.std.specs.Prelude.{◌≡◌, IsTrue, OnOk};
 ghost use Rattle.git_name.specs.Text.{words_of};
 ghost use Rattle.fork_reach.specs.Faults.{IsAsked};
+ghost use Rattle.fork_query.specs.Followed.{AreEnds};
 ghost use Rattle.fork_query.specs.Items.{named_item};
 ghost use Rattle.fork_query.specs.Sides.{added_item, added_name, bare, is_excluded, selected, selection_of};
 ghost use Rattle.fork_query.specs.Told.{Tells, fault_told};
 
+use crate::followed::Followed;
 use crate::items::named_item;
 use crate::query_error::QueryError;
 use crate::want::Want;
@@ -50,14 +52,16 @@ fn put_item<S: Source>(
     alloc: Global,
     want: Want,
     source: &mut S,
+    followed: &mut Followed,
     references: &Refs,
     item: &[u8],
     sides: &mut Sides,
 ) -> Result<(), QueryError>
-    ensures told { IsTrue (S.state source.old).honest → Tells (λ _. selection_of sides.new) (added_item (selection_of sides.old) (is_excluded item.now) (named_item want (S.state source.old).objects references.now (bare item.now))) result }
+    ensures told { IsTrue (S.state source.old).honest → AreEnds (S.state source.old).objects followed.old → Tells (λ _. selection_of sides.new) (added_item (selection_of sides.old) (is_excluded item.now) (named_item want (S.state source.old).objects references.now (bare item.now))) result }
+    ensures known { IsTrue (S.state source.old).honest → AreEnds (S.state source.old).objects followed.old → OnOk result (AreEnds (S.state source.old).objects followed.new) }
     ensures asked { IsAsked (S.state source.old) (S.state source.new) (fault_told result) }
 {
-    let name = match named_item(alloc, want, source, references, bare(item)) {
+    let name = match named_item(alloc, want, source, followed, references, bare(item)) {
         Ok(name) => name,
         Err(error) => return Err(error),
     };
@@ -78,19 +82,36 @@ pub(crate) fn select<S: Source>(
     ensures told { IsTrue (S.state source.old).honest → Tells selection_of (selected (named_item want (S.state source.old).objects references.now) (words_of items.now)) result }
     ensures asked { IsAsked (S.state source.old) (S.state source.new) (fault_told result) }
 {
+    let mut followed = Followed::new(alloc);
     let mut sides = Sides {
         wanted: Vec::new(alloc),
         excluded: Vec::new(alloc),
     };
     let mut rest = items;
     'items: while let Some((item, behind)) = first_word(rest) {
-        match put_item(alloc, want, source, references, item, &mut sides) {
+        match put_item(
+            alloc,
+            want,
+            source,
+            &mut followed,
+            references,
+            item,
+            &mut sides,
+        ) {
             Ok(()) => {}
             Err(error) => return Err(error),
         }
         rest = behind;
     }
-    match put_item(alloc, want, source, references, rest, &mut sides) {
+    match put_item(
+        alloc,
+        want,
+        source,
+        &mut followed,
+        references,
+        rest,
+        &mut sides,
+    ) {
         Ok(()) => Ok(sides),
         Err(error) => Err(error),
     }

@@ -8,6 +8,7 @@ ghost use Rattle.fork_query.specs.Peel.{peeled};
 ghost use Rattle.fork_query.specs.Told.{Tells, fault_told};
 ghost use Rattle.fork_query.specs.Trees.{entries_at_end, entries_of_found, entries_of_kind, entry_row, entry_type, six_digits, tree_name_in, tree_name_of, tree_told};
 
+use crate::followed::Followed;
 use crate::items::is_commit;
 use crate::peeling::peel;
 use crate::query_error::QueryError;
@@ -149,7 +150,7 @@ fn rows_behind<S: Source>(
     ensures rows { IsTrue (S.state source.old).honest → IfOk result (λ rows. option_map (λ text. text.items) rows ≡ option_map (flat_map entry_row) (entries_at_end (S.state source.old).objects (peeled (S.state source.old).objects name))) }
     ensures asked { IsAsked (S.state source.old) (S.state source.new) (fault_in result) }
 {
-    let end = match peel(alloc, source, name) {
+    let end = match peel(alloc, source, &mut Followed::new(alloc), name) {
         Ok(end) => end,
         Err(fault) => return Err(fault),
     };

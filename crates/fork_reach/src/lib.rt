@@ -12,8 +12,6 @@ mod noting;
 mod reaching;
 mod recording;
 mod source;
-#[cfg(test)]
-mod tests;
 mod usage;
 mod walk;
 

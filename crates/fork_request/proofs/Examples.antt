@@ -1,8 +1,11 @@
 -- Lines that are written out, as the definitions compute them.
-use Rattle.std.proofs.Common.{◌≡◌, [], ◌∷◌, codes, refl}
+use Rattle.std.proofs.Common.{◌≡◌, ◌++◌, ℕ, List, [], ◌∷◌, codes, refl}
+use Rattle.hex.specs.Hex.{encode_lower}
 use Rattle.git_name.specs.Text.{words_of}
 use Rattle.fork_request.specs.Asked.{AsksBases, AsksRevisions, Fetches, NoRequest, asked_words, host_words}
-use Rattle.fork_request.specs.declared.host_request.HostRequest.TheVariants.{Bad, Collect}
+use Rattle.fork_request.specs.declared.host_request.HostRequest.TheVariants.{Bad, Collect, Fsck}
+use Rattle.fork_request.specs.declared.harm.Harm.TheVariants.{Lost, Damaged}
+use Rattle.fork_request.specs.Harms.{harm_line}
 
 pub items_are_asked : asked_words (words_of (codes "rev-list r a ^b")) [] ≡ AsksRevisions (codes "r") (codes "a" ∷ codes "^b" ∷ [])
 items_are_asked = refl
@@ -33,3 +36,15 @@ a_word_behind_collect_is_bad = refl
 
 pub a_number_is_wanted : host_words (words_of (codes "sweep")) [] ≡ Bad
 a_number_is_wanted = refl
+
+pub a_check_is_asked : host_words (words_of (codes "fsck")) [] ≡ Fsck
+a_check_is_asked = refl
+
+pub a_word_behind_fsck_is_bad : host_words (words_of (codes "fsck x")) [] ≡ Bad
+a_word_behind_fsck_is_bad = refl
+
+pub what_is_lost_is_told_so : (name : List ℕ) → harm_line (name, Lost) ≡ codes "lost " ++ encode_lower name ++ codes "\n"
+what_is_lost_is_told_so name = refl
+
+pub what_is_damaged_is_told_so : (name : List ℕ) → harm_line (name, Damaged) ≡ codes "damaged " ++ encode_lower name ++ codes "\n"
+what_is_damaged_is_told_so name = refl

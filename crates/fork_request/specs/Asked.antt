@@ -8,7 +8,7 @@ use Rattle.fork_request.specs.declared.request.Request.{Request}
 use Rattle.fork_request.specs.declared.request.Request.TheVariants.{Init, Drop, Fork, Push, Part, PartEnd, PartDrop, UpdateRefs, CatFile, LsTree, RevList, MergeBase, ForEachRef, Fetch, Quota, Prune, Bad}
 use Rattle.fork_request.specs.declared.request.TheConstants.{MAX_PAYLOAD}
 use Rattle.fork_request.specs.declared.host_request.HostRequest.{HostRequest}
-use Rattle.fork_request.specs.declared.host_request.HostRequest.TheVariants.{Sweep, Collect, Census, Bad as Bad_host}
+use Rattle.fork_request.specs.declared.host_request.HostRequest.TheVariants.{Sweep, Collect, Census, Fsck, Bad as Bad_host}
 use Rattle.fork_request.specs.declared.host_request.TheConstants.{MAX_SWEEP}
 use Rattle.fork_request.specs.Words.{one_or_two, pair, sole, three, word_and_items}
 
@@ -200,11 +200,12 @@ host_sweep None body = Bad_host
 abbrev pub host_verb : List ℕ → List (List ℕ) → List ℕ → HostRequest
 host_verb verb words body = if bytes_eq verb (codes "sweep") then host_sweep (sole words) body else Bad_host
 
--- by a verb that stands alone: `collect`, `census`
+-- by a verb that stands alone: `collect`, `census`, `fsck`
 abbrev pub host_alone : List ℕ → List ℕ → HostRequest
 host_alone verb body =
     if bytes_eq verb (codes "collect") then host_plain Collect body
     else if bytes_eq verb (codes "census") then host_plain Census body
+    else if bytes_eq verb (codes "fsck") then host_plain Fsck body
     else Bad_host
 
 -- by the line's first word

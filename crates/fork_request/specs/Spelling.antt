@@ -5,7 +5,7 @@ use Rattle.hex.specs.Hex.{encode_lower}
 use Rattle.git_name.specs.Name.{IsName}
 use Rattle.fork_request.specs.Asked.{Ask, Inits, Drops, Forks, Pushes, SendsPart, EndsParts, DropsParts, Updates, AsksObject, AsksTree, AsksRevisions, AsksBases, AsksReferences, Fetches, AsksUse, Prunes, NoRequest}
 use Rattle.fork_request.specs.declared.host_request.HostRequest.{HostRequest}
-use Rattle.fork_request.specs.declared.host_request.HostRequest.TheVariants.{Sweep, Collect, Census, Bad}
+use Rattle.fork_request.specs.declared.host_request.HostRequest.TheVariants.{Sweep, Collect, Census, Fsck, Bad}
 use Rattle.fork_request.specs.declared.host_request.TheConstants.{MAX_SWEEP}
 
 -- a word of a line: some bytes, none of which is SP or LF
@@ -54,4 +54,5 @@ abbrev pub HostSpells : HostRequest → List ℕ → Type 0
 HostSpells (Sweep most) payload = (most ≤ MAX_SWEEP) × (payload ≡ codes "sweep " ++ decimal most ++ codes "\n")
 HostSpells Collect payload = payload ≡ codes "collect\n"
 HostSpells Census payload = payload ≡ codes "census\n"
+HostSpells Fsck payload = payload ≡ codes "fsck\n"
 HostSpells Bad payload = ⊥

@@ -19,6 +19,8 @@ pub enum HostRequest {
     Collect,
     /// `census`: how many names are catalogued.
     Census,
+    /// `fsck`: the files of all objects that some tenant holds are read, and what is wrong is told.
+    Fsck,
     /// What is no request.
     Bad,
 }
@@ -60,6 +62,9 @@ fn read_verb(verb: &[u8], body: &[u8]) -> HostRequest
     }
     if is_word(verb, b"census") {
         return plain(HostRequest::Census, body);
+    }
+    if is_word(verb, b"fsck") {
+        return plain(HostRequest::Fsck, body);
     }
     HostRequest::Bad
 }

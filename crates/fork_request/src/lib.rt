@@ -4,6 +4,7 @@
 #![tactic(auto)]
 
 mod byte_string;
+mod harm;
 mod host_fault;
 mod host_request;
 mod laws;
@@ -16,6 +17,7 @@ mod request;
 mod words;
 
 pub use crate::byte_string::ByteString;
+pub use crate::harm::Harm;
 pub use crate::host_fault::HostFault;
 pub use crate::host_request::{HostRequest, MAX_SWEEP};
 pub use crate::laws::{a_host_request_has_one_spelling, a_request_has_one_spelling};

@@ -13,5 +13,3 @@ pub use crate::law::what_is_saved_is_loaded;
 pub use crate::loading::load;
 pub use crate::saving::save;
 
-#[cfg(test)]
-mod tests;

@@ -22,7 +22,7 @@ use Rattle.git_name.specs.Name.{name_cmp}
 use Rattle.fork_request.specs.Asked.{Ask}
 use Rattle.fork_request.specs.Told.{is_host_fault}
 use Rattle.fork_request.specs.declared.host_request.HostRequest.{HostRequest}
-use Rattle.fork_request.specs.declared.host_request.HostRequest.TheVariants.{Sweep, Collect, Census, Bad}
+use Rattle.fork_request.specs.declared.host_request.HostRequest.TheVariants.{Sweep, Collect, Census, Fsck, Bad}
 use Rattle.fork_request.specs.declared.refusal.Refusal.TheVariants.{UnknownTenant}
 use Rattle.fork_request.specs.declared.reply.Reply.{Reply}
 use Rattle.fork_request.specs.declared.reply.Reply.TheVariants.{Done, Refused, Failed}
@@ -57,6 +57,7 @@ same_saying Bad reply reply2 is says says2 = says ∙ sym says2
 same_saying (Sweep most) reply reply2 is says says2 = absurd (cc)
 same_saying Collect reply reply2 is says says2 = absurd (cc)
 same_saying Census reply reply2 is says says2 = absurd (cc)
+same_saying Fsck reply reply2 is says says2 = absurd (cc)
 
 -- a step without a host fault has one outcome
 same_own : (old new new2 : World) (ask : HostRequest) (reply reply2 : Reply) → OwnStep is_host_fault HostSays old ask reply new → OwnStep is_host_fault HostSays old ask reply2 new2

@@ -3,7 +3,7 @@ use Rattle.std.specs.Prelude.{◌≡◌, ℕ, Bool, true, false, cond, IfSome, L
 use Rattle.std.specs.List.{AllByRecursion}
 use Rattle.fork_request.specs.Told.{is_host_fault}
 use Rattle.fork_request.specs.declared.host_request.HostRequest.{HostRequest}
-use Rattle.fork_request.specs.declared.host_request.HostRequest.TheVariants.{Sweep, Collect, Census, Bad}
+use Rattle.fork_request.specs.declared.host_request.HostRequest.TheVariants.{Sweep, Collect, Census, Fsck, Bad}
 use Rattle.fork_request.specs.declared.reply.Reply.{Reply}
 use Rattle.fork_model.specs.Runs.{Asks, HostAsks}
 use Rattle.fork_model.specs.World.{Event, Steps}
@@ -18,11 +18,12 @@ use Rattle.fork_wire.specs.Sessions.{IsAnswered, event_of}
 abbrev pub AreFine : List Reply → Type 0
 AreFine replies = AllByRecursion (λ reply. is_host_fault reply ≡ false) replies
 
--- whether the world settles what is told of a request of the host itself: the numbers that tell of its store it does not
+-- whether the world settles what is told of a request of the host itself: what tells of its store it does not
 abbrev pub is_settled_host : HostRequest → Bool
 is_settled_host (Sweep most) = false
 is_settled_host Collect = false
 is_settled_host Census = false
+is_settled_host Fsck = false
 is_settled_host Bad = true
 
 -- the same of a step: what a tenant is told is always settled

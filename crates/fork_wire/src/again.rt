@@ -7,6 +7,7 @@ ghost use Rattle.fork_host.specs.Shown.{Trusted, world_of};
 ghost use Rattle.fork_wire.specs.Again.{IsAnsweredAgain, IsServedAgain};
 ghost use Rattle.fork_wire.specs.Sessions.{event_of};
 
+use crate::keeping::may_change;
 use crate::session::answer;
 use fork_frame::{Frame, FrameFault, Next, next_frame};
 use fork_host::Host;
@@ -24,12 +25,16 @@ pub enum AgainFault {
     Read,
     #[error("no memory")]
     Memory,
+    #[error("a request that was kept would not be kept again")]
+    Altered,
     #[error("a host fault answered a request that was answered before")]
     Host(HostFault),
 }
 
 /// Serves frames that were answered before, up to the input's end or to what is no frame, and says how
-/// many there were. Nothing is told to anyone. A host fault stops it.
+/// many there were. Nothing is told to anyone. A host fault stops it, and so does a frame behind one that
+/// is answered as no journal keeps it: what a kill or a loss of power leaves at the end is passed over,
+/// and what was altered elsewhere is told.
 pub fn serve_again<S: LooseFiles, R: Read>(
     host: &mut Host<S>,
     alloc: Global,
@@ -42,6 +47,7 @@ pub fn serve_again<S: LooseFiles, R: Read>(
 {
     a_run_is_private();
     let _tenants = host.tenants();
+    let mut is_kept = true;
     for count in 0..u64::MAX {
         let frame = match next_frame(alloc, reader) {
             Ok(Next::Frame(frame)) => frame,
@@ -50,27 +56,31 @@ pub fn serve_again<S: LooseFiles, R: Read>(
             Err(FrameFault::Read) => return Err(AgainFault::Read),
             Err(FrameFault::Memory) => return Err(AgainFault::Memory),
         };
+        if !is_kept {
+            return Err(AgainFault::Altered);
+        }
         match answer_again(host, alloc, frame) {
-            Ok(()) => {}
+            Ok(kept) => is_kept = kept,
             Err(fault) => return Err(AgainFault::Host(fault)),
         }
     }
     Err(AgainFault::Read)
 }
 
-// Answers a request, and tells a host fault alone.
+// Answers a request, and says whether a journal would keep it. It tells a host fault alone.
 fn answer_again<S: LooseFiles>(
     host: &mut Host<S>,
     alloc: Global,
     frame: Frame,
-) -> Result<(), HostFault>
+) -> Result<bool, HostFault>
     ensures ok { IfOk result (λ _. IsAnsweredAgain host.old host.new frame) }
     ensures trusted { Trusted host.old → Trusted host.new }
     ensures orderly { IsOrderlyWorld (world_of host.new) }
     ensures right { Trusted host.old → IsRightWorld (world_of host.new) }
 {
-    match answer(host, alloc, &frame) {
-        Reply::Failed(fault) => Err(fault),
-        _ => Ok(()),
+    let reply = answer(host, alloc, &frame);
+    match &reply {
+        Reply::Failed(fault) => Err(*fault),
+        _ => Ok(may_change(&frame, &reply)),
     }
 }

@@ -46,8 +46,8 @@ fn leaves(payload: &[u8], reply: &Reply) -> bool
     }
 }
 
-// The frame, answered so, may have changed its tenant's view.
-fn may_change(frame: &Frame, reply: &Reply) -> bool
+/// The frame, answered so, may have changed its tenant's view.
+pub(crate) fn may_change(frame: &Frame, reply: &Reply) -> bool
     ensures { result ≡ is_kept frame.now reply.now }
 {
     match &frame.asker {

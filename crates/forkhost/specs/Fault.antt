@@ -66,6 +66,7 @@ journal_fault file.Memory = Memory
 abbrev pub again_fault : AgainFault → Fault
 again_fault again.Read = Journal
 again_fault again.Memory = Memory
+again_fault again.Altered = Journal
 again_fault (again.Host host.Memory) = Memory
 again_fault (again.Host host.Store) = Store
 again_fault (again.Host host.Damaged) = Journal

@@ -57,6 +57,9 @@ fn private_room<H: Files<File = File>>(rt: &H, room: &str, inside: &str) -> io::
             return Err(error);
         }
     }
+    if !fs::metadata(rt, room)?.is_dir() {
+        return Err(io::Error::from(ErrorKind::AddrInUse));
+    }
     let folder = File::open(rt, room)?;
     if folder.try_lock().is_err() {
         return Err(io::Error::from(ErrorKind::AddrInUse));

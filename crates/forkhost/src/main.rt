@@ -18,8 +18,6 @@ mod send;
 mod serve;
 mod telling;
 mod tenants;
-#[cfg(test)]
-mod tests;
 
 use program::{Untold, program};
 use std::fs::{File, Files};
@@ -29,7 +27,8 @@ use std::process::ExitCode;
 use std::rt::Env;
 use std::{env, io};
 
-// Runs the program on what the process was given, and answers its exit status.
+// Runs the program on what the process was given, and answers its exit status, which stays where
+// nothing can be told.
 fn started<R: Env + AllocGlobal + Input + Print + Eprint + Files<File = File> + Net>(
     rt: &R,
 ) -> io::Result<u8> {
@@ -41,7 +40,7 @@ fn started<R: Env + AllocGlobal + Input + Print + Eprint + Files<File = File> + 
             if error.kind() != io::ErrorKind::InvalidData {
                 return Err(error);
             }
-            rt.eprint("forkhost: an argument is not UTF-8\n")?;
+            let _told = rt.eprint("forkhost: an argument is not UTF-8\n");
             return Ok(2);
         }
     };
@@ -59,7 +58,7 @@ fn started<R: Env + AllocGlobal + Input + Print + Eprint + Files<File = File> + 
         Ok(status) => status,
         Err(Untold { status }) => status,
     };
-    rt.eprint(String::from_utf8_lossy(alloc, faults.as_slice())?)?;
+    let _told = rt.eprint(String::from_utf8_lossy(alloc, faults.as_slice())?);
     Ok(status)
 }
 

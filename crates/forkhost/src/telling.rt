@@ -61,6 +61,7 @@ pub fn of_again(fault: AgainFault) -> Fault
     match fault {
         AgainFault::Read => Fault::Journal,
         AgainFault::Memory => Fault::Memory,
+        AgainFault::Altered => Fault::Journal,
         AgainFault::Host(HostFault::Memory) => Fault::Memory,
         AgainFault::Host(HostFault::Store) => Fault::Store,
         AgainFault::Host(HostFault::Damaged) => Fault::Journal,

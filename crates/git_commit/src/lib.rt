@@ -18,5 +18,3 @@ pub use crate::parents::Parents;
 pub use crate::writing::write;
 pub use git_header::{Continuation, Ident, Sign};
 
-#[cfg(test)]
-mod tests;

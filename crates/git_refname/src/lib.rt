@@ -8,8 +8,6 @@ mod marks;
 mod name;
 mod namespace;
 mod rule;
-#[cfg(test)]
-mod tests;
 
 pub use crate::name::{MAX_REF_NAME, RefName};
 pub use crate::namespace::expand;

@@ -25,5 +25,3 @@ pub use crate::mode::Mode;
 pub use crate::row::Entries;
 pub use crate::tree::entries;
 
-#[cfg(test)]
-mod tests;

@@ -15,10 +15,10 @@ use Rattle.looks.specs.Places.{same_name}
 use Rattle.catalogue.specs.Counted.{one_if}
 use Rattle.catalogue.proofs.PlaceLemmas.{one_name, own_name}
 use Rattle.ledgers.specs.declared.word.Word.{Word}
-use Rattle.ledgers.specs.Due.{due_at, leaves_discarded, leaves_kept}
+use Rattle.ledgers.specs.Due.{due_at, leaves_discarded, leaves_kept, leaves_unstaged}
 use Rattle.ledgers.specs.Holders.{holders_of, is_held_in}
 use Rattle.ledgers.specs.Ledgers.{AllWords, at_ledger, with_ledger}
-use Rattle.ledgers.specs.Words.{Words, discarded_words, is_visible, kept_as, kept_word, kept_words, published_words, seen_word, staged_over, staged_words, unstaged_word}
+use Rattle.ledgers.specs.Words.{Words, discarded_words, is_visible, kept_as, kept_word, kept_words, published_words, seen_word, staged_over, staged_words, unstaged_if, unstaged_word, unstaged_words}
 use Rattle.ledgers.proofs.ChosenLemmas.{get_chosen, one_key}
 use Rattle.ledgers.proofs.SumLemmas.{counts_some, sum_empty, sum_insert, worth, worth_within}
 use Rattle.ledgers.proofs.TenantEntries.{changed_at, unchanged_at}
@@ -95,6 +95,11 @@ pub kept_holders : (keep : List ℕ → Bool) (m : AllWords) (t : List ℕ) (own
 kept_holders keep m t own q here = left_holders m t own q (kept_words keep) (due_at (leaves_kept keep) own q) here
     (ap (λ o. one_if (is_some o) + due_at (leaves_kept keep) own q) (get_chosen name_total name_exact (λ name word. kept_word (keep name) word) own q)
     ∙ left_of (get own q) (kept_word (keep q)) (leaves_kept keep q) (λ word. refl))
+
+pub unstaged_holders : (names : List ℕ → Bool) (m : AllWords) (t : List ℕ) (own : Words) (q : List ℕ) → get m t ≡ Some own → holders_of (at_ledger m t (unstaged_words names)) q + due_at (leaves_unstaged names) own q ≡ holders_of m q
+unstaged_holders names m t own q here = left_holders m t own q (unstaged_words names) (due_at (leaves_unstaged names) own q) here
+    (ap (λ o. one_if (is_some o) + due_at (leaves_unstaged names) own q) (get_chosen name_total name_exact (λ name word. unstaged_if (names name) word) own q)
+    ∙ left_of (get own q) (unstaged_if (names q)) (leaves_unstaged names q) (λ word. refl))
 
 -- ---- stage
 same_bool : (b c : Bool) → (b ≡ true → c ≡ true) → (c ≡ true → b ≡ true) → b ≡ c

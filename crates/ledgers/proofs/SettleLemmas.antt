@@ -1,8 +1,10 @@
 -- Words that are staged, settled one after another.
-use Rattle.std.proofs.Common.{◌≡◌, ℕ, ◌+◌, List, [], ◌∷◌, Bool, true, false, cond, ◌&&◌, ◌||◌, Option, Some, None, refl, sym, ap, ◌∙◌, arith}
+use Rattle.std.proofs.Common.{◌≡◌, ℕ, ◌+◌, List, [], ◌∷◌, Bool, true, false, cond, ◌&&◌, ◌||◌, not, Option, Some, None, refl, sym, ap, ◌∙◌, arith}
 use Rattle.std.specs.BTreeMap.{is_at}
 use Rattle.std.specs.FinMap.{empty, from_entries, get, get-empty, insert, same_map}
+use Rattle.std.specs.List.{filter}
 use Rattle.std.specs.Map.{lookup}
+use Rattle.std.proofs.lemmas.Map.Views.{any-filter_same}
 use Rattle.std.specs.Option.{option_and_then, option_map, option_map_or}
 use Rattle.std.specs.Cmp.{eq_by_cmp_equiv}
 use Rattle.git_name.specs.declared.kind.Kind.{Kind}
@@ -18,7 +20,7 @@ use Rattle.ledgers.specs.declared.word.Word.{Word}
 use Rattle.ledgers.specs.Chosen.{chosen}
 use Rattle.ledgers.specs.Due.{due_at, leaves_discarded}
 use Rattle.ledgers.specs.Settled.{AreStaged, Settles, is_among}
-use Rattle.ledgers.specs.Words.{Words, discarded_words, is_staged, is_visible, kept_as, kept_standing, kept_word, kept_words, published_words, seen_word, shows, staged_over, staged_too, staged_words, unstaged_word, waits, with_standing}
+use Rattle.ledgers.specs.Words.{Words, discarded_words, is_staged, is_visible, kept_as, kept_standing, kept_word, kept_words, published_words, seen_word, shows, staged_over, staged_too, staged_words, unstaged_if, unstaged_word, unstaged_words, waits, with_standing}
 use Rattle.ledgers.proofs.ChosenLemmas.{get_chosen, one_key}
 use Rattle.ledgers.proofs.HolderLemmas.{same_tests}
 use Rattle.ledgers.proofs.UpdateLemmas.{insert_same}
@@ -219,6 +221,23 @@ none_unstaged (Some word) = by (is_visible word)
 
 pub discarded_staged : (words : Words) → AreStaged [] (discarded_words words)
 discarded_staged words q = sym (ap (λ o. option_map_or is_staged o false) (get_chosen name_total name_exact (λ _ word. unstaged_word word) words q) ∙ none_unstaged (get words q))
+
+-- and some of it, where some names are taken out
+still_staged : (b : Bool) (o : Option Word) → (not b && option_map_or is_staged o false) ≡ option_map_or is_staged (option_and_then (unstaged_if b) o) false
+still_staged true None = refl
+still_staged false None = refl
+still_staged true (Some word) = sym (none_unstaged (Some word))
+still_staged false (Some word) = refl
+
+pub unstaged_staged : (names : List ℕ → Bool) (before after : List (List ℕ)) (words : Words) → AreStaged before words → ((q : List ℕ) → is_among after q ≡ (not (names q) && is_among before q)) → AreStaged after (unstaged_words names words)
+unstaged_staged names before after words was is q =
+    is q ∙ ap (λ b. not (names q) && b) (was q) ∙ still_staged (names q) (get words q)
+    ∙ sym (ap (λ o. option_map_or is_staged o false) (get_chosen name_total name_exact (λ name word. unstaged_if (names name) word) words q))
+
+-- names of a set that are left
+pub left_among : (names : List ℕ → Bool) (before : List (List ℕ)) (q : List ℕ) → is_among (filter (λ name. not (names name)) before) q ≡ (not (names q) && is_among before q)
+left_among names before q =
+    any-filter_same (is_at (name_cmp q)) (λ name. not (names name)) (not (names q)) (λ k tied. ap (λ name. not (names name)) (sym (one_key {R = name_cmp} name_exact q k tied))) before
 
 kept_stays : (b : Bool) (o : Option Word) → option_map_or is_staged (option_and_then (kept_word b) o) false ≡ option_map_or is_staged o false
 kept_stays b None = refl

@@ -90,6 +90,14 @@ discarded_words words = chosen (λ _ word. unstaged_word word) words
 abbrev pub kept_words : (List ℕ → Bool) → Words → Words
 kept_words keep words = chosen (λ name word. kept_word (keep name) word) words
 
+-- a word without what is staged, if its name is one of some
+abbrev pub unstaged_if : Bool → Word → Option Word
+unstaged_if named word = if named then unstaged_word word else Some word
+
+-- without what is staged under names that pass
+abbrev pub unstaged_words : (List ℕ → Bool) → Words → Words
+unstaged_words names words = chosen (λ name word. unstaged_if (names name) word) words
+
 -- words have a code, so that they can be a model's value
 abbrev pub word_code : Coded Word
 word_code =

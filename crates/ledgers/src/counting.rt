@@ -3,9 +3,9 @@ ghost use Rattle.std.specs.Prelude.{◌≡◌, ◌≤◌, ◌+◌, List, ℕ};
 ghost use Rattle.std.specs.BTreeSet.{contains};
 ghost use Rattle.git_name.specs.Name.{name_cmp};
 ghost use Rattle.catalogue.specs.Counted.{count_of, places_of};
-ghost use Rattle.ledgers.specs.Due.{due_in, leaves_kept};
+ghost use Rattle.ledgers.specs.Due.{due_in, leaves_kept, leaves_unstaged};
 
-use crate::word::{Word, goes};
+use crate::word::{Word, goes, goes_unstaged};
 use catalogue::Catalogue;
 use git_name::Name;
 use std::collections::{BTreeMap, BTreeSet};
@@ -22,6 +22,23 @@ pub(crate) fn lower_left(
 {
     for (name, word) in words.iter() {
         if goes(word, names.contains(name)) {
+            catalogue.lower(*name);
+        }
+    }
+}
+
+// Lowers the numbers of the names that leave as what is staged under these goes. It takes no memory.
+pub(crate) fn lower_unstaged(
+    words: &BTreeMap<Name, Word>,
+    names: &BTreeSet<Name>,
+    catalogue: &mut Catalogue,
+)
+    requires { (q : List ℕ) → due_in (leaves_unstaged (contains name_cmp names.now)) words.now.entries q ≤ count_of catalogue.old q }
+    ensures places { places_of catalogue.new ≡ places_of catalogue.old }
+    ensures counts { (q : List ℕ) → count_of catalogue.new q + due_in (leaves_unstaged (contains name_cmp names.now)) words.now.entries q ≡ count_of catalogue.old q }
+{
+    for (name, word) in words.iter() {
+        if goes_unstaged(word, names.contains(name)) {
             catalogue.lower(*name);
         }
     }

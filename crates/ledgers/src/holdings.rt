@@ -1,4 +1,4 @@
-ghost use Rattle.std.specs.Prelude.{◌≡◌, ◌<◌, ◌≤◌, ◌+◌, ◌⊎◌, ◌++◌, ◌∷◌, [], ◌||◌, ◌&&◌, not, ℕ, List, length, OnOk, OnErr, IfOk, IfSome, IfNone, false, true, nat_le, IsPermutation};
+ghost use Rattle.std.specs.Prelude.{◌≡◌, ◌<◌, ◌≤◌, ◌+◌, ◌⊎◌, ◌++◌, ◌∷◌, [], ◌||◌, ◌&&◌, not, ℕ, List, Some, length, slice_get, take, OnOk, OnErr, IfOk, IfSome, IfNone, false, true, nat_le, IsPermutation};
 ghost use Rattle.std.specs.BTreeSet.{contains};
 ghost use Rattle.std.specs.FinMap as map;
 ghost use Rattle.std.specs.Option.{option_map_or};
@@ -8,7 +8,7 @@ ghost use Rattle.catalogue.specs.Counted.{IsNext, count_of, places_of};
 ghost use Rattle.ledgers.specs.Holders.{IsCounting, holders_of, is_held_in};
 ghost use Rattle.ledgers.specs.Ledgers.{at_ledger, ledger_at, with_ledger, word_at};
 ghost use Rattle.ledgers.specs.Totals.{capped, total_of, used_by};
-ghost use Rattle.ledgers.specs.Words.{discarded_words, is_staged, is_visible, kept_words, published_words, staged_words, words_that};
+ghost use Rattle.ledgers.specs.Words.{discarded_words, is_staged, is_visible, kept_words, published_words, staged_words, unstaged_words, words_that};
 
 use crate::ledgers::Ledgers;
 use crate::word::Word;
@@ -168,6 +168,14 @@ impl Holdings {
         keep_counted(&mut self.ledgers, &mut self.catalogue, tenant, names);
     }
 
+    /// What a tenant has staged under these names is so no more. It takes no memory.
+    pub fn unstage(&mut self, tenant: &TenantName, names: &BTreeSet<Name>)
+        ensures ledgers { self.new.ledgers ≡ at_ledger self.old.ledgers tenant.now (unstaged_words (λ name. contains name_cmp names.now name)) }
+        ensures places { places_of self.new.catalogue ≡ places_of self.old.catalogue }
+    {
+        unstage_counted(&mut self.ledgers, &mut self.catalogue, tenant, names);
+    }
+
     /// Enters a name in the catalogue, unless it is there.
     pub fn enter(&mut self, name: Name) -> Result<(), AllocError>
         ensures listed { OnOk result ((q : List ℕ) → is_listed (places_of self.new.catalogue).names q ≡ (same_name name q || is_listed (places_of self.old.catalogue).names q)) }
@@ -190,6 +198,22 @@ impl Holdings {
         ensures none { IfNone result (((places_of self.now.catalogue).names ≡ []) ⊎ ((name : List ℕ) × IsNext (places_of self.now.catalogue) name × (0 < holders_of self.now.ledgers name))) }
     {
         self.catalogue.free_name()
+    }
+
+    /// The name at a place of the catalogue, if somebody holds it. Each name stands at one place.
+    pub fn held_name(&self, at: usize) -> Option<Name>
+        ensures some { IfSome result (λ name. (slice_get (places_of self.now.catalogue).names at ≡ Some name) × (is_held_in self.now.ledgers name ≡ true)) }
+        ensures first { IfSome result (λ name. is_listed (take at (places_of self.now.catalogue).names) name ≡ false) }
+        ensures none { IfNone result ((name : List ℕ) → slice_get (places_of self.now.catalogue).names at ≡ Some name → is_held_in self.now.ledgers name ≡ false) }
+    {
+        self.catalogue.held_name(at)
+    }
+
+    /// A law, and no work: each name that somebody holds is catalogued.
+    pub fn held_names_are_catalogued(&self)
+        ensures { (name : List ℕ) → is_held_in self.now.ledgers name ≡ true → is_listed (places_of self.now.catalogue).names name ≡ true }
+    {
+        let _ledgers = &self.ledgers;
     }
 
     /// Passes over the name that the next look falls at.
@@ -329,4 +353,23 @@ fn keep_counted(
     };
     own.lower_others(names, catalogue);
     ledgers.keep_only(tenant, names);
+}
+
+// What is staged under these names goes, and what leaves the ledger is counted no more.
+fn unstage_counted(
+    ledgers: &mut Ledgers,
+    catalogue: &mut Catalogue,
+    tenant: &TenantName,
+    names: &BTreeSet<Name>,
+)
+    requires counting { IsCounting ledgers.old catalogue.old }
+    ensures counting { IsCounting ledgers.new catalogue.new }
+    ensures ledgers { ledgers.new ≡ at_ledger ledgers.old tenant.now (unstaged_words (λ name. contains name_cmp names.now name)) }
+    ensures places { places_of catalogue.new ≡ places_of catalogue.old }
+{
+    let Some(own) = ledgers.get(tenant) else {
+        return;
+    };
+    own.lower_unstaged(names, catalogue);
+    ledgers.unstage(tenant, names);
 }

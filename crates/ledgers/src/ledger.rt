@@ -3,9 +3,9 @@ ghost use Rattle.std.specs.BTreeSet.{contains};
 ghost use Rattle.std.specs.FinMap as map;
 ghost use Rattle.git_name.specs.Name.{name_cmp};
 ghost use Rattle.catalogue.specs.Counted.{count_of, places_of};
-ghost use Rattle.ledgers.specs.Due.{due_at, leaves_discarded, leaves_kept};
+ghost use Rattle.ledgers.specs.Due.{due_at, leaves_discarded, leaves_kept, leaves_unstaged};
 ghost use Rattle.ledgers.specs.Totals.{capped, total_of, used_by};
-ghost use Rattle.ledgers.specs.Words.{discarded_words, is_visible, kept_words, published_words, staged_words, words_that};
+ghost use Rattle.ledgers.specs.Words.{discarded_words, is_visible, kept_words, published_words, staged_words, unstaged_words, words_that};
 
 use crate::word::Word;
 use crate::word_map::WordMap;
@@ -121,6 +121,25 @@ impl Ledger {
         let (used, total) = self.words.uses();
         self.used = used;
         self.total = total;
+    }
+
+    /// What is staged under these names is so no more. It takes no memory, and walks all words.
+    pub fn unstage(&mut self, names: &BTreeSet<Name>)
+        ensures { self.new ≡ unstaged_words (λ name. contains name_cmp names.now name) self.old }
+    {
+        self.words.unstage(names);
+        let (used, total) = self.words.uses();
+        self.used = used;
+        self.total = total;
+    }
+
+    /// Lowers the numbers of the names that leave by `unstage`. It takes no memory.
+    pub fn lower_unstaged(&self, names: &BTreeSet<Name>, catalogue: &mut Catalogue)
+        requires { (q : List ℕ) → due_at (leaves_unstaged (contains name_cmp names.now)) self.now q ≤ count_of catalogue.old q }
+        ensures places { places_of catalogue.new ≡ places_of catalogue.old }
+        ensures counts { (q : List ℕ) → count_of catalogue.new q + due_at (leaves_unstaged (contains name_cmp names.now)) self.now q ≡ count_of catalogue.old q }
+    {
+        self.words.lower_unstaged(names, catalogue);
     }
 
     /// Lowers the numbers of the names that leave by `keep_only`. It takes no memory.

@@ -6,7 +6,7 @@ ghost use Rattle.git_name.specs.Name.{name_cmp};
 ghost use Rattle.catalogue.specs.Counted.{count_of, places_of};
 ghost use Rattle.ledgers.specs.Due.{due_at, leaves_discarded};
 ghost use Rattle.ledgers.specs.Ledgers.{at_ledger, ledger_at, with_ledger};
-ghost use Rattle.ledgers.specs.Words.{discarded_words, kept_words, published_words, staged_words};
+ghost use Rattle.ledgers.specs.Words.{discarded_words, kept_words, published_words, staged_words, unstaged_words};
 
 use crate::ledger::Ledger;
 use catalogue::Catalogue;
@@ -123,5 +123,15 @@ impl Ledgers {
             return;
         };
         own.keep_only(names);
+    }
+
+    /// What a tenant has staged under these names is so no more. It takes no memory.
+    pub fn unstage(&mut self, tenant: &TenantName, names: &BTreeSet<Name>)
+        ensures { self.new ≡ at_ledger self.old tenant.now (unstaged_words (λ name. contains name_cmp names.now name)) }
+    {
+        let Some(own) = self.tenants.get_mut(tenant) else {
+            return;
+        };
+        own.unstage(names);
     }
 }

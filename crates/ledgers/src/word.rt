@@ -1,5 +1,5 @@
 ghost use Rattle.std.specs.Prelude.{◌≡◌, Some, is_some, not, if◌then◌else◌};
-ghost use Rattle.ledgers.specs.Words.{is_staged, is_visible, kept_as, kept_word, seen_word, staged_over, staged_too, unstaged_word};
+ghost use Rattle.ledgers.specs.Words.{is_staged, is_visible, kept_as, kept_word, seen_word, staged_over, staged_too, unstaged_if, unstaged_word};
 
 use git_name::Kind;
 
@@ -111,6 +111,32 @@ pub(crate) fn goes(word: &Word, is_kept: bool) -> bool
     match word.standing {
         Standing::Visible => !is_kept,
         Standing::Staged => false,
+        Standing::Both => false,
+    }
+}
+
+// What is staged goes, if the word's name is one of some. Answers whether the word stays.
+pub(crate) fn unstage(word: &mut Word, is_named: bool) -> bool
+    ensures { kept_as result word.new ≡ unstaged_if is_named word.old }
+{
+    if !is_named {
+        return true;
+    }
+    let stays = word.is_visible();
+    see(word);
+    stays
+}
+
+// Whether a word goes as what is staged under some names does.
+pub(crate) fn goes_unstaged(word: &Word, is_named: bool) -> bool
+    ensures { result ≡ not (is_some (unstaged_if is_named word.now)) }
+{
+    if !is_named {
+        return false;
+    }
+    match word.standing {
+        Standing::Visible => false,
+        Standing::Staged => true,
         Standing::Both => false,
     }
 }

@@ -3,13 +3,16 @@ ghost use Rattle.std.specs.BTreeSet.{contains};
 ghost use Rattle.std.specs.FinMap as map;
 ghost use Rattle.git_name.specs.Name.{name_cmp};
 ghost use Rattle.catalogue.specs.Counted.{count_of, places_of};
-ghost use Rattle.ledgers.specs.Due.{due_at, leaves_discarded, leaves_kept};
+ghost use Rattle.ledgers.specs.Due.{due_at, leaves_discarded, leaves_kept, leaves_unstaged};
 ghost use Rattle.ledgers.specs.Totals.{capped, total_of, used_by};
-ghost use Rattle.ledgers.specs.Words.{discarded_words, is_visible, kept_words, published_words, staged_words, words_that};
+ghost use Rattle.ledgers.specs.Words.{discarded_words, is_visible, kept_words, published_words, staged_words, unstaged_words, words_that};
 
-use crate::counting::lower_left;
+use crate::counting::{lower_left, lower_unstaged};
 use crate::word::{Word, word_over};
-use crate::words::{keep_among, put_staged, see_all, seen_names, unstage_all, uses, word_at};
+use crate::words::{
+    keep_among, leave_out, put_staged, see_all, seen_names, unstage_all, unstage_among, uses,
+    word_at,
+};
 use catalogue::Catalogue;
 use git_name::{Kind, Name};
 use std::alloc::{AllocError, Global};
@@ -111,6 +114,24 @@ impl WordMap {
         ensures { self.new ≡ kept_words (λ name. contains name_cmp names.now name) self.old }
     {
         keep_among(&mut self.words, names);
+    }
+
+    /// What is staged under these names is so no more. It takes no memory.
+    pub fn unstage(&mut self, names: &BTreeSet<Name>)
+        ensures { self.new ≡ unstaged_words (λ name. contains name_cmp names.now name) self.old }
+    {
+        unstage_among(&mut self.words, names);
+        leave_out(&mut self.staged, names);
+    }
+
+    /// Lowers the numbers of the names that leave by `unstage`. It takes no memory.
+    pub fn lower_unstaged(&self, names: &BTreeSet<Name>, catalogue: &mut Catalogue)
+        requires { (q : List ℕ) → due_at (leaves_unstaged (contains name_cmp names.now)) self.now q ≤ count_of catalogue.old q }
+        ensures places { places_of catalogue.new ≡ places_of catalogue.old }
+        ensures counts { (q : List ℕ) → count_of catalogue.new q + due_at (leaves_unstaged (contains name_cmp names.now)) self.now q ≡ count_of catalogue.old q }
+    {
+        let _count = self.words.len();
+        lower_unstaged(&self.words, names, catalogue);
     }
 
     /// Lowers the numbers of the names that leave by `keep_only`. It takes no memory.

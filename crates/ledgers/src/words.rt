@@ -1,5 +1,5 @@
 // Words by the names of their objects, in a tree.
-ghost use Rattle.std.specs.Prelude.{◌≡◌, ◌≤◌, ◌+◌, List, ℕ, OnOk, OnErr, IfOk, Some, None, true, false, sum_by};
+ghost use Rattle.std.specs.Prelude.{◌≡◌, ◌≤◌, ◌+◌, List, ℕ, OnOk, OnErr, IfOk, Some, None, true, false, not, ◌&&◌, sum_by};
 ghost use Rattle.std.specs.BTreeMap.{IsOrdered, IsUnchanged, Updates};
 ghost use Rattle.std.specs.BTreeSet as set;
 ghost use Rattle.std.specs.FinMap.{from_entries, get};
@@ -9,12 +9,12 @@ ghost use Rattle.git_name.specs.Name.{name_cmp};
 ghost use Rattle.catalogue.specs.Counted.{count_of, places_of};
 ghost use Rattle.ledgers.specs.Chosen.{chosen_in};
 ghost use Rattle.ledgers.specs.Due.{due_at, leaves_discarded};
-ghost use Rattle.ledgers.specs.Settled.{AreStaged, Settles};
+ghost use Rattle.ledgers.specs.Settled.{AreStaged, Settles, is_among};
 ghost use Rattle.ledgers.specs.Totals.{capped, seen_use, use_of_word};
-ghost use Rattle.ledgers.specs.Words.{discarded_words, is_visible, kept_as, kept_word, published_words, seen_word, unstaged_word};
+ghost use Rattle.ledgers.specs.Words.{discarded_words, is_visible, kept_as, kept_word, published_words, seen_word, unstaged_if, unstaged_word};
 
 use crate::usage::WORD_USE;
-use crate::word::{Word, keep, see};
+use crate::word::{Word, keep, see, unstage};
 use catalogue::Catalogue;
 use git_name::Name;
 use std::alloc::{AllocError, Global};
@@ -112,6 +112,21 @@ pub(crate) fn keep_among(words: &mut BTreeMap<Name, Word>, names: &BTreeSet<Name
     ensures ordered { IsOrdered name_cmp words.old }
 {
     words.retain(|name, word| keep(word, names.contains(name)));
+}
+
+// What is staged under these names is so no more. It takes no memory.
+pub(crate) fn unstage_among(words: &mut BTreeMap<Name, Word>, names: &BTreeSet<Name>)
+    ensures entries { words.new.entries ≡ chosen_in (λ name word. unstaged_if (set.contains name_cmp names.now name) word) words.old.entries }
+    ensures ordered { IsOrdered name_cmp words.old }
+{
+    words.retain(|name, word| unstage(word, names.contains(name)));
+}
+
+// These names leave a set. It takes no memory.
+pub(crate) fn leave_out(staged: &mut BTreeSet<Name>, names: &BTreeSet<Name>)
+    ensures { (q : List ℕ) → is_among staged.new.keys q ≡ (not (set.contains name_cmp names.now q) && is_among staged.old.keys q) }
+{
+    staged.retain(|name| !names.contains(name));
 }
 
 // The names of what is seen, ascending.

@@ -2,7 +2,7 @@ ghost use Rattle.std.specs.Prelude.{◌≡◌, Ok, Some, IsErr, IfOk, IfErr};
 
 use crate::files::FileFault;
 use std::alloc::Global;
-use std::fs::OpenFile;
+use std::fs::{Metadata, OpenFile};
 use std::io::{ErrorKind, Read};
 use std::rt::Files;
 use std::{fs, io};
@@ -48,13 +48,42 @@ pub(crate) fn readable<T: Drop>(entry: io::Result<T>) -> io::Result<Option<T>>
     }
 }
 
-/// All bytes of a file. There is room for one more, so that its end is read with no growth.
-pub(crate) fn read_whole(rt: &impl Files, alloc: Global, path: &str) -> io::Result<Vec<u8>> {
+/// What is known of a regular file. A pipe or a device is not opened, as that might never end.
+pub(crate) fn regular(rt: &impl Files, path: &str) -> io::Result<Metadata> {
+    let found = fs::metadata(rt, path)?;
+    if !found.is_file() {
+        return Err(io::Error::from(ErrorKind::InvalidInput));
+    }
+    Ok(found)
+}
+
+/// All bytes of a file of this length. There is room for one more, so that its end is read with no
+/// growth.
+fn read_all(rt: &impl Files, alloc: Global, path: &str, length: u64) -> io::Result<Vec<u8>> {
     let mut file = fs::open(rt, path)?;
-    let length = file.metadata()?.len();
     let mut bytes = Vec::with_capacity(alloc, (length as usize).saturating_add(1))?;
     file.read_to_end(&mut bytes)?;
     Ok(bytes)
+}
+
+/// All bytes of a regular file.
+pub(crate) fn read_whole(rt: &impl Files, alloc: Global, path: &str) -> io::Result<Vec<u8>> {
+    let length = regular(rt, path)?.len();
+    read_all(rt, alloc, path, length)
+}
+
+/// All bytes of a regular file of at most this length, and no bytes of what else has this path.
+pub(crate) fn read_at_most(
+    rt: &impl Files,
+    alloc: Global,
+    path: &str,
+    most: u64,
+) -> io::Result<Vec<u8>> {
+    let found = fs::metadata(rt, path)?;
+    if !found.is_file() || found.len() > most {
+        return Ok(Vec::new(alloc));
+    }
+    read_all(rt, alloc, path, found.len())
 }
 
 /// Gives a part that was written and closed the name of its file, in the place of a file that is

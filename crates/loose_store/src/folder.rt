@@ -2,7 +2,7 @@ ghost use Rattle.std.specs.Prelude.{◌≡◌, false};
 ghost use Rattle.std.specs.FinMap as map;
 ghost use Rattle.loose_store.specs.Failures.{Counts};
 
-use crate::device::{PART, found, read_whole, settle, told};
+use crate::device::{PART, found, read_at_most, regular, settle, told};
 use crate::failures::counted;
 use crate::files::{FileFault, LooseFiles};
 use crate::journal_file::JOURNALS;
@@ -15,6 +15,10 @@ use std::fs::{File, OpenOptions};
 use std::io::ErrorKind;
 use std::rt::Files;
 use std::{fs, io};
+
+/// The longest file of an object: 8 MiB of content and its header. What is longer, or is no regular file,
+/// is read as a file of no bytes, which is no object's.
+const MAX_FILE: u64 = 8_388_608 + 15;
 
 /// Files in a folder of the file system: under `objects/`, two digits, `/`, 62 digits. An object's
 /// file is whole or not there, whenever the process is killed. It is not synced, so after a loss of
@@ -34,6 +38,7 @@ pub struct Folder<R> {
 // stays, and says nothing.
 fn locked<R: Files<File = File>>(rt: &R, alloc: Global, folder: &str) -> io::Result<File> {
     let path = inside(alloc, folder, "lock")?;
+    found(regular(rt, path.as_str()))?;
     let lock = OpenOptions::new()
         .write(true)
         .create(true)
@@ -102,7 +107,7 @@ fn read_at(
     name: Name,
 ) -> io::Result<Option<Vec<u8>>> {
     let path = path_of(alloc, folder, name)?;
-    found(read_whole(rt, alloc, path.as_str()))
+    found(read_at_most(rt, alloc, path.as_str(), MAX_FILE))
 }
 
 // A part lies beside its file, so that the file system gives it its name in one step.

@@ -2,7 +2,7 @@ ghost use Rattle.std.specs.Prelude.{◌≡◌, IfOk, ◌∷◌, ◌++◌, codes,
 ghost use Rattle.hex.specs.Hex.{encode_lower};
 ghost use Rattle.sha2.specs.Sha256.{sha256};
 
-use crate::device::{PART, found, readable, settle, told};
+use crate::device::{PART, found, readable, regular, settle, told};
 use crate::files::FileFault;
 use crate::place::inside;
 use git_name::Name;
@@ -33,6 +33,11 @@ fn path_of_journal(alloc: Global, folder: &str, name: Name) -> Result<String, Al
     Ok(path)
 }
 
+fn open_regular<R: Files>(rt: &R, path: &str) -> io::Result<R::File> {
+    regular(rt, path)?;
+    fs::open(rt, path)
+}
+
 fn open_in<R: Files>(
     rt: &R,
     alloc: Global,
@@ -40,7 +45,7 @@ fn open_in<R: Files>(
     name: Name,
 ) -> io::Result<Option<R::File>> {
     let path = path_of_journal(alloc, folder, name)?;
-    found(fs::open(rt, path.as_str()))
+    found(open_regular(rt, path.as_str()))
 }
 
 fn begin_in<R: Files>(rt: &R, alloc: Global, folder: &str) -> io::Result<R::File> {

@@ -17,8 +17,6 @@ mod place;
 mod state_file;
 mod stored;
 mod swept;
-#[cfg(test)]
-mod tests;
 
 pub use crate::checked::{StoreFault, read_checked};
 pub use crate::files::{FileFault, LooseFiles};

@@ -35,7 +35,7 @@ step_line zero b bs is = ap (λ (t : Bool). cond t (records_in (length bs) bs) (
 step_line (suc room) b bs is = ap (λ (t : Bool). cond t (records_in (length bs) bs) (after_command (b ∷ bs) (header_in room) (command_at (b ∷ bs)))) is
 
 -- the same, where the text is no empty line and what stands behind it
-header_step : (room : ℕ) (rest : List ℕ) → 0 < length rest → ((records : List ℕ) → rest ≢ 10 ∷ records) → header_in room rest ≡ after_command rest (others_in room) (command_at rest)
+pub header_step : (room : ℕ) (rest : List ℕ) → 0 < length rest → ((records : List ℕ) → rest ≢ 10 ∷ records) → header_in room rest ≡ after_command rest (others_in room) (command_at rest)
 header_step room [] some line = absurd (omega arith)
 header_step room (b ∷ bs) some line = step_line room b bs (not_ten b (λ is. line bs (ap (λ x. x ∷ bs) is)))
 

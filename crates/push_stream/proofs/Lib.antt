@@ -1,10 +1,14 @@
 pub mod Examples
+pub mod GainingLemmas
 pub mod HeaderLemmas
+pub mod IncomingLemmas
 pub mod LineLemmas
 pub mod LongerLemmas
 pub mod ObjectLemmas
 pub mod PieceLemmas
+pub mod ReadingLemmas
 pub mod RecordLemmas
+pub mod RestLemmas
 pub mod SpellingLemmas
 pub mod StreamLemmas
 pub mod WrittenLemmas

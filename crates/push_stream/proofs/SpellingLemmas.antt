@@ -34,7 +34,7 @@ use Rattle.push_stream.proofs.ObjectLemmas.{stream_right}
 use Rattle.push_stream.proofs.StreamLemmas.{and_more, finished-behind}
 
 -- what a record's line says is what its parts say
-parts_said : (head : Head) (name : Option (List ℕ)) (kind : Option Kind) (size : Option ℕ) → head_of_parts name kind size ≡ Some head → (name ≡ Some head.name) × (kind ≡ Some head.kind) × (size ≡ Some head.size)
+pub parts_said : (head : Head) (name : Option (List ℕ)) (kind : Option Kind) (size : Option ℕ) → head_of_parts name kind size ≡ Some head → (name ≡ Some head.name) × (kind ≡ Some head.kind) × (size ≡ Some head.size)
 parts_said head (Some name) (Some kind) (Some size) is = (ap (option_map (λ h. h.name)) is, ap (option_map (λ h. h.kind)) is, ap (option_map (λ h. h.size)) is)
 parts_said head (Some name) (Some kind) None is = absurd (cc)
 parts_said head (Some name) None size is = absurd (cc)

@@ -1,4 +1,7 @@
 pub mod Brief
+pub mod Gaining
+pub mod Incoming
+pub mod Reading
 pub mod Record
 pub mod Shown
 pub mod Spelling

@@ -59,7 +59,7 @@ fn read_header(alloc: Global, bytes: &[u8]) -> Result<(Vec<Command>, &[u8]), Bod
 }
 
 // What stands behind an empty line.
-fn behind_empty_line(text: &[u8]) -> Option<&[u8]>
+pub(crate) fn behind_empty_line(text: &[u8]) -> Option<&[u8]>
     ensures found { IfSome result (λ behind. text.now ≡ 10 ∷ behind.now) }
     ensures none { IfNone result ((behind : List ℕ) → text.now ≢ 10 ∷ behind) }
 {

@@ -6,19 +6,29 @@
 
 mod body;
 mod brief;
+mod draft;
 mod fault;
+mod gaining;
+mod incoming;
 mod laws;
+mod reading;
 mod record;
+mod sent;
+mod step;
 mod upload;
 mod write;
 
 pub use crate::body::{Body, read_body};
 pub use crate::brief::Brief;
 pub use crate::fault::{BodyError, StreamFault};
+pub use crate::incoming::Incoming;
 pub use crate::laws::{
     pieces_join, records_are_read, spelled_streams_are_whole, streams_hold_objects,
     whole_streams_are_spelled,
 };
-pub use crate::record::MAX_CONTENT;
+pub use crate::reading::{briefs_suffice, readings_go_on, rests_are_short};
+pub use crate::record::{MAX_CONTENT, MAX_REST};
+pub use crate::sent::Sent;
+pub use crate::step::Step;
 pub use crate::upload::{MAX_UPLOAD, Upload};
 pub use crate::write::write_record;

@@ -1,8 +1,9 @@
-ghost use Rattle.std.specs.Prelude.{◌≡◌, IfOk, IfErr, IfSome};
+ghost use Rattle.std.specs.Prelude.{◌≡◌, ◌≤◌, ◌<◌, ◌+◌, IfOk, IfErr, IfSome};
 ghost use Rattle.git_name.specs.Kind.{kind_of_word};
 ghost use Rattle.git_name.specs.Name.{name_in};
 ghost use Rattle.git_name.specs.Number.{number_in};
 ghost use Rattle.git_name.specs.Text.{words_of};
+ghost use Rattle.push_stream.specs.Gaining.{Awaits};
 ghost use Rattle.push_stream.specs.Record.{Taken, head_of_parts, head_of_words, content_at, parts_at, record_at};
 ghost use Rattle.push_stream.specs.Shown.{parts_shown, TellsRecord};
 
@@ -14,6 +15,10 @@ use std::alloc::Global;
 
 /// The most bytes of an object's content that a host takes (own).
 pub const MAX_CONTENT: usize = 8_388_608;
+
+/// The most bytes of a stream that are left unfinished (own): a record's line of 79 bytes, its LF, and
+/// a content.
+pub const MAX_REST: usize = MAX_CONTENT + 80;
 
 // What a record's line says.
 #[derive(Clone, Copy, Debug)]
@@ -111,4 +116,31 @@ fn take_content(head: Head, text: &[u8]) -> Parts<'_>
         [b'\n', behind @ ..] => Parts::Whole(head, content, behind),
         _ => Parts::Wrong(StreamFault::Syntax),
     }
+}
+
+// Until a text and what comes are so many bytes, the record at its front stays unfinished. It is
+// nothing where its line is not whole.
+pub(crate) fn awaited(text: &[u8]) -> usize
+    ensures { Awaits text.now result }
+{
+    match first_line(text) {
+        Line::Whole(line, _) => match read_head(line) {
+            Some(head) => awaited_behind(line.len(), head),
+            None => 0,
+        },
+        Line::Unfinished => 0,
+        Line::TooLong => 0,
+    }
+}
+
+// The bytes of a record behind a line of so many, with its two LF.
+fn awaited_behind(line: usize, head: Head) -> usize
+    requires { line ≤ 512 }
+    ensures whole { head.size ≤ MAX_CONTENT → result ≡ line + 2 + head.size }
+    ensures large { MAX_CONTENT < head.size → result ≡ 0 }
+{
+    if head.size <= MAX_CONTENT as u64 {
+        return line + 2 + head.size as usize;
+    }
+    0
 }

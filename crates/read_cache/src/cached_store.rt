@@ -3,7 +3,7 @@ ghost use Rattle.std.specs.FinMap as map;
 ghost use Rattle.git_name.specs.Object.{object_name};
 ghost use Rattle.loose_store.specs.Files.{SameBut};
 ghost use Rattle.loose_store.specs.Failures.{Counts};
-ghost use Rattle.loose_store.specs.Stored.{ReadsTo};
+ghost use Rattle.loose_store.specs.Stored.{ReadsTo, CountsRead as CountsAsked};
 ghost use Rattle.read_cache.specs.Known.{AreKnown, IsKnown};
 ghost use Rattle.read_cache.specs.Stores.{CountsRead};
 
@@ -91,6 +91,8 @@ impl<S: LooseFiles> CachedStore<S> {
         ensures named { IfOk result (λ found. IfSome found (λ sealed. object_name sealed ≡ name)) }
         ensures honest { self.new.honest ≡ self.old.honest }
         ensures cause { CountsRead self.old.failures self.new.failures result }
+        // It was asked: a store that failed 2^64 - 1 times answers nothing.
+        ensures asked { CountsAsked self.old.failures self.new.failures result }
     {
         read_checked(alloc, &mut self.files, name)
     }

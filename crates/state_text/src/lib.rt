@@ -21,5 +21,3 @@ pub use crate::states::States;
 pub use crate::tenant_state::TenantState;
 pub use crate::writing::write;
 
-#[cfg(test)]
-mod tests;

@@ -44,3 +44,6 @@ returns-clause-sharp g c trusted asks done = c.tend.ensures.tends.sharp (ap (λ 
 
 pub returns-clause-faults : goal.returns-clause-faults
 returns-clause-faults g c = (c.tend.ensures.faults, subst (λ (s : HostState). IsBounded [] s.vault c.tend.new.vault c.tend.result) c.self.view_is c.tend.ensures.bounds)
+
+pub returns-clause-sound : goal.returns-clause-sound
+returns-clause-sound g c trusted asks done = c.tend.ensures.tends.sound (ap (λ (s : HostState). s.vault.honest) c.self.view_is ∙ trusted) asks done

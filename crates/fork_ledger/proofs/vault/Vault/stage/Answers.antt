@@ -11,6 +11,7 @@ use Rattle.fork_ledger.proofs.ShownShapes.{shape_any, staged_shape}
 use Rattle.fork_ledger.proofs.StagedLemmas.{ok_both, staged_stored, staged_tenants, staged_undamaged}
 use Rattle.fork_ledger.proofs.StoreLemmas.{undamaged_in}
 use Rattle.fork_ledger.proofs.StoredLemmas.{whichever}
+use Rattle.fork_ledger.proofs.WholeLemmas.{has_files}
 use Rattle.fork_ledger.proofs.vault.Vault.stage.Goals as goal
 
 pub invariant_of-self : goal.invariant_of-self
@@ -19,8 +20,8 @@ invariant_of-self g c = λ h.
     let m = c.self.inside.holdings.ledgers in
     let old = c.self.inside.files.contents in
     let new = c.stage_whole.new.files.contents in
-    let keeps = c.stage_whole.ensures.keeps was in
     let kept = c.self.invariant was in
+    let keeps = c.stage_whole.ensures.keeps was (has_files old m kept.stored) in
     record {
       stored = whichever (IsStored (tenants_of new c.stage_whole.new.holdings.ledgers) new) c.stage_whole.result (ok_both _ _ c.stage_whole.result (c.stage_whole.ensures.whole was) c.stage_whole.ensures.ok) c.stage_whole.ensures.err
           (λ both. subst (λ x. IsStored (tenants_of new x) new) (sym both.1) (staged_stored old new m c.args.tenant.now c.args.sealed keeps both.0 kept.stored))
@@ -34,16 +35,17 @@ returns-clause-ok g c = λ h.
     let old = c.self.inside.files.contents in
     let new = c.stage_whole.new.files.contents in
     on_ok_weaker c.stage_whole.result (λ both.
-    ap (tenants_of new) both.1 ∙ staged_tenants old new c.self.inside.holdings.ledgers c.args.tenant.now c.args.sealed (c.stage_whole.ensures.keeps was) both.0
+    ap (tenants_of new) both.1 ∙ staged_tenants old new c.self.inside.holdings.ledgers c.args.tenant.now c.args.sealed (c.stage_whole.ensures.keeps was (has_files old c.self.inside.holdings.ledgers (c.self.invariant was).stored)) both.0
     ∙ ap (λ s. at_tenant s.tenants c.args.tenant.now (with_staged c.args.sealed)) c.self.view_is)
     (ok_both _ _ c.stage_whole.result (c.stage_whole.ensures.whole was) c.stage_whole.ensures.ok)
 
 pub returns-clause-err : goal.returns-clause-err
 returns-clause-err g c = λ h.
     let was = ap (λ s. s.honest) c.self.view_is ∙ h in
+    let old = c.self.inside.files.contents in
     let new = c.stage_whole.new.files.contents in
     on_err_weaker c.stage_whole.result (λ same.
-    ap (tenants_of new) same ∙ tenants_keep c.self.inside.holdings.ledgers c.self.inside.files.contents new (c.stage_whole.ensures.keeps was) ∙ ap (λ s. s.tenants) c.self.view_is) c.stage_whole.ensures.err
+    ap (tenants_of new) same ∙ tenants_keep c.self.inside.holdings.ledgers old new (c.stage_whole.ensures.keeps was (has_files old c.self.inside.holdings.ledgers (c.self.invariant was).stored)) ∙ ap (λ s. s.tenants) c.self.view_is) c.stage_whole.ensures.err
 
 pub returns-clause-exact : goal.returns-clause-exact
 returns-clause-exact g c = λ h.

@@ -1,0 +1,28 @@
+use Rattle.std.proofs.Common.{◌≡◌, ◌<◌, ℕ, List, Some, false, slice_get, take, ap, sym, subst, ◌∙◌, arith}
+use Rattle.std.specs.Map.{keys_of}
+use Rattle.catalogue.specs.Counted.{Counted, count_in, count_of, places_of}
+use Rattle.looks.specs.Places.{is_listed}
+use Rattle.catalogue.proofs.HeldLemmas.{name_at, none_before, same_one}
+use Rattle.catalogue.proofs.PlaceLemmas.{count_at}
+use Rattle.catalogue.proofs.catalogue.Catalogue.held_name.Goals as goal
+
+pub returns-then-entry-gt0-clause-some : goal.returns-then-entry-gt0-clause-some
+returns-then-entry-gt0-clause-some c =
+    let es = c.self.inside.holders.entries in
+    let counted = count_at es c.args.at c.in-Some.entry c.self.invariant.distinct (sym c.in-Some.ensures) in
+    subst (λ (s : Counted). (slice_get (places_of s).names c.args.at ≡ Some c.in-Some.entry.0) × (0 < count_of s c.in-Some.entry.0)) c.self.view_is
+    (name_at es c.args.at c.in-Some.entry (sym c.in-Some.ensures), subst (λ n. 0 < n) (sym counted) c.if-entry-gt0.true)
+
+pub returns-then-entry-gt0-clause-first : goal.returns-then-entry-gt0-clause-first
+returns-then-entry-gt0-clause-first c =
+    let es = c.self.inside.holders.entries in
+    subst (λ (s : Counted). is_listed (take c.args.at (places_of s).names) c.in-Some.entry.0 ≡ false) c.self.view_is
+    (none_before (keys_of es) c.args.at c.in-Some.entry.0 c.self.invariant.distinct (name_at es c.args.at c.in-Some.entry (sym c.in-Some.ensures)))
+
+pub returns-else-entry-gt0-clause-none : goal.returns-else-entry-gt0-clause-none
+returns-else-entry-gt0-clause-none c =
+    let es = c.self.inside.holders.entries in
+    let counted = count_at es c.args.at c.in-Some.entry c.self.invariant.distinct (sym c.in-Some.ensures) in
+    let named = name_at es c.args.at c.in-Some.entry (sym c.in-Some.ensures) in
+    subst (λ (s : Counted). (name : List ℕ) → slice_get (places_of s).names c.args.at ≡ Some name → count_of s name ≡ 0) c.self.view_is
+    (λ name is. ap (count_in es) (same_one (slice_get (keys_of es) c.args.at) name c.in-Some.entry.0 is named) ∙ omega (arith, counted, c.if-entry-gt0.false))

@@ -1,0 +1,12 @@
+use Rattle.std.proofs.Common.{ap, ◌∙◌}
+use Rattle.std.specs.FinMap as map
+use Rattle.std.proofs.lemmas.Result.{on_ok_weaker}
+use Rattle.git_name.proofs.Names.{name_total, name_exact}
+use Rattle.git_name.proofs.TreeMaps.{entries_after_insert}
+use Rattle.fork_ledger.specs.Harms.{HarmMap}
+use Rattle.fork_ledger.proofs.harms.Harms.note.Goals as goal
+
+pub returns-clause-ok : goal.returns-clause-ok
+returns-clause-ok c = on_ok_weaker c.put.result (λ updates.
+    entries_after_insert name_total name_exact c.self.inside.found.entries c.put.new.found.entries c.args.name c.args.harm updates.0
+    ∙ ap (λ (m : HarmMap). map.insert m c.args.name c.args.harm) c.self.view_is) c.put.ensures.ok

@@ -1,0 +1,14 @@
+-- What is known of tags that a query has followed (own).
+use Rattle.std.specs.Prelude.{◌≡◌, ℕ, List, Option, IfSome}
+use Rattle.std.specs.FinMap.{FinMap, get}
+use Rattle.git_name.specs.Name.{name_cmp}
+use Rattle.fork_reach.specs.Source.{Objects}
+use Rattle.fork_query.specs.Peel.{peeled}
+
+-- what tags stand for, under their names
+abbrev pub Ends : Type 0
+Ends = FinMap name_cmp (Option (List ℕ))
+
+-- each is what its tag stands for among these objects
+abbrev pub AreEnds : Objects → Ends → Type 0
+AreEnds objects ends = (tag : List ℕ) → IfSome (get ends tag) (λ end. end ≡ peeled objects tag)

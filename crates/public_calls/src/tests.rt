@@ -1,0 +1,11 @@
+mod fetches;
+mod histories;
+mod kept;
+mod objects;
+mod pieces;
+mod pushes;
+mod runs;
+mod stores;
+mod walks;
+mod wires;
+mod writers;

@@ -1,0 +1,112 @@
+use super::kept::Kept;
+use super::objects::{Names, absent, all_named, filled, items, named, put_line};
+use fork_query::{QueryError, merge_base, rev_list};
+use fork_reach::read_history;
+use git_reftx::Refs;
+use std::alloc::{AllocError, Global};
+use std::collections::BTreeSet;
+use std::test::Fail;
+
+#[test]
+fn a_history_keeps_parents_and_times(rt: HostRuntime) -> Result<(), Fail> {
+    let alloc = rt.alloc();
+    let mut kept = Kept::new(alloc);
+    let names = filled(alloc, &mut kept)?;
+    let none = BTreeSet::new(alloc);
+    let (left, first, tree) = (named(&names, b'l'), named(&names, b'f'), named(&names, b't'));
+    let roots = [left, tree, absent()];
+    let history = read_history(alloc, &mut kept, &roots, &none).or(Err("read_history"))?;
+    assert_eq!(rt; kept.reads, 2);
+    assert!(rt; history.contains(left) && history.contains(first) && history.contains(tree));
+    assert!(rt; !history.contains(absent()));
+    assert_eq!(rt; history.parents(left), [first].as_slice());
+    assert_eq!(rt; history.parents(first).len(), 0);
+    let mut seconds = 0u64;
+    for (_, noted) in history.iter() {
+        seconds = seconds.saturating_add(noted.seconds());
+    }
+    assert_eq!(rt; seconds, 40);
+    let found = history.ancestors(alloc, &[first])?;
+    assert!(rt; found.len() == 1 && found.contains(&first));
+    Ok(())
+}
+
+// A line for each letter, ascending by name where that is wanted.
+fn lines(
+    alloc: Global,
+    names: &Names,
+    letters: &[u8],
+    by_name: bool,
+) -> Result<Vec<u8>, AllocError> {
+    let mut listed = all_named(alloc, names, letters)?;
+    if by_name {
+        listed.sort_unstable();
+    }
+    let mut text = Vec::new(alloc);
+    for name in &listed {
+        put_line(&mut text, b"", *name)?;
+    }
+    Ok(text)
+}
+
+fn is_told(answer: &Result<Vec<u8>, QueryError>, text: &[u8]) -> bool {
+    match answer {
+        Ok(told) => told.as_slice() == text,
+        Err(_) => false,
+    }
+}
+
+#[test]
+fn each_commit_is_read_once_to_be_listed(rt: HostRuntime) -> Result<(), Fail> {
+    // The items, the commits, whether their order is that of names, and how many objects are read.
+    const ROWS: &[(&[u8], &[u8], bool, u64)] = &[
+        (b"f", b"f", false, 1),
+        (b"m", b"mlrf", false, 4),
+        (b"m c ^l ^r", b"mc", true, 5),
+        (b"m ^l", b"mr", false, 4),
+        (b"^l m", b"mr", false, 4),
+        (b"l ^m", b"", false, 4),
+        (b"^l", b"", false, 2),
+        (b"a r", b"arf", false, 3),
+        (b"o", b"lf", false, 4),
+        (b"o g o l", b"lf", false, 4),
+        (b"g o ^r", b"l", false, 5),
+    ];
+    let alloc = rt.alloc();
+    for (text, letters, by_name, reads) in ROWS {
+        let mut kept = Kept::new(alloc);
+        let names = filled(alloc, &mut kept)?;
+        let text = items(alloc, &names, text)?;
+        let answer = rev_list(alloc, &mut kept, &Refs::new(alloc), text.as_slice());
+        let wanted = lines(alloc, &names, letters, *by_name)?;
+        assert!(rt; is_told(&answer, wanted.as_slice()), "{letters:?}");
+        assert_eq!(rt; kept.reads, *reads, "{letters:?}");
+    }
+    Ok(())
+}
+
+#[test]
+fn each_commit_is_read_once_for_bases(rt: HostRuntime) -> Result<(), Fail> {
+    // Two commits, their bases, and how many objects are read.
+    const ROWS: &[(u8, u8, &[u8], u64)] = &[
+        (b'm', b'c', b"lr", 5),
+        (b'l', b'r', b"f", 3),
+        (b'm', b'l', b"l", 4),
+        (b'l', b'l', b"l", 2),
+        (b'a', b'f', b"", 2),
+        (b'o', b'g', b"l", 5),
+    ];
+    let alloc = rt.alloc();
+    for (a, b, letters, reads) in ROWS {
+        let mut kept = Kept::new(alloc);
+        let names = filled(alloc, &mut kept)?;
+        let a = items(alloc, &names, &[*a])?;
+        let b = items(alloc, &names, &[*b])?;
+        let references = Refs::new(alloc);
+        let answer = merge_base(alloc, &mut kept, &references, a.as_slice(), b.as_slice());
+        let wanted = lines(alloc, &names, letters, true)?;
+        assert!(rt; is_told(&answer, wanted.as_slice()), "{letters:?}");
+        assert_eq!(rt; kept.reads, *reads, "{letters:?}");
+    }
+    Ok(())
+}

@@ -1,0 +1,146 @@
+use super::kept::Kept;
+use git_name::{Kind, Name, Sealed, seal};
+use std::alloc::{AllocError, Global};
+
+/// Two commits, left and right, have the first one as their parent, and two others have both of these as
+/// theirs, in either order. One commit stands alone. A tag stands for left, and another one for the tag.
+/// Left has a tree with a blob, the empty tree and a gitlink; all others have the empty tree.
+#[derive(Clone, Copy)]
+pub struct Names {
+    blob: Name,
+    tree: Name,
+    empty: Name,
+    first: Name,
+    left: Name,
+    right: Name,
+    merge: Name,
+    cross: Name,
+    alone: Name,
+    tag: Name,
+    outer: Name,
+}
+
+/// Adds a line of a word and the digits of a name.
+pub fn put_line(out: &mut Vec<u8>, word: &[u8], name: Name) -> Result<(), AllocError> {
+    let mut digits = [0; 64];
+    name.write_hex(&mut digits);
+    out.extend_from_slice(word)?;
+    out.extend_from_slice(digits.as_slice())?;
+    out.push(b'\n')?;
+    Ok(())
+}
+
+fn commit(
+    alloc: Global,
+    tree: Name,
+    parents: &[Name],
+    seconds: &[u8],
+) -> Result<Sealed, AllocError> {
+    let mut bytes = Vec::new(alloc);
+    put_line(&mut bytes, b"tree ", tree)?;
+    for parent in parents {
+        put_line(&mut bytes, b"parent ", *parent)?;
+    }
+    bytes.extend_from_slice(b"author A <a@x> 99 +0000\ncommitter A <a@x> ")?;
+    bytes.extend_from_slice(seconds)?;
+    bytes.extend_from_slice(b" +0000\n\n")?;
+    Ok(seal(Kind::Commit, bytes))
+}
+
+fn tag(alloc: Global, object: Name, rest: &[u8]) -> Result<Sealed, AllocError> {
+    let mut bytes = Vec::new(alloc);
+    put_line(&mut bytes, b"object ", object)?;
+    bytes.extend_from_slice(rest)?;
+    Ok(seal(Kind::Tag, bytes))
+}
+
+/// A tree of entries, each a mode and a file name as a tree has them, and a name.
+pub fn tree(alloc: Global, entries: &[(&[u8], Name)]) -> Result<Sealed, AllocError> {
+    let mut bytes = Vec::new(alloc);
+    for (entry, name) in entries {
+        bytes.extend_from_slice(entry)?;
+        bytes.extend_from_slice(name.as_bytes().as_slice())?;
+    }
+    Ok(seal(Kind::Tree, bytes))
+}
+
+/// The name of no object.
+pub fn absent() -> Name {
+    Name::new([0; 32])
+}
+
+/// Puts all objects among what is kept.
+pub fn filled(alloc: Global, kept: &mut Kept) -> Result<Names, AllocError> {
+    let blob = seal(Kind::Blob, b"x".to_vec(alloc)?);
+    let blob = kept.put(blob)?;
+    let empty = kept.put(tree(alloc, &[])?)?;
+    let entries = [
+        (b"100755 a\0".as_slice(), blob),
+        (b"40000 b\0".as_slice(), empty),
+        (b"160000 c\0".as_slice(), absent()),
+    ];
+    let tree = kept.put(tree(alloc, entries.as_slice())?)?;
+    let first = kept.put(commit(alloc, empty, &[], b"10")?)?;
+    let left = kept.put(commit(alloc, tree, &[first], b"30")?)?;
+    let right = kept.put(commit(alloc, empty, &[first], b"20")?)?;
+    let merge = kept.put(commit(alloc, empty, &[left, right], b"40")?)?;
+    let cross = kept.put(commit(alloc, empty, &[right, left], b"40")?)?;
+    let alone = kept.put(commit(alloc, empty, &[], b"50")?)?;
+    let inner = kept.put(tag(alloc, left, b"type commit\ntag v\n")?)?;
+    let outer = kept.put(tag(alloc, inner, b"type tag\ntag w\n")?)?;
+    Ok(Names {
+        blob,
+        tree,
+        empty,
+        first,
+        left,
+        right,
+        merge,
+        cross,
+        alone,
+        tag: inner,
+        outer,
+    })
+}
+
+/// The object of a letter, and the name of no object for any other one.
+pub fn named(names: &Names, letter: u8) -> Name {
+    match letter {
+        b'b' => names.blob,
+        b't' => names.tree,
+        b'e' => names.empty,
+        b'f' => names.first,
+        b'l' => names.left,
+        b'r' => names.right,
+        b'm' => names.merge,
+        b'c' => names.cross,
+        b'a' => names.alone,
+        b'g' => names.tag,
+        b'o' => names.outer,
+        _ => absent(),
+    }
+}
+
+/// The objects of these letters.
+pub fn all_named(alloc: Global, names: &Names, letters: &[u8]) -> Result<Vec<Name>, AllocError> {
+    let mut all = Vec::new(alloc);
+    for letter in letters {
+        all.push(named(names, *letter))?;
+    }
+    Ok(all)
+}
+
+/// The items of a query: digits in place of letters, while `^` and SP stay.
+pub fn items(alloc: Global, names: &Names, text: &[u8]) -> Result<Vec<u8>, AllocError> {
+    let mut items = Vec::new(alloc);
+    for letter in text {
+        if *letter == b'^' || *letter == b' ' {
+            items.push(*letter)?;
+        } else {
+            let mut digits = [0; 64];
+            named(names, *letter).write_hex(&mut digits);
+            items.extend_from_slice(digits.as_slice())?;
+        }
+    }
+    Ok(items)
+}

@@ -1,0 +1,142 @@
+use super::kept::Kept;
+use super::objects::{Names, all_named, filled, named};
+use fork_reach::{SourceFault, ancestors, reach, reach_past};
+use git_name::Name;
+use std::alloc::Global;
+use std::collections::BTreeSet;
+use std::test::Fail;
+
+// Where walks begin, what is hidden from the third one, what is found, and how many objects are read.
+type Row = (&'static [u8], &'static [u8], &'static [u8], u64);
+
+const BY_LINKS: &[Row] = &[
+    (b"", b"", b"", 0),
+    (b"0", b"", b"", 0),
+    (b"b", b"", b"b", 0),
+    (b"t", b"", b"tbe", 2),
+    (b"f", b"", b"fe", 2),
+    (b"l", b"", b"ltbef", 4),
+    (b"g", b"", b"gltbef", 5),
+    (b"0t0", b"", b"tbe", 2),
+    (b"ttbt", b"", b"tbe", 2),
+    (b"agf", b"", b"agltbef", 6),
+    (b"g", b"l", b"g", 1),
+    (b"l", b"f", b"ltbe", 3),
+    (b"l", b"fb", b"lte", 3),
+    (b"lb", b"l", b"b", 0),
+];
+
+const BY_PARENTS: &[Row] = &[
+    (b"", b"", b"", 0),
+    (b"0", b"", b"", 0),
+    (b"f", b"", b"f", 1),
+    (b"l", b"", b"lf", 2),
+    (b"fl", b"", b"lf", 2),
+    (b"g", b"", b"g", 0),
+    (b"t", b"", b"t", 0),
+    (b"0lb", b"", b"lfb", 2),
+    (b"m", b"", b"mlrf", 4),
+];
+
+// Whether these names were found, and nothing else: as many as there are letters.
+fn is_found(found: &BTreeSet<Name>, names: &Names, letters: &[u8]) -> bool {
+    if found.len() != letters.len() {
+        return false;
+    }
+    for letter in letters {
+        if !found.contains(&named(names, *letter)) {
+            return false;
+        }
+    }
+    true
+}
+
+#[test]
+fn links_lead_to_all_that_is_below_and_no_blob_is_read(rt: HostRuntime) -> Result<(), Fail> {
+    let alloc = rt.alloc();
+    for (letters, hidden, wanted, reads) in BY_LINKS {
+        let mut kept = Kept::new(alloc);
+        let names = filled(alloc, &mut kept)?;
+        let from = all_named(alloc, &names, letters)?;
+        let mut away = BTreeSet::new(alloc);
+        for letter in *hidden {
+            away.insert(named(&names, *letter))?;
+        }
+        let found = if away.is_empty() {
+            reach(alloc, &mut kept, from.as_slice())
+        } else {
+            reach_past(alloc, &mut kept, from.as_slice(), &away)
+        };
+        let found = found.or(Err("reach"))?;
+        assert!(rt; is_found(&found, &names, wanted), "{letters:?} {hidden:?}");
+        assert_eq!(rt; kept.reads, *reads, "{letters:?} {hidden:?}");
+    }
+    Ok(())
+}
+
+#[test]
+fn parents_lead_to_commits_alone(rt: HostRuntime) -> Result<(), Fail> {
+    let alloc = rt.alloc();
+    for (letters, _, wanted, reads) in BY_PARENTS {
+        let mut kept = Kept::new(alloc);
+        let names = filled(alloc, &mut kept)?;
+        let from = all_named(alloc, &names, letters)?;
+        let found = ancestors(alloc, &mut kept, from.as_slice()).or(Err("ancestors"))?;
+        assert!(rt; is_found(&found, &names, wanted), "{letters:?}");
+        assert_eq!(rt; kept.reads, *reads, "{letters:?}");
+    }
+    Ok(())
+}
+
+// What a walk from the outer tag comes to.
+fn fault_of(alloc: Global, kept: &mut Kept, root: Name) -> Option<SourceFault> {
+    match reach(alloc, kept, &[root]) {
+        Ok(_) => None,
+        Err(fault) => Some(fault),
+    }
+}
+
+#[test]
+fn each_read_that_fails_is_told_and_loses_nothing(rt: HostRuntime) -> Result<(), Fail> {
+    let alloc = rt.alloc();
+    let mut kept = Kept::new(alloc);
+    let names = filled(alloc, &mut kept)?;
+    let root = named(&names, b'g');
+    for fails_at in 1..6 {
+        kept.reads = 0;
+        kept.fails_at = fails_at;
+        let fault = fault_of(alloc, &mut kept, root);
+        assert!(rt; fault == Some(SourceFault::Store), "{fails_at}");
+        assert_eq!(rt; kept.failures, fails_at);
+        let found = reach(alloc, &mut kept, &[root]).or(Err("reach"))?;
+        assert!(rt; is_found(&found, &names, b"gltbef"));
+    }
+    Ok(())
+}
+
+#[test]
+fn a_lost_object_is_told_where_it_is_read(rt: HostRuntime) -> Result<(), Fail> {
+    // The root, the object that is lost, and whether the walk reads it.
+    const ROWS: &[(u8, u8, bool)] = &[
+        (b'g', b'g', true),
+        (b'g', b'e', true),
+        (b'f', b't', false),
+        (b't', b'b', false),
+        (b't', b'0', false),
+    ];
+    let alloc = rt.alloc();
+    for (root, lost, is_read) in ROWS {
+        let mut kept = Kept::new(alloc);
+        let names = filled(alloc, &mut kept)?;
+        kept.lost = Some(named(&names, *lost));
+        let wanted = if *is_read {
+            Some(SourceFault::Damaged)
+        } else {
+            None
+        };
+        let fault = fault_of(alloc, &mut kept, named(&names, *root));
+        assert!(rt; fault == wanted, "{root} {lost}");
+        assert_eq!(rt; kept.failures, 0);
+    }
+    Ok(())
+}

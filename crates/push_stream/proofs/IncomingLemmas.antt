@@ -1,0 +1,136 @@
+-- What a draft stands for as a piece is looked at, and what of it is kept.
+use Rattle.std.proofs.Common.{◌≡◌, ℕ, ◌+◌, ◌<◌, ◌≤◌, Bool, true, false, List, [], ◌++◌, Option, None, Some, refl, sym, ap, ap₂, subst, ◌∙◌, is_some, option_map, length, length-append, take, append_assoc, append-nil, arith}
+use Rattle.std.proofs.Math.Seq.{take-length}
+use Rattle.std.proofs.lemmas.List.{length-take-le, take-append-le}
+use Rattle.git_reftx.specs.declared.command.Command.{Command}
+use Rattle.push_stream.specs.declared.draft.Draft.{Draft}
+use Rattle.push_stream.specs.declared.draft.Mark.{Mark}
+use Rattle.push_stream.specs.declared.fault.StreamFault.{StreamFault}
+use Rattle.push_stream.specs.declared.incoming.Kept.{Kept}
+use Rattle.push_stream.specs.declared.sent.Sent.{Sent}
+use Rattle.push_stream.specs.declared.upload.TheConstants.{MAX_UPLOAD}
+use Rattle.push_stream.specs.Gaining.{Awaits}
+use Rattle.push_stream.specs.Incoming.{Begins, Grows, HasKept, IsHeld, IsStanding, RollsBack, flow_from, reading_at, reading_from, reading_kept, rest_of}
+use Rattle.push_stream.specs.Reading.{Flow, Going, Reading, added_in, flow_of, noted, read_on}
+use Rattle.push_stream.specs.Record.{Open, record_at}
+use Rattle.push_stream.specs.Stream.{Stream, Flows, records_in}
+use Rattle.push_stream.proofs.GainingLemmas.{open_in}
+use Rattle.push_stream.proofs.RestLemmas.{open_short}
+
+-- a broken stream stays so
+pub broken_read : (count : ℕ) (commands : List Command) (sent : List Sent) (headed : Bool) (rest piece : List ℕ) (fault : Option StreamFault) → is_some fault ≡ true
+    → ◌≡◌ {A = Reading} (record { count = count + length piece; flow = flow_from commands sent headed rest fault }) (read_on (record { count = count; flow = flow_from commands sent headed rest fault }) piece)
+unfolding read_on
+broken_read count commands sent headed rest piece None is = (let differs : ⊥ = cc in absurd differs)
+broken_read count commands sent headed rest piece (Some fault) is = refl
+
+-- what a stream that goes on adds
+pub added_read : (count : ℕ) (commands : List Command) (sent : List Sent) (headed : Bool) (bytes piece new : List ℕ) (own : Option (List ℕ)) (fault : Option StreamFault) (more : Stream)
+    → own ≡ None → is_some fault ≡ false → new ≡ bytes ++ piece → added_in headed (length commands) new ≡ more
+    → ◌≡◌ {A = Reading} (record { count = count + length piece; flow = noted commands sent (flow_of more) }) (read_on (record { count = count; flow = flow_from commands sent headed (rest_of bytes own) fault }) piece)
+unfolding read_on
+added_read count commands sent headed bytes piece new (Some rest) fault more whole right is found = (let differs : ⊥ = cc in absurd differs)
+added_read count commands sent headed bytes piece new None (Some fault) more whole right is found = (let differs : ⊥ = cc in absurd differs)
+added_read count commands sent headed bytes piece new None None more whole right is found =
+    ap (λ (s : Stream). record { count = count + length piece; flow = noted commands sent (flow_of s) }) (sym found ∙ ap (added_in headed (length commands)) is)
+
+-- a record that is not finished yet
+open_flow : (commands : List Command) (sent : List Sent) (text : List ℕ) → ◌≡◌ {A = Flow} (Going commands sent true text) (noted commands sent (flow_of (Flows [] [] true text)))
+open_flow commands sent text = sym (ap₂ (λ (c : List Command) (s : List Sent). Going c s true text) (append-nil commands) (append-nil sent))
+
+waits_on : (bytes piece new : List ℕ) (wanted : ℕ) → new ≡ bytes ++ piece → Awaits bytes wanted → length new < wanted → record_at new ≡ Open
+waits_on bytes piece new wanted is waits few = ap record_at is ∙ waits piece (subst (λ (l : List ℕ). length l < wanted) is few)
+
+pub short_read : (count : ℕ) (commands : List Command) (sent : List Sent) (headed : Bool) (bytes piece new : List ℕ) (own : Option (List ℕ)) (fault : Option StreamFault) (wanted : ℕ)
+    → own ≡ None → is_some fault ≡ false → headed ≡ true → new ≡ bytes ++ piece → IsStanding (record { count = count; flow = flow_from commands sent headed (rest_of bytes own) fault }) wanted → length new < wanted
+    → ◌≡◌ {A = Reading} (record { count = count + length piece; flow = flow_from commands sent headed (rest_of new own) fault }) (read_on (record { count = count; flow = flow_from commands sent headed (rest_of bytes own) fault }) piece)
+short_read count commands sent headed bytes piece new (Some rest) fault wanted whole right front is stands few = (let differs : ⊥ = cc in absurd differs)
+short_read count commands sent headed bytes piece new None (Some fault) wanted whole right front is stands few = (let differs : ⊥ = cc in absurd differs)
+short_read count commands sent false bytes piece new None None wanted whole right front is stands few = (let differs : ⊥ = cc in absurd differs)
+short_read count commands sent true bytes piece new None None wanted whole right front is stands few =
+    let found : records_in (length new) new ≡ Flows [] [] true new = open_in (length new) new (waits_on bytes piece new wanted is stands.waits few) in
+    ap (λ (f : Flow). record { count = count + length piece; flow = f }) (open_flow commands sent new)
+    ∙ added_read count commands sent true bytes piece new None None (Flows [] [] true new) refl refl is found
+
+pub short_stands : (count : ℕ) (commands : List Command) (sent : List Sent) (headed : Bool) (bytes piece new : List ℕ) (own : Option (List ℕ)) (fault : Option StreamFault) (wanted : ℕ)
+    → own ≡ None → is_some fault ≡ false → new ≡ bytes ++ piece → IsStanding (record { count = count; flow = flow_from commands sent headed (rest_of bytes own) fault }) wanted → length new < wanted → count + length piece ≤ MAX_UPLOAD
+    → IsStanding (record { count = count + length piece; flow = flow_from commands sent headed (rest_of new own) fault }) wanted
+short_stands count commands sent headed bytes piece new (Some rest) fault wanted whole right is stands few fits = (let differs : ⊥ = cc in absurd differs)
+short_stands count commands sent headed bytes piece new None (Some fault) wanted whole right is stands few fits = (let differs : ⊥ = cc in absurd differs)
+short_stands count commands sent headed bytes piece new None None wanted whole right is stands few fits = record {
+  few = fits;
+  short = open_short new (waits_on bytes piece new wanted is stands.waits few);
+  room = stands.room;
+  waits = λ more low.
+      let joined : new ++ more ≡ bytes ++ (piece ++ more) = ap (λ (l : List ℕ). l ++ more) is ∙ append_assoc bytes piece more in
+      ap record_at joined ∙ stands.waits (piece ++ more) (subst (λ (l : List ℕ). length l < wanted) joined low);
+}
+
+-- ---- what is kept
+-- the front of a list that was cut to it and then grew
+front_kept : {A : Type 0} (n : ℕ) (old mid new : List A) → n ≤ length old → mid ≡ take n old → Begins mid new → (n ≤ length new) × (take n new ≡ take n old)
+front_kept n old mid new fits cut more =
+    let sized : length mid ≡ n = ap (λ l. length l) cut ∙ length-take-le n old fits in
+    let grown : length new ≡ length mid + length more.0 = ap (λ l. length l) more.1 ∙ length-append mid more.0 in
+    (omega arith, ap (take n) more.1 ∙ take-append-le n mid more.0 (omega arith) ∙ ap (λ m. take m mid) (sym sized) ∙ take-length mid ∙ cut)
+
+pub kept_within : (kept : Kept) (old mid new : Draft) → HasKept kept old → RollsBack kept old mid → Grows mid new → HasKept kept new
+kept_within kept old mid new has back more = record {
+  commands = (front_kept kept.commands old.commands.items mid.commands.items new.commands.items has.commands back.commands more.commands).0;
+  sent = (front_kept kept.sent old.sent.items mid.sent.items new.sent.items has.sent back.sent more.sent).0;
+  bytes = (front_kept kept.bytes old.bytes.items mid.bytes.items new.bytes.items has.bytes back.bytes more.bytes).0;
+}
+
+pub kept_same : (kept : Kept) (old mid new : Draft) → HasKept kept old → RollsBack kept old mid → Grows mid new → reading_kept kept new ≡ reading_kept kept old
+kept_same kept old mid new has back more =
+    let commands = (front_kept kept.commands old.commands.items mid.commands.items new.commands.items has.commands back.commands more.commands).1 in
+    let sent = (front_kept kept.sent old.sent.items mid.sent.items new.sent.items has.sent back.sent more.sent).1 in
+    let bytes = (front_kept kept.bytes old.bytes.items mid.bytes.items new.bytes.items has.bytes back.bytes more.bytes).1 in
+    λ i. reading_from kept.mark (commands i) (sent i) (bytes i)
+
+-- what is left as a draft is rolled back is what is kept of it
+pub rolled_reading : (kept : Kept) (old mid : Draft) → RollsBack kept old mid → reading_at mid ≡ reading_kept kept old
+rolled_reading kept old mid back =
+    let rest = ap (λ o. rest_of mid.bytes.items (option_map (λ rest. rest.items) o)) back.rest ∙ back.bytes in
+    λ i. reading_from (back.mark i) (back.commands i) (back.sent i) (rest i)
+
+pub rolled_stands : (kept : Kept) (old mid : Draft) → RollsBack kept old mid → IsStanding (reading_kept kept old) kept.mark.wanted → IsStanding (reading_at mid) mid.mark.wanted
+rolled_stands kept old mid back stands =
+    subst (λ n. IsStanding (reading_at mid) n) (sym (ap (λ (m : Mark). m.wanted) back.mark)) (subst (λ r. IsStanding r kept.mark.wanted) (sym (rolled_reading kept old mid back)) stands)
+
+grows_still : (draft : Draft) → Grows draft draft
+grows_still draft = record { commands = ([], sym (append-nil draft.commands.items)); sent = ([], sym (append-nil draft.sent.items)); bytes = ([], sym (append-nil draft.bytes.items)) }
+
+abbrev pub has_of : (kept : Kept) (draft : Draft) → IsHeld kept draft → HasKept kept draft
+has_of kept draft held = record { commands = held.commands; sent = held.sent; bytes = held.bytes }
+
+-- a piece was looked at
+pub held_on : (kept : Kept) (old mid new : Draft) → IsHeld kept old → RollsBack kept old mid → Grows mid new → IsStanding (reading_at new) new.mark.wanted → IsHeld kept new
+held_on kept old mid new held back more looked =
+    let within = kept_within kept old mid new (has_of kept old held) back more in
+    record {
+      commands = within.commands;
+      sent = within.sent;
+      bytes = within.bytes;
+      stands = subst (λ r. IsStanding r kept.mark.wanted) (sym (kept_same kept old mid new (has_of kept old held) back more)) held.stands;
+      looked = looked;
+    }
+
+-- or could not be, and is rolled back
+pub held_back : (kept : Kept) (old mid new last : Draft) → IsHeld kept old → RollsBack kept old mid → Grows mid new → RollsBack kept new last → IsHeld kept last
+held_back kept old mid new last held back more again =
+    let has = kept_within kept old mid new (has_of kept old held) back more in
+    let within = kept_within kept new last last has again (grows_still last) in
+    let stands = subst (λ r. IsStanding r kept.mark.wanted) (sym (kept_same kept old mid new (has_of kept old held) back more)) held.stands in
+    record {
+      commands = within.commands;
+      sent = within.sent;
+      bytes = within.bytes;
+      stands = subst (λ r. IsStanding r kept.mark.wanted) (sym (kept_same kept new last last has again (grows_still last))) stands;
+      looked = rolled_stands kept new last again stands;
+    }
+
+pub back_same : (kept : Kept) (old mid new last : Draft) → IsHeld kept old → RollsBack kept old mid → Grows mid new → RollsBack kept new last → reading_kept kept last ≡ reading_kept kept old
+back_same kept old mid new last held back more again =
+    let has = kept_within kept old mid new (has_of kept old held) back more in
+    kept_same kept new last last has again (grows_still last) ∙ kept_same kept old mid new (has_of kept old held) back more

@@ -1,0 +1,38 @@
+use Rattle.std.proofs.Common.{◌≡◌, ◌<◌, length, arith, subst}
+use Rattle.std.specs.Prelude.{IfNone, IfSome}
+use Rattle.push_stream.specs.Record.{Open, Taken, record_at}
+use Rattle.std.proofs.lemmas.Bool.Decides.{nat_tests}
+use Rattle.push_stream.proofs.GainingLemmas.{breaks_record, nothing_open, taken_open}
+use Rattle.push_stream.proofs.RecordLemmas.{record_shorter}
+use Rattle.push_stream.proofs.StreamLemmas.{taken_more}
+use Rattle.push_stream.proofs.gaining.whole_records.Goals as goal
+
+pub returns-in-Ok-None-clause-found : goal.returns-in-Ok-None-clause-found
+returns-in-Ok-None-clause-found c =
+    let so_far = c.loop-alloc.invariant in
+    taken_open _ so_far.0 c.loop-alloc.objects.items c.loop-alloc.left.now so_far.2 (subst (λ o. IfNone o (record_at c.loop-alloc.left.now ≡ Open)) c.in-Ok-None.field-0-is c.in-Ok-None.ensures.unfinished)
+
+pub returns-in-Err-clause-exact : goal.returns-in-Err-clause-exact
+returns-in-Err-clause-exact c =
+    let so_far = c.loop-alloc.invariant in
+    let some : 0 < length c.loop-alloc.left.now = grind (arith, nat_tests) in
+    breaks_record _ so_far.0 c.loop-alloc.objects.items c.loop-alloc.left.now c.in-Err.error some so_far.1 so_far.2 c.in-Err.ensures.exact
+
+pub loop-alloc-smaller : goal.loop-alloc-smaller
+loop-alloc-smaller c = record_shorter c.loop-alloc.left.now c.in-Ok-Some.taken.0 c.in-Ok-Some.taken.1.now (subst (λ o. IfSome o (λ p. record_at c.loop-alloc.left.now ≡ Taken p.0 p.1.now)) c.in-Ok-Some.field-0-is c.in-Ok-Some.ensures.taken)
+
+pub loop-alloc-preserved : goal.loop-alloc-preserved
+loop-alloc-preserved c =
+    let so_far = c.loop-alloc.invariant in
+    taken_more _ so_far.0 c.loop-alloc.objects.items c.push.new.self.items c.loop-alloc.left.now c.in-Ok-Some.taken.1.now c.in-Ok-Some.taken.0 so_far.1 so_far.2 (subst (λ o. IfSome o (λ p. record_at c.loop-alloc.left.now ≡ Taken p.0 p.1.now)) c.in-Ok-Some.field-0-is c.in-Ok-Some.ensures.taken) c.in-Ok.ensures.items
+
+pub returns-clause-found : goal.returns-clause-found
+returns-clause-found c =
+    let so_far = c.loop-alloc.invariant in
+    let none : length c.loop-alloc.left.now ≡ 0 = grind (arith, nat_tests) in
+    taken_open _ so_far.0 c.loop-alloc.objects.items c.loop-alloc.left.now so_far.2 (nothing_open c.loop-alloc.left.now none)
+
+pub returns-clause-unfinished : goal.returns-clause-unfinished
+returns-clause-unfinished c =
+    let none : length c.loop-alloc.left.now ≡ 0 = grind (arith, nat_tests) in
+    nothing_open c.loop-alloc.left.now none

@@ -1,0 +1,40 @@
+-- What stands at the front of a text that goes on, and why nothing right does.
+use Rattle.std.specs.Prelude.{◌≡◌, ◌++◌, ◌<◌, ℕ, Bool, true, false, List, [], length, ⊤}
+use Rattle.push_stream.specs.declared.fault.BodyError.{BodyError}
+use Rattle.push_stream.specs.declared.fault.BodyError.TheVariants.{Fault, Memory}
+use Rattle.push_stream.specs.declared.fault.StreamFault.{StreamFault}
+use Rattle.push_stream.specs.declared.fault.StreamFault.TheVariants.{Syntax, TooMany, TooLarge, WrongName, BadObject, Truncated}
+use Rattle.push_stream.specs.Record.{RecordAt, Open, Wrong, record_at}
+use Rattle.push_stream.specs.Stream.{Stream, Flows, Breaks, records_in}
+
+-- the text only ends too early
+abbrev pub is_truncated : StreamFault → Bool
+is_truncated Syntax = false
+is_truncated TooMany = false
+is_truncated (TooLarge name) = false
+is_truncated (WrongName name) = false
+is_truncated (BadObject name) = false
+is_truncated Truncated = true
+
+abbrev pub is_cut : BodyError → Bool
+is_cut (Fault fault) = is_truncated fault
+is_cut Memory = false
+
+-- the error tells what is wrong with a record; want of memory tells nothing
+abbrev pub TellsWrong : RecordAt → BodyError → Type 0
+TellsWrong found (Fault fault) = found ≡ Wrong fault
+TellsWrong found Memory = ⊤
+
+-- the error tells where a stream breaks; want of memory tells nothing
+abbrev pub TellsBreak : Stream → BodyError → Type 0
+TellsBreak stream (Fault fault) = stream ≡ Breaks fault
+TellsBreak stream Memory = ⊤
+
+-- records where the empty line was met, and else an unfinished line
+abbrev pub headed_by : Bool → List ℕ → Stream
+headed_by true left = records_in (length left) left
+headed_by false left = Flows [] [] false left
+
+-- a text begins an unfinished record, whatever comes, until there are so many bytes
+abbrev pub Awaits : List ℕ → ℕ → Type 0
+Awaits text wanted = (more : List ℕ) → length (text ++ more) < wanted → record_at (text ++ more) ≡ Open

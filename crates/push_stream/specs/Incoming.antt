@@ -1,0 +1,127 @@
+-- Uploads that are read as they come (own): what they stand for, and what they would with the piece that was looked at last.
+use Rattle.std.specs.Prelude.{ℕ, ◌≡◌, ◌≤◌, ◌⊎◌, Bool, true, false, List, [], ◌++◌, Option, None, Some, option_map, length, map, take, refl, Err, ⊤}
+use Rattle.std.proofs.Common.{inl, inr}
+use Rattle.std.specs.Coded.{Coded, code_by, coded×, coded⊎, coded_ℕ, coded_bool, coded_list}
+use Rattle.git_reftx.specs.declared.command.Command.{Command}
+use Rattle.git_reftx.specs.declared.reading.TheConstants.{MAX_COMMANDS}
+use Rattle.git_reftx.specs.contracts.command.Command as command
+use Rattle.push_stream.specs.declared.draft.Draft.{Draft}
+use Rattle.push_stream.specs.declared.draft.Mark.{Mark}
+use Rattle.push_stream.specs.declared.fault.BodyError.{BodyError}
+use Rattle.push_stream.specs.declared.fault.BodyError.TheVariants.{Fault, Memory}
+use Rattle.push_stream.specs.declared.fault.StreamFault.{StreamFault}
+use Rattle.push_stream.specs.declared.gaining.Added.{Added}
+use Rattle.push_stream.specs.declared.incoming.Kept.{Kept}
+use Rattle.push_stream.specs.declared.record.TheConstants.{MAX_REST}
+use Rattle.push_stream.specs.declared.sent.Sent.{Sent}
+use Rattle.push_stream.specs.declared.upload.TheConstants.{MAX_UPLOAD}
+use Rattle.push_stream.specs.contracts.fault.StreamFault as fault
+use Rattle.push_stream.specs.contracts.sent.Sent as sent
+use Rattle.push_stream.specs.Gaining.{Awaits}
+use Rattle.push_stream.specs.Reading.{Flow, Going, Broken, Reading, finished_flow, rest_in, sent_of}
+
+-- what it stands for, and what it would stand for with the piece that was looked at last
+pub record IncomingValue : Type 0 where
+  pub brief : Reading
+  pub looked : Reading
+
+-- whether a stream is broken
+abbrev pub is_broken : Flow → Bool
+is_broken (Going commands sent headed rest) = false
+is_broken (Broken fault) = true
+
+-- the error tells why a stream that ends here is not whole; want of memory tells nothing
+abbrev pub TellsEnd : Flow → BodyError → Type 0
+TellsEnd flow (Fault fault) = finished_flow flow ≡ Err fault
+TellsEnd flow Memory = ⊤
+
+-- the commands of a stream
+abbrev pub commands_in : Flow → List Command
+commands_in (Going commands sent headed rest) = commands
+commands_in (Broken fault) = []
+
+-- where a stream stands, unless it is broken
+abbrev pub flow_from : List Command → List Sent → Bool → List ℕ → Option StreamFault → Flow
+flow_from commands sent headed rest None = Going commands sent headed rest
+flow_from commands sent headed rest (Some fault) = Broken fault
+
+abbrev pub reading_from : Mark → List Command → List Sent → List ℕ → Reading
+reading_from mark commands sent rest = record { count = mark.count; flow = flow_from commands sent mark.headed rest mark.fault }
+
+-- the unfinished rest of a draft: one of its own, or else all bytes
+abbrev pub rest_of : List ℕ → Option (List ℕ) → List ℕ
+rest_of bytes None = bytes
+rest_of bytes (Some rest) = rest
+
+-- what a draft stands for
+abbrev pub reading_at : Draft → Reading
+reading_at draft = reading_from draft.mark draft.commands.items draft.sent.items (rest_of draft.bytes.items (option_map (λ rest. rest.items) draft.rest))
+
+-- these commands and sent objects with what was added behind
+abbrev pub reading_with : ℕ → List Command → List Sent → Added → Reading
+reading_with count commands sent added = record { count = count; flow = Going (commands ++ added.commands.items) (sent ++ map sent_of added.objects.items) added.headed added.rest.items }
+
+-- what of a draft is kept
+abbrev pub reading_kept : Kept → Draft → Reading
+reading_kept kept draft = reading_from kept.mark (take kept.commands draft.commands.items) (take kept.sent draft.sent.items) (take kept.bytes draft.bytes.items)
+
+-- a reading within its limits; and until there are so many bytes its record stays unfinished
+pub record IsStanding (reading : Reading) (wanted : ℕ) : Type 0 where
+  pub few : reading.count ≤ MAX_UPLOAD
+  pub short : length (rest_in reading.flow) ≤ MAX_REST
+  pub room : length (commands_in reading.flow) ≤ MAX_COMMANDS
+  pub waits : Awaits (rest_in reading.flow) wanted
+
+-- the same list, or one with more behind it
+abbrev pub Begins : {A : Type 0} → List A → List A → Type 0
+Begins {A} old new = (more : List A) × (new ≡ old ++ more)
+
+-- nothing of a draft is lost
+pub record Grows (old new : Draft) : Type 0 where
+  pub commands : Begins old.commands.items new.commands.items
+  pub sent : Begins old.sent.items new.sent.items
+  pub bytes : Begins old.bytes.items new.bytes.items
+
+-- what is kept of a draft is there
+pub record HasKept (kept : Kept) (draft : Draft) : Type 0 where
+  pub commands : kept.commands ≤ length draft.commands.items
+  pub sent : kept.sent ≤ length draft.sent.items
+  pub bytes : kept.bytes ≤ length draft.bytes.items
+
+-- a draft is what was kept of it
+pub record RollsBack (kept : Kept) (old new : Draft) : Type 0 where
+  pub commands : new.commands.items ≡ take kept.commands old.commands.items
+  pub sent : new.sent.items ≡ take kept.sent old.sent.items
+  pub bytes : new.bytes.items ≡ take kept.bytes old.bytes.items
+  pub rest : new.rest ≡ None
+  pub mark : new.mark ≡ kept.mark
+
+-- what is kept of a draft is there, and within the limits, and so is what was looked at
+pub record IsHeld (kept : Kept) (draft : Draft) : Type 0 where
+  pub commands : kept.commands ≤ length draft.commands.items
+  pub sent : kept.sent ≤ length draft.sent.items
+  pub bytes : kept.bytes ≤ length draft.bytes.items
+  pub stands : IsStanding (reading_kept kept draft) kept.mark.wanted
+  pub looked : IsStanding (reading_at draft) draft.mark.wanted
+
+-- an upload has a code, so that it can be a model's value
+abbrev pub parts : Flow → ((List Command × List Sent) × (Bool × List ℕ)) ⊎ StreamFault
+parts (Going commands sent headed rest) = inl ((commands, sent), (headed, rest))
+parts (Broken fault) = inr fault
+
+abbrev pub flow : ((List Command × List Sent) × (Bool × List ℕ)) ⊎ StreamFault → Flow
+flow (inl p) = Going p.0.0 p.0.1 p.1.0 p.1.1
+flow (inr fault) = Broken fault
+
+pub flow-parts : (f : Flow) → flow (parts f) ≡ f
+flow-parts (Going commands sent headed rest) = refl
+flow-parts (Broken fault) = refl
+
+abbrev flow_code : Coded Flow
+flow_code = code_by (((List Command × List Sent) × (Bool × List ℕ)) ⊎ StreamFault) (coded⊎ (coded× (coded× (coded_list command.the_row.coded) (coded_list sent.the_row.coded)) (coded× coded_bool (coded_list coded_ℕ))) fault.the_row.coded) parts flow flow-parts
+
+abbrev reading_code : Coded Reading
+reading_code = code_by (ℕ × Flow) (coded× coded_ℕ flow_code) (λ r. (r.count, r.flow)) (λ p. record { count = p.0; flow = p.1 }) (λ _. refl)
+
+abbrev pub incoming_code : Coded IncomingValue
+incoming_code = code_by (Reading × Reading) (coded× reading_code reading_code) (λ u. (u.brief, u.looked)) (λ p. record { brief = p.0; looked = p.1 }) (λ _. refl)

@@ -1,0 +1,164 @@
+// An upload with the piece that is looked at, which may not be taken.
+ghost use Rattle.std.specs.Prelude.{◌≡◌, ◌≤◌, ◌<◌, ◌+◌, ◌++◌, None, true, false, IfOk, IsTrue, OnOk, OnErr, length, map};
+ghost use Rattle.push_stream.specs.declared.upload.TheConstants.{MAX_UPLOAD};
+ghost use Rattle.push_stream.specs.Incoming.{Begins, Grows, IsStanding, is_broken, reading_at, reading_with};
+ghost use Rattle.push_stream.specs.Reading.{gained, read_on, sent_of};
+
+use crate::fault::{BodyError, StreamFault};
+use crate::gaining::{Added, add};
+use crate::sent::{Sent, sent_of};
+use crate::step::Step;
+use git_name::Sealed;
+use git_reftx::Command;
+use std::alloc::{AllocError, Global};
+
+// Where a stream stands, beside its lists.
+#[derive(Clone, Copy, Debug)]
+pub(crate) struct Mark {
+    pub(crate) count: u64,
+    pub(crate) headed: bool,
+    // Until the rest is so many bytes, its record stays unfinished.
+    pub(crate) wanted: usize,
+    pub(crate) fault: Option<StreamFault>,
+}
+
+impl Mark {
+    // Nothing came yet.
+    pub(crate) fn new() -> Mark
+        ensures count { result.count ≡ 0 }
+        ensures headed { result.headed ≡ false }
+        ensures wanted { result.wanted ≡ 0 }
+        ensures fault { result.fault ≡ None }
+    {
+        Mark {
+            count: 0,
+            headed: false,
+            wanted: 0,
+            fault: None,
+        }
+    }
+}
+
+// What came of a stream. Lists only grow, so that what they were can be had again.
+#[derive(Debug, Drop)]
+pub(crate) struct Draft {
+    pub(crate) commands: Vec<Command>,
+    pub(crate) sent: Vec<Sent>,
+    pub(crate) bytes: Vec<u8>,
+    // The unfinished rest, where it is not all bytes.
+    pub(crate) rest: Option<Vec<u8>>,
+    pub(crate) mark: Mark,
+}
+
+// Reads on by one piece. An `Err`, which tells want of memory, only lets the lists grow.
+pub(crate) fn read_piece(alloc: Global, draft: &mut Draft, piece: &[u8]) -> Result<Step, AllocError>
+    requires whole { draft.old.rest ≡ None }
+    requires standing { IsStanding (reading_at draft.old) draft.old.mark.wanted }
+    requires fits { draft.old.mark.count + length piece.now ≤ MAX_UPLOAD }
+    ensures grows { Grows draft.old draft.new }
+    ensures read { OnOk result (reading_at draft.new ≡ read_on (reading_at draft.old) piece.now) }
+    ensures standing { OnOk result (IsStanding (reading_at draft.new) draft.new.mark.wanted) }
+    ensures gained { IfOk result (λ step. step.objects.items ≡ gained (reading_at draft.old).flow piece.now) }
+    ensures fault { IfOk result (λ step. step.is_fault ≡ is_broken (reading_at draft.new).flow) }
+{
+    let count = draft.mark.count + piece.len() as u64;
+    if draft.mark.fault.is_some() {
+        draft.mark.count = count;
+        return Ok(Step {
+            objects: Vec::new(alloc),
+            is_fault: true,
+        });
+    }
+    let Ok(()) = draft.bytes.extend_from_slice(piece) else {
+        return Err(AllocError);
+    };
+    if is_short(draft.mark, draft.bytes.len()) {
+        draft.mark.count = count;
+        return Ok(Step {
+            objects: Vec::new(alloc),
+            is_fault: false,
+        });
+    }
+    match add(
+        alloc,
+        draft.mark.headed,
+        draft.commands.len(),
+        draft.bytes.as_slice(),
+    ) {
+        Ok(added) => note(alloc, draft, added, count),
+        Err(BodyError::Fault(fault)) => {
+            draft.mark = Mark {
+                count,
+                headed: false,
+                wanted: 0,
+                fault: Some(fault),
+            };
+            Ok(Step {
+                objects: Vec::new(alloc),
+                is_fault: true,
+            })
+        }
+        Err(BodyError::Memory) => Err(AllocError),
+    }
+}
+
+// Whether so many bytes leave a record unfinished.
+fn is_short(mark: Mark, len: usize) -> bool
+    ensures headed { IsTrue result → mark.headed ≡ true }
+    ensures short { IsTrue result → len < mark.wanted }
+{
+    if !mark.headed {
+        return false;
+    }
+    len < mark.wanted
+}
+
+// Notes what a text added.
+fn note(alloc: Global, draft: &mut Draft, added: Added, count: u64) -> Result<Step, AllocError>
+    ensures commands { Begins draft.old.commands.items draft.new.commands.items }
+    ensures sent { Begins draft.old.sent.items draft.new.sent.items }
+    ensures bytes { draft.new.bytes.items ≡ draft.old.bytes.items }
+    ensures read { OnOk result (reading_at draft.new ≡ reading_with count draft.old.commands.items draft.old.sent.items added) }
+    ensures wanted { OnOk result (draft.new.mark.wanted ≡ added.wanted) }
+    ensures objects { IfOk result (λ step. step.objects.items ≡ added.objects.items) }
+    ensures right { IfOk result (λ step. step.is_fault ≡ false) }
+{
+    let Added {
+        mut commands,
+        objects,
+        headed,
+        rest,
+        wanted,
+    } = added;
+    let Ok(()) = draft.commands.append(&mut commands) else {
+        return Err(AllocError);
+    };
+    let Ok(mut told) = told_of(alloc, objects.as_slice()) else {
+        return Err(AllocError);
+    };
+    let Ok(()) = draft.sent.append(&mut told) else {
+        return Err(AllocError);
+    };
+    draft.rest = Some(rest);
+    draft.mark = Mark {
+        count,
+        headed,
+        wanted,
+        fault: None,
+    };
+    Ok(Step {
+        objects,
+        is_fault: false,
+    })
+}
+
+// What is told of objects.
+fn told_of(alloc: Global, objects: &[Sealed]) -> Result<Vec<Sent>, AllocError>
+    ensures { IfOk result (λ told. told.items ≡ map sent_of objects.now) }
+{
+    let mut told = Vec::new(alloc);
+    for sealed in objects {
+        told.push(sent_of(sealed))?;
+    }
+    Ok(told)
+}

@@ -1,0 +1,193 @@
+// What a text adds to a stream: commands and objects, as far as they are whole.
+ghost use Rattle.std.specs.Prelude.{◌≡◌, ◌-◌, ◌+◌, ◌≤◌, ℕ, true, false, List, [], Ok, Err, IfOk, IfErr, IfSome, IfNone, length};
+ghost use Rattle.git_reftx.specs.declared.fault.CommandFault.TheVariants.{Truncated};
+ghost use Rattle.git_reftx.specs.declared.reading.TheConstants.{MAX_COMMANDS};
+ghost use Rattle.git_reftx.specs.Reading.{command_at};
+ghost use Rattle.push_stream.specs.declared.record.TheConstants.{MAX_REST};
+ghost use Rattle.push_stream.specs.Gaining.{Awaits, TellsBreak, TellsWrong, headed_by, is_cut, is_truncated};
+ghost use Rattle.push_stream.specs.Reading.{added_in};
+ghost use Rattle.push_stream.specs.Record.{Open, Taken, record_at};
+ghost use Rattle.push_stream.specs.Stream.{Flows, Stream, after_command, behind, header_in, records_in};
+
+use crate::body::behind_empty_line;
+use crate::fault::{BodyError, StreamFault};
+use crate::record::{awaited, take_record};
+use git_name::Sealed;
+use git_reftx::{Command, CommandFault, MAX_COMMANDS, ReadError, first_command};
+use std::alloc::Global;
+
+// What a text adds, whether the empty line was met, and what of the text is not finished.
+#[derive(Debug, Drop)]
+pub(crate) struct Added {
+    pub(crate) commands: Vec<Command>,
+    pub(crate) objects: Vec<Sealed>,
+    pub(crate) headed: bool,
+    pub(crate) rest: Vec<u8>,
+    // Until the rest and what comes are so many bytes, it stays unfinished.
+    pub(crate) wanted: usize,
+}
+
+// What a text adds behind so many commands, and behind the empty line or before it.
+pub(crate) fn add(alloc: Global, headed: bool, had: usize, text: &[u8]) -> Result<Added, BodyError>
+    requires { had ≤ MAX_COMMANDS }
+    ensures found { IfOk result (λ added. added_in headed had text.now ≡ Flows added.commands.items added.objects.items added.headed added.rest.items) }
+    ensures few { IfOk result (λ added. had + length added.commands.items ≤ MAX_COMMANDS) }
+    ensures short { IfOk result (λ added. length added.rest.items ≤ MAX_REST) }
+    ensures waits { IfOk result (λ added. Awaits added.rest.items added.wanted) }
+    ensures exact { IfErr result (TellsBreak (added_in headed had text.now)) }
+{
+    if headed {
+        return add_objects(alloc, Vec::new(alloc), text);
+    }
+    let (commands, is_headed, left) = match whole_commands(alloc, had, text) {
+        Ok(found) => found,
+        Err(error) => return Err(error),
+    };
+    if is_headed {
+        return add_objects(alloc, commands, left);
+    }
+    let Ok(rest) = left.to_vec(alloc) else {
+        return Err(BodyError::Memory);
+    };
+    Ok(Added {
+        commands,
+        objects: Vec::new(alloc),
+        headed: false,
+        rest,
+        wanted: 0,
+    })
+}
+
+#[tactic(auto, using(crate::proofs::RestLemmas::open_short))]
+// The same of a text of records, with these commands before it.
+fn add_objects(alloc: Global, commands: Vec<Command>, text: &[u8]) -> Result<Added, BodyError>
+    ensures found { IfOk result (λ added. behind commands.items [] (records_in (length text.now) text.now) ≡ Flows added.commands.items added.objects.items added.headed added.rest.items) }
+    ensures commands { IfOk result (λ added. added.commands.items ≡ commands.items) }
+    ensures short { IfOk result (λ added. length added.rest.items ≤ MAX_REST) }
+    ensures waits { IfOk result (λ added. Awaits added.rest.items added.wanted) }
+    ensures exact { IfErr result (TellsBreak (behind commands.items [] (records_in (length text.now) text.now))) }
+{
+    let (objects, left) = match whole_records(alloc, text) {
+        Ok(found) => found,
+        Err(error) => return Err(error),
+    };
+    let Ok(rest) = left.to_vec(alloc) else {
+        return Err(BodyError::Memory);
+    };
+    Ok(Added {
+        commands,
+        objects,
+        headed: true,
+        rest,
+        wanted: awaited(left),
+    })
+}
+
+// The whole commands at the front of a text, where so many were before; whether an empty line stands
+// behind them; and what stands behind that.
+fn whole_commands(
+    alloc: Global,
+    had: usize,
+    text: &[u8],
+) -> Result<(Vec<Command>, bool, &[u8]), BodyError>
+    requires { had ≤ MAX_COMMANDS }
+    ensures found { IfOk result (λ p. header_in (MAX_COMMANDS - had) text.now ≡ behind p.0.items [] (headed_by p.1 p.2.now)) }
+    ensures few { IfOk result (λ p. had + length p.0.items ≤ MAX_COMMANDS) }
+    ensures short { IfOk result (λ p. p.1 ≡ false → length p.2.now ≤ MAX_REST) }
+    ensures exact { IfErr result (TellsBreak (header_in (MAX_COMMANDS - had) text.now)) }
+{
+    let mut commands = Vec::new(alloc);
+    let mut left = text;
+    while !left.is_empty() {
+        if let Some(records) = behind_empty_line(left) {
+            return Ok((commands, true, records));
+        }
+        let (command, others) = match next_command(alloc, left) {
+            Ok(Some(taken)) => taken,
+            Ok(None) => return Ok((commands, false, left)),
+            Err(error) => return Err(error),
+        };
+        if had + commands.len() == MAX_COMMANDS {
+            return Err(BodyError::Fault(StreamFault::TooMany));
+        }
+        let Ok(()) = commands.push(command) else {
+            return Err(BodyError::Memory);
+        };
+        left = others;
+    }
+    Ok((commands, false, left))
+}
+
+// The objects of the whole records at the front of a text, and what stands behind them.
+fn whole_records(alloc: Global, text: &[u8]) -> Result<(Vec<Sealed>, &[u8]), BodyError>
+    ensures found { IfOk result (λ p. records_in (length text.now) text.now ≡ Flows [] p.0.items true p.1.now) }
+    ensures unfinished { IfOk result (λ p. record_at p.1.now ≡ Open) }
+    ensures exact { IfErr result (TellsBreak (records_in (length text.now) text.now)) }
+{
+    let mut objects = Vec::new(alloc);
+    let mut left = text;
+    while !left.is_empty() {
+        let (sealed, others) = match next_record(alloc, left) {
+            Ok(Some(taken)) => taken,
+            Ok(None) => return Ok((objects, left)),
+            Err(error) => return Err(error),
+        };
+        let Ok(()) = objects.push(sealed) else {
+            return Err(BodyError::Memory);
+        };
+        left = others;
+    }
+    Ok((objects, left))
+}
+
+// The command at the front of a text and what stands behind its line, or nothing where that is
+// unfinished.
+fn next_command(alloc: Global, text: &[u8]) -> Result<Option<(Command, &[u8])>, BodyError>
+    ensures taken { IfOk result (λ found. IfSome found (λ p. command_at text.now ≡ Ok (p.0, p.1.now))) }
+    ensures unfinished { IfOk result (λ found. IfNone found (command_at text.now ≡ Err Truncated)) }
+    ensures exact { IfErr result (λ error. (others : List ℕ → Stream) → TellsBreak (after_command text.now others (command_at text.now)) error) }
+{
+    match first_command(alloc, text) {
+        Ok(taken) => Ok(Some(taken)),
+        Err(ReadError::Fault(CommandFault::Truncated)) => Ok(None),
+        Err(ReadError::Fault(CommandFault::Syntax)) => Err(BodyError::Fault(StreamFault::Syntax)),
+        Err(ReadError::Fault(CommandFault::TooMany)) => Err(BodyError::Fault(StreamFault::TooMany)),
+        Err(ReadError::Memory) => Err(BodyError::Memory),
+    }
+}
+
+// The record at the front of a text and what stands behind it, or nothing where it is unfinished.
+fn next_record(alloc: Global, text: &[u8]) -> Result<Option<(Sealed, &[u8])>, BodyError>
+    ensures taken { IfOk result (λ found. IfSome found (λ p. record_at text.now ≡ Taken p.0 p.1.now)) }
+    ensures unfinished { IfOk result (λ found. IfNone found (record_at text.now ≡ Open)) }
+    ensures exact { IfErr result (TellsWrong (record_at text.now)) }
+{
+    match take_record(alloc, text) {
+        Ok(taken) => Ok(Some(taken)),
+        Err(error) => {
+            if is_cut(&error) {
+                return Ok(None);
+            }
+            Err(error)
+        }
+    }
+}
+
+// Whether a text only ends too early.
+fn is_cut(error: &BodyError) -> bool
+    ensures { result ≡ is_cut error.now }
+{
+    match error {
+        BodyError::Fault(fault) => is_truncated(fault),
+        BodyError::Memory => false,
+    }
+}
+
+fn is_truncated(fault: &StreamFault) -> bool
+    ensures { result ≡ is_truncated fault.now }
+{
+    match fault {
+        StreamFault::Truncated => true,
+        _ => false,
+    }
+}

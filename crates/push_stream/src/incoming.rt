@@ -1,0 +1,248 @@
+ghost use Rattle.std.specs.Prelude.{◌≡◌, ◌+◌, ◌≤◌, [], Ok, Err, IfOk, IfErr, OnOk, OnErr, length, map};
+ghost use Rattle.push_stream.specs.declared.record.TheConstants.{MAX_REST};
+ghost use Rattle.push_stream.specs.declared.upload.TheConstants.{MAX_UPLOAD};
+ghost use Rattle.push_stream.specs.Incoming.{IsHeld, RollsBack, TellsEnd, flow_from, is_broken, reading_at, reading_kept};
+ghost use Rattle.push_stream.specs.Reading.{finished_flow, gained, read_on, reading_of, rest_in};
+
+use crate::brief::Brief;
+use crate::draft::{Draft, Mark, read_piece};
+use crate::fault::{BodyError, StreamFault};
+use crate::sent::Sent;
+use crate::step::Step;
+use git_name::Name;
+use git_reftx::{Command, RefWord};
+use std::alloc::{AllocError, Global};
+use std::marker::Model;
+
+// What an upload stands for of a draft: what it is without the piece that is looked at.
+#[derive(Clone, Copy, Debug)]
+pub(crate) struct Kept {
+    pub(crate) mark: Mark,
+    pub(crate) commands: usize,
+    pub(crate) sent: usize,
+    pub(crate) bytes: usize,
+}
+
+/// A stream that is read as it comes, in pieces, of 33,554,432 bytes at the most. Its objects are
+/// handed out as soon as they are whole; of its bytes the unfinished rest alone is kept, of its objects
+/// the names, kinds and lengths. Contracts see what is known of the bytes that came, and what would be
+/// with the piece that was looked at last.
+#[derive(Debug, Drop)]
+pub struct Incoming {
+    draft: Draft,
+    kept: Kept,
+}
+
+impl Model for Incoming {
+    ghost use Rattle.push_stream.specs.Incoming.{IncomingValue, IsHeld, incoming_code, reading_at, reading_kept};
+
+    ghost Value = { IncomingValue };
+
+    ghost coded = { incoming_code };
+
+    ghost view = { λ a. record { brief = reading_kept a.kept a.draft; looked = reading_at a.draft } };
+
+    ghost invariant = { λ a. IsHeld a.kept a.draft };
+}
+
+impl Incoming {
+    #[tactic(auto, unfolding(crate::specs::Stream::stream_of))]
+    /// An upload of which nothing came yet.
+    pub fn new(alloc: Global) -> Incoming
+        ensures brief { result.brief ≡ reading_of [] }
+    {
+        let draft = Draft {
+            commands: Vec::new(alloc),
+            sent: Vec::new(alloc),
+            bytes: Vec::new(alloc),
+            rest: None,
+            mark: Mark::new(),
+        };
+        let kept = Kept {
+            mark: Mark::new(),
+            commands: 0,
+            sent: 0,
+            bytes: 0,
+        };
+        Incoming { draft, kept }
+    }
+
+    /// How many bytes came.
+    pub fn count(&self) -> u64
+        ensures value { result ≡ self.now.brief.count }
+        ensures within { result ≤ MAX_UPLOAD }
+    {
+        self.kept.mark.count
+    }
+
+    /// Whether the stream is wrong.
+    pub fn is_fault(&self) -> bool
+        ensures { result ≡ is_broken self.now.brief.flow }
+    {
+        self.kept.mark.fault.is_some()
+    }
+
+    /// The unfinished rest. Where the stream is wrong it is empty.
+    pub fn rest(&self) -> &[u8]
+        ensures value { result.now ≡ rest_in self.now.brief.flow }
+        ensures within { length result.now ≤ MAX_REST }
+    {
+        if self.is_fault() {
+            return &[];
+        }
+        &self.draft.bytes[..self.kept.bytes]
+    }
+
+    /// What one more piece would add. The upload stands for what it stood for, and an `Err`, which
+    /// tells want of memory, leaves it so too. What was looked at before is forgotten.
+    pub fn look(&mut self, alloc: Global, piece: &[u8]) -> Result<Step, AllocError>
+        requires { self.old.brief.count + length piece.now ≤ MAX_UPLOAD }
+        ensures brief { self.new.brief ≡ self.old.brief }
+        ensures looked { OnOk result (self.new.looked ≡ read_on self.old.brief piece.now) }
+        ensures gained { IfOk result (λ step. step.objects.items ≡ gained self.old.brief.flow piece.now) }
+        ensures fault { IfOk result (λ step. step.is_fault ≡ is_broken self.new.looked.flow) }
+    {
+        look_at(alloc, &mut self.draft, &self.kept, piece)
+    }
+
+    /// The piece that was looked at last came. It takes no memory.
+    pub fn take(&mut self)
+        ensures brief { self.new.brief ≡ self.old.looked }
+        ensures looked { self.new.looked ≡ self.old.looked }
+    {
+        if let Some(rest) = self.draft.rest.take() {
+            self.draft.bytes = rest;
+        }
+        self.kept = Kept {
+            mark: self.draft.mark,
+            commands: self.draft.commands.len(),
+            sent: self.draft.sent.len(),
+            bytes: self.draft.bytes.len(),
+        };
+    }
+
+    /// What was looked at is forgotten. It takes no memory.
+    pub fn leave(&mut self)
+        ensures brief { self.new.brief ≡ self.old.brief }
+        ensures looked { self.new.looked ≡ self.old.brief }
+    {
+        roll_back(&mut self.draft, &self.kept);
+    }
+
+    /// One more piece came: what it adds. An `Err`, which tells want of memory, leaves the upload as it
+    /// was.
+    pub fn feed(&mut self, alloc: Global, piece: &[u8]) -> Result<Step, AllocError>
+        requires { self.old.brief.count + length piece.now ≤ MAX_UPLOAD }
+        ensures ok { OnOk result (self.new.brief ≡ read_on self.old.brief piece.now) }
+        ensures err { OnErr result (self.new.brief ≡ self.old.brief) }
+        ensures gained { IfOk result (λ step. step.objects.items ≡ gained self.old.brief.flow piece.now) }
+        ensures fault { IfOk result (λ step. step.is_fault ≡ is_broken self.new.brief.flow) }
+    {
+        let Ok(step) = self.look(alloc, piece) else {
+            return Err(AllocError);
+        };
+        self.take();
+        Ok(step)
+    }
+
+    /// What the stream holds, where it ends here: its commands, and the names of what was sent.
+    pub fn finish(&self, alloc: Global) -> Result<Brief, BodyError>
+        ensures found { IfOk result (λ brief. finished_flow self.now.brief.flow ≡ Ok (brief.commands.items, brief.names.items)) }
+        ensures exact { IfErr result (TellsEnd self.now.brief.flow) }
+    {
+        finish_in(
+            alloc,
+            &self.kept.mark,
+            &self.draft.commands[..self.kept.commands],
+            &self.draft.sent[..self.kept.sent],
+            &self.draft.bytes[..self.kept.bytes],
+        )
+    }
+}
+
+// What a stream holds that ends here.
+fn finish_in(
+    alloc: Global,
+    mark: &Mark,
+    commands: &[Command],
+    sent: &[Sent],
+    rest: &[u8],
+) -> Result<Brief, BodyError>
+    ensures found { IfOk result (λ brief. finished_flow (flow_from commands.now sent.now mark.now.headed rest.now mark.now.fault) ≡ Ok (brief.commands.items, brief.names.items)) }
+    ensures exact { IfErr result (TellsEnd (flow_from commands.now sent.now mark.now.headed rest.now mark.now.fault)) }
+{
+    if let Some(fault) = mark.fault {
+        return Err(BodyError::Fault(fault));
+    }
+    if !mark.headed {
+        return Err(BodyError::Fault(StreamFault::Truncated));
+    }
+    if !rest.is_empty() {
+        return Err(BodyError::Fault(StreamFault::Truncated));
+    }
+    let Ok(commands) = copied_commands(alloc, commands) else {
+        return Err(BodyError::Memory);
+    };
+    let Ok(names) = names_of(alloc, sent) else {
+        return Err(BodyError::Memory);
+    };
+    Ok(Brief { commands, names })
+}
+
+// The same commands.
+fn copied_commands(alloc: Global, commands: &[Command]) -> Result<Vec<Command>, AllocError>
+    ensures { IfOk result (λ copied. copied.items ≡ commands.now) }
+{
+    let mut copied = Vec::new(alloc);
+    for command in commands {
+        let reference = command.reference.as_bytes().to_vec(alloc)?;
+        copied.push(Command {
+            reference: RefWord::new(reference),
+            demand: command.demand,
+            change: command.change,
+        })?;
+    }
+    Ok(copied)
+}
+
+// The names of what was sent.
+fn names_of(alloc: Global, sent: &[Sent]) -> Result<Vec<Name>, AllocError>
+    ensures { IfOk result (λ names. names.items ≡ map (λ one. one.name) sent.now) }
+{
+    let mut names = Vec::new(alloc);
+    for one in sent {
+        names.push(one.name)?;
+    }
+    Ok(names)
+}
+
+// A draft is what was kept of it. It takes no memory.
+fn roll_back(draft: &mut Draft, kept: &Kept)
+    ensures { RollsBack kept.now draft.old draft.new }
+{
+    draft.commands.truncate(kept.commands);
+    draft.sent.truncate(kept.sent);
+    draft.bytes.truncate(kept.bytes);
+    draft.rest = None;
+    draft.mark = kept.mark;
+}
+
+// Reads on by one piece from what was kept of a draft. An `Err` rolls back.
+fn look_at(alloc: Global, draft: &mut Draft, kept: &Kept, piece: &[u8]) -> Result<Step, AllocError>
+    requires held { IsHeld kept.now draft.old }
+    requires fits { kept.now.mark.count + length piece.now ≤ MAX_UPLOAD }
+    ensures held { IsHeld kept.now draft.new }
+    ensures kept { reading_kept kept.now draft.new ≡ reading_kept kept.now draft.old }
+    ensures looked { OnOk result (reading_at draft.new ≡ read_on (reading_kept kept.now draft.old) piece.now) }
+    ensures gained { IfOk result (λ step. step.objects.items ≡ gained (reading_kept kept.now draft.old).flow piece.now) }
+    ensures fault { IfOk result (λ step. step.is_fault ≡ is_broken (reading_at draft.new).flow) }
+{
+    roll_back(draft, kept);
+    match read_piece(alloc, draft, piece) {
+        Ok(step) => Ok(step),
+        Err(_) => {
+            roll_back(draft, kept);
+            Err(AllocError)
+        }
+    }
+}

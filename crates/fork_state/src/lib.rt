@@ -12,4 +12,3 @@ pub use crate::fault::LoadFault;
 pub use crate::law::what_is_saved_is_loaded;
 pub use crate::loading::load;
 pub use crate::saving::save;
-

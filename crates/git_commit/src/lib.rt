@@ -17,4 +17,3 @@ pub use crate::laws::{one_fault, one_value, tests_find_the_commit};
 pub use crate::parents::Parents;
 pub use crate::writing::write;
 pub use git_header::{Continuation, Ident, Sign};
-

@@ -24,4 +24,3 @@ pub use crate::laws::{
 pub use crate::mode::Mode;
 pub use crate::row::Entries;
 pub use crate::tree::entries;
-

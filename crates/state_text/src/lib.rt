@@ -20,4 +20,3 @@ pub use crate::reading::read;
 pub use crate::states::States;
 pub use crate::tenant_state::TenantState;
 pub use crate::writing::write;
-

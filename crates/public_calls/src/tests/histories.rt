@@ -13,7 +13,11 @@ fn a_history_keeps_parents_and_times(rt: HostRuntime) -> Result<(), Fail> {
     let mut kept = Kept::new(alloc);
     let names = filled(alloc, &mut kept)?;
     let none = BTreeSet::new(alloc);
-    let (left, first, tree) = (named(&names, b'l'), named(&names, b'f'), named(&names, b't'));
+    let (left, first, tree) = (
+        named(&names, b'l'),
+        named(&names, b'f'),
+        named(&names, b't'),
+    );
     let roots = [left, tree, absent()];
     let history = read_history(alloc, &mut kept, &roots, &none).or(Err("read_history"))?;
     assert_eq!(rt; kept.reads, 2);

@@ -21,12 +21,7 @@ fn filled(alloc: Global, kept: &mut Kept) -> Result<[(u8, Name); 4], AllocError>
     let of_blob = kept.put(tree(alloc, &[(b"100644 a\0", blob)])?)?;
     let astray = kept.put(tree(alloc, &[(b"100644 a\0", absent())])?)?;
     let wrong = kept.put(tree(alloc, &[(b"40000 a\0", blob)])?)?;
-    Ok([
-        (b'b', blob),
-        (b't', of_blob),
-        (b'm', astray),
-        (b'w', wrong),
-    ])
+    Ok([(b'b', blob), (b't', of_blob), (b'm', astray), (b'w', wrong)])
 }
 
 fn named(objects: &[(u8, Name)], wanted: u8) -> Name {

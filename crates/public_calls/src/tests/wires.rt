@@ -42,10 +42,7 @@ fn put_frame(
 }
 
 // Requests of tenants and the replies to them, as streams of frames.
-fn streams(
-    alloc: Global,
-    turns: &[(&str, &str, &str)],
-) -> Result<(String, String), AllocError> {
+fn streams(alloc: Global, turns: &[(&str, &str, &str)]) -> Result<(String, String), AllocError> {
     let mut input = String::new(alloc);
     let mut output = String::new(alloc);
     for (asker, payload, text) in turns {

@@ -7,8 +7,11 @@ use std::test::Fail;
 // The empty blob and the empty tree, a tree of the file `a.b`, the tree `a` and the file `a0`, and a signed
 // commit of the empty tree, as Git 2.39.5 names them in a repository of the SHA-256 format.
 const EMPTY_BLOB: &[u8; 64] = b"473a0f4c3be8a93681a267e3b1e9a7dcda1185436fe141f7749120a303721813";
+
 const EMPTY_TREE: &[u8; 64] = b"6ef19b41225c5369f1c104d45d8d85efa9b057b53b14b4b9b939dd74decc5321";
+
 const THREE: &[u8; 64] = b"c331b76588c4a05436a5c3d528a2fcb1ba895d1dbfffe84e925bd97fdbe5f770";
+
 const SIGNED: &[u8; 64] = b"f254e32fed209e516b0324420c5230b1dd5b6dd9bcef53405e2c423545135306";
 
 #[test]

@@ -98,7 +98,7 @@ fn each_commit_is_read_once_for_bases(rt: HostRuntime) -> Result<(), Fail> {
         (b'm', b'l', b"l", 4),
         (b'l', b'l', b"l", 2),
         (b'a', b'f', b"", 2),
-        (b'o', b'g', b"l", 5),
+        (b'o', b'g', b"l", 4),
     ];
     let alloc = rt.alloc();
     for (a, b, letters, reads) in ROWS {

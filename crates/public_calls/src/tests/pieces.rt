@@ -67,7 +67,10 @@ fn chopped(alloc: Global, bytes: &[u8], seed: u32) -> Result<(usize, usize), All
     let mut objects = 0usize;
     let mut chance = seed;
     let mut rest = bytes;
-    while !rest.is_empty() {
+    for _ in 0..bytes.len() {
+        if rest.is_empty() {
+            break;
+        }
         chance = chance.wrapping_mul(1_664_525).wrapping_add(1_013_904_223);
         let size = (chance >> 20) as usize + 1;
         let (piece, behind) = rest.split_at(size.min(rest.len()));

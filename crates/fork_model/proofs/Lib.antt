@@ -20,5 +20,6 @@ pub mod StepLemmas
 pub mod TakenLemmas
 pub mod TransactionLemmas
 pub mod TransferLemmas
+pub mod UploadLemmas
 pub mod WithinLemmas
 pub mod Worlds

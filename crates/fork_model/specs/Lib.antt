@@ -3,5 +3,6 @@ pub mod Provenance
 pub mod Runs
 pub mod Sound
 pub mod Transfer
+pub mod Uploads
 pub mod View
 pub mod World

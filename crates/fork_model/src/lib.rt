@@ -7,6 +7,7 @@
 mod limits;
 mod provenance;
 mod transfer;
+mod uploads;
 
 ghost use Rattle.std.specs.Prelude.{◌≡◌, ℕ, List, Some, false};
 ghost use Rattle.std.specs.FinMap.{get};
@@ -20,6 +21,7 @@ pub use crate::transfer::{
     answers_keep_views_sendable, excluded_objects_are_enough, what_is_fetched_can_be_pushed,
     what_is_fetched_is_a_stream, what_is_fetched_is_enough, what_is_fetched_is_taken,
 };
+pub use crate::uploads::uploads_are_their_readings_and_objects;
 
 /// What a tenant is told, and its view afterwards, are those of a private host that holds this
 /// tenant alone, whatever requests of others stand between, where no host fault answered it.

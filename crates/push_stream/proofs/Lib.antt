@@ -3,6 +3,7 @@ pub mod FrontLemmas
 pub mod GainingLemmas
 pub mod HeaderLemmas
 pub mod IncomingLemmas
+pub mod LengthLemmas
 pub mod LineLemmas
 pub mod LongerLemmas
 pub mod ObjectLemmas

@@ -5,6 +5,7 @@ use Rattle.std.proofs.lemmas.List.{append_cancel_left, length-replicate}
 use Rattle.std.proofs.lemmas.List.Sums.{sum_by-append, sum_by-cons}
 use Rattle.git_name.specs.Object.{Object}
 use Rattle.git_reftx.specs.declared.command.Command.{Command}
+use Rattle.push_stream.specs.declared.again.TheConstants.{MAX_HEADER}
 use Rattle.push_stream.specs.declared.fault.StreamFault.{StreamFault}
 use Rattle.push_stream.specs.declared.sent.Sent.{Sent}
 use Rattle.push_stream.specs.Again.{OpensAs, OpensBroken, OpensGoing, record_size, records_size, told_in}
@@ -16,6 +17,7 @@ use Rattle.push_stream.specs.Stream.{AreObjects, Breaks, Flows, Stream, behind, 
 use Rattle.push_stream.specs.Upload.{stream_with}
 use Rattle.push_stream.proofs.GainingLemmas.{open_in}
 use Rattle.push_stream.proofs.IncomingLemmas.{waits_on}
+use Rattle.push_stream.proofs.LengthLemmas.{header_short}
 use Rattle.push_stream.proofs.PieceLemmas.{stream_grows}
 use Rattle.push_stream.proofs.WrittenLemmas.{append-none, records_again}
 
@@ -96,7 +98,7 @@ pub broken_opens : (header tail : List ℕ) (count more : ℕ) (commands : List 
 broken_opens header tail count more commands sent headed rest None is opens = (let differs : ⊥ = cc in absurd differs)
 broken_opens header tail count more commands sent headed rest (Some fault) is opens =
     let within : length header + length tail ≤ count = opens.within in
-    record { breaks = opens.breaks; within = omega arith }
+    record { breaks = opens.breaks; short = opens.short; within = omega arith }
 
 -- a stream breaks
 pub breaks_opens : (header bytes piece new : List ℕ) (count : ℕ) (commands : List Command) (sent : List Sent) (headed : Bool) (own : Option (List ℕ)) (fault : Option StreamFault) (why : StreamFault)
@@ -109,6 +111,7 @@ breaks_opens header bytes piece new count commands sent headed None None why who
     let before : length header + (records_size sent + length bytes) ≡ count = opens.counted in
     record {
       breaks = header_before header new commands headed opens.asks ∙ ap (behind commands []) found;
+      short = header_short header commands headed opens.asks;
       within = omega arith;
     }
 
@@ -148,6 +151,11 @@ opens_within header tail count (Going commands sent headed rest) opens =
     let all : length header + (records_size sent + length rest) ≡ count = opens.counted in
     omega arith
 opens_within header tail count (Broken fault) opens = opens.within
+
+-- the header is short
+pub opens_short : (header tail : List ℕ) (count : ℕ) (flow : Flow) → OpensAs header tail count flow → length header ≤ MAX_HEADER
+opens_short header tail count (Going commands sent headed rest) opens = header_short header commands headed opens.asks
+opens_short header tail count (Broken fault) opens = opens.short
 
 none_told : (objects : List Object) (sent : List Sent) → map sent_of objects ≡ sent → sent ≡ [] → objects ≡ []
 none_told [] sent told none = refl

@@ -3,6 +3,7 @@ use Rattle.std.specs.Prelude.{ℕ, ◌≡◌, ◌≤◌, ◌+◌, Bool, false, L
 use Rattle.hex.specs.Hex.{encode_lower}
 use Rattle.git_name.specs.Kind.{type_word}
 use Rattle.git_reftx.specs.declared.command.Command.{Command}
+use Rattle.push_stream.specs.declared.again.TheConstants.{MAX_HEADER}
 use Rattle.push_stream.specs.declared.fault.StreamFault.{StreamFault}
 use Rattle.push_stream.specs.declared.sent.Sent.{Sent}
 use Rattle.push_stream.specs.Reading.{Flow, Going, Broken, Reading, added_in}
@@ -31,23 +32,24 @@ pub record Opening : Type 0 where
   pub tail : List ℕ
   pub reading : Reading
 
--- the header of so many bytes of a stream that goes on, and its rest
+-- a header and a tail with which a stream of so many bytes goes on so
 pub record OpensGoing (header tail : List ℕ) (count : ℕ) (commands : List Command) (sent : List Sent) (headed : Bool) (rest : List ℕ) : Type 0 where
   -- the header holds the commands, and the empty line where it was met
   pub asks : stream_of header ≡ Flows commands [] headed []
   -- nothing in the rest is whole
   pub waits : added_in headed (length commands) rest ≡ Flows [] [] headed rest
-  -- nothing was sent before the empty line
+  -- before the empty line nothing was sent
   pub bare : headed ≡ false → sent ≡ []
   pub left : tail ≡ rest
   pub counted : length header + (records_size sent + length rest) ≡ count
 
--- a header and a tail that break so, and are no more than so many bytes
+-- a header and a tail, of no more than so many bytes, with which a stream breaks so
 pub record OpensBroken (header tail : List ℕ) (count : ℕ) (fault : StreamFault) : Type 0 where
   pub breaks : stream_of (header ++ tail) ≡ Breaks fault
+  pub short : length header ≤ MAX_HEADER
   pub within : length header + length tail ≤ count
 
--- a header and a tail of so many bytes with which the stream stands so
+-- a header and a tail with which a stream of so many bytes stands so
 abbrev pub OpensAs : List ℕ → List ℕ → ℕ → Flow → Type 0
 OpensAs header tail count (Going commands sent headed rest) = OpensGoing header tail count commands sent headed rest
 OpensAs header tail count (Broken fault) = OpensBroken header tail count fault

@@ -74,6 +74,7 @@ opening_with count header commands sent added = record { header = header ++ adde
 abbrev pub reading_kept : Kept → Draft → Reading
 reading_kept kept draft = reading_from kept.mark (take kept.commands draft.commands.items) (take kept.sent draft.sent.items) (take kept.bytes draft.bytes.items)
 
+-- the same of what is kept
 abbrev pub opening_kept : Kept → Draft → Opening
 opening_kept kept draft = record { header = take kept.header draft.header.items; tail = take kept.bytes draft.bytes.items; reading = reading_kept kept draft }
 

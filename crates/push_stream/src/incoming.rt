@@ -1,5 +1,6 @@
 ghost use Rattle.std.specs.Prelude.{◌≡◌, ◌+◌, ◌≤◌, ◌++◌, true, false, List, [], Ok, Err, IfOk, IfErr, OnOk, OnErr, is_some, length, map, replicate};
 ghost use Rattle.git_name.specs.Object.{Object};
+ghost use Rattle.push_stream.specs.declared.again.TheConstants.{MAX_HEADER};
 ghost use Rattle.push_stream.specs.declared.record.TheConstants.{MAX_REST};
 ghost use Rattle.push_stream.specs.declared.upload.TheConstants.{MAX_UPLOAD};
 ghost use Rattle.push_stream.specs.Again.{told_in};
@@ -107,6 +108,8 @@ impl Incoming {
     pub fn again(&self) -> Again<'_>
         ensures read { (objects : List Object) → AreObjects objects → AreWithin objects → map sent_of objects ≡ told_in self.now.brief.flow → reading_of (result.header.now ++ (records_of objects ++ (result.tail.now ++ replicate result.zeros 0))) ≡ self.now.brief }
         ensures whole { is_broken self.now.brief.flow ≡ false → result.zeros ≡ 0 }
+        ensures rest { is_broken self.now.brief.flow ≡ false → result.tail.now ≡ rest_in self.now.brief.flow }
+        ensures short { length result.header.now ≤ MAX_HEADER }
         ensures within { length result.header.now + length result.tail.now + result.zeros ≤ self.now.brief.count }
     {
         let header = &self.draft.header[..self.kept.header];

@@ -19,7 +19,7 @@ mod step;
 mod upload;
 mod write;
 
-pub use crate::again::Again;
+pub use crate::again::{Again, MAX_HEADER};
 pub use crate::body::{Body, read_body};
 pub use crate::brief::Brief;
 pub use crate::fault::{BodyError, StreamFault};

@@ -21,12 +21,7 @@ use Rattle.push_stream.proofs.LineLemmas.{command_is, no_line_end}
 use Rattle.push_stream.proofs.PieceLemmas.{continued_in, header_grows}
 use Rattle.push_stream.proofs.SpellingLemmas.{IsRecordOf, record_is}
 
--- a text ends in what is at its end
-pub end_short : (end text : List ℕ) → EndsIn end text → length end + (length text - length end) ≡ length text
-end_short end text is =
-    let all : length text ≡ length is.0 + length end = ap (λ (l : List ℕ). length l) is.1 ∙ length-append is.0 end in
-    omega arith
-
+-- what stands before the end of a text
 pub front_taken : (end text : List ℕ) → EndsIn end text → text ≡ take (length text - length end) text ++ end
 front_taken end text is =
     let all : length text ≡ length is.0 + length end = ap (λ (l : List ℕ). length l) is.1 ∙ length-append is.0 end in
@@ -71,7 +66,7 @@ front_ends room text left records commands so_far is = (
 )
 
 -- what stands before what is left is that front
-pub front_is : (room : ℕ) (text front left : List ℕ) (commands : List Command) (headed : Bool) → HasFront room text commands headed left → text ≡ front ++ left → header_in room front ≡ Flows commands [] headed []
+front_is : (room : ℕ) (text front left : List ℕ) (commands : List Command) (headed : Bool) → HasFront room text commands headed left → text ≡ front ++ left → header_in room front ≡ Flows commands [] headed []
 front_is room text front left commands headed has is = ap (header_in room) (append_cancel_right front has.0 left (sym is ∙ has.1)) ∙ has.2
 
 -- a record more

@@ -40,6 +40,7 @@ added_read count commands sent headed bytes piece new None None more whole right
 open_flow : (commands : List Command) (sent : List Sent) (text : List ℕ) → ◌≡◌ {A = Flow} (Going commands sent true text) (noted commands sent (flow_of (Flows [] [] true text)))
 open_flow commands sent text = sym (ap₂ (λ (c : List Command) (s : List Sent). Going c s true text) (append-nil commands) (append-nil sent))
 
+-- a record goes on to be unfinished
 pub waits_on : (bytes piece new : List ℕ) (wanted : ℕ) → new ≡ bytes ++ piece → Awaits bytes wanted → length new < wanted → record_at new ≡ Open
 waits_on bytes piece new wanted is waits few = ap record_at is ∙ waits piece (subst (λ (l : List ℕ). length l < wanted) is few)
 
@@ -101,7 +102,8 @@ kept_same kept old mid new has back more =
     let bytes = (front_kept kept.bytes old.bytes.items mid.bytes.items new.bytes.items has.bytes back.bytes more.bytes).1 in
     λ i. reading_from kept.mark (commands i) (sent i) (bytes i)
 
-pub opening_same : (kept : Kept) (old mid new : Draft) → HasKept kept old → RollsBack kept old mid → Grows mid new → opening_kept kept new ≡ opening_kept kept old
+-- and so are its header and its tail
+opening_same : (kept : Kept) (old mid new : Draft) → HasKept kept old → RollsBack kept old mid → Grows mid new → opening_kept kept new ≡ opening_kept kept old
 opening_same kept old mid new has back more =
     let header = (front_kept kept.header old.header.items mid.header.items new.header.items has.header back.header more.header).1 in
     let bytes = (front_kept kept.bytes old.bytes.items mid.bytes.items new.bytes.items has.bytes back.bytes more.bytes).1 in
@@ -114,6 +116,7 @@ rolled_reading kept old mid back =
     let rest = ap (λ o. rest_of mid.bytes.items (option_map (λ rest. rest.items) o)) back.rest ∙ back.bytes in
     λ i. reading_from (back.mark i) (back.commands i) (back.sent i) (rest i)
 
+-- and can be had again
 pub rolled_opens : (kept : Kept) (old mid : Draft) → RollsBack kept old mid → Opens (opening_kept kept old) → Opens (opening_at mid)
 rolled_opens kept old mid back opens =
     let rest = ap (λ o. rest_of mid.bytes.items (option_map (λ rest. rest.items) o)) back.rest ∙ back.bytes in

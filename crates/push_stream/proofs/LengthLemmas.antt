@@ -31,6 +31,7 @@ line_long text (Whole line rest) found is told = by (command_of (words_of line))
 line_long text Unfinished found is told = (let differs : ⊥ = cc in absurd differs)
 line_long text TooLong found is told = (let differs : ⊥ = cc in absurd differs)
 
+-- the same by the command
 command_long : (text : List ℕ) (found : Command × List ℕ) → command_at text ≡ Ok found → length text ≤ length found.1 + 513
 unfolding command_at
 command_long text found is = line_long text (line_at text) found (line_is text) is
@@ -42,23 +43,26 @@ IsHeaderWithin most n (Flows commands [] headed (b ∷ rest)) = ⊤
 IsHeaderWithin most n (Flows commands (object ∷ objects) headed rest) = ⊤
 IsHeaderWithin most n (Breaks fault) = ⊤
 
+-- a text that is left whole
 left_within : (most : ℕ) (text : List ℕ) (commands : List Command) (headed : Bool) → IsHeaderWithin most (length text) (Flows commands [] headed text)
 left_within most [] commands headed = omega arith
 left_within most (b ∷ bs) commands headed = tt
 
--- the same of what stands before
+-- more bytes, and a wider bound
 more_within : (m n k l : ℕ) (s : Stream) → IsHeaderWithin m n s → (n ≤ m → l ≤ k) → IsHeaderWithin k l s
 more_within m n k l (Flows commands [] headed []) within more = more within
 more_within m n k l (Flows commands [] headed (b ∷ rest)) within more = tt
 more_within m n k l (Flows commands (object ∷ objects) headed rest) within more = tt
 more_within m n k l (Breaks fault) within more = tt
 
+-- a command before it
 command_within : (m n : ℕ) (command : Command) (s : Stream) → IsHeaderWithin m n s → IsHeaderWithin m n (behind (command ∷ []) [] s)
 command_within m n command (Flows commands [] headed []) within = within
 command_within m n command (Flows commands [] headed (b ∷ rest)) within = tt
 command_within m n command (Flows commands (object ∷ objects) headed rest) within = tt
 command_within m n command (Breaks fault) within = tt
 
+-- an object makes it no header
 object_within : (m n : ℕ) (object : Object) (s : Stream) → IsHeaderWithin m n (behind [] (object ∷ []) s)
 object_within m n object (Flows commands objects headed rest) = tt
 object_within m n object (Breaks fault) = tt
@@ -78,9 +82,11 @@ either : {X : Type 0} (P : X → Type 0) (b : Bool) (x y : X) → P x → P y �
 either P true x y left right = left
 either P false x y left right = right
 
+-- behind an empty line stands nothing
 empty_line : (room : ℕ) (bs : List ℕ) → IsHeaderWithin (513 * room + 1) (suc (length bs)) (records_in (length bs) bs)
 empty_line room bs = more_within 0 (length bs) (513 * room + 1) (suc (length bs)) (records_in (length bs) bs) (records_within (length bs) bs) (λ none. omega arith)
 
+-- or a line more
 line_within : (room : ℕ) (text : List ℕ) (others : List ℕ → Stream) (at : Result (Command × List ℕ) CommandFault) → command_at text ≡ at → ((rest : List ℕ) → IsHeaderWithin (513 * room + 1) (length rest) (others rest))
     → IsHeaderWithin (513 * suc room + 1) (length text) (after_command text others at)
 line_within room text others (Ok found) is within =
@@ -91,12 +97,14 @@ line_within room text others (Err command.Syntax) is within = tt
 line_within room text others (Err command.TooMany) is within = tt
 line_within room text others (Err command.Truncated) is within = left_within (513 * suc room + 1) text [] false
 
+-- where no command has room
 full_within : (text : List ℕ) (at : Result (Command × List ℕ) CommandFault) → IsHeaderWithin (513 * 0 + 1) (length text) (after_command text (λ rest. Breaks TooMany) at)
 full_within text (Ok found) = tt
 full_within text (Err command.Syntax) = tt
 full_within text (Err command.TooMany) = tt
 full_within text (Err command.Truncated) = left_within (513 * 0 + 1) text [] false
 
+-- a header where so many commands have room
 header_within : (room : ℕ) (text : List ℕ) → IsHeaderWithin (513 * room + 1) (length text) (header_in room text)
 header_within room [] = omega arith
 header_within zero (b ∷ bs) = either (IsHeaderWithin (513 * 0 + 1) (suc (length bs))) (eqb b 10) _ _ (empty_line 0 bs) (full_within (b ∷ bs) (command_at (b ∷ bs)))

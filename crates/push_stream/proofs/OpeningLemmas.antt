@@ -31,7 +31,7 @@ size_of_record object =
     omega arith
 
 -- and so do records
-pub size_of_records : (objects : List Object) → length (records_of objects) ≡ records_size (map sent_of objects)
+size_of_records : (objects : List Object) → length (records_of objects) ≡ records_size (map sent_of objects)
 size_of_records [] = refl
 size_of_records (object ∷ objects) =
     let joined : length (record_of object ++ records_of objects) ≡ length (record_of object) + length (records_of objects) = length-append (record_of object) (records_of objects) in
@@ -40,7 +40,8 @@ size_of_records (object ∷ objects) =
     let sum : records_size (sent_of object ∷ map sent_of objects) ≡ record_size (sent_of object) + records_size (map sent_of objects) = sum_by-cons record_size (sent_of object) (map sent_of objects) in
     joined ∙ ap₂ (λ (m n : ℕ). m + n) one others ∙ sym sum
 
-pub sizes_join : (sent more : List Sent) → records_size (sent ++ more) ≡ records_size sent + records_size more
+-- and those of more records
+sizes_join : (sent more : List Sent) → records_size (sent ++ more) ≡ records_size sent + records_size more
 sizes_join sent more = sum_by-append record_size sent more
 
 -- ---- a header, and what stands behind it
@@ -53,6 +54,7 @@ header_before header text commands false asks = sym (stream_grows header text) �
 no_more : {A : Type 0} (xs ys : List A) → xs ++ ys ≡ xs → ys ≡ []
 no_more xs ys is = append_cancel_left xs ys [] (is ∙ sym (append-nil xs))
 
+-- the same of a stream
 nothing_more : (commands : List Command) (objects : List Object) (headed : Bool) (rest : List ℕ) (s : Stream) → behind commands objects s ≡ Flows commands objects headed rest → s ≡ Flows [] [] headed rest
 nothing_more commands objects headed rest (Flows others more later left) is =
     let asked : commands ++ others ≡ commands = cc in
@@ -92,14 +94,6 @@ short_opens header bytes piece new count commands sent true None None wanted who
       counted = omega arith;
     }
 
--- a broken stream goes on
-pub broken_opens : (header tail : List ℕ) (count more : ℕ) (commands : List Command) (sent : List Sent) (headed : Bool) (rest : List ℕ) (fault : Option StreamFault) → is_some fault ≡ true
-    → OpensAs header tail count (flow_from commands sent headed rest fault) → OpensAs header tail (count + more) (flow_from commands sent headed rest fault)
-broken_opens header tail count more commands sent headed rest None is opens = (let differs : ⊥ = cc in absurd differs)
-broken_opens header tail count more commands sent headed rest (Some fault) is opens =
-    let within : length header + length tail ≤ count = opens.within in
-    record { breaks = opens.breaks; short = opens.short; within = omega arith }
-
 -- a stream breaks
 pub breaks_opens : (header bytes piece new : List ℕ) (count : ℕ) (commands : List Command) (sent : List Sent) (headed : Bool) (own : Option (List ℕ)) (fault : Option StreamFault) (why : StreamFault)
     → own ≡ None → is_some fault ≡ false → new ≡ bytes ++ piece → added_in headed (length commands) new ≡ Breaks why
@@ -115,6 +109,7 @@ breaks_opens header bytes piece new count commands sent headed None None why who
       within = omega arith;
     }
 
+-- nothing sent before, and nothing that comes
 none_sent : (sent : List Sent) (objects : List Object) → sent ≡ [] → objects ≡ [] → sent ++ map sent_of objects ≡ []
 none_sent sent objects first second = ap₂ (λ (s : List Sent) (os : List Object). s ++ map sent_of os) first second
 
@@ -144,19 +139,12 @@ added_opens header bytes piece new count commands sent headed None None more res
     }
 
 -- ---- an upload again
--- header and tail are no more than what came
-pub opens_within : (header tail : List ℕ) (count : ℕ) (flow : Flow) → OpensAs header tail count flow → length header + length tail ≤ count
-opens_within header tail count (Going commands sent headed rest) opens =
-    let same : length tail ≡ length rest = ap (λ (l : List ℕ). length l) opens.left in
-    let all : length header + (records_size sent + length rest) ≡ count = opens.counted in
-    omega arith
-opens_within header tail count (Broken fault) opens = opens.within
-
 -- the header is short
 pub opens_short : (header tail : List ℕ) (count : ℕ) (flow : Flow) → OpensAs header tail count flow → length header ≤ MAX_HEADER
 opens_short header tail count (Going commands sent headed rest) opens = header_short header commands headed opens.asks
 opens_short header tail count (Broken fault) opens = opens.short
 
+-- no objects are told of by nothing
 none_told : (objects : List Object) (sent : List Sent) → map sent_of objects ≡ sent → sent ≡ [] → objects ≡ []
 none_told [] sent told none = refl
 none_told (object ∷ objects) sent told none = (let differs : ⊥ = cc in absurd differs)
@@ -184,6 +172,7 @@ going_again header rest commands sent false objects are within told bare asks wa
     ∙ ap flow_of (header_before header rest commands false asks ∙ ap (behind commands []) waits)
     ∙ ap₂ (λ (cs : List Command) (s : List Sent). Going cs s false rest) (append-nil commands) (sym (bare refl))
 
+-- so many bytes, with which the stream stands so
 same_reading : (bytes : List ℕ) (reading : Reading) → length bytes ≡ reading.count → flow_of (stream_of bytes) ≡ reading.flow → reading_of bytes ≡ reading
 same_reading bytes reading count flow = ap₂ (λ (n : ℕ) (f : Flow). record { count = n; flow = f }) count flow
 

@@ -2,6 +2,7 @@
 use Rattle.std.proofs.Common.{◌≡◌, ℕ, ◌+◌, ◌<◌, ◌≤◌, Bool, true, false, List, [], ◌++◌, Option, None, Some, refl, sym, ap, ap₂, subst, ◌∙◌, is_some, option_map, length, length-append, take, append_assoc, append-nil, arith}
 use Rattle.std.proofs.Math.Seq.{take-length}
 use Rattle.std.proofs.lemmas.List.{length-take-le, take-append-le}
+use Rattle.git_name.specs.Object.{Object}
 use Rattle.git_reftx.specs.declared.command.Command.{Command}
 use Rattle.push_stream.specs.declared.draft.Draft.{Draft}
 use Rattle.push_stream.specs.declared.draft.Mark.{Mark}
@@ -9,11 +10,12 @@ use Rattle.push_stream.specs.declared.fault.StreamFault.{StreamFault}
 use Rattle.push_stream.specs.declared.incoming.Kept.{Kept}
 use Rattle.push_stream.specs.declared.sent.Sent.{Sent}
 use Rattle.push_stream.specs.declared.upload.TheConstants.{MAX_UPLOAD}
+use Rattle.push_stream.specs.Again.{Opens}
 use Rattle.push_stream.specs.Gaining.{Awaits}
-use Rattle.push_stream.specs.Incoming.{Begins, Grows, HasKept, IsHeld, IsStanding, RollsBack, flow_from, reading_at, reading_from, reading_kept, rest_of}
-use Rattle.push_stream.specs.Reading.{Flow, Going, Reading, added_in, flow_of, noted, read_on}
+use Rattle.push_stream.specs.Incoming.{Begins, Grows, HasKept, IsHeld, IsStanding, RollsBack, flow_from, opening_at, opening_kept, reading_at, reading_from, reading_kept, rest_of}
+use Rattle.push_stream.specs.Reading.{Flow, Going, Reading, added_in, flow_of, gained, noted, read_on}
 use Rattle.push_stream.specs.Record.{Open, record_at}
-use Rattle.push_stream.specs.Stream.{Stream, Flows, records_in}
+use Rattle.push_stream.specs.Stream.{Stream, Flows, records_in, sent_in}
 use Rattle.push_stream.proofs.GainingLemmas.{open_in}
 use Rattle.push_stream.proofs.RestLemmas.{open_short}
 
@@ -38,7 +40,8 @@ added_read count commands sent headed bytes piece new None None more whole right
 open_flow : (commands : List Command) (sent : List Sent) (text : List ℕ) → ◌≡◌ {A = Flow} (Going commands sent true text) (noted commands sent (flow_of (Flows [] [] true text)))
 open_flow commands sent text = sym (ap₂ (λ (c : List Command) (s : List Sent). Going c s true text) (append-nil commands) (append-nil sent))
 
-waits_on : (bytes piece new : List ℕ) (wanted : ℕ) → new ≡ bytes ++ piece → Awaits bytes wanted → length new < wanted → record_at new ≡ Open
+-- a record goes on to be unfinished
+pub waits_on : (bytes piece new : List ℕ) (wanted : ℕ) → new ≡ bytes ++ piece → Awaits bytes wanted → length new < wanted → record_at new ≡ Open
 waits_on bytes piece new wanted is waits few = ap record_at is ∙ waits piece (subst (λ (l : List ℕ). length l < wanted) is few)
 
 pub short_read : (count : ℕ) (commands : List Command) (sent : List Sent) (headed : Bool) (bytes piece new : List ℕ) (own : Option (List ℕ)) (fault : Option StreamFault) (wanted : ℕ)
@@ -51,6 +54,16 @@ short_read count commands sent true bytes piece new None None wanted whole right
     let found : records_in (length new) new ≡ Flows [] [] true new = open_in (length new) new (waits_on bytes piece new wanted is stands.waits few) in
     ap (λ (f : Flow). record { count = count + length piece; flow = f }) (open_flow commands sent new)
     ∙ added_read count commands sent true bytes piece new None None (Flows [] [] true new) refl refl is found
+
+-- so it brings no object
+pub short_gained : (count : ℕ) (commands : List Command) (sent : List Sent) (headed : Bool) (bytes piece new : List ℕ) (own : Option (List ℕ)) (fault : Option StreamFault) (wanted : ℕ) (none : List Object)
+    → own ≡ None → is_some fault ≡ false → headed ≡ true → new ≡ bytes ++ piece → IsStanding (record { count = count; flow = flow_from commands sent headed (rest_of bytes own) fault }) wanted → length new < wanted → none ≡ []
+    → none ≡ gained (flow_from commands sent headed (rest_of bytes own) fault) piece
+short_gained count commands sent headed bytes piece new (Some rest) fault wanted none whole right front is stands few empty = (let differs : ⊥ = cc in absurd differs)
+short_gained count commands sent headed bytes piece new None (Some fault) wanted none whole right front is stands few empty = (let differs : ⊥ = cc in absurd differs)
+short_gained count commands sent false bytes piece new None None wanted none whole right front is stands few empty = (let differs : ⊥ = cc in absurd differs)
+short_gained count commands sent true bytes piece new None None wanted none whole right front is stands few empty =
+    empty ∙ ap sent_in (sym (open_in (length (bytes ++ piece)) (bytes ++ piece) (ap record_at (sym is) ∙ waits_on bytes piece new wanted is stands.waits few)))
 
 pub short_stands : (count : ℕ) (commands : List Command) (sent : List Sent) (headed : Bool) (bytes piece new : List ℕ) (own : Option (List ℕ)) (fault : Option StreamFault) (wanted : ℕ)
     → own ≡ None → is_some fault ≡ false → new ≡ bytes ++ piece → IsStanding (record { count = count; flow = flow_from commands sent headed (rest_of bytes own) fault }) wanted → length new < wanted → count + length piece ≤ MAX_UPLOAD
@@ -76,6 +89,7 @@ front_kept n old mid new fits cut more =
 
 pub kept_within : (kept : Kept) (old mid new : Draft) → HasKept kept old → RollsBack kept old mid → Grows mid new → HasKept kept new
 kept_within kept old mid new has back more = record {
+  header = (front_kept kept.header old.header.items mid.header.items new.header.items has.header back.header more.header).0;
   commands = (front_kept kept.commands old.commands.items mid.commands.items new.commands.items has.commands back.commands more.commands).0;
   sent = (front_kept kept.sent old.sent.items mid.sent.items new.sent.items has.sent back.sent more.sent).0;
   bytes = (front_kept kept.bytes old.bytes.items mid.bytes.items new.bytes.items has.bytes back.bytes more.bytes).0;
@@ -88,32 +102,51 @@ kept_same kept old mid new has back more =
     let bytes = (front_kept kept.bytes old.bytes.items mid.bytes.items new.bytes.items has.bytes back.bytes more.bytes).1 in
     λ i. reading_from kept.mark (commands i) (sent i) (bytes i)
 
+-- and so are its header and its tail
+opening_same : (kept : Kept) (old mid new : Draft) → HasKept kept old → RollsBack kept old mid → Grows mid new → opening_kept kept new ≡ opening_kept kept old
+opening_same kept old mid new has back more =
+    let header = (front_kept kept.header old.header.items mid.header.items new.header.items has.header back.header more.header).1 in
+    let bytes = (front_kept kept.bytes old.bytes.items mid.bytes.items new.bytes.items has.bytes back.bytes more.bytes).1 in
+    let reading = kept_same kept old mid new has back more in
+    λ i. record { header = header i; tail = bytes i; reading = reading i }
+
 -- what is left as a draft is rolled back is what is kept of it
 pub rolled_reading : (kept : Kept) (old mid : Draft) → RollsBack kept old mid → reading_at mid ≡ reading_kept kept old
 rolled_reading kept old mid back =
     let rest = ap (λ o. rest_of mid.bytes.items (option_map (λ rest. rest.items) o)) back.rest ∙ back.bytes in
     λ i. reading_from (back.mark i) (back.commands i) (back.sent i) (rest i)
 
+-- and can be had again
+pub rolled_opens : (kept : Kept) (old mid : Draft) → RollsBack kept old mid → Opens (opening_kept kept old) → Opens (opening_at mid)
+rolled_opens kept old mid back opens =
+    let rest = ap (λ o. rest_of mid.bytes.items (option_map (λ rest. rest.items) o)) back.rest ∙ back.bytes in
+    let reading = rolled_reading kept old mid back in
+    let same : opening_at mid ≡ opening_kept kept old = λ i. record { header = back.header i; tail = rest i; reading = reading i } in
+    subst Opens (sym same) opens
+
 pub rolled_stands : (kept : Kept) (old mid : Draft) → RollsBack kept old mid → IsStanding (reading_kept kept old) kept.mark.wanted → IsStanding (reading_at mid) mid.mark.wanted
 rolled_stands kept old mid back stands =
     subst (λ n. IsStanding (reading_at mid) n) (sym (ap (λ (m : Mark). m.wanted) back.mark)) (subst (λ r. IsStanding r kept.mark.wanted) (sym (rolled_reading kept old mid back)) stands)
 
 grows_still : (draft : Draft) → Grows draft draft
-grows_still draft = record { commands = ([], sym (append-nil draft.commands.items)); sent = ([], sym (append-nil draft.sent.items)); bytes = ([], sym (append-nil draft.bytes.items)) }
+grows_still draft = record { header = ([], sym (append-nil draft.header.items)); commands = ([], sym (append-nil draft.commands.items)); sent = ([], sym (append-nil draft.sent.items)); bytes = ([], sym (append-nil draft.bytes.items)) }
 
 abbrev pub has_of : (kept : Kept) (draft : Draft) → IsHeld kept draft → HasKept kept draft
-has_of kept draft held = record { commands = held.commands; sent = held.sent; bytes = held.bytes }
+has_of kept draft held = record { header = held.header; commands = held.commands; sent = held.sent; bytes = held.bytes }
 
 -- a piece was looked at
-pub held_on : (kept : Kept) (old mid new : Draft) → IsHeld kept old → RollsBack kept old mid → Grows mid new → IsStanding (reading_at new) new.mark.wanted → IsHeld kept new
-held_on kept old mid new held back more looked =
+pub held_on : (kept : Kept) (old mid new : Draft) → IsHeld kept old → RollsBack kept old mid → Grows mid new → IsStanding (reading_at new) new.mark.wanted → Opens (opening_at new) → IsHeld kept new
+held_on kept old mid new held back more looked reopens =
     let within = kept_within kept old mid new (has_of kept old held) back more in
     record {
+      header = within.header;
       commands = within.commands;
       sent = within.sent;
       bytes = within.bytes;
       stands = subst (λ r. IsStanding r kept.mark.wanted) (sym (kept_same kept old mid new (has_of kept old held) back more)) held.stands;
       looked = looked;
+      opens = subst Opens (sym (opening_same kept old mid new (has_of kept old held) back more)) held.opens;
+      reopens = reopens;
     }
 
 -- or could not be, and is rolled back
@@ -122,12 +155,16 @@ held_back kept old mid new last held back more again =
     let has = kept_within kept old mid new (has_of kept old held) back more in
     let within = kept_within kept new last last has again (grows_still last) in
     let stands = subst (λ r. IsStanding r kept.mark.wanted) (sym (kept_same kept old mid new (has_of kept old held) back more)) held.stands in
+    let opens = subst Opens (sym (opening_same kept old mid new (has_of kept old held) back more)) held.opens in
     record {
+      header = within.header;
       commands = within.commands;
       sent = within.sent;
       bytes = within.bytes;
       stands = subst (λ r. IsStanding r kept.mark.wanted) (sym (kept_same kept new last last has again (grows_still last))) stands;
       looked = rolled_stands kept new last again stands;
+      opens = subst Opens (sym (opening_same kept new last last has again (grows_still last))) opens;
+      reopens = rolled_opens kept new last again opens;
     }
 
 pub back_same : (kept : Kept) (old mid new last : Draft) → IsHeld kept old → RollsBack kept old mid → Grows mid new → RollsBack kept new last → reading_kept kept last ≡ reading_kept kept old

@@ -1,10 +1,13 @@
 pub mod Examples
+pub mod FrontLemmas
 pub mod GainingLemmas
 pub mod HeaderLemmas
 pub mod IncomingLemmas
+pub mod LengthLemmas
 pub mod LineLemmas
 pub mod LongerLemmas
 pub mod ObjectLemmas
+pub mod OpeningLemmas
 pub mod PieceLemmas
 pub mod ReadingLemmas
 pub mod RecordLemmas

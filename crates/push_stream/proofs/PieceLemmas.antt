@@ -17,7 +17,7 @@ use Rattle.push_stream.proofs.RecordLemmas.{record_shorter}
 use Rattle.push_stream.proofs.StreamLemmas.{behind-nil, behind-behind, records_in-nil}
 
 -- a stream after one more piece, where so many commands had room
-abbrev continued_in : ℕ → Stream → List ℕ → Stream
+abbrev pub continued_in : ℕ → Stream → List ℕ → Stream
 continued_in room (Flows commands objects true rest) piece = behind commands objects (records_in (length (rest ++ piece)) (rest ++ piece))
 continued_in room (Flows commands objects false rest) piece = behind commands objects (header_in (room - length commands) (rest ++ piece))
 continued_in room (Breaks fault) piece = Breaks fault
@@ -116,7 +116,7 @@ header_by room b bs piece true is grow = ap (λ s. continued_in room s piece) (s
 header_by room b bs piece false is grow = ap (λ s. continued_in room s piece) (step_line room b bs is) ∙ command_grows room (b ∷ bs) piece grow (step_line room b (bs ++ piece) is)
 
 -- a stream, and a piece behind it, whatever room there is
-header_grows : (room : ℕ) (text piece : List ℕ) → continued_in room (header_in room text) piece ≡ header_in room (text ++ piece)
+pub header_grows : (room : ℕ) (text piece : List ℕ) → continued_in room (header_in room text) piece ≡ header_in room (text ++ piece)
 header_grows room [] piece = nothing_before room piece
 header_grows zero (b ∷ bs) piece = header_by zero b bs piece (eqb b 10) refl (λ command rest. refl)
 header_grows (suc room) (b ∷ bs) piece = header_by (suc room) b bs piece (eqb b 10) refl (λ command rest. command_before room command (header_in room rest) piece ∙ ap (behind (command ∷ []) []) (header_grows room rest piece))
@@ -128,7 +128,7 @@ with_is (Flows commands objects false rest) piece = refl
 with_is (Breaks fault) piece = refl
 
 -- a whole stream, and a piece behind it
-stream_grows : (bytes piece : List ℕ) → stream_with (stream_of bytes) piece ≡ stream_of (bytes ++ piece)
+pub stream_grows : (bytes piece : List ℕ) → stream_with (stream_of bytes) piece ≡ stream_of (bytes ++ piece)
 unfolding stream_of
 stream_grows bytes piece = with_is (header_in MAX_COMMANDS bytes) piece ∙ header_grows MAX_COMMANDS bytes piece
 

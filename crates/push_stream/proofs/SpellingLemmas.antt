@@ -109,7 +109,7 @@ unfolding parts_at
 parts_are text = parts_by text (line_at text) (line_is text)
 
 -- a record that was read stands there
-abbrev IsRecordOf : List ℕ → RecordAt → Type 0
+abbrev pub IsRecordOf : List ℕ → RecordAt → Type 0
 IsRecordOf text (Taken object rest) = (text ≡ record_of object ++ rest) × (length object.bytes ≤ MAX_CONTENT)
 IsRecordOf text Open = ⊤
 IsRecordOf text (Wrong fault) = ⊤
@@ -139,7 +139,7 @@ record_by text (Parts head content rest) are =
 record_by text Short are = tt
 record_by text (Faulty fault) are = tt
 
-record_is : (text : List ℕ) → IsRecordOf text (record_at text)
+pub record_is : (text : List ℕ) → IsRecordOf text (record_at text)
 unfolding record_at
 record_is text = record_by text (parts_at text) (parts_are text)
 

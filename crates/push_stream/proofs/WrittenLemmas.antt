@@ -137,7 +137,7 @@ record_again object rest found fits =
     ap (λ text. record_of_parts (parts_at text)) (record_parts object rest) ∙ ap record_of_parts (parts_again object rest fits) ∙ judged object rest found
 
 -- and so are records
-records_again : (most : ℕ) (objects : List Object) → AreObjects objects → AreWithin objects → length (records_of objects) ≤ most → records_in most (records_of objects) ≡ Flows [] objects true []
+pub records_again : (most : ℕ) (objects : List Object) → AreObjects objects → AreWithin objects → length (records_of objects) ≤ most → records_in most (records_of objects) ≡ Flows [] objects true []
 records_again most [] are within fits = records_in-nil most
 records_again zero (object ∷ objects) are within fits =
     let shorter : length (records_of objects) < length (records_of (object ∷ objects)) = record_shorter (records_of (object ∷ objects)) object (records_of objects) (record_again object (records_of objects) are.0 within.0) in
@@ -178,7 +178,7 @@ pub records_flow : (objects : List Object) → AreObjects objects → AreWithin 
 unfolding stream_of
 records_flow objects are within = step_end MAX_COMMANDS 10 (records_of objects) refl ∙ records_again (length (records_of objects)) objects are within (omega arith)
 
-append-none : (commands : List Command) (objects : List Object) → behind commands [] (Flows [] objects true []) ≡ Flows commands objects true []
+pub append-none : (commands : List Command) (objects : List Object) → behind commands [] (Flows [] objects true []) ≡ Flows commands objects true []
 append-none [] objects = refl
 append-none (command ∷ commands) objects = ap (behind (command ∷ []) []) (append-none commands objects)
 

@@ -1,11 +1,12 @@
 -- What stands at the front of a text that goes on, and why nothing right does.
 use Rattle.std.specs.Prelude.{◌≡◌, ◌++◌, ◌<◌, ℕ, Bool, true, false, List, [], length, ⊤}
+use Rattle.git_reftx.specs.declared.command.Command.{Command}
 use Rattle.push_stream.specs.declared.fault.BodyError.{BodyError}
 use Rattle.push_stream.specs.declared.fault.BodyError.TheVariants.{Fault, Memory}
 use Rattle.push_stream.specs.declared.fault.StreamFault.{StreamFault}
 use Rattle.push_stream.specs.declared.fault.StreamFault.TheVariants.{Syntax, TooMany, TooLarge, WrongName, BadObject, Truncated}
 use Rattle.push_stream.specs.Record.{RecordAt, Open, Wrong, record_at}
-use Rattle.push_stream.specs.Stream.{Stream, Flows, Breaks, records_in}
+use Rattle.push_stream.specs.Stream.{Stream, Flows, Breaks, header_in, records_in}
 
 -- the text only ends too early
 abbrev pub is_truncated : StreamFault → Bool
@@ -38,3 +39,11 @@ headed_by false left = Flows [] [] false left
 -- a text begins an unfinished record, whatever comes, until there are so many bytes
 abbrev pub Awaits : List ℕ → ℕ → Type 0
 Awaits text wanted = (more : List ℕ) → length (text ++ more) < wanted → record_at (text ++ more) ≡ Open
+
+-- the end stands at the end of the text
+abbrev pub EndsIn : List ℕ → List ℕ → Type 0
+EndsIn end text = (front : List ℕ) × (text ≡ front ++ end)
+
+-- what stands in a text before what is left reads, in this room, as these commands, and the empty line where it was met
+abbrev pub HasFront : ℕ → List ℕ → List Command → Bool → List ℕ → Type 0
+HasFront room text commands headed left = (front : List ℕ) × (text ≡ front ++ left) × (header_in room front ≡ Flows commands [] headed [])

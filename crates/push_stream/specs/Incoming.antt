@@ -17,6 +17,7 @@ use Rattle.push_stream.specs.declared.sent.Sent.{Sent}
 use Rattle.push_stream.specs.declared.upload.TheConstants.{MAX_UPLOAD}
 use Rattle.push_stream.specs.contracts.fault.StreamFault as fault
 use Rattle.push_stream.specs.contracts.sent.Sent as sent
+use Rattle.push_stream.specs.Again.{Opening, Opens}
 use Rattle.push_stream.specs.Gaining.{Awaits}
 use Rattle.push_stream.specs.Reading.{Flow, Going, Broken, Reading, finished_flow, rest_in, sent_of}
 
@@ -57,13 +58,25 @@ rest_of bytes (Some rest) = rest
 abbrev pub reading_at : Draft → Reading
 reading_at draft = reading_from draft.mark draft.commands.items draft.sent.items (rest_of draft.bytes.items (option_map (λ rest. rest.items) draft.rest))
 
+-- the header and the tail of a draft, and what it stands for
+abbrev pub opening_at : Draft → Opening
+opening_at draft = record { header = draft.header.items; tail = rest_of draft.bytes.items (option_map (λ rest. rest.items) draft.rest); reading = reading_at draft }
+
 -- these commands and sent objects with what was added behind
 abbrev pub reading_with : ℕ → List Command → List Sent → Added → Reading
 reading_with count commands sent added = record { count = count; flow = Going (commands ++ added.commands.items) (sent ++ map sent_of added.objects.items) added.headed added.rest.items }
 
+-- the header with what was added behind, and the new rest
+abbrev pub opening_with : ℕ → List ℕ → List Command → List Sent → Added → Opening
+opening_with count header commands sent added = record { header = header ++ added.header.items; tail = added.rest.items; reading = reading_with count commands sent added }
+
 -- what of a draft is kept
 abbrev pub reading_kept : Kept → Draft → Reading
 reading_kept kept draft = reading_from kept.mark (take kept.commands draft.commands.items) (take kept.sent draft.sent.items) (take kept.bytes draft.bytes.items)
+
+-- the same of what is kept
+abbrev pub opening_kept : Kept → Draft → Opening
+opening_kept kept draft = record { header = take kept.header draft.header.items; tail = take kept.bytes draft.bytes.items; reading = reading_kept kept draft }
 
 -- a reading within its limits; and until there are so many bytes its record stays unfinished
 pub record IsStanding (reading : Reading) (wanted : ℕ) : Type 0 where
@@ -78,31 +91,37 @@ Begins {A} old new = (more : List A) × (new ≡ old ++ more)
 
 -- nothing of a draft is lost
 pub record Grows (old new : Draft) : Type 0 where
+  pub header : Begins old.header.items new.header.items
   pub commands : Begins old.commands.items new.commands.items
   pub sent : Begins old.sent.items new.sent.items
   pub bytes : Begins old.bytes.items new.bytes.items
 
 -- what is kept of a draft is there
 pub record HasKept (kept : Kept) (draft : Draft) : Type 0 where
+  pub header : kept.header ≤ length draft.header.items
   pub commands : kept.commands ≤ length draft.commands.items
   pub sent : kept.sent ≤ length draft.sent.items
   pub bytes : kept.bytes ≤ length draft.bytes.items
 
 -- a draft is what was kept of it
 pub record RollsBack (kept : Kept) (old new : Draft) : Type 0 where
+  pub header : new.header.items ≡ take kept.header old.header.items
   pub commands : new.commands.items ≡ take kept.commands old.commands.items
   pub sent : new.sent.items ≡ take kept.sent old.sent.items
   pub bytes : new.bytes.items ≡ take kept.bytes old.bytes.items
   pub rest : new.rest ≡ None
   pub mark : new.mark ≡ kept.mark
 
--- what is kept of a draft is there, and within the limits, and so is what was looked at
+-- what is kept of a draft is there, within the limits, and can be had again, and so is what was looked at
 pub record IsHeld (kept : Kept) (draft : Draft) : Type 0 where
+  pub header : kept.header ≤ length draft.header.items
   pub commands : kept.commands ≤ length draft.commands.items
   pub sent : kept.sent ≤ length draft.sent.items
   pub bytes : kept.bytes ≤ length draft.bytes.items
   pub stands : IsStanding (reading_kept kept draft) kept.mark.wanted
   pub looked : IsStanding (reading_at draft) draft.mark.wanted
+  pub opens : Opens (opening_kept kept draft)
+  pub reopens : Opens (opening_at draft)
 
 -- an upload has a code, so that it can be a model's value
 abbrev pub parts : Flow → ((List Command × List Sent) × (Bool × List ℕ)) ⊎ StreamFault

@@ -1,7 +1,8 @@
 // An upload with the piece that is looked at, which may not be taken.
 ghost use Rattle.std.specs.Prelude.{◌≡◌, ◌≤◌, ◌<◌, ◌+◌, ◌++◌, None, true, false, IfOk, IsTrue, OnOk, OnErr, length, map};
 ghost use Rattle.push_stream.specs.declared.upload.TheConstants.{MAX_UPLOAD};
-ghost use Rattle.push_stream.specs.Incoming.{Begins, Grows, IsStanding, is_broken, reading_at, reading_with};
+ghost use Rattle.push_stream.specs.Again.{Opens};
+ghost use Rattle.push_stream.specs.Incoming.{Begins, Grows, IsStanding, is_broken, opening_at, opening_with, reading_at, reading_with};
 ghost use Rattle.push_stream.specs.Reading.{gained, read_on, sent_of};
 
 use crate::fault::{BodyError, StreamFault};
@@ -42,8 +43,11 @@ impl Mark {
 // What came of a stream. Lists only grow, so that what they were can be had again.
 #[derive(Debug, Drop)]
 pub(crate) struct Draft {
+    // The whole command lines, and the empty line.
+    pub(crate) header: Vec<u8>,
     pub(crate) commands: Vec<Command>,
     pub(crate) sent: Vec<Sent>,
+    // What was not finished and what came behind it; where the stream broke, what broke it.
     pub(crate) bytes: Vec<u8>,
     // The unfinished rest, where it is not all bytes.
     pub(crate) rest: Option<Vec<u8>>,
@@ -54,10 +58,12 @@ pub(crate) struct Draft {
 pub(crate) fn read_piece(alloc: Global, draft: &mut Draft, piece: &[u8]) -> Result<Step, AllocError>
     requires whole { draft.old.rest ≡ None }
     requires standing { IsStanding (reading_at draft.old) draft.old.mark.wanted }
+    requires opens { Opens (opening_at draft.old) }
     requires fits { draft.old.mark.count + length piece.now ≤ MAX_UPLOAD }
     ensures grows { Grows draft.old draft.new }
     ensures read { OnOk result (reading_at draft.new ≡ read_on (reading_at draft.old) piece.now) }
     ensures standing { OnOk result (IsStanding (reading_at draft.new) draft.new.mark.wanted) }
+    ensures opens { OnOk result (Opens (opening_at draft.new)) }
     ensures gained { IfOk result (λ step. step.objects.items ≡ gained (reading_at draft.old).flow piece.now) }
     ensures fault { IfOk result (λ step. step.is_fault ≡ is_broken (reading_at draft.new).flow) }
 {
@@ -115,21 +121,27 @@ fn is_short(mark: Mark, len: usize) -> bool
 
 // Notes what a text added.
 fn note(alloc: Global, draft: &mut Draft, added: Added, count: u64) -> Result<Step, AllocError>
+    ensures header { Begins draft.old.header.items draft.new.header.items }
     ensures commands { Begins draft.old.commands.items draft.new.commands.items }
     ensures sent { Begins draft.old.sent.items draft.new.sent.items }
     ensures bytes { draft.new.bytes.items ≡ draft.old.bytes.items }
     ensures read { OnOk result (reading_at draft.new ≡ reading_with count draft.old.commands.items draft.old.sent.items added) }
+    ensures opening { OnOk result (opening_at draft.new ≡ opening_with count draft.old.header.items draft.old.commands.items draft.old.sent.items added) }
     ensures wanted { OnOk result (draft.new.mark.wanted ≡ added.wanted) }
     ensures objects { IfOk result (λ step. step.objects.items ≡ added.objects.items) }
     ensures right { IfOk result (λ step. step.is_fault ≡ false) }
 {
     let Added {
+        mut header,
         mut commands,
         objects,
         headed,
         rest,
         wanted,
     } = added;
+    let Ok(()) = draft.header.append(&mut header) else {
+        return Err(AllocError);
+    };
     let Ok(()) = draft.commands.append(&mut commands) else {
         return Err(AllocError);
     };

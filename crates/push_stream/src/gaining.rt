@@ -1,12 +1,13 @@
 // What a text adds to a stream: commands and objects, as far as they are whole.
-ghost use Rattle.std.specs.Prelude.{◌≡◌, ◌-◌, ◌+◌, ◌≤◌, ℕ, true, false, List, [], Ok, Err, IfOk, IfErr, IfSome, IfNone, length};
+ghost use Rattle.std.specs.Prelude.{◌≡◌, ◌-◌, ◌+◌, ◌≤◌, ◌++◌, ℕ, true, false, List, [], Ok, Err, IfOk, IfErr, IfSome, IfNone, length};
 ghost use Rattle.git_reftx.specs.declared.fault.CommandFault.TheVariants.{Truncated};
 ghost use Rattle.git_reftx.specs.declared.reading.TheConstants.{MAX_COMMANDS};
 ghost use Rattle.git_reftx.specs.Reading.{command_at};
 ghost use Rattle.push_stream.specs.declared.record.TheConstants.{MAX_REST};
-ghost use Rattle.push_stream.specs.Gaining.{Awaits, TellsBreak, TellsWrong, headed_by, is_cut, is_truncated};
+ghost use Rattle.push_stream.specs.Gaining.{Awaits, EndsIn, HasFront, TellsBreak, TellsWrong, headed_by, is_cut, is_truncated};
 ghost use Rattle.push_stream.specs.Reading.{added_in};
 ghost use Rattle.push_stream.specs.Record.{Open, Taken, record_at};
+ghost use Rattle.push_stream.specs.Spelling.{records_of};
 ghost use Rattle.push_stream.specs.Stream.{Flows, Stream, after_command, behind, header_in, records_in};
 
 use crate::body::behind_empty_line;
@@ -19,6 +20,8 @@ use std::alloc::Global;
 // What a text adds, whether the empty line was met, and what of the text is not finished.
 #[derive(Debug, Drop)]
 pub(crate) struct Added {
+    // The text's whole command lines, and the empty line.
+    pub(crate) header: Vec<u8>,
     pub(crate) commands: Vec<Command>,
     pub(crate) objects: Vec<Sealed>,
     pub(crate) headed: bool,
@@ -34,22 +37,29 @@ pub(crate) fn add(alloc: Global, headed: bool, had: usize, text: &[u8]) -> Resul
     ensures few { IfOk result (λ added. had + length added.commands.items ≤ MAX_COMMANDS) }
     ensures short { IfOk result (λ added. length added.rest.items ≤ MAX_REST) }
     ensures waits { IfOk result (λ added. Awaits added.rest.items added.wanted) }
+    ensures header { IfOk result (λ added. added_in headed had added.header.items ≡ Flows added.commands.items [] added.headed []) }
+    ensures spelled { IfOk result (λ added. text.now ≡ added.header.items ++ (records_of added.objects.items ++ added.rest.items)) }
+    ensures bare { IfOk result (λ added. added.headed ≡ false → (headed ≡ false) × (added.objects.items ≡ [])) }
     ensures exact { IfErr result (TellsBreak (added_in headed had text.now)) }
 {
     if headed {
-        return add_objects(alloc, Vec::new(alloc), text);
+        return add_objects(alloc, Vec::new(alloc), Vec::new(alloc), text);
     }
     let (commands, is_headed, left) = match whole_commands(alloc, had, text) {
         Ok(found) => found,
         Err(error) => return Err(error),
     };
+    let Ok(header) = before(text, left).to_vec(alloc) else {
+        return Err(BodyError::Memory);
+    };
     if is_headed {
-        return add_objects(alloc, commands, left);
+        return add_objects(alloc, header, commands, left);
     }
     let Ok(rest) = left.to_vec(alloc) else {
         return Err(BodyError::Memory);
     };
     Ok(Added {
+        header,
         commands,
         objects: Vec::new(alloc),
         headed: false,
@@ -59,10 +69,18 @@ pub(crate) fn add(alloc: Global, headed: bool, had: usize, text: &[u8]) -> Resul
 }
 
 #[tactic(auto, using(crate::proofs::RestLemmas::open_short))]
-// The same of a text of records, with these commands before it.
-fn add_objects(alloc: Global, commands: Vec<Command>, text: &[u8]) -> Result<Added, BodyError>
+// The same of a text of records, with this header and these commands before it.
+fn add_objects(
+    alloc: Global,
+    header: Vec<u8>,
+    commands: Vec<Command>,
+    text: &[u8],
+) -> Result<Added, BodyError>
     ensures found { IfOk result (λ added. behind commands.items [] (records_in (length text.now) text.now) ≡ Flows added.commands.items added.objects.items added.headed added.rest.items) }
+    ensures header { IfOk result (λ added. added.header.items ≡ header.items) }
     ensures commands { IfOk result (λ added. added.commands.items ≡ commands.items) }
+    ensures headed { IfOk result (λ added. added.headed ≡ true) }
+    ensures spelled { IfOk result (λ added. text.now ≡ records_of added.objects.items ++ added.rest.items) }
     ensures short { IfOk result (λ added. length added.rest.items ≤ MAX_REST) }
     ensures waits { IfOk result (λ added. Awaits added.rest.items added.wanted) }
     ensures exact { IfErr result (TellsBreak (behind commands.items [] (records_in (length text.now) text.now))) }
@@ -75,12 +93,21 @@ fn add_objects(alloc: Global, commands: Vec<Command>, text: &[u8]) -> Result<Add
         return Err(BodyError::Memory);
     };
     Ok(Added {
+        header,
         commands,
         objects,
         headed: true,
         rest,
         wanted: awaited(left),
     })
+}
+
+// What of a text stands before its end.
+fn before<'x>(text: &'x [u8], end: &[u8]) -> &'x [u8]
+    requires { EndsIn end.now text.now }
+    ensures { text.now ≡ result.now ++ end.now }
+{
+    &text[..text.len() - end.len()]
 }
 
 // The whole commands at the front of a text, where so many were before; whether an empty line stands
@@ -94,6 +121,7 @@ fn whole_commands(
     ensures found { IfOk result (λ p. header_in (MAX_COMMANDS - had) text.now ≡ behind p.0.items [] (headed_by p.1 p.2.now)) }
     ensures few { IfOk result (λ p. had + length p.0.items ≤ MAX_COMMANDS) }
     ensures short { IfOk result (λ p. p.1 ≡ false → length p.2.now ≤ MAX_REST) }
+    ensures front { IfOk result (λ p. HasFront (MAX_COMMANDS - had) text.now p.0.items p.1 p.2.now) }
     ensures exact { IfErr result (TellsBreak (header_in (MAX_COMMANDS - had) text.now)) }
 {
     let mut commands = Vec::new(alloc);
@@ -122,6 +150,7 @@ fn whole_commands(
 fn whole_records(alloc: Global, text: &[u8]) -> Result<(Vec<Sealed>, &[u8]), BodyError>
     ensures found { IfOk result (λ p. records_in (length text.now) text.now ≡ Flows [] p.0.items true p.1.now) }
     ensures unfinished { IfOk result (λ p. record_at p.1.now ≡ Open) }
+    ensures spelled { IfOk result (λ p. text.now ≡ records_of p.0.items ++ p.1.now) }
     ensures exact { IfErr result (TellsBreak (records_in (length text.now) text.now)) }
 {
     let mut objects = Vec::new(alloc);

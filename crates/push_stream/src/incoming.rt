@@ -1,9 +1,15 @@
-ghost use Rattle.std.specs.Prelude.{◌≡◌, ◌+◌, ◌≤◌, [], Ok, Err, IfOk, IfErr, OnOk, OnErr, length, map};
+ghost use Rattle.std.specs.Prelude.{◌≡◌, ◌+◌, ◌≤◌, ◌++◌, true, false, List, [], Ok, Err, IfOk, IfErr, OnOk, OnErr, is_some, length, map, replicate};
+ghost use Rattle.git_name.specs.Object.{Object};
+ghost use Rattle.push_stream.specs.declared.again.TheConstants.{MAX_HEADER};
 ghost use Rattle.push_stream.specs.declared.record.TheConstants.{MAX_REST};
 ghost use Rattle.push_stream.specs.declared.upload.TheConstants.{MAX_UPLOAD};
+ghost use Rattle.push_stream.specs.Again.{told_in};
 ghost use Rattle.push_stream.specs.Incoming.{IsHeld, RollsBack, TellsEnd, flow_from, is_broken, reading_at, reading_kept};
-ghost use Rattle.push_stream.specs.Reading.{finished_flow, gained, read_on, reading_of, rest_in};
+ghost use Rattle.push_stream.specs.Reading.{finished_flow, gained, read_on, reading_of, rest_in, sent_of};
+ghost use Rattle.push_stream.specs.Spelling.{AreWithin, records_of};
+ghost use Rattle.push_stream.specs.Stream.{AreObjects};
 
+use crate::again::Again;
 use crate::brief::Brief;
 use crate::draft::{Draft, Mark, read_piece};
 use crate::fault::{BodyError, StreamFault};
@@ -18,6 +24,7 @@ use std::marker::Model;
 #[derive(Clone, Copy, Debug)]
 pub(crate) struct Kept {
     pub(crate) mark: Mark,
+    pub(crate) header: usize,
     pub(crate) commands: usize,
     pub(crate) sent: usize,
     pub(crate) bytes: usize,
@@ -52,6 +59,7 @@ impl Incoming {
         ensures brief { result.brief ≡ reading_of [] }
     {
         let draft = Draft {
+            header: Vec::new(alloc),
             commands: Vec::new(alloc),
             sent: Vec::new(alloc),
             bytes: Vec::new(alloc),
@@ -60,6 +68,7 @@ impl Incoming {
         };
         let kept = Kept {
             mark: Mark::new(),
+            header: 0,
             commands: 0,
             sent: 0,
             bytes: 0,
@@ -93,6 +102,26 @@ impl Incoming {
         &self.draft.bytes[..self.kept.bytes]
     }
 
+    /// The parts of the bytes that open this upload again, and of objects that are told as what was
+    /// sent: whichever they are, the bytes have the reading that this upload has. Zero bytes stand for
+    /// those that came after the stream broke, of which only the number is kept.
+    pub fn again(&self) -> Again<'_>
+        ensures read { (objects : List Object) → AreObjects objects → AreWithin objects → map sent_of objects ≡ told_in self.now.brief.flow → reading_of (result.header.now ++ (records_of objects ++ (result.tail.now ++ replicate result.zeros 0))) ≡ self.now.brief }
+        ensures whole { is_broken self.now.brief.flow ≡ false → result.zeros ≡ 0 }
+        ensures rest { is_broken self.now.brief.flow ≡ false → result.tail.now ≡ rest_in self.now.brief.flow }
+        ensures short { length result.header.now ≤ MAX_HEADER }
+        ensures within { length result.header.now + length result.tail.now + result.zeros ≤ self.now.brief.count }
+    {
+        let header = &self.draft.header[..self.kept.header];
+        let tail = &self.draft.bytes[..self.kept.bytes];
+        let zeros = missing(&self.kept.mark, header.len() + tail.len());
+        Again {
+            header,
+            tail,
+            zeros,
+        }
+    }
+
     /// What one more piece would add. The upload stands for what it stood for, and an `Err`, which
     /// tells want of memory, leaves it so too. What was looked at before is forgotten.
     pub fn look(&mut self, alloc: Global, piece: &[u8]) -> Result<Step, AllocError>
@@ -115,6 +144,7 @@ impl Incoming {
         }
         self.kept = Kept {
             mark: self.draft.mark,
+            header: self.draft.header.len(),
             commands: self.draft.commands.len(),
             sent: self.draft.sent.len(),
             bytes: self.draft.bytes.len(),
@@ -158,6 +188,18 @@ impl Incoming {
             &self.draft.bytes[..self.kept.bytes],
         )
     }
+}
+
+// How many of the bytes that came are missing, where so many are there and the stream is broken.
+fn missing(mark: &Mark, there: usize) -> u64
+    requires { there ≤ mark.now.count }
+    ensures going { is_some mark.now.fault ≡ false → result ≡ 0 }
+    ensures broken { is_some mark.now.fault ≡ true → there + result ≡ mark.now.count }
+{
+    if mark.fault.is_none() {
+        return 0;
+    }
+    mark.count - there as u64
 }
 
 // What a stream holds that ends here.
@@ -220,6 +262,7 @@ fn names_of(alloc: Global, sent: &[Sent]) -> Result<Vec<Name>, AllocError>
 fn roll_back(draft: &mut Draft, kept: &Kept)
     ensures { RollsBack kept.now draft.old draft.new }
 {
+    draft.header.truncate(kept.header);
     draft.commands.truncate(kept.commands);
     draft.sent.truncate(kept.sent);
     draft.bytes.truncate(kept.bytes);

@@ -4,6 +4,7 @@
 //! right, and otherwise the fault of its first wrong item.
 #![tactic(auto)]
 
+mod again;
 mod body;
 mod brief;
 mod draft;
@@ -18,6 +19,7 @@ mod step;
 mod upload;
 mod write;
 
+pub use crate::again::{Again, MAX_HEADER};
 pub use crate::body::{Body, read_body};
 pub use crate::brief::Brief;
 pub use crate::fault::{BodyError, StreamFault};

@@ -6,6 +6,7 @@ use Rattle.std.proofs.lemmas.Bool.Decides.{nat_tests}
 use Rattle.git_reftx.specs.declared.reading.TheConstants.{MAX_COMMANDS}
 use Rattle.git_reftx.specs.declared.command.Command.{Command}
 use Rattle.git_reftx.proofs.ReadingLemmas.{command_shorter}
+use Rattle.push_stream.proofs.FrontLemmas.{front_begun, front_ends, front_more}
 use Rattle.push_stream.proofs.GainingLemmas.{breaks_command, command_more, header_begun, headed_left, nothing_left, unfinished_left}
 use Rattle.push_stream.proofs.RestLemmas.{cut_short}
 use Rattle.push_stream.proofs.gaining.whole_commands.Goals as goal
@@ -14,12 +15,21 @@ pub loop-alloc-init : goal.loop-alloc-init
 loop-alloc-init c =
     let none = c.new-commands.ensures.items in
     let empty : length c.new-commands.result.items ≡ 0 = ap (λ (l : List Command). length l) none in
-    (MAX_COMMANDS - c.args.had, omega arith, header_begun (MAX_COMMANDS - c.args.had) c.args.text.now c.new-commands.result.items none)
+    (MAX_COMMANDS - c.args.had, omega arith, header_begun (MAX_COMMANDS - c.args.had) c.args.text.now c.new-commands.result.items none, front_begun (MAX_COMMANDS - c.args.had) c.args.text.now c.new-commands.result.items none)
 
 pub returns-in-Some-clause-found : goal.returns-in-Some-clause-found
 returns-in-Some-clause-found c =
     let so_far = c.loop-alloc.invariant in
     headed_left _ so_far.0 c.loop-alloc.commands.items c.loop-alloc.left.now c.in-Some.records.now so_far.2 c.in-Some.ensures.found
+
+pub returns-in-Some-clause-front : goal.returns-in-Some-clause-front
+returns-in-Some-clause-front c = front_ends (MAX_COMMANDS - c.args.had) c.args.text.now c.loop-alloc.left.now c.in-Some.records.now c.loop-alloc.commands.items c.loop-alloc.invariant.3 c.in-Some.ensures.found
+
+pub returns-in-Ok-None-clause-front : goal.returns-in-Ok-None-clause-front
+returns-in-Ok-None-clause-front c = c.loop-alloc.invariant.3
+
+pub returns-clause-front : goal.returns-clause-front
+returns-clause-front c = c.loop-alloc.invariant.3
 
 pub returns-in-Ok-None-clause-found : goal.returns-in-Ok-None-clause-found
 returns-in-Ok-None-clause-found c =
@@ -44,7 +54,9 @@ loop-alloc-preserved c =
     let so_far = c.loop-alloc.invariant in
     let some : 0 < length c.loop-alloc.left.now = grind (arith, nat_tests) in
     let few : length c.loop-alloc.commands.items < MAX_COMMANDS - c.args.had = grind (arith, nat_tests) in
-    command_more (MAX_COMMANDS - c.args.had) _ so_far.0 c.loop-alloc.commands.items c.push.new.self.items c.loop-alloc.left.now c.in-Ok-Some.taken.1.now c.in-Ok-Some.taken.0 some c.in_default.ensures.none so_far.1 few so_far.2 (subst (λ o. IfSome o (λ p. command_at c.loop-alloc.left.now ≡ Ok (p.0, p.1.now))) c.in-Ok-Some.field-0-is c.in-Ok-Some.ensures.taken) c.in-Ok.ensures.items
+    let taken = subst (λ o. IfSome o (λ p. command_at c.loop-alloc.left.now ≡ Ok (p.0, p.1.now))) c.in-Ok-Some.field-0-is c.in-Ok-Some.ensures.taken in
+    let next = command_more (MAX_COMMANDS - c.args.had) _ so_far.0 c.loop-alloc.commands.items c.push.new.self.items c.loop-alloc.left.now c.in-Ok-Some.taken.1.now c.in-Ok-Some.taken.0 some c.in_default.ensures.none so_far.1 few so_far.2 taken c.in-Ok.ensures.items in
+    (next.0, next.1, next.2, front_more (MAX_COMMANDS - c.args.had) c.args.text.now c.loop-alloc.left.now c.in-Ok-Some.taken.1.now c.loop-alloc.commands.items c.push.new.self.items c.in-Ok-Some.taken.0 few so_far.3 taken c.in-Ok.ensures.items)
 
 pub returns-clause-found : goal.returns-clause-found
 returns-clause-found c =

@@ -2,6 +2,7 @@ use Rattle.std.proofs.Common.{◌≡◌, ◌<◌, length, arith, subst}
 use Rattle.std.specs.Prelude.{IfNone, IfSome}
 use Rattle.push_stream.specs.Record.{Open, Taken, record_at}
 use Rattle.std.proofs.lemmas.Bool.Decides.{nat_tests}
+use Rattle.push_stream.proofs.FrontLemmas.{record_more}
 use Rattle.push_stream.proofs.GainingLemmas.{breaks_record, nothing_open, taken_open}
 use Rattle.push_stream.proofs.RecordLemmas.{record_shorter}
 use Rattle.push_stream.proofs.StreamLemmas.{taken_more}
@@ -24,7 +25,9 @@ loop-alloc-smaller c = record_shorter c.loop-alloc.left.now c.in-Ok-Some.taken.0
 pub loop-alloc-preserved : goal.loop-alloc-preserved
 loop-alloc-preserved c =
     let so_far = c.loop-alloc.invariant in
-    taken_more _ so_far.0 c.loop-alloc.objects.items c.push.new.self.items c.loop-alloc.left.now c.in-Ok-Some.taken.1.now c.in-Ok-Some.taken.0 so_far.1 so_far.2 (subst (λ o. IfSome o (λ p. record_at c.loop-alloc.left.now ≡ Taken p.0 p.1.now)) c.in-Ok-Some.field-0-is c.in-Ok-Some.ensures.taken) c.in-Ok.ensures.items
+    let taken = subst (λ o. IfSome o (λ p. record_at c.loop-alloc.left.now ≡ Taken p.0 p.1.now)) c.in-Ok-Some.field-0-is c.in-Ok-Some.ensures.taken in
+    let next = taken_more _ so_far.0 c.loop-alloc.objects.items c.push.new.self.items c.loop-alloc.left.now c.in-Ok-Some.taken.1.now c.in-Ok-Some.taken.0 so_far.1 so_far.2 taken c.in-Ok.ensures.items in
+    (next.0, next.1, next.2, record_more c.args.text.now c.loop-alloc.left.now c.in-Ok-Some.taken.1.now c.loop-alloc.objects.items c.push.new.self.items c.in-Ok-Some.taken.0 so_far.3 taken c.in-Ok.ensures.items)
 
 pub returns-clause-found : goal.returns-clause-found
 returns-clause-found c =

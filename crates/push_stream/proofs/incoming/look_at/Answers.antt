@@ -2,17 +2,20 @@ use Rattle.std.proofs.Common.{ap, sym, subst, ◌∙◌, ◌+◌, ◌≤◌, len
 use Rattle.push_stream.specs.declared.upload.TheConstants.{MAX_UPLOAD}
 use Rattle.push_stream.specs.declared.draft.Mark.{Mark}
 use Rattle.push_stream.specs.Reading.{Reading, gained, read_on}
-use Rattle.push_stream.proofs.IncomingLemmas.{back_same, has_of, held_back, held_on, kept_same, rolled_reading, rolled_stands}
+use Rattle.push_stream.proofs.IncomingLemmas.{back_same, has_of, held_back, held_on, kept_same, rolled_opens, rolled_reading, rolled_stands}
 use Rattle.push_stream.proofs.incoming.look_at.Goals as goal
 
 pub read_piece-requires-clause-standing : goal.read_piece-requires-clause-standing
 read_piece-requires-clause-standing c = rolled_stands c.args.kept.now c.args.draft.now c.roll_back.new.draft c.roll_back.ensures c.requires.held.stands
 
+pub read_piece-requires-clause-opens : goal.read_piece-requires-clause-opens
+read_piece-requires-clause-opens c = rolled_opens c.args.kept.now c.args.draft.now c.roll_back.new.draft c.roll_back.ensures c.requires.held.opens
+
 pub read_piece-requires-clause-fits : goal.read_piece-requires-clause-fits
 read_piece-requires-clause-fits c = subst (λ (m : Mark). m.count + length c.args.piece.now ≤ MAX_UPLOAD) (sym c.roll_back.ensures.mark) c.requires.fits
 
 pub returns-in-Ok-clause-held : goal.returns-in-Ok-clause-held
-returns-in-Ok-clause-held c = held_on c.args.kept.now c.args.draft.now c.roll_back.new.draft c.read_piece.new.draft c.requires.held c.roll_back.ensures c.in-Ok.ensures.grows c.in-Ok.ensures.standing
+returns-in-Ok-clause-held c = held_on c.args.kept.now c.args.draft.now c.roll_back.new.draft c.read_piece.new.draft c.requires.held c.roll_back.ensures c.in-Ok.ensures.grows c.in-Ok.ensures.standing c.in-Ok.ensures.opens
 
 pub returns-in-Ok-clause-kept : goal.returns-in-Ok-clause-kept
 returns-in-Ok-clause-kept c = kept_same c.args.kept.now c.args.draft.now c.roll_back.new.draft c.read_piece.new.draft (has_of c.args.kept.now c.args.draft.now c.requires.held) c.roll_back.ensures c.in-Ok.ensures.grows

@@ -17,7 +17,7 @@ use Rattle.fork_ledger.specs.Kept.{Covers, IsExact}
 pub false_is_true : (G : Type 0) → false ≡ true → G
 false_is_true G is = (let differs : ⊥ = cc in absurd differs)
 
-by_name : (G : Type 0) (name q : List ℕ) → (name ≡ q → G) → (q ≢ name → same_name name q ≡ false → G) → G
+pub by_name : (G : Type 0) (name q : List ℕ) → (name ≡ q → G) → (q ≢ name → same_name name q ≡ false → G) → G
 by_name G name q f g = go (same_name name q) refl
   where
     go : (b : Bool) → same_name name q ≡ b → G

@@ -1,3 +1,4 @@
+pub mod AllStagedLemmas
 pub mod BothLemmas
 pub mod CheckLemmas
 pub mod CoverLemmas
@@ -7,6 +8,7 @@ pub mod KeepingLemmas
 pub mod LookLemmas
 pub mod OwnLemmas
 pub mod RecallLemmas
+pub mod ReceivedLemmas
 pub mod SeenLemmas
 pub mod ShapeLemmas
 pub mod ShownLemmas

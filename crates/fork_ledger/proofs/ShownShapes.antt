@@ -48,7 +48,7 @@ shape_any a b m = same_map name_total name_exact _ _ (λ t.
     by (Some words) = ap Some (own_measured a b words)
 
 -- changes that are of the same measures
-shape_alike : (m : Tenants) (t : List ℕ) (f g : Private → Private) → ((own : Private) → private_measures (f own) ≡ private_measures (g own)) → shape_of (at_tenant m t f) ≡ shape_of (at_tenant m t g)
+pub shape_alike : (m : Tenants) (t : List ℕ) (f g : Private → Private) → ((own : Private) → private_measures (f own) ≡ private_measures (g own)) → shape_of (at_tenant m t f) ≡ shape_of (at_tenant m t g)
 shape_alike m t f g same = by (contains_key m t)
   where
     by : (b : Bool) → shape_of (cond b (insert m t (f (private_of m t))) m) ≡ shape_of (cond b (insert m t (g (private_of m t))) m)
@@ -57,7 +57,7 @@ shape_alike m t f g same = by (contains_key m t)
         ∙ sym (map_values_insert name_total name_exact private_measures m t (g (private_of m t)))
     by false = refl
 
-staged_alike : (object other : Object) (own : Private) → measure_of other ≡ measure_of object → private_measures (staged_with (object_name object) other own) ≡ private_measures (with_staged object own)
+pub staged_alike : (object other : Object) (own : Private) → measure_of other ≡ measure_of object → private_measures (staged_with (object_name object) other own) ≡ private_measures (with_staged object own)
 staged_alike object other own same = ap (λ (m : Measures). (measures_of own.visible, m))
     (measures_under own.staged own.staged (object_name object) _ _ refl (measure_standing_in (get own.visible (object_name object)) other object same))
 

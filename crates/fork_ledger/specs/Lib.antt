@@ -1,3 +1,4 @@
+pub mod AllStaged
 pub mod Checked
 pub mod Harms
 pub mod Kept

@@ -4,6 +4,7 @@ ghost use Rattle.std.specs.FinMap.{contains_key};
 ghost use Rattle.git_name.specs.Object.{Object, object_name};
 ghost use Rattle.loose_store.specs.Files.{SameBut};
 ghost use Rattle.loose_store.specs.Stored.{Whole};
+ghost use Rattle.fork_ledger.specs.AllStaged.{StaysWhole};
 ghost use Rattle.fork_ledger.specs.Store.{CountsFault, Meets, fault_in};
 
 use crate::fault::VaultFault;
@@ -34,6 +35,7 @@ pub(crate) fn arrive<S: LooseFiles>(
 ) -> Result<(), VaultFault>
     ensures whole { IsTrue files.old.honest → OnOk result (Whole files.new.contents (object_name sealed.now) sealed.now) }
     ensures others { IsTrue files.old.honest → SameBut (object_name sealed.now) files.old.contents files.new.contents }
+    ensures stands { IsTrue files.old.honest → StaysWhole files.old.contents files.new.contents }
     ensures held { IsTrue files.old.honest → is_held ≡ true → contains_key files.old.contents (object_name sealed.now) ≡ true → files.new.contents ≡ files.old.contents }
     ensures damaged { IsTrue files.old.honest → IfErr result (λ fault. fault ≡ VaultFault.Damaged
         → (is_held ≡ true) × ((object : Object) → Whole files.old.contents (object_name sealed.now) object → ⊥)) }

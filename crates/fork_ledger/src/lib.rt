@@ -13,6 +13,7 @@ mod laws;
 mod looking;
 mod reading;
 mod recalling;
+mod receiving;
 mod staging;
 mod sweeping;
 mod vault;

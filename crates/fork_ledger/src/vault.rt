@@ -7,6 +7,7 @@ ghost use Rattle.fork_reach.specs.Objects.{use_of};
 ghost use Rattle.looks.specs.Looks.{Looks, Walks};
 ghost use Rattle.looks.specs.Places.{at_start, is_listed};
 ghost use Rattle.looks.specs.Slices.{Collects, Sweeps};
+ghost use Rattle.fork_ledger.specs.AllStaged.{MeetsAmong, StoresAmong, with_all_staged};
 ghost use Rattle.fork_ledger.specs.Checked.{WasAsked};
 ghost use Rattle.fork_ledger.specs.Harms.{AreFound};
 ghost use Rattle.fork_ledger.specs.Kept.{IsExact, TakesAway};
@@ -24,7 +25,7 @@ use crate::harms::Harms;
 use crate::held::{Held, held_of};
 use crate::reading::read_held;
 use crate::recalling::{RecallFault, recall_known};
-use crate::staging::stage_whole;
+use crate::staging::{stage_all_whole, stage_whole};
 use crate::sweeping::{collect, sweep};
 use catalogue::Catalogue;
 use fork_request::TenantName;
@@ -212,6 +213,36 @@ impl<S: LooseFiles> Vault<S> {
         ensures store { AsksStore self.old self.new (fault_in result) }
     {
         stage_whole(alloc, &mut self.files, &mut self.holdings, tenant, sealed)
+    }
+
+    /// Stages objects for a tenant, in order, each as `stage` does, all or none: a fault leaves what the
+    /// tenant had staged. The files that were written before it stay until looks take away those that
+    /// nobody holds.
+    pub fn stage_all(
+        &mut self,
+        alloc: Global,
+        tenant: &TenantName,
+        objects: Vec<Sealed>,
+    ) -> Result<(), VaultFault>
+        ensures ok { IsTrue self.old.honest → OnOk result (self.new.tenants ≡ at_tenant self.old.tenants tenant.now (with_all_staged objects.items)) }
+        ensures err { IsTrue self.old.honest → OnErr result (self.new.tenants ≡ self.old.tenants) }
+        ensures stored { IsTrue self.old.honest → OnOk result (StoresAmong objects.items self.old.files self.new.files) }
+        ensures collision { IsTrue self.old.honest → IfErr result (λ fault. fault ≡ VaultFault.Collision → MeetsAmong objects.items self.old.files) }
+        ensures still { IsTrue self.old.honest → IfErr result (λ fault. fault ≡ VaultFault.Collision → StoresAmong objects.items self.old.files self.new.files) }
+        ensures exact { IsTrue self.old.honest → OnOk result (IsExact self.old.files self.old.places → IsExact self.new.files self.new.places) }
+
+        // Over any store.
+        ensures shape { OnOk result (shape_of self.new.tenants ≡ shape_of (at_tenant self.old.tenants tenant.now (with_all_staged objects.items))) }
+        ensures kept { OnErr result (shape_of self.new.tenants ≡ shape_of self.old.tenants) }
+        ensures store { AsksStore self.old self.new (fault_in result) }
+    {
+        stage_all_whole(
+            alloc,
+            &mut self.files,
+            &mut self.holdings,
+            tenant,
+            objects.as_slice(),
+        )
     }
 
     /// Stages the object of this name for a tenant that saw it before, where a survey of the store found

@@ -6,4 +6,5 @@ pub mod SettleLemmas
 pub mod SumLemmas
 pub mod TenantEntries
 pub mod TotalLemmas
+pub mod UndoLemmas
 pub mod UpdateLemmas

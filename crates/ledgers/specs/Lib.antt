@@ -1,3 +1,4 @@
+pub mod AllStaged
 pub mod Chosen
 pub mod Due
 pub mod Holders

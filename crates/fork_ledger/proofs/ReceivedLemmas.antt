@@ -1,0 +1,119 @@
+-- Objects that are received one after another.
+use Rattle.std.proofs.Common.{◌≡◌, ◌⊎◌, inl, inr, ℕ, ◌+◌, ◌<◌, List, [], ◌∷◌, ◌++◌, ◌||◌, Bool, true, false, None, drop, length, refl, sym, ap, subst, take, ◌∙◌, arith}
+use Rattle.std.specs.Prelude.{Contains, slice_index_or}
+use Rattle.std.proofs.lemmas.List.{take-append-drop, take_more}
+use Rattle.std.proofs.lemmas.List.Elements.{All-nil, All-push, Contains-append_left, Contains-append_right}
+use Rattle.std.specs.FinMap.{get}
+use Rattle.git_name.specs.Object.{Object, object_name}
+use Rattle.looks.specs.Places.{Places, is_listed, same_name}
+use Rattle.ledgers.specs.AllStaged.{AreListed}
+use Rattle.catalogue.proofs.PlaceLemmas.{own_name}
+use Rattle.loose_store.specs.Files.{Files, SameBut}
+use Rattle.loose_store.specs.Stored.{Whole}
+use Rattle.fork_ledger.specs.AllStaged.{MeetsAmong, Receives, StaysWhole, StoresAmong}
+use Rattle.fork_ledger.specs.Kept.{Covers, IsExact}
+use Rattle.fork_ledger.specs.Store.{Meets, StoresAlone}
+use Rattle.fork_ledger.proofs.CoverLemmas.{by_name}
+
+-- ---- what stands whole
+pub stays_same : (old new : Files) → new ≡ old → StaysWhole old new
+stays_same old new same name object whole = subst (λ files. Whole files name object) (sym same) whole
+
+-- one file changes, which was whole of no object
+pub stays_but : (old new : Files) (name : List ℕ) → SameBut name old new → ((object : Object) → Whole old name object → ⊥) → StaysWhole old new
+stays_but old new name others none q object whole = by_name _ name q
+    (λ same. absurd (none object (subst (λ n. Whole old n object) (sym same) whole)))
+    (λ apart differs. record { file = others q apart ∙ whole.file; named = whole.named })
+
+-- where there is no file, none is whole
+pub none_whole : (files : Files) (name : List ℕ) → get files name ≡ None → (object : Object) → Whole files name object → ⊥
+none_whole files name none object whole = (let differs : ⊥ = cc (sym none ∙ whole.file) in differs)
+
+pub stays_more : (a b c : Files) → StaysWhole a b → StaysWhole b c → StaysWhole a c
+stays_more a b c first next name object whole = next name object (first name object whole)
+
+-- ---- objects so far, and one more
+pub receives_none : (files : Files) (places : Places) → Receives [] files files places places
+receives_none files places = record {
+  whole = All-nil (λ object. Whole files (object_name object) object);
+  stands = λ name object whole. whole;
+  among = λ name other whole. inl whole;
+  covers = λ is. is;
+  exact = λ is. is;
+}
+
+sole : (object : Object) → Contains (object ∷ []) object
+sole object = (0, omega arith, refl)
+
+pub receives_more : (objects : List Object) (object : Object) (a b c : Files) (p q r : Places) → Receives objects a b p q → Whole c (object_name object) object → StaysWhole b c → StoresAlone object b c
+    → (Covers b q → Covers c r) → (IsExact b q → IsExact c r) → Receives (objects ++ object ∷ []) a c p r
+receives_more objects object a b c p q r before whole stays alone covers exact = record {
+  whole = All-push (λ x. Whole c (object_name x) x) objects object (λ k d inside. stays _ _ (before.whole k d inside)) whole;
+  stands = λ name x is. stays name x (before.stands name x is);
+  among = λ name other is. came name other (alone name other is);
+  covers = λ is. covers (before.covers is);
+  exact = λ is. exact (before.exact is);
+}
+  where
+    stood : (name : List ℕ) (other : Object) → Whole a name other ⊎ Contains objects other → Whole a name other ⊎ Contains (objects ++ object ∷ []) other
+    stood name other (inl first) = inl first
+    stood name other (inr there) = inr (Contains-append_left objects (object ∷ []) other there)
+
+    came : (name : List ℕ) (other : Object) → Whole b name other ⊎ (other ≡ object) → Whole a name other ⊎ Contains (objects ++ object ∷ []) other
+    came name other (inl is) = stood name other (before.among name other is)
+    came name other (inr same) = inr (subst (Contains (objects ++ object ∷ [])) (sym same) (Contains-append_right objects (object ∷ []) object (sole object)))
+
+-- one more of a list
+pub front_more : (objects : List Object) (i : ℕ) (object : Object) → i < length objects → object ≡ slice_index_or objects i object → take (i + 1) objects ≡ take i objects ++ object ∷ []
+front_more objects i object inside is = take_more objects i object inside ∙ ap (λ o. take i objects ++ o ∷ []) (sym is)
+
+-- ---- the catalogue
+or_true : (b : Bool) → (b || true) ≡ true
+or_true true = refl
+or_true false = refl
+
+pub listed_more : (objects : List Object) (object : Object) (old new : Places) → ((q : List ℕ) → is_listed new.names q ≡ (same_name (object_name object) q || is_listed old.names q)) → AreListed old objects → AreListed new (objects ++ object ∷ [])
+listed_more objects object old new listed before = All-push (λ x. is_listed new.names (object_name x) ≡ true) objects object
+    (λ k d inside. listed (object_name (slice_index_or objects k d)) ∙ ap (λ b. same_name (object_name object) (object_name (slice_index_or objects k d)) || b) (before k d inside) ∙ or_true (same_name (object_name object) (object_name (slice_index_or objects k d))))
+    (listed (object_name object) ∙ ap (λ b. b || is_listed old.names (object_name object)) (own_name (object_name object)))
+
+-- ---- a collision
+-- a list parted at a place
+pub parted : (objects : List Object) (i : ℕ) (object : Object) → i < length objects → object ≡ slice_index_or objects i object → objects ≡ take i objects ++ object ∷ drop (i + 1) objects
+parted objects i object inside is = sym (take-append-drop (i + 1) objects) ∙ ap (λ xs. xs ++ drop (i + 1) objects) (front_more objects i object inside is) ∙ regroup (take i objects) object (drop (i + 1) objects)
+  where
+    regroup : (xs : List Object) (x : Object) (ys : List Object) → (xs ++ x ∷ []) ++ ys ≡ xs ++ x ∷ ys
+    regroup [] x ys = refl
+    regroup (z ∷ xs) x ys = ap (λ zs. z ∷ zs) (regroup xs x ys)
+
+pub meets_among : (objects : List Object) (i : ℕ) (object : Object) (first now : Files) → i < length objects → object ≡ slice_index_or objects i object → StoresAmong (take i objects) first now → Meets object now → MeetsAmong objects first
+meets_among objects i object first now inside is among met = record {
+  front = take i objects;
+  object = object;
+  back = drop (i + 1) objects;
+  order = parted objects i object inside is;
+  other = met.0;
+  met = among (object_name object) met.0 met.1;
+  named = met.1.named;
+  differ = met.2;
+}
+
+-- the first of some objects are among them
+pub among_front : (objects : List Object) (i : ℕ) (old new : Files) → StoresAmong (take i objects) old new → StoresAmong objects old new
+among_front objects i old new among name other whole = by (among name other whole)
+  where
+    by : Whole old name other ⊎ Contains (take i objects) other → Whole old name other ⊎ Contains objects other
+    by (inl stood) = inl stood
+    by (inr came) = inr (subst (λ xs. Contains xs other) (take-append-drop i objects) (Contains-append_left (take i objects) (drop i objects) other came))
+
+-- ---- for callers
+-- both objects that met, as a list and the store have them
+pub comes : (objects : List Object) (files : Files) → (meets : MeetsAmong objects files) → Contains objects meets.object
+comes objects files meets = subst (λ xs. Contains xs meets.object) (sym meets.order) (Contains-append_right meets.front (meets.object ∷ meets.back) meets.object (Contains-append_left (meets.object ∷ []) meets.back meets.object (sole meets.object)))
+
+pub met_there : (objects : List Object) (files : Files) → (meets : MeetsAmong objects files) → Contains objects meets.other ⊎ Whole files (object_name meets.object) meets.other
+met_there objects files meets = by meets.met
+  where
+    by : Whole files (object_name meets.object) meets.other ⊎ Contains meets.front meets.other → Contains objects meets.other ⊎ Whole files (object_name meets.object) meets.other
+    by (inl stood) = inr stood
+    by (inr before) = inl (subst (λ xs. Contains xs meets.other) (sym meets.order) (Contains-append_left meets.front (meets.object ∷ meets.back) meets.other before))

@@ -1,0 +1,86 @@
+use Rattle.std.proofs.Common.{ap, sym, subst, ◌∙◌}
+use Rattle.std.proofs.lemmas.Result.{on_err_weaker, on_ok_weaker}
+use Rattle.ledgers.specs.AllStaged.{all_staged_words}
+use Rattle.ledgers.specs.Ledgers.{at_ledger}
+use Rattle.fork_ledger.specs.AllStaged.{with_all_staged}
+use Rattle.fork_ledger.specs.Kept.{IsExact}
+use Rattle.fork_ledger.specs.Shown.{tenants_of}
+use Rattle.fork_ledger.specs.Store.{CountsFault, IsStored, fault_in}
+use Rattle.fork_ledger.specs.Tenants.{VaultState, at_tenant, shape_of}
+use Rattle.fork_ledger.proofs.AllStagedLemmas.{all_staged_shape, all_staged_stored, all_staged_tenants, keeps_whole, none_damaged}
+use Rattle.fork_ledger.proofs.KeepingLemmas.{stored_keeps, tenants_keep}
+use Rattle.fork_ledger.proofs.ShownShapes.{shape_any}
+use Rattle.fork_ledger.proofs.StagedLemmas.{ok_both}
+use Rattle.fork_ledger.proofs.StoreLemmas.{undamaged_in}
+use Rattle.fork_ledger.proofs.StoredLemmas.{whichever}
+use Rattle.fork_ledger.proofs.vault.Vault.stage_all.Goals as goal
+
+pub invariant_of-self : goal.invariant_of-self
+invariant_of-self g c = λ h.
+    let told = c.stage_all_whole.ensures in
+    let was = sym told.honest ∙ h in
+    let m = c.self.inside.holdings.ledgers in
+    let old = c.self.inside.files.contents in
+    let new = c.stage_all_whole.new.files.contents in
+    let objects = c.as_slice.result.now in
+    let kept = c.self.invariant was in
+    let keeps = keeps_whole m old new kept.stored (told.stands was) in
+    record {
+      stored = whichever (IsStored (tenants_of new c.stage_all_whole.new.holdings.ledgers) new) c.stage_all_whole.result (ok_both _ _ c.stage_all_whole.result (told.receives was) told.ok) told.err
+          (λ both. subst (λ x. IsStored (tenants_of new x) new) (sym {b = at_ledger m c.args.tenant.now (all_staged_words objects)} both.1) (all_staged_stored old new m c.args.tenant.now objects keeps both.0.whole kept.stored))
+          (λ same. subst (λ x. IsStored (tenants_of new x) new) (sym {b = m} same) (stored_keeps m old new keeps kept.stored));
+      covers = told.covers was kept.covers;
+    }
+
+pub returns-clause-ok : goal.returns-clause-ok
+returns-clause-ok g c = λ h.
+    let told = c.stage_all_whole.ensures in
+    let was = ap (λ s. s.honest) c.self.view_is ∙ h in
+    let m = c.self.inside.holdings.ledgers in
+    let old = c.self.inside.files.contents in
+    let new = c.stage_all_whole.new.files.contents in
+    let objects = c.as_slice.result.now in
+    on_ok_weaker c.stage_all_whole.result (λ both.
+    ap (tenants_of new) both.1 ∙ all_staged_tenants old new m c.args.tenant.now objects (keeps_whole m old new (c.self.invariant was).stored (told.stands was)) both.0.whole
+    ∙ (λ i. at_tenant (c.self.view_is i).tenants c.args.tenant.now (with_all_staged (c.as_slice.ensures.value i))))
+    (ok_both _ _ c.stage_all_whole.result (told.receives was) told.ok)
+
+pub returns-clause-err : goal.returns-clause-err
+returns-clause-err g c = λ h.
+    let told = c.stage_all_whole.ensures in
+    let was = ap (λ s. s.honest) c.self.view_is ∙ h in
+    let m = c.self.inside.holdings.ledgers in
+    let old = c.self.inside.files.contents in
+    let new = c.stage_all_whole.new.files.contents in
+    on_err_weaker c.stage_all_whole.result (λ same.
+    ap (tenants_of new) same ∙ tenants_keep m old new (keeps_whole m old new (c.self.invariant was).stored (told.stands was)) ∙ ap (λ s. s.tenants) c.self.view_is) told.err
+
+pub returns-clause-exact : goal.returns-clause-exact
+returns-clause-exact g c = λ h.
+    let was = ap (λ s. s.honest) c.self.view_is ∙ h in
+    on_ok_weaker c.stage_all_whole.result (λ received exact. received.exact (subst (λ (s : VaultState). IsExact s.files s.places) (sym c.self.view_is) exact)) (c.stage_all_whole.ensures.receives was)
+
+pub returns-clause-shape : goal.returns-clause-shape
+returns-clause-shape g c =
+    let m = c.self.inside.holdings.ledgers in
+    let old = c.self.inside.files.contents in
+    let new = c.stage_all_whole.new.files.contents in
+    on_ok_weaker c.stage_all_whole.result (λ is.
+    ap (λ x. shape_of (tenants_of new x)) is ∙ all_staged_shape old new m c.args.tenant.now c.as_slice.result.now
+    ∙ (λ i. shape_of (at_tenant (c.self.view_is i).tenants c.args.tenant.now (with_all_staged (c.as_slice.ensures.value i))))) c.stage_all_whole.ensures.ok
+
+pub returns-clause-kept : goal.returns-clause-kept
+returns-clause-kept g c =
+    let m = c.self.inside.holdings.ledgers in
+    let old = c.self.inside.files.contents in
+    let new = c.stage_all_whole.new.files.contents in
+    on_err_weaker c.stage_all_whole.result (λ same. ap (λ x. shape_of (tenants_of new x)) same ∙ shape_any old new m ∙ ap (λ s. shape_of s.tenants) c.self.view_is) c.stage_all_whole.ensures.err
+
+pub returns-clause-store : goal.returns-clause-store
+returns-clause-store g c = record {
+  honest = c.stage_all_whole.ensures.honest ∙ ap (λ s. s.honest) c.self.view_is;
+  counted = subst (λ n. CountsFault n c.stage_all_whole.new.files.failures (fault_in c.stage_all_whole.result)) (ap (λ s. s.failures) c.self.view_is) c.stage_all_whole.ensures.cause;
+  undamaged = λ h.
+      let was = ap (λ s. s.honest) c.self.view_is ∙ h in
+      undamaged_in c.stage_all_whole.result (none_damaged c.stage_all_whole.result c.self.inside.files.contents c.self.inside.holdings.ledgers (c.self.invariant was).stored (c.stage_all_whole.ensures.damaged was));
+}

@@ -1,0 +1,36 @@
+use Rattle.std.proofs.Common.{◌≡◌, ◌+◌, ◌++◌, [], ◌∷◌, take, refl, sym, ◌∙◌, ap, arith}
+use Rattle.std.specs.BTreeMap.{is_at}
+use Rattle.std.specs.BTreeSet.{contains}
+use Rattle.std.specs.List.{list_any}
+use Rattle.std.proofs.lemmas.List.{take_more}
+use Rattle.git_name.specs.Name.{name_cmp}
+use Rattle.ledgers.specs.AllStaged.{all_staged_words}
+use Rattle.ledgers.specs.Ledgers.{at_ledger, ledger_at}
+use Rattle.ledgers.specs.Words.{unstaged_words}
+use Rattle.ledgers.proofs.UndoLemmas.{ledger_same, one_more, unstaged_none}
+use Rattle.ledgers.proofs.staging.stage_all.Goals as goal
+
+pub loop-sealed-init : goal.loop-sealed-init
+loop-sealed-init c =
+    let m = c.args.holdings.now.ledgers in
+    let t = c.args.tenant.now in
+    let noted = contains name_cmp c.new-noted.result in
+    record {
+      so_far = sym (ledger_same m t (all_staged_words []) refl);
+      undone = ledger_same m t (unstaged_words noted) (unstaged_none noted (ledger_at m t) (λ q. ap (list_any (is_at (name_cmp q))) c.new-noted.ensures.empty));
+      places = refl;
+    }
+
+pub loop-sealed-preserved : goal.loop-sealed-preserved
+loop-sealed-preserved c =
+    let m = c.args.holdings.now.ledgers in
+    let t = c.args.tenant.now in
+    let objects = c.args.objects.now in
+    let i = c.loop-sealed.sealed-index in
+    let object = c.sealed-item.result in
+    let more : take (i + 1) objects ≡ take i objects ++ object ∷ [] = take_more objects i object (omega arith) ∙ ap (λ o. take i objects ++ o ∷ []) (sym c.sealed-item.is) in
+    record {
+      so_far = c.in-Ok.ensures.ok ∙ one_more m c.loop-sealed.holdings.ledgers t (take i objects) object c.loop-sealed.invariant.so_far ∙ ap (λ xs. at_ledger m t (all_staged_words xs)) (sym more);
+      undone = c.in-Ok.ensures.undone ∙ c.loop-sealed.invariant.undone;
+      places = c.in-Ok.ensures.places ∙ c.loop-sealed.invariant.places;
+    }

@@ -12,7 +12,7 @@ use Rattle.fork_ledger.proofs.BothLemmas.{both_more, none_of, same_both, same_me
 use Rattle.fork_ledger.proofs.SeenLemmas.{get_kept}
 use Rattle.fork_ledger.proofs.ShapeLemmas.{Respects, respects_discarded, respects_kept, respects_published, respects_staged, shape_at}
 use Rattle.fork_ledger.proofs.TenantLemmas.{private_at, private_others, there_still}
-use Rattle.fork_host.specs.Own.{Changes, IsOf, IsOwn, LeavesOthers, Settles, Stages, staged_in, visible_in}
+use Rattle.fork_host.specs.Own.{Changes, Has, IsOf, IsOwn, KeepsStaged, LeavesOthers, Settles, Stages, staged_in, visible_in}
 
 pub none_left : {A : Type 0} (xs : List A) → length xs ≡ 0 → xs ≡ []
 none_left [] is = refl
@@ -50,7 +50,7 @@ discards before old own both there stages =
     record {
       leaves = leaves_more before old own with_discarded stages.leaves;
       sees = ap (λ p. p.visible) set ∙ stages.sees;
-      quiet = ap (λ p. p.staged) set;
+      stages = ap (λ p. p.staged) set;
     }
 
 publishes : (before old : Tenants) (own : List ℕ) (both : Objects) → contains_key before own ≡ true → Stages own both before old → Settles own both before (at_tenant old own with_published)
@@ -59,17 +59,17 @@ publishes before old own both there stages =
     record {
       leaves = leaves_more before old own with_published stages.leaves;
       sees = ap (λ p. p.visible) set ∙ stages.staged;
-      quiet = ap (λ p. p.staged) set;
+      stages = ap (λ p. p.staged) set;
     }
 
-keeps : (tenants : Tenants) (own : List ℕ) (names : List ℕ → Bool) → contains_key tenants own ≡ true → (private_of tenants own).staged ≡ empty
-    → Settles own (retain_keys (private_of tenants own).visible names) tenants (at_tenant tenants own (with_kept names))
-keeps tenants own names there quiet =
+keeps : (tenants : Tenants) (own : List ℕ) (names : List ℕ → Bool) → contains_key tenants own ≡ true
+    → Has own (retain_keys (private_of tenants own).visible names) (private_of tenants own).staged tenants (at_tenant tenants own (with_kept names))
+keeps tenants own names there =
     let set = private_at tenants own (with_kept names) there in
     record {
       leaves = leaves_more tenants tenants own (with_kept names) (leaves_all tenants own);
       sees = ap (λ p. p.visible) set;
-      quiet = ap (λ p. p.staged) set ∙ quiet;
+      stages = ap (λ p. p.staged) set;
     }
 
 -- the vault shows the private maps that it would have over an honest store: at first, where it is read, and where they change
@@ -138,11 +138,11 @@ published before old new own both there is honest changes = record {
 }
 
 -- some of what is seen stays, of a vault that was read before
-pub kept : (old mid new : VaultState) (own : List ℕ) (names : List ℕ → Bool) → contains_key old.tenants own ≡ true → staged_in old own ≡ empty → shape_of mid.tenants ≡ shape_of old.tenants → (IsTrue old.honest → mid.tenants ≡ old.tenants)
-    → mid.honest ≡ old.honest → new.tenants ≡ at_tenant mid.tenants own (with_kept names) → new.honest ≡ mid.honest → Changes (Settles own (retain_keys (visible_in old own) names)) old new
-kept old mid new own names there quiet shape same honest is still = record {
+pub kept : (old mid new : VaultState) (own : List ℕ) (names : List ℕ → Bool) → contains_key old.tenants own ≡ true → shape_of mid.tenants ≡ shape_of old.tenants → (IsTrue old.honest → mid.tenants ≡ old.tenants)
+    → mid.honest ≡ old.honest → new.tenants ≡ at_tenant mid.tenants own (with_kept names) → new.honest ≡ mid.honest → Changes (Has own (retain_keys (visible_in old own) names) (staged_in old own)) old new
+kept old mid new own names there shape same honest is still = record {
   tenants = at_tenant old.tenants own (with_kept names);
-  way = keeps old.tenants own names there quiet;
+  way = keeps old.tenants own names there;
   shown = of_changed old.tenants mid new own (with_kept names) (respects_kept names) (ap shape_of is) (λ _. is) still (of_still old.tenants old mid shape same honest (of_itself old));
   honest = still ∙ honest;
 }
@@ -160,17 +160,17 @@ emptied first mid new own objects names there none is still changes =
       way = record {
         leaves = leaves_more first.tenants changes.tenants own (with_kept names) changes.way.leaves;
         sees = ap (λ p. p.visible) set ∙ none_kept (private_of changes.tenants own).visible names none;
-        quiet = ap (λ p. p.staged) set ∙ changes.way.quiet;
+        stages = ap (λ p. p.staged) set ∙ changes.way.stages;
       };
       shown = of_changed changes.tenants mid new own (with_kept names) (respects_kept names) (ap shape_of is) (λ _. is) still changes.shown;
       honest = still ∙ changes.honest;
     }
 
--- what a tenant sees where nothing is staged: over any store its measures, and over an honest one itself
-pub seen_measures : (old new : VaultState) (own : List ℕ) (objects : Objects) → Changes (Settles own objects) old new → measures_of (visible_in new own) ≡ measures_of objects
+-- what a tenant sees: over any store its measures, and over an honest one itself
+pub seen_measures : {staged : Objects} (old new : VaultState) (own : List ℕ) (objects : Objects) → Changes (Has own objects staged) old new → measures_of (visible_in new own) ≡ measures_of objects
 seen_measures old new own objects changes = ap (λ (p : Measures × Measures). p.0) (same_measures changes.tenants new.tenants own changes.shown.shape) ∙ ap measures_of changes.way.sees
 
-pub seen_itself : (old new : VaultState) (own : List ℕ) (objects : Objects) → Changes (Settles own objects) old new → IsTrue old.honest → visible_in new own ≡ objects
+pub seen_itself : {staged : Objects} (old new : VaultState) (own : List ℕ) (objects : Objects) → Changes (Has own objects staged) old new → IsTrue old.honest → visible_in new own ≡ objects
 seen_itself old new own objects changes honest = ap (λ m. (private_of m own).visible) (changes.shown.exact (changes.honest ∙ honest)) ∙ changes.way.sees
 
 -- and both sides, where something is
@@ -182,24 +182,46 @@ pub both_itself : (old new : VaultState) (own : List ℕ) (both : Objects) → C
 both_itself old new own both changes honest = ap (λ m. both_of (private_of m own)) (changes.shown.exact (changes.honest ∙ honest)) ∙ changes.way.staged
 
 -- a tenant's part alone was used
-pub own_of : (old new : VaultState) (own : List ℕ) (objects : Objects) → Changes (Settles own objects) old new → IsOwn own old new
+pub own_of : {staged : Objects} (old new : VaultState) (own : List ℕ) (objects : Objects) → Changes (Has own objects staged) old new → IsOwn own old new
 own_of old new own objects changes = record {
   there = λ t. same_tenants_there changes.tenants new.tenants t changes.shown.shape ∙ changes.way.leaves.there t;
   shape = λ t differs. same_measures changes.tenants new.tenants t changes.shown.shape ∙ ap private_measures (changes.way.leaves.others t differs);
   others = λ honest t differs. ap (λ m. private_of m t) (changes.shown.exact (changes.honest ∙ honest)) ∙ changes.way.leaves.others t differs;
-  quiet = none_of (staged_in new own) (ap (λ (p : Measures × Measures). p.1) (same_measures changes.tenants new.tenants own changes.shown.shape) ∙ ap measures_of changes.way.quiet);
   honest = changes.honest;
 }
 
+-- what it has staged stayed
+pub staged_kept : (old new : VaultState) (own : List ℕ) (objects : Objects) → Changes (Has own objects (staged_in old own)) old new → KeepsStaged own old new
+staged_kept old new own objects changes = record {
+  shape = ap (λ (p : Measures × Measures). p.1) (same_measures changes.tenants new.tenants own changes.shown.shape) ∙ ap measures_of changes.way.stages;
+  exact = λ honest. ap (λ m. (private_of m own).staged) (changes.shown.exact (changes.honest ∙ honest)) ∙ changes.way.stages;
+}
+
+-- nothing is staged behind it, and so where nothing was, it stayed
+pub none_staged : (old new : VaultState) (own : List ℕ) (objects : Objects) → Changes (Settles own objects) old new → staged_in new own ≡ empty
+none_staged old new own objects changes =
+    none_of (staged_in new own) (ap (λ (p : Measures × Measures). p.1) (same_measures changes.tenants new.tenants own changes.shown.shape) ∙ ap measures_of changes.way.stages)
+
+pub still_none : (old new : VaultState) (own : List ℕ) → staged_in old own ≡ empty → staged_in new own ≡ empty → KeepsStaged own old new
+still_none old new own before after = record { shape = ap measures_of (after ∙ sym before); exact = λ _. after ∙ sym before }
+
 -- where it was read alone
-pub own_read : (old new : VaultState) (own : List ℕ) → staged_in old own ≡ empty → shape_of new.tenants ≡ shape_of old.tenants → (IsTrue old.honest → new.tenants ≡ old.tenants) → new.honest ≡ old.honest → IsOwn own old new
-own_read old new own quiet shape same honest = record {
+pub own_read : (old new : VaultState) (own : List ℕ) → shape_of new.tenants ≡ shape_of old.tenants → (IsTrue old.honest → new.tenants ≡ old.tenants) → new.honest ≡ old.honest → IsOwn own old new
+own_read old new own shape same honest = record {
   there = λ t. same_tenants_there old.tenants new.tenants t shape;
   shape = λ t differs. same_measures old.tenants new.tenants t shape;
   others = λ is t differs. ap (λ m. private_of m t) (same is);
-  quiet = none_of (staged_in new own) (ap (λ (p : Measures × Measures). p.1) (same_measures old.tenants new.tenants own shape) ∙ ap measures_of quiet);
   honest = honest;
 }
 
-pub own_same : (vault : VaultState) (own : List ℕ) → staged_in vault own ≡ empty → IsOwn own vault vault
-own_same vault own quiet = own_read vault vault own quiet refl (λ _. refl) refl
+pub staged_read : (old new : VaultState) (own : List ℕ) → shape_of new.tenants ≡ shape_of old.tenants → (IsTrue old.honest → new.tenants ≡ old.tenants) → KeepsStaged own old new
+staged_read old new own shape same = record {
+  shape = ap (λ (p : Measures × Measures). p.1) (same_measures old.tenants new.tenants own shape);
+  exact = λ is. ap (λ m. (private_of m own).staged) (same is);
+}
+
+pub own_same : (vault : VaultState) (own : List ℕ) → IsOwn own vault vault
+own_same vault own = own_read vault vault own refl (λ _. refl) refl
+
+pub staged_same : (vault : VaultState) (own : List ℕ) → KeepsStaged own vault vault
+staged_same vault own = staged_read vault vault own refl (λ _. refl)

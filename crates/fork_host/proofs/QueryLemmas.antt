@@ -1,7 +1,6 @@
 -- Queries, which leave what a tenant sees.
 use Rattle.std.proofs.Common.{◌≡◌, ℕ, true, false, cond, IsTrue, inl, List, [], length, Option, Some, Result, Ok, Err, refl, sym, ap, subst, ◌∙◌}
 use Rattle.std.specs.Prelude.{nat_lt}
-use Rattle.std.specs.FinMap.{empty}
 use Rattle.git_reftx.specs.Transaction.{References}
 use Rattle.fork_reach.specs.declared.source.SourceFault.{SourceFault}
 use Rattle.fork_reach.specs.Faults.{IsAsked}
@@ -19,7 +18,6 @@ use Rattle.fork_model.specs.View.{View}
 use Rattle.fork_host.specs.declared.own.Own.{Own}
 use Rattle.fork_host.specs.Bounds.{IsBounded, IsRead}
 use Rattle.fork_host.specs.Handle.{Rest, Uses, own_state, shown_by}
-use Rattle.fork_host.specs.Own.{staged_in}
 use Rattle.fork_host.specs.Rows.{Yields, Yielded, Faulted, fault_told, query_told}
 use Rattle.fork_host.specs.Safe.{IsSafe}
 use Rattle.fork_host.specs.Shown.{Account, seen_by, shown}
@@ -27,9 +25,9 @@ use Rattle.fork_host.proofs.BoundLemmas.{bounded_gains, bounded_read, gains_read
 use Rattle.fork_host.proofs.SafeLemmas.{read_safe, read_uses}
 
 -- a source that is asked is a handle that was used
-pub asked_uses : {S : Type 0} (old new : Own S) (fault : Option SourceFault) → staged_in old.vault.now old.tenant.now ≡ empty → IsAsked (own_state old) (own_state new) fault → Uses old new
-asked_uses old new fault quiet asked =
-    read_uses old new quiet (ap (λ base. base.1) asked.base) (λ h. ap (λ rest. rest.0) (asked.rest h)) asked.honest (record { vault = ap (λ base. base.0.0) asked.base; tenant = ap (λ base. base.0.1) asked.base })
+pub asked_uses : {S : Type 0} (old new : Own S) (fault : Option SourceFault) → IsAsked (own_state old) (own_state new) fault → Uses old new
+asked_uses old new fault asked =
+    read_uses old new (ap (λ base. base.1) asked.base) (λ h. ap (λ rest. rest.0) (asked.rest h)) asked.honest (record { vault = ap (λ base. base.0.0) asked.base; tenant = ap (λ base. base.0.1) asked.base })
 
 -- and a vault that was read
 pub asked_read : {S : Type 0} (old new : Own S) (fault : Option SourceFault) → IsAsked (own_state old) (own_state new) fault → IsRead old.vault.now new.vault.now fault
@@ -49,7 +47,7 @@ query_safe view account old new found reply asked is =
 
 -- over an honest one
 stays : {S : Type 0} (account : Account) (old new : Own S) (fault : Option SourceFault) → IsTrue old.vault.now.honest → IsAsked (own_state old) (own_state new) fault → shown account new.vault.now old.tenant.now ≡ shown_by account old
-stays account old new fault honest asked = ap (λ (rest : Rest). seen_by account (private_of rest.0 old.tenant.now).visible) (asked.rest honest)
+stays account old new fault honest asked = ap (λ (rest : Rest). seen_by account (private_of rest.0 old.tenant.now)) (asked.rest honest)
 
 pub query_gives : {S B : Type 0} (view : B → List ℕ) (account : Account) (old new : Own S) (model : Result (List ℕ) Refusal) (found : Result B QueryError) (reply : Reply) → IsTrue old.vault.now.honest → Tells view model found
     → IsAsked (own_state old) (own_state new) (fault_of found) → reply ≡ query_told view found

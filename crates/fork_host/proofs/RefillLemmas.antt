@@ -7,7 +7,7 @@ use Rattle.std.specs.List.{AllByRecursion, find, flat_map}
 use Rattle.std.specs.Option.{option_map, option_or, unwrap_or}
 use Rattle.std.specs.Ordering.{eq_by_cmp}
 use Rattle.std.specs.Cmp.{eq_by_cmp_equiv}
-use Rattle.std.specs.FinMap.{FinMap, contains_key, entries, get, get-entries, get-insert, insert, keys, len-entries}
+use Rattle.std.specs.FinMap.{FinMap, contains_key, empty, entries, get, get-entries, get-insert, insert, keys, len-entries}
 use Rattle.git_name.specs.Name.{name_cmp}
 use Rattle.git_name.specs.Object.{Object}
 use Rattle.git_name.specs.declared.kind.Kind.{Kind}
@@ -26,9 +26,10 @@ use Rattle.fork_model.specs.World.{World}
 use Rattle.fork_model.proofs.ClosedLemmas.{each_of}
 use Rattle.state_text.specs.States.{IsRepository, TenantState}
 use Rattle.fork_host.specs.Own.{IsOwn, staged_in, visible_in}
+use Rattle.fork_host.specs.Pushed.{view_of}
 use Rattle.fork_host.specs.Refilled.{IsRefilled, IsRefilledIn}
 use Rattle.fork_host.specs.Restored.{is_bad_target, references_in}
-use Rattle.fork_host.specs.Shown.{Account, HostState, IsWhole, seen_by, shown, uploaded, world_of}
+use Rattle.fork_host.specs.Shown.{Account, HostState, IsWhole, shown, uploaded, world_of}
 use Rattle.fork_host.proofs.AddingLemmas.{each_more}
 use Rattle.fork_host.proofs.NamesLemmas.{same_keys}
 use Rattle.fork_host.proofs.OwnLemmas.{own_of, seen_itself}
@@ -138,7 +139,7 @@ orderly_refilled own names list repositories limit old new low few right are res
 
 pub right_refilled : (own : List ℕ) (names : List (List ℕ)) (list : List (List ℕ × References)) (repositories : Repositories) (limit : ℕ) (old new : VaultState) → IsTrue old.honest → IsRefilled own names list limit old new → IsRight (shown (refilled repositories limit) new own)
 right_refilled own names list repositories limit old new honest restored =
-    subst (λ objects. IsRight (seen_by (refilled repositories limit) objects)) (sym (seen_itself old new own restored.objects restored.changes honest)) (record {
+    subst (λ objects. IsRight (view_of repositories objects None limit)) (sym (seen_itself old new own restored.objects restored.changes honest)) (record {
       named = restored.named honest;
       right = restored.right honest;
       closed = restored.closed honest;
@@ -171,9 +172,9 @@ keys_set accounts t account after here = same_keys (insert accounts t after) acc
     by q false apart = refl
 
 -- the state stays whole where one tenant's account and part of the vault change so
-pub whole_set : (old new : HostState) (t : List ℕ) (account after : Account) → IsWhole old → get old.accounts t ≡ Some account → new.accounts ≡ insert old.accounts t after → IsOwn t old.vault new.vault → after.upload ≡ None
+pub whole_set : (old new : HostState) (t : List ℕ) (account after : Account) → IsWhole old → get old.accounts t ≡ Some account → new.accounts ≡ insert old.accounts t after → IsOwn t old.vault new.vault → staged_in new.vault t ≡ empty → after.upload ≡ None
     → IsOrderly (shown after new.vault t) → (IsTrue new.vault.honest → IsRight (shown after new.vault t)) → IsWhole new
-whole_set old new t account after whole here set own quiet orderly right = record {
+whole_set old new t account after whole here set own none quiet orderly right = record {
   orderly = orderly_after old new t account after whole.orderly here set own (λ _. orderly);
   right = λ trusted.
       let before = sym own.honest ∙ trusted in
@@ -183,7 +184,7 @@ whole_set old new t account after whole here set own quiet orderly right = recor
 }
   where
     rests : (q : List ℕ) (other : Account) (b : Bool) → eq_by_cmp name_cmp q t ≡ b → get new.accounts q ≡ Some other → staged_in new.vault q ≡ uploaded other.upload
-    rests q other true same is = ap (staged_in new.vault) (tied_names q t same) ∙ own.quiet
+    rests q other true same is = ap (staged_in new.vault) (tied_names q t same) ∙ none
     rests q other false apart is =
         none_of (staged_in new.vault q)
         (ap (λ (p : Measures × Measures). p.1) (own.shape q (λ same. distinct t q same apart)) ∙ ap measures_of (whole.staged q other (sym (at_other old new t q after set apart) ∙ is)))

@@ -1,6 +1,6 @@
 -- What names, kinds and lengths decide of an answer.
 use Rattle.std.proofs.Common.{◌≡◌, ℕ, ◌≤◌, Bool, true, IsTrue, List, Option, None, Some, refl, sym, ap, subst, ◌∙◌}
-use Rattle.std.specs.FinMap.{contains_key, empty, get, insert, retain_keys}
+use Rattle.std.specs.FinMap.{contains_key, get, insert, retain_keys}
 use Rattle.std.specs.Prelude.{Contains}
 use Rattle.git_name.specs.Object.{Object}
 use Rattle.git_reftx.specs.Transaction.{References, is_commit, transacted}
@@ -24,13 +24,13 @@ use Rattle.fork_ledger.specs.Tenants.{VaultState, shape_of as vault_shape}
 use Rattle.fork_ledger.proofs.BothLemmas.{same_measures}
 use Rattle.fork_host.specs.declared.own.Own.{Own}
 use Rattle.fork_host.specs.Handle.{IsSame, Uses, shown_by}
-use Rattle.fork_host.specs.Own.{staged_in, visible_in}
+use Rattle.fork_host.specs.Own.{visible_in}
 use Rattle.fork_host.specs.Pushed.{view_of}
 use Rattle.fork_host.specs.Rows.{Gives, Given, Wanting, IsPruned, Pruned, Unpruned}
 use Rattle.fork_host.specs.Safe.{IsSafe}
 use Rattle.fork_host.specs.Shape.{shape_of}
 use Rattle.fork_host.specs.Shown.{Account, shown}
-use Rattle.fork_host.proofs.OwnLemmas.{own_read}
+use Rattle.fork_host.proofs.OwnLemmas.{own_read, staged_read}
 use Rattle.fork_host.proofs.ShapeLemmas.{shape_but_upload}
 
 -- references that objects bear, others of the same measures bear
@@ -134,9 +134,13 @@ safe_taken Within repositories now seen both objects sent upload limit name old 
     })
 
 -- a vault that is read alone: the handle was used, and the answer is safe
-pub read_uses : {S : Type 0} (old new : Own S) → staged_in old.vault.now old.tenant.now ≡ empty → vault_shape new.vault.now.tenants ≡ vault_shape old.vault.now.tenants → (IsTrue old.vault.now.honest → new.vault.now.tenants ≡ old.vault.now.tenants)
+pub read_uses : {S : Type 0} (old new : Own S) → vault_shape new.vault.now.tenants ≡ vault_shape old.vault.now.tenants → (IsTrue old.vault.now.honest → new.vault.now.tenants ≡ old.vault.now.tenants)
     → new.vault.now.honest ≡ old.vault.now.honest → IsSame old new → Uses old new
-read_uses old new quiet shape kept honest same = record { same = same; own = own_read old.vault.now new.vault.now old.tenant.now quiet shape kept honest }
+read_uses old new shape kept honest same = record {
+  same = same;
+  own = own_read old.vault.now new.vault.now old.tenant.now shape kept honest;
+  staged = staged_read old.vault.now new.vault.now old.tenant.now shape kept;
+}
 
 pub read_safe : {S : Type 0} (Within : Reply → Type 0) (account : Account) (old new : Own S) (reply : Reply) → vault_shape new.vault.now.tenants ≡ vault_shape old.vault.now.tenants → Within reply
     → IsSafe Within (shown_by account old) reply (shown account new.vault.now old.tenant.now)

@@ -1,6 +1,6 @@
 -- What a push that was judged comes to.
 use Rattle.std.proofs.Common.{◌≡◌, ℕ, IsTrue, inl, inr, List, [], Option, Some, Result, Ok, Err, refl, sym, ap, ◌∙◌}
-use Rattle.std.specs.FinMap.{get, insert}
+use Rattle.std.specs.FinMap.{empty, get, insert}
 use Rattle.git_name.specs.Object.{Object}
 use Rattle.git_reftx.specs.Transaction.{References}
 use Rattle.push_stream.specs.Upload.{UploadValue}
@@ -15,12 +15,12 @@ use Rattle.fork_push.specs.declared.refusal.PushRefusal.{PushRefusal}
 use Rattle.fork_push.specs.Verdict as verdict
 use Rattle.fork_model.specs.Answer.{push_refusal, taken}
 use Rattle.fork_model.specs.View.{View, Repositories}
-use Rattle.fork_host.specs.Own.{IsOwn, visible_in}
+use Rattle.fork_host.specs.Own.{IsOwn, KeepsStaged, staged_in, visible_in}
 use Rattle.fork_host.specs.Pushed.{view_of}
 use Rattle.fork_host.specs.Rows.{Yields, Yielded, Lacking, Faulted, IsTaken, Took, Lacked}
 use Rattle.fork_host.specs.Safe.{IsSafe}
 use Rattle.fork_host.proofs.BoundLemmas.{IsQuiet}
-use Rattle.fork_host.proofs.OwnLemmas.{own_of, seen_itself, seen_measures}
+use Rattle.fork_host.proofs.OwnLemmas.{none_staged, own_of, seen_itself, seen_measures, still_none}
 use Rattle.fork_host.proofs.SafeLemmas.{safe_left, safe_taken}
 
 same_view : (old new : Repositories) (seen objects : Objects) (upload : Option UploadValue) (limit : ℕ) → new ≡ old → objects ≡ seen → view_of new objects upload limit ≡ view_of old seen upload limit
@@ -61,6 +61,10 @@ taken_safe Within before after own old new both sent upload limit name was refer
 pub own_taken : (before after : VaultState) (own : List ℕ) (old set new : Repositories) (both : Objects) (reply : Reply) → IsTaken old set own (visible_in before own) both before reply new after → IsOwn own before after
 own_taken before after own old set new both reply (Took told is changes) = own_of before after own both changes
 own_taken before after own old set new both reply (Lacked told is changes) = own_of before after own (visible_in before own) changes
+
+pub staged_taken : (before after : VaultState) (own : List ℕ) (old set new : Repositories) (both : Objects) (reply : Reply) → staged_in before own ≡ empty → IsTaken old set own (visible_in before own) both before reply new after → KeepsStaged own before after
+staged_taken before after own old set new both reply none (Took told is changes) = still_none before after own none (none_staged before after own both changes)
+staged_taken before after own old set new both reply none (Lacked told is changes) = still_none before after own none (none_staged before after own (visible_in before own) changes)
 
 -- it is answered with no host fault but want of memory
 pub quiet_taken : (before after : VaultState) (own : List ℕ) (old set new : Repositories) (both : Objects) (reply : Reply) → IsTaken old set own (visible_in before own) both before reply new after → IsQuiet reply

@@ -67,7 +67,7 @@ bounded_unswept a b ledger.Collision undamaged apart asked = absurd (apart refl)
 -- the same private maps show the same world
 pub world_tended : (accounts : Accounts) (old new : VaultState) → new.tenants ≡ old.tenants → world_of (state_of accounts new) ≡ world_of (state_of accounts old)
 unfolding world_of
-world_tended accounts old new same = ap (λ (tenants : Tenants). from_sorted (map (λ (entry : List ℕ × Account). (entry.0, seen_by entry.1 (private_of tenants entry.0).visible)) (entries accounts))) same
+world_tended accounts old new same = ap (λ (tenants : Tenants). from_sorted (map (λ (entry : List ℕ × Account). (entry.0, seen_by entry.1 (private_of tenants entry.0))) (entries accounts))) same
 
 seen_tended : (old new : VaultState) → shape_of new.tenants ≡ shape_of old.tenants → (t : List ℕ) → measures_of (visible_in new t) ≡ measures_of (visible_in old t)
 seen_tended old new same t = ap (λ (p : Measures × Measures). p.0) (same_measures old.tenants new.tenants t same)

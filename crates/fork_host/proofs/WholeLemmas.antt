@@ -27,7 +27,7 @@ use Rattle.fork_model.specs.World.{HostSays, Steps}
 use Rattle.fork_model.proofs.SoundWorlds.{right_step}
 use Rattle.fork_model.proofs.Worlds.{answered}
 use Rattle.fork_host.specs.Adding.{new_account, new_view}
-use Rattle.fork_host.specs.Own.{IsOwn, IsReady, staged_in, visible_in}
+use Rattle.fork_host.specs.Own.{IsOwn, IsReady, KeepsStaged, staged_in, visible_in}
 use Rattle.fork_host.specs.Rows.{Yields}
 use Rattle.fork_host.specs.Safe.{IsSafe}
 use Rattle.fork_host.specs.Sent.{sent_by, sent_in_world, sent_of}
@@ -113,7 +113,6 @@ ready state t account whole here =
     let view_is = get_world state t ∙ ap (option_map (λ a. shown a state.vault t)) here in
     record {
       there = whole.there t ∙ ap is_some here;
-      quiet = whole.staged t account here;
       within = (whole.orderly.views t (shown account state.vault t) view_is).within_limit;
     }
 
@@ -211,8 +210,8 @@ all_stay old new t account after here set own same q = by (eq_by_cmp name_cmp q 
 
 -- and the state stays whole
 pub whole_after : (Within : Reply → Type 0) (old new : HostState) (t : List ℕ) (ask : Ask) (account after : Account) (reply : Reply) → IsWhole old → get old.accounts t ≡ Some account → new.accounts ≡ insert old.accounts t after
-    → (Trusted old → Steps (world_of old) (Asks t ask) reply (world_of new)) → IsSafe Within (shown account old.vault t) reply (shown after new.vault t) → IsOwn t old.vault new.vault → IsWhole new
-whole_after Within old new t ask account after reply whole here set step safe own = record {
+    → (Trusted old → Steps (world_of old) (Asks t ask) reply (world_of new)) → IsSafe Within (shown account old.vault t) reply (shown after new.vault t) → IsOwn t old.vault new.vault → KeepsStaged t old.vault new.vault → IsWhole new
+whole_after Within old new t ask account after reply whole here set step safe own stays = record {
   orderly = orderly_after old new t account after whole.orderly here set own safe.orderly;
   right = λ trusted. (let before = sym own.honest ∙ trusted in right_step (world_of old) (world_of new) (Asks t ask) reply (whole.right before) (step before));
   there = λ q. own.there q ∙ whole.there q ∙ sym (known_still old new t q account after here set);
@@ -220,7 +219,7 @@ whole_after Within old new t ask account after reply whole here set step safe ow
 }
   where
     rests : (q : List ℕ) (other : Account) (b : Bool) → eq_by_cmp name_cmp q t ≡ b → get new.accounts q ≡ Some other → staged_in new.vault q ≡ uploaded other.upload
-    rests q other true same is = ap (staged_in new.vault) (tied_names q t same) ∙ own.quiet
+    rests q other true same is = ap (staged_in new.vault) (tied_names q t same) ∙ none_of (staged_in new.vault t) (stays.shape ∙ ap measures_of (whole.staged t account here))
     rests q other false apart is =
         none_of (staged_in new.vault q)
         (ap (λ (p : Measures × Measures). p.1) (own.shape q (λ same. distinct t q same apart)) ∙ ap measures_of (whole.staged q other (sym (at_other old new t q after set apart) ∙ is)))

@@ -8,7 +8,7 @@ use Rattle.std.specs.FinMap.{find, is_sorted, get, get-entries, get-from_sorted,
 use Rattle.std.specs.FinMap.Entries.{below_all}
 use Rattle.git_name.specs.Name.{name_cmp}
 use Rattle.git_name.proofs.Names.{name_total, name_exact}
-use Rattle.fork_reach.specs.Source.{Objects}
+use Rattle.fork_ledger.specs.Private.{Private}
 use Rattle.fork_reach.proofs.KeptObjects.{tied_names}
 use Rattle.fork_ledger.specs.Tenants.{VaultState, private_of}
 use Rattle.fork_host.specs.Shown.{Account, HostState, entry_shown, seen_by, shown, world_of}
@@ -77,4 +77,4 @@ world_set old new t account set others =
     at q true same = ap (λ k. Some (shown account new.vault k)) (tied_names q t same)
     at q false apart =
         let differs : q ≢ t = λ same. distinct t q same apart in
-        ap (λ (objects : Objects). option_map (λ (a : Account). seen_by a objects) (get old.accounts q)) (ap (λ own. own.visible) (others q differs)) ∙ sym (get_world old q)
+        ap (λ (own : Private). option_map (λ (a : Account). seen_by a own) (get old.accounts q)) (others q differs) ∙ sym (get_world old q)

@@ -6,18 +6,25 @@ use Rattle.git_name.specs.Name.{name_cmp}
 use Rattle.loose_store.specs.Files.{Files}
 use Rattle.fork_reach.specs.Objects.{Measures}
 use Rattle.fork_reach.specs.Source.{Objects, SourceState}
-use Rattle.fork_ledger.specs.Tenants.{Tenants, shape_of}
+use Rattle.fork_ledger.specs.Private.{Private}
+use Rattle.fork_ledger.specs.Tenants.{Tenants, private_of, shape_of}
 use Rattle.fork_model.specs.View.{View}
 use Rattle.fork_host.specs.declared.own.Own.{Own}
-use Rattle.fork_host.specs.Own.{IsOwn, IsReady, both_in, visible_in}
+use Rattle.fork_host.specs.Own.{IsOwn, IsReady, KeepsStaged, both_in, staged_in, visible_in}
 use Rattle.fork_host.specs.Shown.{Account, shown}
 
--- what the tenant sees through it, and what it sees and has staged
+-- the tenant's private maps; what it sees, what it sees and has staged, and what it has staged
+abbrev pub private_by : {S : Type 0} → Own S → Private
+private_by own = private_of own.vault.now.tenants own.tenant.now
+
 abbrev pub visible_by : {S : Type 0} → Own S → Objects
 visible_by own = visible_in own.vault.now own.tenant.now
 
 abbrev pub both_by : {S : Type 0} → Own S → Objects
 both_by own = both_in own.vault.now own.tenant.now
+
+abbrev pub staged_by : {S : Type 0} → Own S → Objects
+staged_by own = staged_in own.vault.now own.tenant.now
 
 -- the view of the tenant, of this account
 abbrev pub shown_by : {S : Type 0} → Account → Own S → View
@@ -50,7 +57,8 @@ pub record IsSame {S : Type 0} (old new : Own S) : Type 0 where
   pub vault : new.vault.ghost_name ≡ old.vault.ghost_name
   pub tenant : new.tenant ≡ old.tenant
 
--- it was used for a request: of the vault the tenant's part alone changed
+-- it was used for a request: of the vault the tenant's part alone changed, and what is staged stayed
 pub record Uses {S : Type 0} (old new : Own S) : Type 0 where
   pub same : IsSame old new
   pub own : IsOwn old.tenant.now old.vault.now new.vault.now
+  pub staged : KeepsStaged old.tenant.now old.vault.now new.vault.now

@@ -1,7 +1,7 @@
 -- One tenant's own part of the vault, and what a request may change of the vault: this part alone.
 use Rattle.std.specs.Prelude.{◌≡◌, ◌≢◌, ℕ, ◌≤◌, true, IsTrue, List}
 use Rattle.std.specs.FinMap.{contains_key, empty}
-use Rattle.fork_reach.specs.Objects.{use_of}
+use Rattle.fork_reach.specs.Objects.{measures_of, use_of}
 use Rattle.fork_reach.specs.Source.{Objects}
 use Rattle.fork_ledger.specs.Private.{both_of, private_measures}
 use Rattle.fork_ledger.specs.Tenants.{Tenants, VaultState, private_of, shape_of}
@@ -16,20 +16,22 @@ staged_in vault tenant = (private_of vault.tenants tenant).staged
 abbrev pub both_in : VaultState → List ℕ → Objects
 both_in vault tenant = both_of (private_of vault.tenants tenant)
 
--- the vault has the tenant, nothing is staged, and what is seen keeps the limit
+-- the vault has the tenant, and what is seen keeps the limit
 pub record IsReady (vault : VaultState) (own : List ℕ) (limit : ℕ) : Type 0 where
   pub there : contains_key vault.tenants own ≡ true
-  pub quiet : staged_in vault own ≡ empty
   pub within : use_of (visible_in vault own) ≤ limit
 
--- a tenant's part was used, and nothing is staged: each other tenant has what it had, and over any store what no store can
--- change of it
+-- a tenant's part was used: each other tenant has what it had, and over any store what no store can change of it
 pub record IsOwn (own : List ℕ) (old new : VaultState) : Type 0 where
   pub there : (tenant : List ℕ) → contains_key new.tenants tenant ≡ contains_key old.tenants tenant
   pub shape : (tenant : List ℕ) → tenant ≢ own → private_measures (private_of new.tenants tenant) ≡ private_measures (private_of old.tenants tenant)
   pub others : IsTrue old.honest → (tenant : List ℕ) → tenant ≢ own → private_of new.tenants tenant ≡ private_of old.tenants tenant
-  pub quiet : staged_in new own ≡ empty
   pub honest : new.honest ≡ old.honest
+
+-- what the tenant has staged stays, and over any store what no store can change of it
+pub record KeepsStaged (own : List ℕ) (old new : VaultState) : Type 0 where
+  pub shape : measures_of (staged_in new own) ≡ measures_of (staged_in old own)
+  pub exact : IsTrue old.honest → staged_in new own ≡ staged_in old own
 
 -- a vault shows these private maps: over an honest store themselves, and over any what no store can change of them
 pub record IsOf (tenants : Tenants) (vault : VaultState) : Type 0 where
@@ -54,8 +56,12 @@ pub record Stages (own : List ℕ) (both : Objects) (old new : Tenants) : Type 0
   pub sees : (private_of new own).visible ≡ (private_of old own).visible
   pub staged : both_of (private_of new own) ≡ both
 
--- nothing is staged, and it sees these
-pub record Settles (own : List ℕ) (objects : Objects) (old new : Tenants) : Type 0 where
+-- it sees these objects, and these are staged
+pub record Has (own : List ℕ) (seen staged : Objects) (old new : Tenants) : Type 0 where
   pub leaves : LeavesOthers own old new
-  pub sees : (private_of new own).visible ≡ objects
-  pub quiet : (private_of new own).staged ≡ empty
+  pub sees : (private_of new own).visible ≡ seen
+  pub stages : (private_of new own).staged ≡ staged
+
+-- it sees these, and nothing is staged
+abbrev pub Settles : List ℕ → Objects → Tenants → Tenants → Type 0
+Settles own objects = Has own objects empty

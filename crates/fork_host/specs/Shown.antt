@@ -5,11 +5,12 @@ use Rattle.std.specs.FinMap.{FinMap, code, contains_key, empty, entries, from_so
 use Rattle.git_name.specs.Name.{name_cmp}
 use Rattle.push_stream.specs.Upload.{UploadValue, upload_code}
 use Rattle.fork_reach.specs.Source.{Objects}
-use Rattle.fork_ledger.specs.Tenants.{VaultState, vault_code}
+use Rattle.fork_ledger.specs.Private.{Private}
+use Rattle.fork_ledger.specs.Tenants.{VaultState, private_of, vault_code}
 use Rattle.fork_model.specs.Sound.{IsOrderlyWorld, IsRightWorld}
 use Rattle.fork_model.specs.View.{View, Repositories}
 use Rattle.fork_model.specs.World.{World}
-use Rattle.fork_host.specs.Own.{staged_in, visible_in}
+use Rattle.fork_host.specs.Own.{staged_in}
 
 -- what a host keeps of a tenant beside its objects
 pub record Account : Type 0 where
@@ -28,13 +29,13 @@ pub record HostState : Type 0 where
 abbrev pub state_of : Accounts → VaultState → HostState
 state_of accounts vault = record { accounts = accounts; vault = vault }
 
--- the view of a tenant of this account that sees these objects
-abbrev pub seen_by : Account → Objects → View
-seen_by account objects = record { repositories = account.repositories; objects = objects; upload = account.upload; limit = account.limit }
+-- the view of a tenant of this account that has these private maps
+abbrev pub seen_by : Account → Private → View
+seen_by account own = record { repositories = account.repositories; objects = own.visible; upload = account.upload; limit = account.limit }
 
 -- the view of a tenant of this account over a vault
 abbrev pub shown : Account → VaultState → List ℕ → View
-shown account vault tenant = seen_by account (visible_in vault tenant)
+shown account vault tenant = seen_by account (private_of vault.tenants tenant)
 
 -- a tenant and its view
 abbrev pub entry_shown : VaultState → List ℕ × Account → List ℕ × View

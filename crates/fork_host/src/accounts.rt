@@ -12,7 +12,7 @@ ghost use Rattle.state_text.specs.Kept.{states_of};
 ghost use Rattle.fork_host.specs.Adding.{new_account};
 ghost use Rattle.fork_host.specs.Bounds.{IsBounded};
 ghost use Rattle.fork_model.specs.Answer.{answer};
-ghost use Rattle.fork_host.specs.Own.{IsOwn, IsReady};
+ghost use Rattle.fork_host.specs.Own.{IsOwn, IsReady, KeepsStaged, staged_in};
 ghost use Rattle.fork_host.specs.Rows.{YieldsOver};
 ghost use Rattle.fork_host.specs.Safe.{IsNamedReply, IsSafe};
 ghost use Rattle.fork_host.specs.Sent.{sent_by, sent_in_world};
@@ -171,10 +171,12 @@ fn answer_from<S: LooseFiles>(
     request: Request<'_>,
 ) -> Reply
     requires ready { IsReady vault.old name.now tenant.old.limit }
+    requires quiet { staged_in vault.old name.now ≡ map.empty }
     ensures row { YieldsOver vault.old.honest (answer (shown tenant.old vault.old name.now) (ask_of request.entry)) (shown tenant.old vault.old name.now) result (shown tenant.new vault.new name.now) }
     ensures safe { IsSafe (IsBounded (sent_by (shown tenant.old vault.old name.now) (ask_of request.entry)) vault.old vault.new) (shown tenant.old vault.old name.now) result (shown tenant.new vault.new name.now) }
     ensures named { IsNamedReply (ask_of request.entry) result }
     ensures own { IsOwn name.now vault.old vault.new }
+    ensures staged { KeepsStaged name.now vault.old vault.new }
 {
     let mut own = Own::new(vault, name);
     tenant.answer(alloc, &mut own, request)

@@ -3,7 +3,7 @@ ghost use Rattle.std.specs.FinMap as map;
 ghost use Rattle.fork_reach.specs.Reach.{is_reached, linked_names};
 ghost use Rattle.fork_host.specs.Bounds.{IsBounded};
 ghost use Rattle.fork_host.specs.Handle.{Uses, visible_by};
-ghost use Rattle.fork_host.specs.Own.{staged_in, visible_in};
+ghost use Rattle.fork_host.specs.Own.{visible_in};
 ghost use Rattle.fork_host.specs.Rows.{IsKept, IsPruned};
 
 use crate::own::Own;
@@ -20,7 +20,6 @@ pub(crate) fn keep_reached<S: LooseFiles>(
     roots: &[Name],
 ) -> Reply
     requires there { map.contains_key own.old.vault.now.tenants own.old.tenant.now ≡ true }
-    requires quiet { staged_in own.old.vault.now own.old.tenant.now ≡ map.empty }
     ensures kept { IsTrue own.old.vault.now.honest → IsKept (map.retain_keys (visible_by own.old) (is_reached (linked_names (visible_by own.old)) (visible_by own.old) roots.now)) (visible_by own.old) result (visible_in own.new.vault.now own.old.tenant.now) }
     // Over any store.
     ensures pruned { IsPruned roots.now (visible_by own.old) result (visible_in own.new.vault.now own.old.tenant.now) }

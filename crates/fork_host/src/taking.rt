@@ -11,7 +11,7 @@ ghost use Rattle.fork_push.specs.Push.{judged};
 ghost use Rattle.fork_push.specs.Verdict.{IfAccepted, IsOrderly, TellsJudged, fault_of_verdict};
 ghost use Rattle.fork_model.specs.Answer.{pushed};
 ghost use Rattle.fork_host.specs.Bounds.{Gains, IsBounded, IsRead};
-ghost use Rattle.fork_host.specs.Handle.{IsSame, Ready, Uses, both_by, visible_by};
+ghost use Rattle.fork_host.specs.Handle.{IsSame, Ready, Uses, both_by, staged_by, visible_by};
 ghost use Rattle.fork_host.specs.Own.{Changes, Stages, visible_in};
 ghost use Rattle.fork_host.specs.Rows.{Yields, IsTaken};
 ghost use Rattle.fork_host.specs.Safe.{IsSafe};
@@ -40,6 +40,7 @@ pub(crate) fn take<S: LooseFiles>(
     body: Body,
 ) -> Reply
     requires ready { Ready own.old limit }
+    requires quiet { staged_by own.old ≡ map.empty }
     requires there { map.contains_key repositories.old name ≡ true }
     ensures row { (upload : Option UploadValue) (references : References) → map.get repositories.old name ≡ Some references → IsTrue own.old.vault.now.honest
         → Yields (pushed (view_of repositories.old (visible_by own.old) upload limit) name references (Ok (body.commands.items, body.objects.items)))

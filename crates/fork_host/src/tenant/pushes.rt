@@ -4,10 +4,10 @@ ghost use Rattle.std.specs.FinMap as map;
 ghost use Rattle.git_reftx.specs.Transaction.{References};
 ghost use Rattle.git_name.specs.Object.{Object};
 ghost use Rattle.push_stream.specs.Stream.{sent_in, stream_of};
-ghost use Rattle.fork_reach.specs.Source.{Objects};
+ghost use Rattle.fork_ledger.specs.Private.{Private};
 ghost use Rattle.fork_model.specs.Answer.{Held, end_in, named_repository, open_upload, part_answer, part_drop_answer, part_end_answer, push_answer, pushed};
 ghost use Rattle.fork_host.specs.Bounds.{IsBounded};
-ghost use Rattle.fork_host.specs.Handle.{Ready, Uses, shown_by};
+ghost use Rattle.fork_host.specs.Handle.{Ready, Uses, shown_by, staged_by};
 ghost use Rattle.fork_host.specs.Pushed.{Sends, TellsHeld};
 ghost use Rattle.fork_host.specs.Rows.{Gives, Yields};
 ghost use Rattle.fork_host.specs.Safe.{IsSafe};
@@ -34,6 +34,7 @@ impl Tenant {
         body: &[u8],
     ) -> Reply
         requires ready { Ready own.old self.old.limit }
+        requires quiet { staged_by own.old ≡ map.empty }
         ensures row { IsTrue own.old.vault.now.honest → Yields (push_answer (shown_by self.old own.old) word.now body.now) (shown_by self.old own.old) result (shown self.new own.new.vault.now own.old.tenant.now) }
         ensures safe { IsSafe (IsBounded (sent_in (stream_of body.now)) own.old.vault.now own.new.vault.now) (shown_by self.old own.old) result (shown self.new own.new.vault.now own.old.tenant.now) }
         ensures own { Uses own.old own.new }
@@ -60,6 +61,7 @@ impl Tenant {
         finished: Result<Body, BodyError>,
     ) -> Reply
         requires ready { Ready own.old self.old.limit }
+        requires quiet { staged_by own.old ≡ map.empty }
         requires there { map.contains_key self.old.repositories name ≡ true }
         ensures row { (held : Held) (references : References) → TellsHeld held finished → map.get self.old.repositories name ≡ Some references → IsTrue own.old.vault.now.honest
             → Yields (pushed (shown_by self.old own.old) name references held) (shown_by self.old own.old) result (shown self.new own.new.vault.now own.old.tenant.now) }
@@ -76,7 +78,7 @@ impl Tenant {
     #[tactic(auto, unfolding(fork_model::specs::Answer::part_answer))]
     // A piece of an upload, which is begun where none is open.
     pub(crate) fn part(&mut self, alloc: Global, body: &[u8]) -> Reply
-        ensures { (objects : Objects) → Gives (part_answer (seen_by self.old objects) body.now) (seen_by self.old objects) result (seen_by self.new objects) }
+        ensures { (own : Private) → Gives (part_answer (seen_by self.old own) body.now) (seen_by self.old own) result (seen_by self.new own) }
     {
         match &mut self.upload {
             Some(upload) => feed(alloc, upload, body),
@@ -100,6 +102,7 @@ impl Tenant {
         word: &[u8],
     ) -> Reply
         requires ready { Ready own.old self.old.limit }
+        requires quiet { staged_by own.old ≡ map.empty }
         ensures row { IsTrue own.old.vault.now.honest → Yields (part_end_answer (shown_by self.old own.old) word.now) (shown_by self.old own.old) result (shown self.new own.new.vault.now own.old.tenant.now) }
         ensures safe { IsSafe (IsBounded (sent_in (open_upload self.old.upload).stream) own.old.vault.now own.new.vault.now) (shown_by self.old own.old) result (shown self.new own.new.vault.now own.old.tenant.now) }
         ensures own { Uses own.old own.new }
@@ -119,6 +122,7 @@ impl Tenant {
         word: &[u8],
     ) -> Reply
         requires ready { Ready own.old self.old.limit }
+        requires quiet { staged_by own.old ≡ map.empty }
         ensures row { IsTrue own.old.vault.now.honest → Yields (named_repository (shown_by self.old own.old) word.now (end_in (shown_by self.old own.old) word.now (map.get self.old.repositories word.now))) (shown_by self.old own.old) result (shown self.new own.new.vault.now own.old.tenant.now) }
         ensures safe { IsSafe (IsBounded (sent_in (open_upload self.old.upload).stream) own.old.vault.now own.new.vault.now) (shown_by self.old own.old) result (shown self.new own.new.vault.now own.old.tenant.now) }
         ensures own { Uses own.old own.new }
@@ -139,7 +143,7 @@ impl Tenant {
     #[tactic(auto, unfolding(fork_model::specs::Answer::part_drop_answer))]
     // The upload goes.
     pub(crate) fn part_drop(&mut self, alloc: Global) -> Reply
-        ensures { (objects : Objects) → Gives (part_drop_answer (seen_by self.old objects)) (seen_by self.old objects) result (seen_by self.new objects) }
+        ensures { (own : Private) → Gives (part_drop_answer (seen_by self.old own)) (seen_by self.old own) result (seen_by self.new own) }
     {
         if self.upload.is_none() {
             return Reply::Refused(Refusal::NoUpload);

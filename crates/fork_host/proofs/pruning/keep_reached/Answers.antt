@@ -13,7 +13,7 @@ use Rattle.fork_host.specs.Handle.{visible_by}
 use Rattle.fork_host.specs.Rows.{Kept, Unkept, Pruned, Unpruned, fault_told}
 use Rattle.fork_host.proofs.BoundLemmas.{bounded_gains, bounded_read, gains_left, gains_read, gains_then}
 use Rattle.fork_host.proofs.HandleLemmas.{same_then}
-use Rattle.fork_host.proofs.OwnLemmas.{kept, own_of, seen_itself, seen_measures}
+use Rattle.fork_host.proofs.OwnLemmas.{kept, own_of, staged_kept, seen_itself, seen_measures}
 use Rattle.fork_host.proofs.SafeLemmas.{read_uses}
 use Rattle.fork_host.proofs.pruning.keep_reached.Goals as goal
 
@@ -25,7 +25,7 @@ returns-in-Ok-clause-kept g c honest =
     let names = contains name_cmp c.in-Ok.names in
     let told = c.in-Ok.ensures in
     let set = c.keep_only.ensures.tenants ∙ ap (λ r. at_tenant mid.vault.now.tenants r.now (with_kept names)) told.same.tenant in
-    let changes = kept first.vault.now mid.vault.now new.vault.now first.tenant.now names c.requires.there c.requires.quiet told.shape told.kept told.read.honest set c.keep_only.ensures.store.honest in
+    let changes = kept first.vault.now mid.vault.now new.vault.now first.tenant.now names c.requires.there told.shape told.kept told.read.honest set c.keep_only.ensures.store.honest in
     Kept c.done.ensures
     (seen_itself first.vault.now new.vault.now first.tenant.now (retain_keys (visible_by first) names) changes honest ∙ ap (retain_keys (visible_by first)) (λ i name. told.found honest name i))
 
@@ -37,7 +37,7 @@ returns-in-Ok-clause-pruned g c =
     let names = contains name_cmp c.in-Ok.names in
     let told = c.in-Ok.ensures in
     let set = c.keep_only.ensures.tenants ∙ ap (λ r. at_tenant mid.vault.now.tenants r.now (with_kept names)) told.same.tenant in
-    let changes = kept first.vault.now mid.vault.now new.vault.now first.tenant.now names c.requires.there c.requires.quiet told.shape told.kept told.read.honest set c.keep_only.ensures.store.honest in
+    let changes = kept first.vault.now mid.vault.now new.vault.now first.tenant.now names c.requires.there told.shape told.kept told.read.honest set c.keep_only.ensures.store.honest in
     Pruned names c.done.ensures (seen_measures first.vault.now new.vault.now first.tenant.now (retain_keys (visible_by first) names) changes) told.rooted
 
 pub returns-in-Ok-clause-own : goal.returns-in-Ok-clause-own
@@ -48,10 +48,11 @@ returns-in-Ok-clause-own g c =
     let names = contains name_cmp c.in-Ok.names in
     let told = c.in-Ok.ensures in
     let set = c.keep_only.ensures.tenants ∙ ap (λ r. at_tenant mid.vault.now.tenants r.now (with_kept names)) told.same.tenant in
-    let changes = kept first.vault.now mid.vault.now new.vault.now first.tenant.now names c.requires.there c.requires.quiet told.shape told.kept told.read.honest set c.keep_only.ensures.store.honest in
+    let changes = kept first.vault.now mid.vault.now new.vault.now first.tenant.now names c.requires.there told.shape told.kept told.read.honest set c.keep_only.ensures.store.honest in
     record {
       same = same_then first mid new told.same c.keep_only.ensures.same;
       own = own_of first.vault.now new.vault.now first.tenant.now (retain_keys (visible_by first) names) changes;
+      staged = staged_kept first.vault.now new.vault.now first.tenant.now (retain_keys (visible_by first) names) changes;
     }
 
 pub returns-in-Err-clause-pruned : goal.returns-in-Err-clause-pruned
@@ -62,7 +63,7 @@ returns-in-Err-clause-pruned g c =
     (ap (λ (p : Measures × Measures). p.0) (same_measures first.vault.now.tenants mid.vault.now.tenants first.tenant.now c.in-Err.ensures.shape))
 
 pub returns-in-Err-clause-own : goal.returns-in-Err-clause-own
-returns-in-Err-clause-own g c = (let told = c.in-Err.ensures in read_uses c.args.own.now c.reached.new.self c.requires.quiet told.shape told.kept told.read.honest told.same)
+returns-in-Err-clause-own g c = (let told = c.in-Err.ensures in read_uses c.args.own.now c.reached.new.self told.shape told.kept told.read.honest told.same)
 
 pub returns-in-Ok-clause-bounds : goal.returns-in-Ok-clause-bounds
 returns-in-Ok-clause-bounds g c =

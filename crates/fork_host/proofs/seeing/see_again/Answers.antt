@@ -15,7 +15,7 @@ use Rattle.fork_host.specs.Read.{AreRead}
 use Rattle.fork_host.specs.Refilled.{SeesAgain, bad_in}
 use Rattle.fork_host.specs.Restored.{AreOnStore, first_astray}
 use Rattle.fork_host.specs.declared.own.Own.{Own}
-use Rattle.fork_host.proofs.OwnLemmas.{changes_none, emptied, leaves_all, own_of, seen_itself}
+use Rattle.fork_host.proofs.OwnLemmas.{changes_none, emptied, leaves_all, none_staged, seen_itself}
 use Rattle.fork_host.proofs.ReadingLemmas.{are_readings}
 use Rattle.fork_host.proofs.RestoreLemmas.{bad_by, closed_seen, named_came, on_store, right_seen, stands_against}
 use Rattle.fork_host.proofs.seeing.see_again.Goals as goal
@@ -48,7 +48,7 @@ pub returns-in_default-clause-err : goal.returns-in_default-clause-err
 returns-in_default-clause-err g c =
     let first = c.args.own.now in
     changes_none (Settles first.tenant.now map.empty) first.vault.now
-    (record { leaves = leaves_all first.vault.now.tenants first.tenant.now; sees = ap (λ p. p.visible) c.requires.nothing; quiet = ap (λ p. p.staged) c.requires.nothing })
+    (record { leaves = leaves_all first.vault.now.tenants first.tenant.now; sees = ap (λ p. p.visible) c.requires.nothing; stages = ap (λ p. p.staged) c.requires.nothing })
 
 pub returns-in-Ok-judge_seen-clause-ok : goal.returns-in-Ok-judge_seen-clause-ok
 returns-in-Ok-judge_seen-clause-ok g c =
@@ -72,7 +72,7 @@ returns-in-Ok-judge_seen-clause-ok g c =
       closed = λ h. closed_seen first.vault.now.files names objects (stored h).among (none h);
       stored = λ h. record { objects = objects; stored = stored h; is = (refl, none h) };
       targets = ap (λ r. first_astray c.args.repositories.now (visible_in mid.vault.now r.now)) (sym tenant) ∙ judged.targets;
-      within = subst (λ o. use_of o ≤ c.args.limit) (ap (λ r. both_in mid.vault.now r.now) tenant ∙ both_quiet (private_of mid.vault.now.tenants t) (own_of first.vault.now mid.vault.now t objects changes).quiet) judged.within;
+      within = subst (λ o. use_of o ≤ c.args.limit) (ap (λ r. both_in mid.vault.now r.now) tenant ∙ both_quiet (private_of mid.vault.now.tenants t) (none_staged first.vault.now mid.vault.now t objects changes)) judged.within;
     }
 
 pub returns-clause-against : goal.returns-clause-against
@@ -86,7 +86,7 @@ returns-clause-against g c = λ h.
     let tenant = c.recall_all.ensures.same.tenant in
     let came = came_of first mid names c.requires.nothing told in
     let seen = seen_of first mid names c.requires.nothing tenant told h in
-    let quiet = ap (λ r. both_in mid.vault.now r.now) tenant ∙ both_quiet (private_of mid.vault.now.tenants t) (own_of first.vault.now mid.vault.now t objects came).quiet in
+    let quiet = ap (λ r. both_in mid.vault.now r.now) tenant ∙ both_quiet (private_of mid.vault.now.tenants t) (none_staged first.vault.now mid.vault.now t objects came) in
     let all = quiet ∙ seen_itself first.vault.now mid.vault.now t objects came h in
     stands_against first.vault.now.files names c.in-Ok.names c.args.repositories.now c.args.limit (visible_by mid) (both_by mid) objects c.in-Ok.ensures seen all (stored_of first mid names told h) c.in-Err-judge_seen.against
     (c.in-Err-judge_seen.ensures.against (read_of first mid names c.in-Ok.names c.args.readings.now c.requires.nothing tenant told c.in-Ok.ensures c.requires.read h))

@@ -11,9 +11,9 @@ use Rattle.fork_host.specs.Rows.{IsTaken}
 use Rattle.fork_host.proofs.BoundLemmas.{bounded_after, bounded_gains, bounded_left, bounded_read, gains_left, gains_read, gains_then}
 use Rattle.fork_host.proofs.HandleLemmas.{of_first, same_then, sent_itself, sent_measures, sent_staged, sent_still}
 use Rattle.fork_host.proofs.UpdateLemmas.{found}
-use Rattle.fork_host.proofs.OwnLemmas.{here_changed, own_of, seen_itself, seen_measures}
+use Rattle.fork_host.proofs.OwnLemmas.{here_changed, none_staged, own_of, seen_itself, seen_measures, still_none}
 use Rattle.fork_host.proofs.SafeLemmas.{safe_left}
-use Rattle.fork_host.proofs.TakingLemmas.{gives_nothing, gives_refused, gives_taken, own_taken, quiet_taken, taken_safe}
+use Rattle.fork_host.proofs.TakingLemmas.{gives_nothing, gives_refused, gives_taken, own_taken, quiet_taken, staged_taken, taken_safe}
 use Rattle.fork_host.proofs.taking.take.Goals as goal
 
 pub returns-in-Accepted-clause-row : goal.returns-in-Accepted-clause-row
@@ -22,7 +22,7 @@ returns-in-Accepted-clause-row g c upload references here honest =
     let staged = c.stage_all.new.own in
     let mid = c.verdict.new.own in
     let sent = c.args.body.objects.items in
-    let all = sent_staged first staged sent c.requires.ready.quiet c.in_default-stage_all.ensures.ok in
+    let all = sent_staged first staged sent c.requires.quiet c.in_default-stage_all.ensures.ok in
     let same = same_then first staged mid c.in_default-stage_all.ensures.same c.verdict.ensures.same in
     let stages = sent_still first staged mid sent same c.verdict.ensures.shape c.verdict.ensures.kept c.verdict.ensures.read.honest all in
     let both = with_objects (visible_by first) sent in
@@ -42,7 +42,7 @@ returns-in-Accepted-clause-safe g c upload =
     let staged = c.stage_all.new.own in
     let mid = c.verdict.new.own in
     let sent = c.args.body.objects.items in
-    let all = sent_staged first staged sent c.requires.ready.quiet c.in_default-stage_all.ensures.ok in
+    let all = sent_staged first staged sent c.requires.quiet c.in_default-stage_all.ensures.ok in
     let same = same_then first staged mid c.in_default-stage_all.ensures.same c.verdict.ensures.same in
     let stages = sent_still first staged mid sent same c.verdict.ensures.shape c.verdict.ensures.kept c.verdict.ensures.read.honest all in
     let both = with_objects (visible_by first) sent in
@@ -62,7 +62,7 @@ returns-in-Accepted-clause-own g c =
     let staged = c.stage_all.new.own in
     let mid = c.verdict.new.own in
     let sent = c.args.body.objects.items in
-    let all = sent_staged first staged sent c.requires.ready.quiet c.in_default-stage_all.ensures.ok in
+    let all = sent_staged first staged sent c.requires.quiet c.in_default-stage_all.ensures.ok in
     let same = same_then first staged mid c.in_default-stage_all.ensures.same c.verdict.ensures.same in
     let stages = sent_still first staged mid sent same c.verdict.ensures.shape c.verdict.ensures.kept c.verdict.ensures.read.honest all in
     let both = with_objects (visible_by first) sent in
@@ -73,6 +73,7 @@ returns-in-Accepted-clause-own g c =
     record {
       same = same_then first mid new same c.accept.ensures.same;
       own = own_taken first.vault.now new.vault.now first.tenant.now repositories _ c.accept.new.repositories both c.accept.result taken;
+      staged = staged_taken first.vault.now new.vault.now first.tenant.now repositories _ c.accept.new.repositories both c.accept.result c.requires.quiet taken;
     }
 
 pub returns-in-Refused-clause-row : goal.returns-in-Refused-clause-row
@@ -81,7 +82,7 @@ returns-in-Refused-clause-row g c upload references here honest =
     let staged = c.stage_all.new.own in
     let mid = c.verdict.new.own in
     let sent = c.args.body.objects.items in
-    let all = sent_staged first staged sent c.requires.ready.quiet c.in_default-stage_all.ensures.ok in
+    let all = sent_staged first staged sent c.requires.quiet c.in_default-stage_all.ensures.ok in
     let same = same_then first staged mid c.in_default-stage_all.ensures.same c.verdict.ensures.same in
     let stages = sent_still first staged mid sent same c.verdict.ensures.shape c.verdict.ensures.kept c.verdict.ensures.read.honest all in
     let both = with_objects (visible_by first) sent in
@@ -99,7 +100,7 @@ returns-in-Refused-clause-safe g c upload =
     let staged = c.stage_all.new.own in
     let mid = c.verdict.new.own in
     let sent = c.args.body.objects.items in
-    let all = sent_staged first staged sent c.requires.ready.quiet c.in_default-stage_all.ensures.ok in
+    let all = sent_staged first staged sent c.requires.quiet c.in_default-stage_all.ensures.ok in
     let same = same_then first staged mid c.in_default-stage_all.ensures.same c.verdict.ensures.same in
     let stages = sent_still first staged mid sent same c.verdict.ensures.shape c.verdict.ensures.kept c.verdict.ensures.read.honest all in
     let both = with_objects (visible_by first) sent in
@@ -115,7 +116,7 @@ returns-in-Refused-clause-own g c =
     let staged = c.stage_all.new.own in
     let mid = c.verdict.new.own in
     let sent = c.args.body.objects.items in
-    let all = sent_staged first staged sent c.requires.ready.quiet c.in_default-stage_all.ensures.ok in
+    let all = sent_staged first staged sent c.requires.quiet c.in_default-stage_all.ensures.ok in
     let same = same_then first staged mid c.in_default-stage_all.ensures.same c.verdict.ensures.same in
     let stages = sent_still first staged mid sent same c.verdict.ensures.shape c.verdict.ensures.kept c.verdict.ensures.read.honest all in
     let both = with_objects (visible_by first) sent in
@@ -124,6 +125,7 @@ returns-in-Refused-clause-own g c =
     record {
       same = same_then first mid new same c.discard.ensures.same;
       own = own_of first.vault.now new.vault.now first.tenant.now (visible_by first) settles;
+      staged = still_none first.vault.now new.vault.now first.tenant.now c.requires.quiet (none_staged first.vault.now new.vault.now first.tenant.now (visible_by first) settles);
     }
 
 pub returns-clause-row : goal.returns-clause-row
@@ -132,7 +134,7 @@ returns-clause-row g c upload references here honest =
     let staged = c.stage_all.new.own in
     let mid = c.verdict.new.own in
     let sent = c.args.body.objects.items in
-    let all = sent_staged first staged sent c.requires.ready.quiet c.in_default-stage_all.ensures.ok in
+    let all = sent_staged first staged sent c.requires.quiet c.in_default-stage_all.ensures.ok in
     let same = same_then first staged mid c.in_default-stage_all.ensures.same c.verdict.ensures.same in
     let stages = sent_still first staged mid sent same c.verdict.ensures.shape c.verdict.ensures.kept c.verdict.ensures.read.honest all in
     let both = with_objects (visible_by first) sent in
@@ -147,7 +149,7 @@ returns-clause-safe g c upload =
     let staged = c.stage_all.new.own in
     let mid = c.verdict.new.own in
     let sent = c.args.body.objects.items in
-    let all = sent_staged first staged sent c.requires.ready.quiet c.in_default-stage_all.ensures.ok in
+    let all = sent_staged first staged sent c.requires.quiet c.in_default-stage_all.ensures.ok in
     let same = same_then first staged mid c.in_default-stage_all.ensures.same c.verdict.ensures.same in
     let stages = sent_still first staged mid sent same c.verdict.ensures.shape c.verdict.ensures.kept c.verdict.ensures.read.honest all in
     let both = with_objects (visible_by first) sent in
@@ -164,7 +166,7 @@ returns-clause-own g c =
     let staged = c.stage_all.new.own in
     let mid = c.verdict.new.own in
     let sent = c.args.body.objects.items in
-    let all = sent_staged first staged sent c.requires.ready.quiet c.in_default-stage_all.ensures.ok in
+    let all = sent_staged first staged sent c.requires.quiet c.in_default-stage_all.ensures.ok in
     let same = same_then first staged mid c.in_default-stage_all.ensures.same c.verdict.ensures.same in
     let stages = sent_still first staged mid sent same c.verdict.ensures.shape c.verdict.ensures.kept c.verdict.ensures.read.honest all in
     let both = with_objects (visible_by first) sent in
@@ -173,6 +175,7 @@ returns-clause-own g c =
     record {
       same = same_then first mid new same c.discard-in-Failed.ensures.same;
       own = own_of first.vault.now new.vault.now first.tenant.now (visible_by first) settles;
+      staged = still_none first.vault.now new.vault.now first.tenant.now c.requires.quiet (none_staged first.vault.now new.vault.now first.tenant.now (visible_by first) settles);
     }
 
 pub returns-in-Err-clause-row : goal.returns-in-Err-clause-row
@@ -197,6 +200,7 @@ returns-in-Err-clause-own g c =
     record {
       same = c.in-Err.ensures.same;
       own = own_of first.vault.now c.stage_all.new.own.vault.now first.tenant.now (visible_by first) c.in-Err.ensures.err;
+      staged = still_none first.vault.now c.stage_all.new.own.vault.now first.tenant.now c.requires.quiet (none_staged first.vault.now c.stage_all.new.own.vault.now first.tenant.now (visible_by first) c.in-Err.ensures.err);
     }
 
 pub accept-requires : goal.accept-requires
@@ -205,7 +209,7 @@ accept-requires g c =
     let staged = c.stage_all.new.own in
     let mid = c.verdict.new.own in
     let sent = c.args.body.objects.items in
-    let all = sent_staged first staged sent c.requires.ready.quiet c.in_default-stage_all.ensures.ok in
+    let all = sent_staged first staged sent c.requires.quiet c.in_default-stage_all.ensures.ok in
     let same = same_then first staged mid c.in_default-stage_all.ensures.same c.verdict.ensures.same in
     let stages = sent_still first staged mid sent same c.verdict.ensures.shape c.verdict.ensures.kept c.verdict.ensures.read.honest all in
     let both = with_objects (visible_by first) sent in
@@ -217,7 +221,7 @@ discard-requires g c =
     let staged = c.stage_all.new.own in
     let mid = c.verdict.new.own in
     let sent = c.args.body.objects.items in
-    let all = sent_staged first staged sent c.requires.ready.quiet c.in_default-stage_all.ensures.ok in
+    let all = sent_staged first staged sent c.requires.quiet c.in_default-stage_all.ensures.ok in
     let same = same_then first staged mid c.in_default-stage_all.ensures.same c.verdict.ensures.same in
     let stages = sent_still first staged mid sent same c.verdict.ensures.shape c.verdict.ensures.kept c.verdict.ensures.read.honest all in
     let both = with_objects (visible_by first) sent in
@@ -229,7 +233,7 @@ discard-requires-in-Failed g c =
     let staged = c.stage_all.new.own in
     let mid = c.verdict.new.own in
     let sent = c.args.body.objects.items in
-    let all = sent_staged first staged sent c.requires.ready.quiet c.in_default-stage_all.ensures.ok in
+    let all = sent_staged first staged sent c.requires.quiet c.in_default-stage_all.ensures.ok in
     let same = same_then first staged mid c.in_default-stage_all.ensures.same c.verdict.ensures.same in
     let stages = sent_still first staged mid sent same c.verdict.ensures.shape c.verdict.ensures.kept c.verdict.ensures.read.honest all in
     let both = with_objects (visible_by first) sent in

@@ -25,7 +25,7 @@ returns-in_default-clause-explained g c trusted =
 pub answer_from-requires : goal.answer_from-requires
 answer_from-requires g c =
     let here = found_in c.args.self.now c.self.inside.tenants.entries c.args.name.now (Some c.in-Some.tenant.now) c.self.view_is c.in-Some.ensures.value in
-    record { ready = ready (state_of c.args.self.now c.args.vault.now) c.args.name.now c.in-Some.tenant.now c.requires.whole here }
+    record { ready = ready (state_of c.args.self.now c.args.vault.now) c.args.name.now c.in-Some.tenant.now c.requires.whole here; quiet = c.requires.whole.staged c.args.name.now c.in-Some.tenant.now here }
 
 pub returns-clause-explained : goal.returns-clause-explained
 returns-clause-explained g c trusted =
@@ -46,7 +46,7 @@ returns-clause-whole g c =
     let old = state_of c.args.self.now c.args.vault.now in
     let new = state_of (map.from_entries (c.get_mut.follows.lender c.answer_from.new.tenant).entries) c.answer_from.new.vault in
     whole_after _ old new c.args.name.now (ask_of c.args.request) c.in-Some.tenant.now c.answer_from.new.tenant c.answer_from.result
-    c.requires.whole here set (returns-clause-explained g c) c.answer_from.ensures.safe c.answer_from.ensures.own
+    c.requires.whole here set (returns-clause-explained g c) c.answer_from.ensures.safe c.answer_from.ensures.own c.answer_from.ensures.staged
 
 pub returns-clause-kept : goal.returns-clause-kept
 returns-clause-kept g c not_done =

@@ -7,9 +7,10 @@ use Rattle.fork_host.specs.Adding.{new_view}
 use Rattle.fork_host.specs.Own.{Changes, Settles, staged_in, visible_in}
 use Rattle.fork_host.specs.Read.{AreRead}
 use Rattle.fork_host.specs.Refilled.{IsRefilled, IsRefilledIn}
-use Rattle.fork_host.specs.Shown.{Account, Accounts, HostState, seen_by, shown, state_of, world_of}
+use Rattle.fork_host.specs.Pushed.{view_of}
+use Rattle.fork_host.specs.Shown.{Account, Accounts, HostState, shown, state_of, world_of}
 use Rattle.fork_host.proofs.AddingLemmas.{orderly_new_view, right_new_view}
-use Rattle.fork_host.proofs.OwnLemmas.{own_of, seen_measures}
+use Rattle.fork_host.proofs.OwnLemmas.{none_staged, own_of, seen_measures}
 use Rattle.fork_host.proofs.RefillLemmas.{account_shown, keys_set, orderly_refilled, refilled, refilled_in, restored_by, right_refilled, whole_set}
 use Rattle.fork_host.proofs.host.Host.refill.Given as given
 use Rattle.fork_host.proofs.host.Host.refill.Goals as goal
@@ -64,7 +65,8 @@ invariant_of-self g c =
     let found = account_of g c in
     let restored = restored_to g c in
     let gathered = c.in-Ok.ensures ∙ c.repositories.ensures in
-    whole_set old new tenant.name found.0 (refilled c.in-Ok.gathered tenant.limit) c.self.invariant found.1 (set_to g c) (own_of old.vault new.vault tenant.name restored.objects restored.changes) refl
+    whole_set old new tenant.name found.0 (refilled c.in-Ok.gathered tenant.limit) c.self.invariant found.1 (set_to g c) (own_of old.vault new.vault tenant.name restored.objects restored.changes)
+    (none_staged old.vault new.vault tenant.name restored.objects restored.changes) refl
     (orderly_refilled tenant.name tenant.seen tenant.repositories c.in-Ok.gathered tenant.limit old.vault new.vault sound.limit sound.few sound.repositories gathered restored)
     (λ honest. right_refilled tenant.name tenant.seen tenant.repositories c.in-Ok.gathered tenant.limit old.vault new.vault (sym restored.changes.honest ∙ honest) restored)
 
@@ -78,8 +80,9 @@ invariant_of-self-in-Err-see_in g c =
     let found = account_shown old t (new_view limit) fresh in
     let changes = subst (λ n. Changes (Settles n map.empty) old.vault new.vault) c.name-name.ensures.name c.in-Err.ensures.err in
     let seen : visible_in new.vault t ≡ map.empty = none_of (visible_in new.vault t) (seen_measures old.vault new.vault t map.empty changes) in
-    let view = ap (seen_by found.0) (seen ∙ sym (ap (λ v. v.objects) found.2)) ∙ found.2 in
-    whole_set old new t found.0 found.0 c.self.invariant found.1 (sym (insert_same c.self.inside.accounts t found.0 found.1)) (own_of old.vault new.vault t map.empty changes) (ap (λ v. v.upload) found.2)
+    let view = ap (λ objects. view_of found.0.repositories objects found.0.upload found.0.limit) (seen ∙ sym (ap (λ v. v.objects) found.2)) ∙ found.2 in
+    whole_set old new t found.0 found.0 c.self.invariant found.1 (sym (insert_same c.self.inside.accounts t found.0 found.1)) (own_of old.vault new.vault t map.empty changes)
+    (none_staged old.vault new.vault t map.empty changes) (ap (λ v. v.upload) found.2)
     (subst IsOrderly (sym view) (orderly_new_view limit (c.self.invariant.orderly.views t (new_view limit) fresh).limit))
     (λ honest. subst IsRight (sym view) (right_new_view limit))
 

@@ -1,7 +1,7 @@
 use Rattle.fork_request.specs.Asked.{ask_of}
 use Rattle.std.proofs.Common.{subst}
 use Rattle.fork_model.specs.Answer.{answer, cat_file_answer, ls_tree_answer}
-use Rattle.fork_host.specs.Handle.{shown_by, visible_by}
+use Rattle.fork_host.specs.Handle.{private_by, shown_by}
 use Rattle.fork_host.specs.Rows.{Gives, Yields}
 use Rattle.fork_host.specs.Sent.{sent_by}
 use Rattle.fork_host.specs.Shown.{shown}
@@ -12,62 +12,62 @@ use Rattle.fork_host.proofs.tenant.Tenant.answer.Goals as goal
 
 pub returns-in-Init-clause-row : goal.returns-in-Init-clause-row
 unfolding answer
-returns-in-Init-clause-row g c = record { yields = λ honest. yields_of _ _ _ _ (rw c.in-Init.is (c.init.ensures (visible_by c.args.own.now))) }
+returns-in-Init-clause-row g c = record { yields = λ honest. yields_of _ _ _ _ (rw c.in-Init.is (c.init.ensures (private_by c.args.own.now))) }
 
 pub returns-in-Init-clause-safe : goal.returns-in-Init-clause-safe
 unfolding answer
 returns-in-Init-clause-safe g c =
     let view = shown_by c.args.self.now c.args.own.now in
     let new = shown c.init.new.self c.args.own.now.vault.now c.args.own.now.tenant.now in
-    let gives : Gives (answer view (ask_of c.args.request)) view c.init.result new = rw c.in-Init.is (c.init.ensures (visible_by c.args.own.now)) in
+    let gives : Gives (answer view (ask_of c.args.request)) view c.init.result new = rw c.in-Init.is (c.init.ensures (private_by c.args.own.now)) in
     safe_gives _ view new (ask_of c.args.request) c.init.result (bounded_still (sent_by view (ask_of c.args.request)) c.args.own.now.vault.now c.init.result (quiet_row view new (ask_of c.args.request) c.init.result gives)) gives
 
 pub returns-in-Drop-clause-row : goal.returns-in-Drop-clause-row
 unfolding answer
-returns-in-Drop-clause-row g c = record { yields = λ honest. yields_of _ _ _ _ (rw c.in-Drop.is (c.drop_repository.ensures (visible_by c.args.own.now))) }
+returns-in-Drop-clause-row g c = record { yields = λ honest. yields_of _ _ _ _ (rw c.in-Drop.is (c.drop_repository.ensures (private_by c.args.own.now))) }
 
 pub returns-in-Drop-clause-safe : goal.returns-in-Drop-clause-safe
 unfolding answer
 returns-in-Drop-clause-safe g c =
     let view = shown_by c.args.self.now c.args.own.now in
     let new = shown c.drop_repository.new.self c.args.own.now.vault.now c.args.own.now.tenant.now in
-    let gives : Gives (answer view (ask_of c.args.request)) view c.drop_repository.result new = rw c.in-Drop.is (c.drop_repository.ensures (visible_by c.args.own.now)) in
+    let gives : Gives (answer view (ask_of c.args.request)) view c.drop_repository.result new = rw c.in-Drop.is (c.drop_repository.ensures (private_by c.args.own.now)) in
     safe_gives _ view new (ask_of c.args.request) c.drop_repository.result (bounded_still (sent_by view (ask_of c.args.request)) c.args.own.now.vault.now c.drop_repository.result (quiet_row view new (ask_of c.args.request) c.drop_repository.result gives)) gives
 
 pub returns-in-Fork-clause-row : goal.returns-in-Fork-clause-row
 unfolding answer
-returns-in-Fork-clause-row g c = record { yields = λ honest. yields_of _ _ _ _ (rw c.in-Fork.is (c.fork.ensures (visible_by c.args.own.now))) }
+returns-in-Fork-clause-row g c = record { yields = λ honest. yields_of _ _ _ _ (rw c.in-Fork.is (c.fork.ensures (private_by c.args.own.now))) }
 
 pub returns-in-Fork-clause-safe : goal.returns-in-Fork-clause-safe
 unfolding answer
 returns-in-Fork-clause-safe g c =
     let view = shown_by c.args.self.now c.args.own.now in
     let new = shown c.fork.new.self c.args.own.now.vault.now c.args.own.now.tenant.now in
-    let gives : Gives (answer view (ask_of c.args.request)) view c.fork.result new = rw c.in-Fork.is (c.fork.ensures (visible_by c.args.own.now)) in
+    let gives : Gives (answer view (ask_of c.args.request)) view c.fork.result new = rw c.in-Fork.is (c.fork.ensures (private_by c.args.own.now)) in
     safe_gives _ view new (ask_of c.args.request) c.fork.result (bounded_still (sent_by view (ask_of c.args.request)) c.args.own.now.vault.now c.fork.result (quiet_row view new (ask_of c.args.request) c.fork.result gives)) gives
 
 pub returns-in-Part-clause-row : goal.returns-in-Part-clause-row
 unfolding answer
-returns-in-Part-clause-row g c = record { yields = λ honest. yields_of _ _ _ _ (rw c.in-Part.is (c.part.ensures (visible_by c.args.own.now))) }
+returns-in-Part-clause-row g c = record { yields = λ honest. yields_of _ _ _ _ (rw c.in-Part.is (c.part.ensures (private_by c.args.own.now))) }
 
 pub returns-in-Part-clause-safe : goal.returns-in-Part-clause-safe
 unfolding answer
 returns-in-Part-clause-safe g c =
     let view = shown_by c.args.self.now c.args.own.now in
     let new = shown c.part.new.self c.args.own.now.vault.now c.args.own.now.tenant.now in
-    let gives : Gives (answer view (ask_of c.args.request)) view c.part.result new = rw c.in-Part.is (c.part.ensures (visible_by c.args.own.now)) in
+    let gives : Gives (answer view (ask_of c.args.request)) view c.part.result new = rw c.in-Part.is (c.part.ensures (private_by c.args.own.now)) in
     safe_gives _ view new (ask_of c.args.request) c.part.result (bounded_still (sent_by view (ask_of c.args.request)) c.args.own.now.vault.now c.part.result (quiet_row view new (ask_of c.args.request) c.part.result gives)) gives
 
 pub returns-in-PartDrop-clause-row : goal.returns-in-PartDrop-clause-row
 unfolding answer
-returns-in-PartDrop-clause-row g c = record { yields = λ honest. yields_of _ _ _ _ (rw c.in-PartDrop.is (c.part_drop.ensures (visible_by c.args.own.now))) }
+returns-in-PartDrop-clause-row g c = record { yields = λ honest. yields_of _ _ _ _ (rw c.in-PartDrop.is (c.part_drop.ensures (private_by c.args.own.now))) }
 
 pub returns-in-PartDrop-clause-safe : goal.returns-in-PartDrop-clause-safe
 unfolding answer
 returns-in-PartDrop-clause-safe g c =
     let view = shown_by c.args.self.now c.args.own.now in
     let new = shown c.part_drop.new.self c.args.own.now.vault.now c.args.own.now.tenant.now in
-    let gives : Gives (answer view (ask_of c.args.request)) view c.part_drop.result new = rw c.in-PartDrop.is (c.part_drop.ensures (visible_by c.args.own.now)) in
+    let gives : Gives (answer view (ask_of c.args.request)) view c.part_drop.result new = rw c.in-PartDrop.is (c.part_drop.ensures (private_by c.args.own.now)) in
     safe_gives _ view new (ask_of c.args.request) c.part_drop.result (bounded_still (sent_by view (ask_of c.args.request)) c.args.own.now.vault.now c.part_drop.result (quiet_row view new (ask_of c.args.request) c.part_drop.result gives)) gives
 
 pub returns-in-UpdateRefs-clause-row : goal.returns-in-UpdateRefs-clause-row

@@ -14,4 +14,4 @@ pub returns-clause-safe : goal.returns-clause-safe
 returns-clause-safe g c = query_safe (λ text. text.items) c.args.self.now c.args.own.now c.cat_file.new.source c.cat_file.result c.told.result c.cat_file.ensures.asked c.told.ensures
 
 pub returns-clause-own : goal.returns-clause-own
-returns-clause-own g c = asked_uses c.args.own.now c.cat_file.new.source (fault_told c.cat_file.result) c.requires.ready.quiet c.cat_file.ensures.asked
+returns-clause-own g c = asked_uses c.args.own.now c.cat_file.new.source (fault_told c.cat_file.result) c.cat_file.ensures.asked

@@ -30,4 +30,4 @@ pub returns-clause-safe : goal.returns-clause-safe
 returns-clause-safe g c = query_safe (λ text. text.items) c.args.self.now c.args.own.now c.fetch.new.source c.fetch.result c.told.result c.fetch.ensures.asked c.told.ensures
 
 pub returns-clause-own : goal.returns-clause-own
-returns-clause-own g c = asked_uses c.args.own.now c.fetch.new.source (fault_told c.fetch.result) c.requires.ready.quiet c.fetch.ensures.asked
+returns-clause-own g c = asked_uses c.args.own.now c.fetch.new.source (fault_told c.fetch.result) c.fetch.ensures.asked

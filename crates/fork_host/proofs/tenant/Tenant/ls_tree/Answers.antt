@@ -14,4 +14,4 @@ pub returns-clause-safe : goal.returns-clause-safe
 returns-clause-safe g c = query_safe (λ text. text.items) c.args.self.now c.args.own.now c.ls_tree.new.source c.ls_tree.result c.told.result c.ls_tree.ensures.asked c.told.ensures
 
 pub returns-clause-own : goal.returns-clause-own
-returns-clause-own g c = asked_uses c.args.own.now c.ls_tree.new.source (fault_told c.ls_tree.result) c.requires.ready.quiet c.ls_tree.ensures.asked
+returns-clause-own g c = asked_uses c.args.own.now c.ls_tree.new.source (fault_told c.ls_tree.result) c.ls_tree.ensures.asked

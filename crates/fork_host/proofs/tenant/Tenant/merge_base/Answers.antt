@@ -29,4 +29,4 @@ pub returns-clause-safe : goal.returns-clause-safe
 returns-clause-safe g c = query_safe (λ text. text.items) c.args.self.now c.args.own.now c.merge_base.new.source c.merge_base.result c.told.result c.merge_base.ensures.asked c.told.ensures
 
 pub returns-clause-own : goal.returns-clause-own
-returns-clause-own g c = asked_uses c.args.own.now c.merge_base.new.source (fault_told c.merge_base.result) c.requires.ready.quiet c.merge_base.ensures.asked
+returns-clause-own g c = asked_uses c.args.own.now c.merge_base.new.source (fault_told c.merge_base.result) c.merge_base.ensures.asked

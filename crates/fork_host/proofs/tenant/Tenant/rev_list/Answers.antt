@@ -30,4 +30,4 @@ pub returns-clause-safe : goal.returns-clause-safe
 returns-clause-safe g c = query_safe (λ text. text.items) c.args.self.now c.args.own.now c.rev_list.new.source c.rev_list.result c.told.result c.rev_list.ensures.asked c.told.ensures
 
 pub returns-clause-own : goal.returns-clause-own
-returns-clause-own g c = asked_uses c.args.own.now c.rev_list.new.source (fault_told c.rev_list.result) c.requires.ready.quiet c.rev_list.ensures.asked
+returns-clause-own g c = asked_uses c.args.own.now c.rev_list.new.source (fault_told c.rev_list.result) c.rev_list.ensures.asked

@@ -1,5 +1,5 @@
 use git_name::{Kind, seal};
-use push_stream::{Incoming, write_record};
+use push_stream::{BodyError, Incoming, StreamFault, write_record};
 use std::alloc::{AllocError, Global};
 use std::test::Fail;
 
@@ -86,6 +86,73 @@ fn forty_objects_come_once_each_in_pieces_by_chance(rt: HostRuntime) -> Result<(
     let bytes = forty(alloc)?;
     for seed in 0..50 {
         assert_eq!(rt; chopped(alloc, bytes.as_slice(), seed)?, (40, 40), "{seed}");
+    }
+    Ok(())
+}
+
+// The bytes that open an upload again, of which this was all that came, in pieces of so many bytes.
+fn again(alloc: Global, bytes: &[u8], size: usize) -> Result<Vec<u8>, AllocError> {
+    let mut upload = Incoming::new(alloc);
+    let mut records = Vec::new(alloc);
+    for piece in bytes.chunks(size.max(1)) {
+        if upload.count() > 1_048_576 || piece.len() > 1_048_576 {
+            return Ok(Vec::new(alloc));
+        }
+        let step = upload.feed(alloc, piece)?;
+        for sealed in &step.objects {
+            records.extend_from_slice(write_record(alloc, sealed)?.as_slice())?;
+        }
+        if step.is_fault {
+            records.clear();
+        }
+    }
+    let parts = upload.again();
+    let mut opened = parts.header.to_vec(alloc)?;
+    opened.append(&mut records)?;
+    opened.extend_from_slice(parts.tail)?;
+    for _ in 0..parts.zeros {
+        opened.push(0)?;
+    }
+    Ok(opened)
+}
+
+#[test]
+fn an_upload_is_opened_again_by_the_bytes_that_came(rt: HostRuntime) -> Result<(), Fail> {
+    let alloc = rt.alloc();
+    let bytes = forty(alloc)?;
+    for size in [1, 7, 100, 1000, 100_000] {
+        assert_eq!(rt;
+            again(alloc, bytes.as_slice(), size)?.as_slice(),
+            bytes.as_slice(),
+            "{size}"
+        );
+    }
+    for end in 0..280 {
+        let came = &STREAM[..end.min(STREAM.len())];
+        assert_eq!(rt; again(alloc, came, 50)?.as_slice(), came, "{end}");
+    }
+    Ok(())
+}
+
+#[test]
+fn a_broken_upload_is_opened_again_by_as_many_bytes(rt: HostRuntime) -> Result<(), Fail> {
+    let alloc = rt.alloc();
+    // The name of the first object ends in another digit.
+    let mut wrong = STREAM.to_vec(alloc)?;
+    if let Some(digit) = wrong.get_mut(64) {
+        *digit = b'0';
+    }
+    let opened = again(alloc, wrong.as_slice(), 100)?;
+    assert_eq!(rt; opened.len(), STREAM.len());
+    let (kept, zeros) = opened.split_at(100.min(opened.len()));
+    assert!(rt; wrong.starts_with(kept));
+    assert!(rt; zeros.iter().all(|byte| *byte == 0));
+    let mut upload = Incoming::new(alloc);
+    assert_eq!(rt; fed(alloc, &mut upload, opened.as_slice())?, 0);
+    assert!(rt; upload.is_fault() && upload.count() == 279);
+    match upload.finish(alloc) {
+        Err(BodyError::Fault(StreamFault::WrongName(_))) => {}
+        _ => assert!(rt; false),
     }
     Ok(())
 }

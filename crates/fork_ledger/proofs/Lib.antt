@@ -1,5 +1,6 @@
 pub mod AllStagedLemmas
 pub mod BothLemmas
+pub mod CameLemmas
 pub mod CheckLemmas
 pub mod CoverLemmas
 pub mod HarmLemmas

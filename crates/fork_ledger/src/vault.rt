@@ -1,6 +1,7 @@
-ghost use Rattle.std.specs.Prelude.{◌≡◌, ◌≢◌, ◌⊎◌, ◌≤◌, ◌<◌, ◌+◌, ℕ, List, [], true, length, IsTrue, OnOk, OnErr, IfOk, IfErr, IfSome, is_some, nat_le};
+ghost use Rattle.std.specs.Prelude.{◌≡◌, ◌≢◌, ◌⊎◌, ◌≤◌, ◌<◌, ◌+◌, ℕ, List, [], true, length, IsTrue, OnOk, OnErr, IfOk, IfErr, IfSome, Some, is_some, nat_le};
 ghost use Rattle.std.specs.FinMap as map;
 ghost use Rattle.std.specs.BTreeSet.{contains};
+ghost use Rattle.std.specs.List.{AllByRecursion};
 ghost use Rattle.git_name.specs.Name.{name_cmp};
 ghost use Rattle.git_name.specs.Object.{object_name};
 ghost use Rattle.fork_reach.specs.Objects.{use_of};
@@ -226,6 +227,7 @@ impl<S: LooseFiles> Vault<S> {
     ) -> Result<(), VaultFault>
         ensures ok { IsTrue self.old.honest → OnOk result (self.new.tenants ≡ at_tenant self.old.tenants tenant.now (with_all_staged objects.items)) }
         ensures err { IsTrue self.old.honest → OnErr result (self.new.tenants ≡ self.old.tenants) }
+        ensures came { IsTrue self.old.honest → map.contains_key self.old.tenants tenant.now ≡ true → OnOk result (AllByRecursion (λ object. map.get (private_of self.new.tenants tenant.now).staged (object_name object) ≡ Some object) objects.items) }
         ensures stored { IsTrue self.old.honest → OnOk result (StoresAmong objects.items self.old.files self.new.files) }
         ensures collision { IsTrue self.old.honest → IfErr result (λ fault. fault ≡ VaultFault.Collision → MeetsAmong objects.items self.old.files) }
         ensures still { IsTrue self.old.honest → IfErr result (λ fault. fault ≡ VaultFault.Collision → StoresAmong objects.items self.old.files self.new.files) }

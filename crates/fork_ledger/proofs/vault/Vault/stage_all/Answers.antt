@@ -1,13 +1,17 @@
-use Rattle.std.proofs.Common.{ap, sym, subst, ◌∙◌}
+use Rattle.std.proofs.Common.{◌≡◌, Some, ap, sym, subst, ◌∙◌}
+use Rattle.std.specs.List.{AllByRecursion}
+use Rattle.std.specs.FinMap.{contains_key, get}
 use Rattle.std.proofs.lemmas.Result.{on_err_weaker, on_ok_weaker}
+use Rattle.git_name.specs.Object.{object_name}
 use Rattle.ledgers.specs.AllStaged.{all_staged_words}
 use Rattle.ledgers.specs.Ledgers.{at_ledger}
 use Rattle.fork_ledger.specs.AllStaged.{with_all_staged}
 use Rattle.fork_ledger.specs.Kept.{IsExact}
 use Rattle.fork_ledger.specs.Shown.{tenants_of}
 use Rattle.fork_ledger.specs.Store.{CountsFault, IsStored, fault_in}
-use Rattle.fork_ledger.specs.Tenants.{VaultState, at_tenant, shape_of}
+use Rattle.fork_ledger.specs.Tenants.{VaultState, at_tenant, private_of, shape_of}
 use Rattle.fork_ledger.proofs.AllStagedLemmas.{all_staged_shape, all_staged_stored, all_staged_tenants, keeps_whole, none_damaged}
+use Rattle.fork_ledger.proofs.CameLemmas.{all_came}
 use Rattle.fork_ledger.proofs.KeepingLemmas.{stored_keeps, tenants_keep}
 use Rattle.fork_ledger.proofs.ShownShapes.{shape_any}
 use Rattle.fork_ledger.proofs.StagedLemmas.{ok_both}
@@ -54,6 +58,24 @@ returns-clause-err g c = λ h.
     let new = c.stage_all_whole.new.files.contents in
     on_err_weaker c.stage_all_whole.result (λ same.
     ap (tenants_of new) same ∙ tenants_keep m old new (keeps_whole m old new (c.self.invariant was).stored (told.stands was)) ∙ ap (λ s. s.tenants) c.self.view_is) told.err
+
+pub returns-clause-came : goal.returns-clause-came
+returns-clause-came g c = λ h there.
+    let told = c.stage_all_whole.ensures in
+    let was = ap (λ s. s.honest) c.self.view_is ∙ h in
+    let m = c.self.inside.holdings.ledgers in
+    let old = c.self.inside.files.contents in
+    let new = c.stage_all_whole.new.files.contents in
+    let objects = c.as_slice.result.now in
+    let t = c.args.tenant.now in
+    let m2 = c.stage_all_whole.new.holdings.ledgers in
+    let here = ap (λ s. contains_key s.tenants t) c.self.view_is ∙ there in
+    let stored = (invariant_of-self g c (told.honest ∙ was)).stored in
+    on_ok_weaker c.stage_all_whole.result (λ both.
+    let is = ap (tenants_of new) both.1 ∙ all_staged_tenants old new m t objects (keeps_whole m old new (c.self.invariant was).stored (told.stands was)) both.0.whole in
+    subst (λ sent. AllByRecursion (λ object. get (private_of (tenants_of new m2) t).staged (object_name object) ≡ Some object) sent) c.as_slice.ensures.value
+    (all_came new (tenants_of old m) (tenants_of new m2) t objects here is stored both.0.whole))
+    (ok_both _ _ c.stage_all_whole.result (told.receives was) told.ok)
 
 pub returns-clause-exact : goal.returns-clause-exact
 returns-clause-exact g c = λ h.

@@ -174,14 +174,23 @@ def show_holders(checks, program, work):
 
 
 def show_upload(checks, program, work):
-    """Of an open upload nothing is on the store before its end, and then it is held as what a push brought."""
+    """What an open upload has staged is held, and with the upload it goes; at its end it is held as what a push brought."""
     folder = Folder(os.path.join(work, "upload"))
     live = begun(checks, program, folder, ALICE, texts=[SMALL])
     body = tagged(LARGE).removeprefix(b"push r\n")
     name = blob(LARGE)
-    for part in (body[:100], body[100:]):
-        checks.same("a part", NOTHING, live.asked(BOB, b"part\n" + part))
-        checks.same("nothing is told", NOTHING, live.asked(HOST, FSCK))
+
+    def sent():
+        for part in (body[:100], body[100:]):
+            checks.same("a part", NOTHING, live.asked(BOB, b"part\n" + part))
+            checks.same("nothing is told", NOTHING, live.asked(HOST, FSCK))
+
+    sent()
+    remove(folder, name)
+    checks.same("what is staged is held", told((b"lost", name)), live.asked(HOST, FSCK))
+    checks.same("the upload goes", NOTHING, live.asked(BOB, b"part-drop\n"))
+    checks.same("and nobody holds it", NOTHING, live.asked(HOST, FSCK))
+    sent()
     remove(folder, blob(SMALL))
     checks.same("beside an upload", told((b"lost", blob(SMALL))), live.asked(HOST, FSCK))
     checks.same("its end", NOTHING, live.asked(BOB, b"part-end r\n"))

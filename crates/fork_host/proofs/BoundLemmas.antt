@@ -1,7 +1,7 @@
 -- The bounds on host faults, from call to call.
-use Rattle.std.proofs.Common.{◌≡◌, ◌⊎◌, inl, inr, ℕ, false, IsTrue, List, [], ◌∷◌, None, Some, refl, sym, ap, subst, ◌∙◌}
-use Rattle.std.specs.Prelude.{Contains}
-use Rattle.std.proofs.lemmas.List.Elements.{Contains-append_left, Contains-append_right, Contains-push}
+use Rattle.std.proofs.Common.{◌≡◌, ◌⊎◌, inl, inr, ℕ, false, IsTrue, List, ◌∷◌, None, Some, Result, Ok, Err, arith, refl, sym, ap, subst, ◌∙◌}
+use Rattle.std.specs.Prelude.{Contains, IfErr}
+use Rattle.std.proofs.lemmas.List.Elements.{Contains-append_left, Contains-append_right}
 use Rattle.git_name.specs.Object.{Object, object_name}
 use Rattle.loose_store.specs.Files.{Files}
 use Rattle.loose_store.specs.Stored.{Whole}
@@ -12,9 +12,10 @@ use Rattle.fork_request.specs.Told.{is_host_fault}
 use Rattle.fork_request.specs.declared.host_fault.HostFault.TheVariants.{Memory, Store, Damaged, Collision}
 use Rattle.fork_request.specs.declared.reply.Reply.{Reply}
 use Rattle.fork_request.specs.declared.reply.Reply.TheVariants.{Done, Refused, Failed}
+use Rattle.fork_ledger.specs.AllStaged.{MeetsAmong, StoresAmong}
 use Rattle.fork_ledger.specs.declared.fault.VaultFault.{VaultFault}
 use Rattle.fork_ledger.specs.declared.fault.VaultFault.TheVariants as ledger
-use Rattle.fork_ledger.specs.Store.{AsksStore, LeavesStore, Meets, StoresAlone}
+use Rattle.fork_ledger.specs.Store.{AsksStore, LeavesStore, fault_in}
 use Rattle.fork_ledger.specs.Tenants.{VaultState}
 use Rattle.fork_model.specs.Answer.{answer}
 use Rattle.fork_model.specs.View.{View}
@@ -49,16 +50,16 @@ gains_then sent a b c first then = record {
   stored = λ h. more_files sent (first.stored h) (then.stored (first.honest ∙ h));
 }
 
-pub gains_staged : (sent : List Object) (object : Object) (a b : VaultState) → Contains sent object → AsksStore a b None → (IsTrue a.honest → StoresAlone object a.files b.files) → Gains sent a b
-gains_staged sent object a b among asked alone = record {
-  honest = asked.honest;
-  failures = asked.counted;
-  stored = λ h name other whole. by other (alone h name other whole);
-}
+-- and what more objects gain, of which those are some
+more_sent : {old new : Files} (sent more : List Object) → ((object : Object) → Contains sent object → Contains more object) → StoresSent sent old new → StoresSent more old new
+more_sent {old} {new} sent more among stored = λ name object whole. by name object (stored name object whole)
   where
-    by : {P : Type 0} (other : Object) → P ⊎ (other ≡ object) → P ⊎ Contains sent other
-    by other (inl stood) = inl stood
-    by other (inr itself) = inr (subst (Contains sent) (sym itself) among)
+    by : (name : List ℕ) (object : Object) → Whole old name object ⊎ Contains sent object → Whole old name object ⊎ Contains more object
+    by name object (inl stood) = inl stood
+    by name object (inr came) = inr (among object came)
+
+pub gains_more : (sent more : List Object) (a b : VaultState) → ((object : Object) → Contains sent object → Contains more object) → Gains sent a b → Gains more a b
+gains_more sent more a b among gains = record { honest = gains.honest; failures = gains.failures; stored = λ h. more_sent sent more among (gains.stored h) }
 
 -- a reply that is no host fault, or want of memory
 abbrev pub IsQuiet : Reply → Type 0
@@ -127,23 +128,60 @@ bounded_read sent a b source.Store read = record { honest = read.honest; counted
 bounded_read sent a b source.Damaged read = record { honest = read.honest; counted = read.counted; undamaged = λ h is. read.undamaged h refl; collided = λ h is. absurd (cc); stored = λ h _ _. same_files sent (read.files h) }
 bounded_read sent a b source.Memory read = record { honest = read.honest; counted = read.counted; undamaged = λ h is. cc; collided = λ h is. absurd (cc); stored = λ h _ _. same_files sent (read.files h) }
 
--- an object that was not staged
-pub bounded_staged : (sent : List Object) (object : Object) (a b : VaultState) (fault : VaultFault) → Contains sent object → AsksStore a b (Some fault) → (IsTrue a.honest → fault ≡ ledger.Collision → Meets object a.files)
-    → (IsTrue a.honest → fault ≡ ledger.Collision → b.files ≡ a.files) → IsBounded sent a b (Failed (vault_told fault))
-bounded_staged sent object a b ledger.Store among asked meets still = record { honest = asked.honest; counted = asked.counted; undamaged = λ h is. cc; collided = λ h is. absurd (cc); stored = λ h no_store _. absurd (no_store refl) }
-bounded_staged sent object a b ledger.Memory among asked meets still = record { honest = asked.honest; counted = asked.counted; undamaged = λ h is. cc; collided = λ h is. absurd (cc); stored = λ h _ no_memory. absurd (no_memory refl) }
-bounded_staged sent object a b ledger.Damaged among asked meets still = record { honest = asked.honest; counted = asked.counted; undamaged = λ h is. asked.undamaged h refl; collided = λ h is. absurd (cc); stored = λ h _ _. absurd (asked.undamaged h refl) }
-bounded_staged sent object a b ledger.Collision among asked meets still = record {
+-- objects that were not staged
+bounded_all : (sent : List Object) (a b : VaultState) (fault : VaultFault) → AsksStore a b (Some fault) → (IsTrue a.honest → fault ≡ ledger.Collision → MeetsAmong sent a.files)
+    → (IsTrue a.honest → fault ≡ ledger.Collision → StoresAmong sent a.files b.files) → IsBounded sent a b (Failed (vault_told fault))
+bounded_all sent a b ledger.Store asked meets still = record { honest = asked.honest; counted = asked.counted; undamaged = λ h is. cc; collided = λ h is. absurd (cc); stored = λ h no_store _. absurd (no_store refl) }
+bounded_all sent a b ledger.Memory asked meets still = record { honest = asked.honest; counted = asked.counted; undamaged = λ h is. cc; collided = λ h is. absurd (cc); stored = λ h _ no_memory. absurd (no_memory refl) }
+bounded_all sent a b ledger.Damaged asked meets still = record { honest = asked.honest; counted = asked.counted; undamaged = λ h is. asked.undamaged h refl; collided = λ h is. absurd (cc); stored = λ h _ _. absurd (asked.undamaged h refl) }
+bounded_all sent a b ledger.Collision asked meets still = record {
   honest = asked.honest;
   counted = asked.counted;
   undamaged = λ h is. cc;
-  collided = λ h is. (let met = meets h refl in record { object = object; other = met.0; comes = among; met = inr met.1; named = met.1.named; differ = met.2 });
-  stored = λ h _ _. same_files sent (still h refl);
+  collided = λ h is. collides (meets h refl);
+  stored = λ h _ _. still h refl;
 }
+  where
+    met_in : (met : MeetsAmong sent a.files) → Whole a.files (object_name met.object) met.other ⊎ Contains met.front met.other → Contains sent met.other ⊎ Whole a.files (object_name met.object) met.other
+    met_in met (inl stood) = inr stood
+    met_in met (inr came) = inl (subst (λ xs. Contains xs met.other) (sym met.order) (Contains-append_left met.front (met.object ∷ met.back) met.other came))
 
--- what is left to stage is among what was sent
-pub contains_first : {xs rest : List Object} {object : Object} → xs ≡ object ∷ rest → Contains xs object
-contains_first {xs} {rest} {object} is = subst (λ ys. Contains ys object) (sym is) (Contains-append_left (object ∷ []) rest object (Contains-push [] object))
+    collides : MeetsAmong sent a.files → IsCollision sent a.files
+    collides met = record {
+      object = met.object;
+      other = met.other;
+      comes = subst (λ xs. Contains xs met.object) (sym met.order) (Contains-append_right met.front (met.object ∷ met.back) met.object (0, omega arith, refl));
+      met = met_in met met.met;
+      named = met.named;
+      differ = met.differ;
+    }
 
-pub contains_behind : {xs rest : List Object} {object other : Object} → xs ≡ object ∷ rest → Contains rest other → Contains xs other
-contains_behind {xs} {rest} {object} {other} is there = subst (λ ys. Contains ys other) (sym is) (Contains-append_right (object ∷ []) rest other there)
+-- the same of a call's result
+pub bounded_result : {A : Type 0} (r : Result A VaultFault) (sent : List Object) (a b : VaultState) → AsksStore a b (fault_in r) → (IsTrue a.honest → IfErr r (λ fault. fault ≡ ledger.Collision → MeetsAmong sent a.files))
+    → (IsTrue a.honest → IfErr r (λ fault. fault ≡ ledger.Collision → StoresAmong sent a.files b.files)) → IfErr r (λ fault. IsBounded sent a b (Failed (vault_told fault)))
+bounded_result (Ok done) sent a b asked meets still = tt
+bounded_result (Err fault) sent a b asked meets still = bounded_all sent a b fault asked meets still
+
+-- a step is bounded by any objects among which those are that were sent
+pub bounded_more : (sent more : List Object) (a b : VaultState) (reply : Reply) → ((object : Object) → Contains sent object → Contains more object) → IsBounded sent a b reply → IsBounded more a b reply
+bounded_more sent more a b reply among bounded = record {
+  honest = bounded.honest;
+  counted = bounded.counted;
+  undamaged = bounded.undamaged;
+  collided = λ h is. collides (bounded.collided h is);
+  stored = λ h no_store no_memory. more_sent sent more among (bounded.stored h no_store no_memory);
+}
+  where
+    met_in : (name : List ℕ) (other : Object) → Contains sent other ⊎ Whole a.files name other → Contains more other ⊎ Whole a.files name other
+    met_in name other (inl came) = inl (among other came)
+    met_in name other (inr stood) = inr stood
+
+    collides : IsCollision sent a.files → IsCollision more a.files
+    collides collision = record {
+      object = collision.object;
+      other = collision.other;
+      comes = among collision.object collision.comes;
+      met = met_in (object_name collision.object) collision.other collision.met;
+      named = collision.named;
+      differ = collision.differ;
+    }

@@ -1,14 +1,17 @@
 -- The handle of a tenant's part, call after call.
-use Rattle.std.proofs.Common.{◌≡◌, ℕ, IsTrue, List, refl, sym, ap, subst, ◌∙◌}
+use Rattle.std.proofs.Common.{◌≡◌, ℕ, ◌≤◌, IsTrue, List, refl, sym, ap, subst, ◌∙◌}
 use Rattle.std.specs.FinMap.{empty}
 use Rattle.git_name.specs.Object.{Object}
-use Rattle.fork_reach.specs.Objects.{measures_of, with_objects}
-use Rattle.fork_ledger.specs.Tenants.{VaultState, private_of, shape_of}
+use Rattle.fork_reach.specs.Objects.{with_objects}
+use Rattle.fork_reach.proofs.MeasureLemmas.{same_use}
+use Rattle.fork_ledger.specs.AllStaged.{with_all_staged}
+use Rattle.fork_ledger.specs.Private.{Private, both_of}
+use Rattle.fork_ledger.specs.Tenants.{VaultState, private_of}
+use Rattle.fork_ledger.proofs.AllStagedLemmas.{all_staged_seen, both_all}
 use Rattle.fork_ledger.proofs.BothLemmas.{both_quiet}
 use Rattle.fork_host.specs.declared.own.Own.{Own}
-use Rattle.fork_host.specs.Handle.{IsSame, Ready, both_by, visible_by}
-use Rattle.fork_host.specs.Own.{Changes, IsReady, Stages, both_in, staged_in}
-use Rattle.fork_host.proofs.OwnLemmas.{both_itself, both_measures, changes_still}
+use Rattle.fork_host.specs.Handle.{IsSame, Ready, both_by, staged_by, visible_by}
+use Rattle.fork_host.specs.Own.{IsOwn, IsReady, KeepsSeen, Turns, both_in, visible_in}
 
 pub same_own : {S : Type 0} (own : Own S) → IsSame own own
 same_own own = record { vault = refl; tenant = refl }
@@ -20,30 +23,22 @@ same_then a b c first then = record { vault = then.vault ∙ first.vault; tenant
 pub of_first : {S : Type 0} (first new : Own S) (P : List ℕ → Type 0) → IsSame first new → P new.tenant.now → P first.tenant.now
 of_first first new P same holds = subst (λ r. P r.now) same.tenant holds
 
--- what a push has staged beside what is seen, where nothing was
-pub sent_staged : {S : Type 0} (first staged : Own S) (sent : List Object) → staged_in first.vault.now first.tenant.now ≡ empty → Changes (Stages first.tenant.now (with_objects (both_by first) sent)) first.vault.now staged.vault.now
-    → Changes (Stages first.tenant.now (with_objects (visible_by first) sent)) first.vault.now staged.vault.now
-sent_staged first staged sent quiet changes =
-    subst (λ objects. Changes (Stages first.tenant.now (with_objects objects sent)) first.vault.now staged.vault.now) (both_quiet (private_of first.vault.now.tenants first.tenant.now) quiet) changes
+-- it is ready, where what it sees stays
+pub ready_still : {S : Type 0} (first now : Own S) (limit : ℕ) → IsSame first now → IsOwn first.tenant.now first.vault.now now.vault.now → KeepsSeen first.tenant.now first.vault.now now.vault.now → Ready first limit → Ready now limit
+ready_still first now limit same own seen ready = subst (λ r. IsReady now.vault.now r.now limit) (sym same.tenant) (record {
+  there = own.there first.tenant.now ∙ ready.there;
+  within = subst (λ n. n ≤ limit) (sym (same_use (visible_in now.vault.now first.tenant.now) (visible_by first) seen.shape)) ready.within;
+})
 
--- it stays while it is judged
-pub sent_still : {S : Type 0} (first staged mid : Own S) (sent : List Object) → IsSame first mid → shape_of mid.vault.now.tenants ≡ shape_of staged.vault.now.tenants → (IsTrue staged.vault.now.honest → mid.vault.now.tenants ≡ staged.vault.now.tenants)
-    → mid.vault.now.honest ≡ staged.vault.now.honest → Changes (Stages first.tenant.now (with_objects (visible_by first) sent)) first.vault.now staged.vault.now
-    → Changes (Stages mid.tenant.now (with_objects (visible_by first) sent)) first.vault.now mid.vault.now
-sent_still first staged mid sent same shape kept honest changes =
-    subst (λ r. Changes (Stages r.now (with_objects (visible_by first) sent)) first.vault.now mid.vault.now) (sym same.tenant)
-    (changes_still (Stages first.tenant.now (with_objects (visible_by first) sent)) first.vault.now staged.vault.now mid.vault.now shape kept honest changes)
-
--- both sides of it: over any store their measures, and over an honest one themselves
-pub sent_measures : {S : Type 0} (first staged : Own S) (sent : List Object) → IsSame first staged → Changes (Stages first.tenant.now (with_objects (visible_by first) sent)) first.vault.now staged.vault.now
-    → measures_of (both_by staged) ≡ measures_of (with_objects (visible_by first) sent)
-sent_measures first staged sent same changes =
-    ap (λ r. measures_of (both_in staged.vault.now r.now)) same.tenant ∙ both_measures first.vault.now staged.vault.now first.tenant.now (with_objects (visible_by first) sent) changes
-
-pub sent_itself : {S : Type 0} (first staged : Own S) (sent : List Object) → IsSame first staged → Changes (Stages first.tenant.now (with_objects (visible_by first) sent)) first.vault.now staged.vault.now → IsTrue first.vault.now.honest
-    → both_by staged ≡ with_objects (visible_by first) sent
-sent_itself first staged sent same changes honest =
-    ap (λ r. both_in staged.vault.now r.now) same.tenant ∙ both_itself first.vault.now staged.vault.now first.tenant.now (with_objects (visible_by first) sent) changes honest
+-- what was sent is staged beside what is seen, where nothing was staged
+pub sent_beside : {S : Type 0} (first staged : Own S) (sent : List Object) → IsSame first staged → IsTrue first.vault.now.honest → staged_by first ≡ empty → Turns first.tenant.now (with_all_staged sent) first.vault.now staged.vault.now
+    → both_by staged ≡ with_objects (visible_by staged) sent
+sent_beside first staged sent same honest quiet turns =
+    let own = private_of first.vault.now.tenants first.tenant.now in
+    let is = turns.exact honest in
+    let seen : visible_in staged.vault.now first.tenant.now ≡ visible_by first = ap (λ (p : Private). p.visible) is ∙ all_staged_seen sent own in
+    ap (λ r. both_in staged.vault.now r.now) same.tenant ∙ ap both_of is ∙ both_all sent own
+    ∙ ap (λ objects. with_objects objects sent) (both_quiet own quiet ∙ sym seen ∙ sym (ap (λ r. visible_in staged.vault.now r.now) same.tenant))
 
 -- a handle that lends this vault for this tenant is ready where they are
 pub ready_of : {S : Type 0} (own : Own S) (vault : VaultState) (tenant : List ℕ) (limit : ℕ) → own.vault.now ≡ vault → own.tenant.now ≡ tenant → IsReady vault tenant limit → Ready own limit

@@ -5,7 +5,9 @@ pub mod GatherLemmas
 pub mod HandleLemmas
 pub mod KeepingLemmas
 pub mod NamesLemmas
+pub mod OpeningLemmas
 pub mod OwnLemmas
+pub mod PartLemmas
 pub mod PushLemmas
 pub mod QueryLemmas
 pub mod ReadLemmas
@@ -17,6 +19,7 @@ pub mod RestoringLemmas
 pub mod RowLemmas
 pub mod SafeLemmas
 pub mod ShapeLemmas
+pub mod StagedLemmas
 pub mod SweptLemmas
 pub mod TakingLemmas
 pub mod TargetLemmas

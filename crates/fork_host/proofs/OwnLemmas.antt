@@ -1,5 +1,6 @@
 -- What staging, publishing, discarding and keeping leave of the vault.
-use Rattle.std.proofs.Common.{◌≡◌, ℕ, Bool, true, false, cond, None, IsTrue, List, [], ◌∷◌, length, arith, refl, sym, ap, ◌∙◌}
+use Rattle.std.proofs.Common.{◌≡◌, ℕ, Bool, true, false, cond, None, IsTrue, List, Result, Ok, Err, refl, sym, ap, ◌∙◌}
+use Rattle.std.specs.Prelude.{OnErr, OnOk}
 use Rattle.std.specs.FinMap.{contains_key, empty, get, get-empty, retain_keys, same_map}
 use Rattle.git_name.specs.Name.{name_cmp}
 use Rattle.git_name.proofs.Names.{name_total, name_exact}
@@ -8,15 +9,11 @@ use Rattle.fork_reach.specs.Objects.{Measures, measures_of, with_object}
 use Rattle.fork_reach.specs.Source.{Objects}
 use Rattle.fork_ledger.specs.Private.{Private, both_of, private_measures, with_discarded, with_kept, with_published, with_staged}
 use Rattle.fork_ledger.specs.Tenants.{Tenants, VaultState, at_tenant, private_of, shape_of}
-use Rattle.fork_ledger.proofs.BothLemmas.{both_more, none_of, same_both, same_measures, same_tenants_there}
+use Rattle.fork_ledger.proofs.BothLemmas.{both_more, none_of, same_measures, same_tenants_there}
 use Rattle.fork_ledger.proofs.SeenLemmas.{get_kept}
 use Rattle.fork_ledger.proofs.ShapeLemmas.{Respects, respects_discarded, respects_kept, respects_published, respects_staged, shape_at}
 use Rattle.fork_ledger.proofs.TenantLemmas.{private_at, private_others, there_still}
-use Rattle.fork_host.specs.Own.{Changes, Has, IsOf, IsOwn, KeepsStaged, LeavesOthers, Settles, Stages, staged_in, visible_in}
-
-pub none_left : {A : Type 0} (xs : List A) → length xs ≡ 0 → xs ≡ []
-none_left [] is = refl
-none_left (x ∷ xs) is = absurd (omega arith)
+use Rattle.fork_host.specs.Own.{Changes, Has, IsOf, IsOwn, KeepsSeen, KeepsStaged, LeavesOthers, Settles, Stages, Turns, staged_in, visible_in}
 
 -- other tenants, as one tenant's private maps change
 pub leaves_all : (tenants : Tenants) (own : List ℕ) → LeavesOthers own tenants tenants
@@ -173,14 +170,6 @@ seen_measures old new own objects changes = ap (λ (p : Measures × Measures). p
 pub seen_itself : {staged : Objects} (old new : VaultState) (own : List ℕ) (objects : Objects) → Changes (Has own objects staged) old new → IsTrue old.honest → visible_in new own ≡ objects
 seen_itself old new own objects changes honest = ap (λ m. (private_of m own).visible) (changes.shown.exact (changes.honest ∙ honest)) ∙ changes.way.sees
 
--- and both sides, where something is
-pub both_measures : (old new : VaultState) (own : List ℕ) (both : Objects) → Changes (Stages own both) old new → measures_of (both_of (private_of new.tenants own)) ≡ measures_of both
-both_measures old new own both changes =
-    same_both (private_of new.tenants own) (private_of changes.tenants own) (same_measures changes.tenants new.tenants own changes.shown.shape) ∙ ap measures_of changes.way.staged
-
-pub both_itself : (old new : VaultState) (own : List ℕ) (both : Objects) → Changes (Stages own both) old new → IsTrue old.honest → both_of (private_of new.tenants own) ≡ both
-both_itself old new own both changes honest = ap (λ m. both_of (private_of m own)) (changes.shown.exact (changes.honest ∙ honest)) ∙ changes.way.staged
-
 -- a tenant's part alone was used
 pub own_of : {staged : Objects} (old new : VaultState) (own : List ℕ) (objects : Objects) → Changes (Has own objects staged) old new → IsOwn own old new
 own_of old new own objects changes = record {
@@ -225,3 +214,76 @@ own_same vault own = own_read vault vault own refl (λ _. refl) refl
 
 pub staged_same : (vault : VaultState) (own : List ℕ) → KeepsStaged own vault vault
 staged_same vault own = staged_read vault vault own refl (λ _. refl)
+
+pub seen_read : (old new : VaultState) (own : List ℕ) → shape_of new.tenants ≡ shape_of old.tenants → (IsTrue old.honest → new.tenants ≡ old.tenants) → KeepsSeen own old new
+seen_read old new own shape same = record {
+  shape = ap (λ (p : Measures × Measures). p.0) (same_measures old.tenants new.tenants own shape);
+  exact = λ is. ap (λ m. (private_of m own).visible) (same is);
+}
+
+pub seen_same : (vault : VaultState) (own : List ℕ) → KeepsSeen own vault vault
+seen_same vault own = seen_read vault vault own refl (λ _. refl)
+
+-- what a change makes of the tenant's private maps
+pub changed_at : (old new : Tenants) (own : List ℕ) (change : Private → Private) → contains_key old own ≡ true → new ≡ at_tenant old own change → private_of new own ≡ change (private_of old own)
+changed_at old new own change there is = ap (λ m. private_of m own) is ∙ private_at old own change there
+
+-- the tenant's private maps alone were changed: by one call
+pub turned : (old new : VaultState) (own : List ℕ) (change : Private → Private) → contains_key old.tenants own ≡ true → Respects change → shape_of new.tenants ≡ shape_of (at_tenant old.tenants own change)
+    → (IsTrue old.honest → new.tenants ≡ at_tenant old.tenants own change) → new.honest ≡ old.honest → Turns own change old new
+turned old new own change there respects shape same honest =
+    let after = at_tenant old.tenants own change in
+    record {
+      own = record {
+        there = λ t. same_tenants_there after new.tenants t shape ∙ there_still old.tenants own t change;
+        shape = λ t differs. same_measures after new.tenants t shape ∙ ap private_measures (private_others old.tenants own t change differs);
+        others = λ is t differs. ap (λ m. private_of m t) (same is) ∙ private_others old.tenants own t change differs;
+        honest = honest;
+      };
+      shape = same_measures after new.tenants own shape ∙ ap private_measures (private_at old.tenants own change there);
+      exact = λ is. changed_at old.tenants new.tenants own change there (same is);
+    }
+
+-- not at all, where the vault was read
+pub turned_read : (old new : VaultState) (own : List ℕ) → shape_of new.tenants ≡ shape_of old.tenants → (IsTrue old.honest → new.tenants ≡ old.tenants) → new.honest ≡ old.honest → Turns own (λ p. p) old new
+turned_read old new own shape same honest = record {
+  own = own_read old new own shape same honest;
+  shape = same_measures old.tenants new.tenants own shape;
+  exact = λ is. ap (λ m. private_of m own) (same is);
+}
+
+-- the same of a call's result
+pub turned_ok : {A E : Type 0} (r : Result A E) (old new : VaultState) (own : List ℕ) (change : Private → Private) → contains_key old.tenants own ≡ true → Respects change → OnOk r (shape_of new.tenants ≡ shape_of (at_tenant old.tenants own change))
+    → (IsTrue old.honest → OnOk r (new.tenants ≡ at_tenant old.tenants own change)) → new.honest ≡ old.honest → OnOk r (Turns own change old new)
+turned_ok (Ok a) old new own change there respects shape same honest = turned old new own change there respects shape same honest
+turned_ok (Err e) old new own change there respects shape same honest = tt
+
+pub turned_err : {A E : Type 0} (r : Result A E) (old new : VaultState) (own : List ℕ) → OnErr r (shape_of new.tenants ≡ shape_of old.tenants) → (IsTrue old.honest → OnErr r (new.tenants ≡ old.tenants)) → new.honest ≡ old.honest → OnErr r (Turns own (λ p. p) old new)
+turned_err (Ok a) old new own shape same honest = tt
+turned_err (Err e) old new own shape same honest = turned_read old new own shape same honest
+
+-- and by one call after another
+pub own_then : (own : List ℕ) (a b c : VaultState) → IsOwn own a b → IsOwn own b c → IsOwn own a c
+own_then own a b c first then = record {
+  there = λ t. then.there t ∙ first.there t;
+  shape = λ t differs. then.shape t differs ∙ first.shape t differs;
+  others = λ is t differs. then.others (first.honest ∙ is) t differs ∙ first.others is t differs;
+  honest = then.honest ∙ first.honest;
+}
+
+-- what is seen stays where no change touches it, and what is staged where there is none
+pub seen_turned : (own : List ℕ) (change : Private → Private) (old new : VaultState) → ((p : Private) → (change p).visible ≡ p.visible) → Turns own change old new → KeepsSeen own old new
+seen_turned own change old new still turns = record {
+  shape = ap (λ (p : Measures × Measures). p.0) turns.shape ∙ ap measures_of (still (private_of old.tenants own));
+  exact = λ is. ap (λ (p : Private). p.visible) (turns.exact is) ∙ still (private_of old.tenants own);
+}
+
+pub staged_turned : (own : List ℕ) (old new : VaultState) → Turns own (λ p. p) old new → KeepsStaged own old new
+staged_turned own old new turns = record {
+  shape = ap (λ (p : Measures × Measures). p.1) turns.shape;
+  exact = λ is. ap (λ (p : Private). p.staged) (turns.exact is);
+}
+
+-- what is staged stays, where it stays in one call and in the next
+pub staged_then : (own : List ℕ) (a b c : VaultState) → b.honest ≡ a.honest → KeepsStaged own a b → KeepsStaged own b c → KeepsStaged own a c
+staged_then own a b c honest first then = record { shape = then.shape ∙ first.shape; exact = λ is. then.exact (honest ∙ is) ∙ first.exact is }

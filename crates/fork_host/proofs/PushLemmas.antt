@@ -1,11 +1,14 @@
 -- Rows of pushes: what a stream holds, and what a row comes to that ends the upload.
-use Rattle.std.proofs.Common.{◌≡◌, ℕ, true, false, cond, List, [], ◌∷◌, Option, Some, Result, Ok, Err, sym, ap, ◌∙◌, is_some}
+use Rattle.std.proofs.Common.{◌≡◌, ℕ, true, false, cond, List, [], ◌∷◌, Option, Some, Result, Ok, Err, sym, ap, ◌∙◌, is_some, map}
 use Rattle.std.specs.Prelude.{IfErr, IfOk}
-use Rattle.git_name.specs.Object.{Object}
+use Rattle.git_name.specs.Object.{Object, object_name}
+use Rattle.git_reftx.specs.declared.command.Command.{Command}
 use Rattle.git_reftx.specs.Transaction.{References}
+use Rattle.push_stream.specs.Brief.{BriefValue, brief_of}
 use Rattle.push_stream.specs.declared.body.Body.{Body}
 use Rattle.push_stream.specs.declared.fault.BodyError.{BodyError}
 use Rattle.push_stream.specs.declared.fault.BodyError.TheVariants.{Fault, Memory}
+use Rattle.push_stream.specs.declared.fault.StreamFault.{StreamFault}
 use Rattle.push_stream.specs.Shown.{TellsFault}
 use Rattle.push_stream.specs.Stream.{Stream, Flows, Breaks, finished, sent_in, stream_of}
 use Rattle.push_stream.specs.Upload.{UploadValue}
@@ -37,6 +40,21 @@ finished_sent (Breaks fault) body is = absurd (cc)
 pub sends_held : (stream : Stream) (r : Result Body BodyError) → IfOk r (λ body. finished stream ≡ Ok (body.commands.items, body.objects.items)) → Sends (sent_in stream) r
 sends_held stream (Ok body) found = finished_sent stream body found
 sends_held stream (Err error) found = tt
+
+-- a whole stream by its brief
+pub held_by : (stream : Stream) (commands : List Command) (names : List (List ℕ)) → brief_of (finished stream) ≡ Ok (commands, names) → (finished stream ≡ Ok (commands, sent_in stream)) × (names ≡ map object_name (sent_in stream))
+held_by (Flows asked objects true []) commands names is = (ap (λ cs. Ok (cs, objects)) (ap first is), sym (ap second is))
+  where
+    first : Result BriefValue StreamFault → List Command
+    first (Ok p) = p.0
+    first (Err e) = commands
+
+    second : Result BriefValue StreamFault → List (List ℕ)
+    second (Ok p) = p.1
+    second (Err e) = names
+held_by (Flows asked objects true (b ∷ rest)) commands names is = absurd (cc)
+held_by (Flows asked objects false rest) commands names is = absurd (cc)
+held_by (Breaks fault) commands names is = absurd (cc)
 
 -- a push into a repository that is there, where no upload is open
 pub push_is : (view : View) (word body : List ℕ) (o : Option References) (references : References) → o ≡ Some references → is_some view.upload ≡ false → push_into view word body o ≡ pushed view word references (finished (stream_of body))

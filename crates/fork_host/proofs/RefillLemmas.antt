@@ -15,11 +15,9 @@ use Rattle.git_name.proofs.Names.{name_total}
 use Rattle.git_name.proofs.TreeMaps.{find_is_lookup}
 use Rattle.git_reftx.specs.Transaction.{References, is_branch, is_commit}
 use Rattle.push_stream.specs.Upload.{UploadValue}
-use Rattle.fork_reach.specs.Objects.{Measures, measures_of}
 use Rattle.fork_reach.specs.Source.{Objects, kind_in}
 use Rattle.fork_reach.proofs.KeptObjects.{tied_names}
 use Rattle.fork_ledger.specs.Tenants.{VaultState}
-use Rattle.fork_ledger.proofs.BothLemmas.{none_of}
 use Rattle.fork_model.specs.Sound.{AreReferences, IsOrderly, IsRight, IsRightWorld}
 use Rattle.fork_model.specs.View.{View, Repositories}
 use Rattle.fork_model.specs.World.{World}
@@ -29,12 +27,13 @@ use Rattle.fork_host.specs.Own.{IsOwn, staged_in, visible_in}
 use Rattle.fork_host.specs.Pushed.{view_of}
 use Rattle.fork_host.specs.Refilled.{IsRefilled, IsRefilledIn}
 use Rattle.fork_host.specs.Restored.{is_bad_target, references_in}
-use Rattle.fork_host.specs.Shown.{Account, HostState, IsWhole, shown, uploaded, world_of}
+use Rattle.fork_host.specs.Shown.{Account, HostState, IsWhole, shown, world_of}
+use Rattle.fork_host.specs.Staged.{IsStaged}
 use Rattle.fork_host.proofs.AddingLemmas.{each_more}
 use Rattle.fork_host.proofs.NamesLemmas.{same_keys}
 use Rattle.fork_host.proofs.OwnLemmas.{own_of, seen_itself}
-use Rattle.fork_host.proofs.WholeLemmas.{at_other, known_still, orderly_after}
-use Rattle.fork_host.proofs.WorldLemmas.{distinct, get_world, world_set}
+use Rattle.fork_host.proofs.WholeLemmas.{known_still, orderly_after, staged_after}
+use Rattle.fork_host.proofs.WorldLemmas.{get_world, world_set}
 
 abbrev Reference : Type 0
 Reference = List ℕ × List ℕ
@@ -180,14 +179,8 @@ whole_set old new t account after whole here set own none quiet orderly right = 
       let before = sym own.honest ∙ trusted in
       subst IsRightWorld (sym (world_set old new t after set (own.others before))) (each_more IsRight (world_of old) t (shown after new.vault t) (right trusted) (whole.right before));
   there = λ q. own.there q ∙ whole.there q ∙ sym (known_still old new t q account after here set);
-  staged = λ q other is. rests q other (eq_by_cmp name_cmp q t) refl is;
+  staged = staged_after old new t after set own (λ q other is. whole.staged q other is) (subst (λ upload. IsStaged old.vault.honest upload (staged_in new.vault t)) (sym quiet) none);
 }
-  where
-    rests : (q : List ℕ) (other : Account) (b : Bool) → eq_by_cmp name_cmp q t ≡ b → get new.accounts q ≡ Some other → staged_in new.vault q ≡ uploaded other.upload
-    rests q other true same is = ap (staged_in new.vault) (tied_names q t same) ∙ none
-    rests q other false apart is =
-        none_of (staged_in new.vault q)
-        (ap (λ (p : Measures × Measures). p.1) (own.shape q (λ same. distinct t q same apart)) ∙ ap measures_of (whole.staged q other (sym (at_other old new t q after set apart) ∙ is)))
 
 -- a tenant of a view
 pub account_shown : (state : HostState) (t : List ℕ) (view : View) → get (world_of state) t ≡ Some view → (account : Account) × (get state.accounts t ≡ Some account) × (shown account state.vault t ≡ view)

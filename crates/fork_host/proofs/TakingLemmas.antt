@@ -1,41 +1,61 @@
 -- What a push that was judged comes to.
-use Rattle.std.proofs.Common.{◌≡◌, ℕ, IsTrue, inl, inr, List, [], Option, Some, Result, Ok, Err, refl, sym, ap, ◌∙◌}
-use Rattle.std.specs.FinMap.{empty, get, insert}
-use Rattle.git_name.specs.Object.{Object}
+use Rattle.std.proofs.Common.{◌≡◌, ℕ, true, false, inl, inr, List, [], Option, Some, None, Result, Ok, Err, refl, sym, ap, subst, ◌∙◌, is_some, map}
+use Rattle.std.specs.Option.{option_or}
+use Rattle.std.specs.FinMap.{get, insert}
+use Rattle.git_name.specs.Object.{Object, object_name}
+use Rattle.git_name.proofs.MapLemmas.{get_joined}
+use Rattle.git_name.proofs.Names.{name_total}
+use Rattle.git_reftx.specs.declared.command.Command.{Command}
 use Rattle.git_reftx.specs.Transaction.{References}
 use Rattle.push_stream.specs.Upload.{UploadValue}
-use Rattle.fork_reach.specs.Objects.{measures_of, with_objects}
+use Rattle.fork_reach.specs.Objects.{Measures, measures_of, with_objects}
 use Rattle.fork_reach.specs.Source.{Objects}
-use Rattle.fork_ledger.specs.Tenants.{VaultState}
+use Rattle.fork_ledger.specs.Tenants.{VaultState, private_of, shape_of}
+use Rattle.fork_ledger.proofs.BothLemmas.{same_both, same_measures}
 use Rattle.fork_request.specs.declared.host_fault.HostFault.{HostFault}
-use Rattle.fork_request.specs.Told.{is_host_fault}
+use Rattle.fork_request.specs.Told.{is_done, is_host_fault}
 use Rattle.fork_request.specs.declared.reply.Reply.{Reply}
 use Rattle.fork_request.specs.declared.reply.Reply.TheVariants.{Refused, Failed}
 use Rattle.fork_push.specs.declared.refusal.PushRefusal.{PushRefusal}
+use Rattle.fork_push.specs.Push.{judged}
 use Rattle.fork_push.specs.Verdict as verdict
-use Rattle.fork_model.specs.Answer.{push_refusal, taken}
+use Rattle.fork_model.specs.Answer.{Held, push_refusal, pushed, taken}
 use Rattle.fork_model.specs.View.{View, Repositories}
-use Rattle.fork_host.specs.Own.{IsOwn, KeepsStaged, staged_in, visible_in}
-use Rattle.fork_host.specs.Pushed.{view_of}
-use Rattle.fork_host.specs.Rows.{Yields, Yielded, Lacking, Faulted, IsTaken, Took, Lacked}
+use Rattle.fork_host.specs.Own.{KeepsStaged, both_in, staged_in, visible_in}
+use Rattle.fork_host.specs.Pushed.{IsTaken, Took, Lacked, view_of}
+use Rattle.fork_host.specs.Rows.{Yields, Yielded, Lacking, Faulted}
 use Rattle.fork_host.specs.Safe.{IsSafe}
 use Rattle.fork_host.proofs.BoundLemmas.{IsQuiet}
-use Rattle.fork_host.proofs.OwnLemmas.{none_staged, own_of, seen_itself, seen_measures, still_none}
 use Rattle.fork_host.proofs.SafeLemmas.{safe_left, safe_taken}
 
-same_view : (old new : Repositories) (seen objects : Objects) (upload : Option UploadValue) (limit : ℕ) → new ≡ old → objects ≡ seen → view_of new objects upload limit ≡ view_of old seen upload limit
+pub same_view : (old new : Repositories) (seen objects : Objects) (upload : Option UploadValue) (limit : ℕ) → new ≡ old → objects ≡ seen → view_of new objects upload limit ≡ view_of old seen upload limit
 same_view old new seen objects upload limit repositories is = λ i. view_of (repositories i) (is i) upload limit
 
-pub gives_taken : (before after : VaultState) (own : List ℕ) (old new : Repositories) (both : Objects) (upload : Option UploadValue) (limit : ℕ) (name : List ℕ) (references : References) (judged : Result References PushRefusal) (reply : Reply)
-    → IsTrue before.honest → judged ≡ Ok references → IsTaken old (insert old name references) own (visible_in before own) both before reply new after
-    → Yields (taken (view_of old (visible_in before own) upload limit) name both judged) (view_of old (visible_in before own) upload limit) reply (view_of new (visible_in after own) upload limit)
-gives_taken before after own old new both upload limit name references judged reply honest is (Took told set changes) =
-    let row = ap (taken (view_of old (visible_in before own) upload limit) name both) is in
-    Yielded (told ∙ sym (ap (λ r. r.0) row))
-    (same_view (insert old name references) new both (visible_in after own) upload limit set (seen_itself before after own both changes honest) ∙ sym (ap (λ r. r.1) row))
-gives_taken before after own old new both upload limit name references judged reply honest is (Lacked told stays changes) =
-    Lacking told (same_view old new (visible_in before own) (visible_in after own) upload limit stays (seen_itself before after own (visible_in before own) changes honest))
+-- a row over what is seen, as it is told otherwise
+pub yields_from : (repositories now : Repositories) (seen other objects others : Objects) (upload : Option UploadValue) (limit : ℕ) (name : List ℕ) (references : References) (held : Held) (reply : Reply) → seen ≡ other → objects ≡ others
+    → Yields (pushed (view_of repositories seen upload limit) name references held) (view_of repositories seen upload limit) reply (view_of now objects upload limit)
+    → Yields (pushed (view_of repositories other upload limit) name references held) (view_of repositories other upload limit) reply (view_of now others upload limit)
+yields_from repositories now seen other objects others upload limit name references held reply is same yields =
+    subst (λ o. Yields (pushed (view_of repositories o upload limit) name references held) (view_of repositories o upload limit) reply (view_of now others upload limit)) is
+    (subst (λ o. Yields (pushed (view_of repositories seen upload limit) name references held) (view_of repositories seen upload limit) reply (view_of now o upload limit)) same yields)
 
+-- what is judged over what is seen and staged, and by names, is judged over the sent objects
+pub judged_by : (seen both : Objects) (sent : List Object) (names : List (List ℕ)) (references : References) (limit : ℕ) (commands : List Command) → names ≡ map object_name sent → both ≡ with_objects seen sent
+    → judged (with_objects seen sent) references limit (Ok (commands, map object_name sent)) ≡ judged both references limit (Ok (commands, names))
+judged_by seen both sent names references limit commands named beside =
+    ap (λ objects. judged objects references limit (Ok (commands, map object_name sent))) (sym beside) ∙ ap (λ ns. judged both references limit (Ok (commands, ns))) (sym named)
+
+-- it is accepted, and taken
+pub gives_taken : (before after : VaultState) (own : List ℕ) (old new : Repositories) (seen both : Objects) (upload : Option UploadValue) (limit : ℕ) (name : List ℕ) (references : References) (judged : Result References PushRefusal) (reply : Reply)
+    → visible_in before own ≡ seen → both_in before own ≡ both → judged ≡ Ok references → IsTaken own old (insert old name references) before reply new after
+    → Yields (taken (view_of old seen upload limit) name both judged) (view_of old seen upload limit) reply (view_of new (visible_in after own) upload limit)
+gives_taken before after own old new seen both upload limit name references judged reply sees beside is (Took told set now) =
+    let row = ap (taken (view_of old seen upload limit) name both) is in
+    Yielded (told ∙ sym (ap (λ r. r.0) row)) (same_view (insert old name references) new both (visible_in after own) upload limit set (now ∙ beside) ∙ sym (ap (λ r. r.1) row))
+gives_taken before after own old new seen both upload limit name references judged reply sees beside is (Lacked told stays now keeps) =
+    Lacking told (same_view old new seen (visible_in after own) upload limit stays (now ∙ sees))
+
+-- it is refused
 pub gives_refused : (old : Repositories) (seen both objects : Objects) (upload : Option UploadValue) (limit : ℕ) (name : List ℕ) (refusal : PushRefusal) (judged : Result References PushRefusal) (reply : Reply)
     → judged ≡ Err refusal → reply ≡ Refused (push_refusal refusal) → objects ≡ seen
     → Yields (taken (view_of old seen upload limit) name both judged) (view_of old seen upload limit) reply (view_of old objects upload limit)
@@ -43,30 +63,34 @@ gives_refused old seen both objects upload limit name refusal judged reply is to
     let row = ap (taken (view_of old seen upload limit) name both) is in
     Yielded (told ∙ sym (ap (λ r. r.0) row)) (same_view old old seen objects upload limit refl sees ∙ sym (ap (λ r. r.1) row))
 
+-- a host fault leaves the view
 pub gives_nothing : (row : Reply × View) (old : Repositories) (seen objects : Objects) (upload : Option UploadValue) (limit : ℕ) (fault : HostFault) (reply : Reply)
     → reply ≡ Failed fault → objects ≡ seen → Yields row (view_of old seen upload limit) reply (view_of old objects upload limit)
 gives_nothing row old seen objects upload limit fault reply told sees = Faulted fault told (same_view old old seen objects upload limit refl sees)
 
+-- what is seen stays, where what is staged comes to it
+first_counts : (there other : Option Object) → is_some there ≡ true → option_or there other ≡ there
+first_counts None other is = absurd (cc)
+first_counts (Some object) other is = refl
+
 -- over any store
-pub taken_safe : (Within : Reply → Type 0) (before after : VaultState) (own : List ℕ) (old new : Repositories) (both : Objects) (sent : List Object) (upload : Option UploadValue) (limit : ℕ) (name : List ℕ) (was references : References) (reply : Reply)
-    → Within reply → get old name ≡ Some was → measures_of both ≡ measures_of (with_objects (visible_in before own) sent) → verdict.IsOrderly both was limit references
-    → IsTaken old (insert old name references) own (visible_in before own) (with_objects (visible_in before own) sent) before reply new after
-    → IsSafe Within (view_of old (visible_in before own) upload limit) reply (view_of new (visible_in after own) upload limit)
-taken_safe Within before after own old new both sent upload limit name was references reply within here same accepted (Took told set changes) =
-    safe_taken Within old new (visible_in before own) both (visible_in after own) sent upload limit name was references reply [] within told here set same
-    (seen_measures before after own (with_objects (visible_in before own) sent) changes) accepted
-taken_safe Within before after own old new both sent upload limit name was references reply within here same accepted (Lacked told stays changes) =
-    safe_left Within old new (visible_in before own) (visible_in after own) upload limit reply stays (seen_measures before after own (visible_in before own) changes) within
-
-pub own_taken : (before after : VaultState) (own : List ℕ) (old set new : Repositories) (both : Objects) (reply : Reply) → IsTaken old set own (visible_in before own) both before reply new after → IsOwn own before after
-own_taken before after own old set new both reply (Took told is changes) = own_of before after own both changes
-own_taken before after own old set new both reply (Lacked told is changes) = own_of before after own (visible_in before own) changes
-
-pub staged_taken : (before after : VaultState) (own : List ℕ) (old set new : Repositories) (both : Objects) (reply : Reply) → staged_in before own ≡ empty → IsTaken old set own (visible_in before own) both before reply new after → KeepsStaged own before after
-staged_taken before after own old set new both reply none (Took told is changes) = still_none before after own none (none_staged before after own both changes)
-staged_taken before after own old set new both reply none (Lacked told is changes) = still_none before after own none (none_staged before after own (visible_in before own) changes)
+pub taken_safe : (Within : Reply → Type 0) (first before after : VaultState) (own : List ℕ) (old new : Repositories) (upload : Option UploadValue) (limit : ℕ) (name : List ℕ) (was references : References) (reply : Reply)
+    → Within reply → get old name ≡ Some was → shape_of before.tenants ≡ shape_of first.tenants → verdict.IsOrderly (both_in first own) was limit references → IsTaken own old (insert old name references) before reply new after
+    → IsSafe Within (view_of old (visible_in first own) upload limit) reply (view_of new (visible_in after own) upload limit)
+taken_safe Within first before after own old new upload limit name was references reply within here shape accepted (Took told set now) =
+    safe_taken Within old new (visible_in first own) (both_in first own) (visible_in after own) upload limit name was references reply []
+    (λ q there. get_joined name_total (visible_in first own) (staged_in first own) q ∙ first_counts (get (visible_in first own) q) (get (staged_in first own) q) there) within told here set
+    (ap measures_of now ∙ same_both (private_of before.tenants own) (private_of first.tenants own) (same_measures first.tenants before.tenants own shape)) accepted
+taken_safe Within first before after own old new upload limit name was references reply within here shape accepted (Lacked told stays now keeps) =
+    safe_left Within old new (visible_in first own) (visible_in after own) upload upload limit reply stays
+    (ap measures_of now ∙ ap (λ (p : Measures × Measures). p.0) (same_measures first.tenants before.tenants own shape)) refl within
 
 -- it is answered with no host fault but want of memory
-pub quiet_taken : (before after : VaultState) (own : List ℕ) (old set new : Repositories) (both : Objects) (reply : Reply) → IsTaken old set own (visible_in before own) both before reply new after → IsQuiet reply
-quiet_taken before after own old set new both reply (Took told is changes) = inl (ap is_host_fault told)
-quiet_taken before after own old set new both reply (Lacked told is changes) = inr told
+pub quiet_taken : (before after : VaultState) (own : List ℕ) (old set new : Repositories) (reply : Reply) → IsTaken own old set before reply new after → IsQuiet reply
+quiet_taken before after own old set new reply (Took told is now) = inl (ap is_host_fault told)
+quiet_taken before after own old set new reply (Lacked told is now keeps) = inr told
+
+-- and where it is not done, what is staged stays
+pub staged_taken : (before after : VaultState) (own : List ℕ) (old set new : Repositories) (reply : Reply) → is_done reply ≡ false → IsTaken own old set before reply new after → KeepsStaged own before after
+staged_taken before after own old set new reply not_done (Took told is now) = (let differs : ⊥ = cc (sym not_done ∙ ap is_done told) in absurd differs)
+staged_taken before after own old set new reply not_done (Lacked told is now keeps) = keeps

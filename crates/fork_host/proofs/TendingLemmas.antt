@@ -17,14 +17,16 @@ use Rattle.fork_ledger.specs.declared.fault.VaultFault.TheVariants as ledger
 use Rattle.fork_ledger.specs.Kept.{TakesAway}
 use Rattle.fork_ledger.specs.Store.{AsksStore}
 use Rattle.fork_ledger.specs.Tenants.{Tenants, VaultState, private_of, shape_of}
-use Rattle.fork_ledger.proofs.BothLemmas.{none_of, same_measures, same_tenants_there}
+use Rattle.fork_ledger.proofs.BothLemmas.{same_measures, same_tenants_there}
 use Rattle.fork_host.specs.Bounds.{IsBounded}
 use Rattle.fork_host.specs.Faults.{NoneOfObjects}
 use Rattle.fork_host.specs.Own.{staged_in, visible_in}
 use Rattle.fork_host.specs.Rows.{vault_told}
 use Rattle.fork_host.specs.Shape.{SameShape, shape_of as shape_seen}
 use Rattle.fork_host.specs.Shown.{Account, Accounts, IsWhole, seen_by, state_of, world_of}
+use Rattle.fork_host.specs.Staged.{IsStaged}
 use Rattle.fork_host.specs.Swept.{Tends, IsTended}
+use Rattle.fork_host.proofs.StagedLemmas.{staged_still}
 use Rattle.fork_host.proofs.WholeLemmas.{orderly_still, shape_still}
 use Rattle.fork_host.proofs.WorldLemmas.{get_world, known_world, len_world}
 
@@ -88,7 +90,8 @@ whole_tended accounts old new shape same honest whole = record {
   orderly = orderly_tended accounts old new shape whole.orderly;
   right = λ trusted. (let before = sym honest ∙ trusted in subst IsRightWorld (sym (world_tended accounts old new (same before))) (whole.right before));
   there = λ q. same_tenants_there old.tenants new.tenants q shape ∙ whole.there q;
-  staged = λ q account is. none_of (staged_in new q) (ap (λ (p : Measures × Measures). p.1) (same_measures old.tenants new.tenants q shape) ∙ ap measures_of (whole.staged q account is));
+  staged = λ q account is. subst (λ h. IsStaged h account.upload (staged_in new q)) (sym honest)
+      (staged_still old.honest account.upload (staged_in old q) (staged_in new q) (ap (λ (p : Measures × Measures). p.1) (same_measures old.tenants new.tenants q shape)) (λ h. ap (λ tenants. (private_of tenants q).staged) (same h)) (whole.staged q account is));
 }
 
 -- and what each tenant sees keeps its shape

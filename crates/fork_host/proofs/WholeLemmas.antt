@@ -16,7 +16,6 @@ use Rattle.fork_ledger.specs.Private.{Private, nothing}
 use Rattle.fork_ledger.specs.Store.{LeavesStore}
 use Rattle.fork_ledger.specs.Tenants.{VaultState, private_of, with_tenant}
 use Rattle.fork_reach.specs.Objects.{Measures, measures_of}
-use Rattle.fork_ledger.proofs.BothLemmas.{none_of}
 use Rattle.fork_ledger.proofs.TenantLemmas.{private_new, there_new, there_others}
 use Rattle.fork_model.specs.Answer.{answer}
 use Rattle.fork_model.specs.Runs.{Asks, Unknown}
@@ -27,16 +26,18 @@ use Rattle.fork_model.specs.World.{HostSays, Steps}
 use Rattle.fork_model.proofs.SoundWorlds.{right_step}
 use Rattle.fork_model.proofs.Worlds.{answered}
 use Rattle.fork_host.specs.Adding.{new_account, new_view}
-use Rattle.fork_host.specs.Own.{IsOwn, IsReady, KeepsStaged, staged_in, visible_in}
+use Rattle.fork_host.specs.Own.{IsOwn, IsReady, staged_in, visible_in}
 use Rattle.fork_host.specs.Rows.{Yields}
 use Rattle.fork_host.specs.Safe.{IsSafe}
 use Rattle.fork_host.specs.Sent.{sent_by, sent_in_world, sent_of}
 use Rattle.fork_host.specs.Shape.{SameShape, shape_of}
-use Rattle.fork_host.specs.Shown.{Account, Accounts, HostState, IsWhole, Trusted, shown, state_of, uploaded, world_of}
+use Rattle.fork_host.specs.Shown.{Account, Accounts, HostState, IsWhole, Trusted, shown, state_of, world_of}
+use Rattle.fork_host.specs.Staged.{IsStaged}
 use Rattle.fork_host.proofs.AddingLemmas.{orderly_more, orderly_none, right_more, right_none}
 use Rattle.fork_host.proofs.RowLemmas.{answers_of}
 use Rattle.fork_host.proofs.WorldLemmas.{distinct, get_world, known_world, len_world, world_set}
-use Rattle.fork_host.proofs.SafeLemmas.{orderly_measured, shape_measured}
+use Rattle.fork_host.proofs.SafeLemmas.{orderly_measured, same_count, shape_measured}
+use Rattle.fork_host.proofs.StagedLemmas.{staged_still}
 
 some_same : {X : Type 0} (x y : X) → Some x ≡ Some y → x ≡ y
 some_same x y is = cc
@@ -83,10 +84,10 @@ whole_more old new t limit of_tenant whole absent few low added placed honest = 
       (orderly_more (world_of old) t limit of_tenant (known_world old t ∙ absent) (subst (λ n. n < 64) (sym (len_world old)) few) low whole.orderly);
   right = λ trusted. subst IsRightWorld (sym (world_more old new t limit whole absent added placed)) (right_more (world_of old) t limit (whole.right (sym honest ∙ trusted)));
   there = λ q. at q (eq_by_cmp name_cmp q t) refl;
-  staged = λ q account is. stays q ∙ (elim (at_key (eq_by_cmp name_cmp q t) (new_account limit) account (get old.accounts q) (sym (get-insert name_total old.accounts t (new_account limit) q) ∙ sym (ap (λ m. get m q) added) ∙ is)) [
-    | inl set ↦ ap (λ k. staged_in old.vault k) (tied_names q t set.0) ∙ ap (λ p. p.staged) (absent_nothing old.vault t (whole.there t ∙ absent))
-    | inr before ↦ whole.staged q account before
-  ]);
+  staged = λ q account is. elim (at_key (eq_by_cmp name_cmp q t) (new_account limit) account (get old.accounts q) (sym (get-insert name_total old.accounts t (new_account limit) q) ∙ sym (ap (λ m. get m q) added) ∙ is)) [
+    | inl set ↦ subst (λ (a : Account). IsStaged new.vault.honest a.upload (staged_in new.vault q)) set.1 (stays q ∙ ap (λ k. staged_in old.vault k) (tied_names q t set.0) ∙ ap (λ p. p.staged) (absent_nothing old.vault t (whole.there t ∙ absent)))
+    | inr before ↦ subst (λ h. IsStaged h account.upload (staged_in new.vault q)) (sym honest) (subst (IsStaged old.vault.honest account.upload) (sym (stays q)) (whole.staged q account before))
+  ];
 }
   where
     stays : (q : List ℕ) → staged_in new.vault q ≡ staged_in old.vault q
@@ -159,7 +160,8 @@ pub orderly_still : (old new : HostState) (t q : List ℕ) (o : Option Account) 
     → ((other : View) → option_map (λ a. shown a old.vault q) o ≡ Some other → IsOrderly other) → IsOrderly view
 orderly_still old new t q None view same is each = absurd (cc)
 orderly_still old new t q (Some a) view same is each =
-    subst IsOrderly (some_same (shown a new.vault q) view is) (orderly_measured a.repositories (visible_in old.vault q) (visible_in new.vault q) a.upload a.limit same (each (shown a old.vault q) refl))
+    subst IsOrderly (some_same (shown a new.vault q) view is)
+    (orderly_measured a.repositories (visible_in old.vault q) (visible_in new.vault q) (shown a old.vault q).upload (shown a new.vault q).upload a.limit same (same_count a.upload (staged_in new.vault q) (staged_in old.vault q)) (each (shown a old.vault q) refl))
 
 -- the world stays in order where the tenant's view does
 pub orderly_after : (old new : HostState) (t : List ℕ) (account after : Account) → IsOrderlyWorld (world_of old) → get old.accounts t ≡ Some account → new.accounts ≡ insert old.accounts t after → IsOwn t old.vault new.vault
@@ -183,7 +185,7 @@ orderly_after old new t account after orderly here set own still = record {
 pub shape_still : (old new : HostState) (q : List ℕ) (o : Option Account) → measures_of (visible_in new.vault q) ≡ measures_of (visible_in old.vault q)
     → option_map shape_of (option_map (λ a. shown a new.vault q) o) ≡ option_map shape_of (option_map (λ a. shown a old.vault q) o)
 shape_still old new q None same = refl
-shape_still old new q (Some a) same = ap Some (shape_measured a.repositories (visible_in old.vault q) (visible_in new.vault q) a.upload a.upload a.limit same)
+shape_still old new q (Some a) same = ap Some (shape_measured a.repositories (visible_in old.vault q) (visible_in new.vault q) (shown a new.vault q).upload (shown a old.vault q).upload a.limit same)
 
 others_shape : (old new : HostState) (t q : List ℕ) (after : Account) → new.accounts ≡ insert old.accounts t after → IsOwn t old.vault new.vault → eq_by_cmp name_cmp q t ≡ false → SameShape q (world_of old) (world_of new)
 others_shape old new t q after set own apart =
@@ -208,21 +210,30 @@ all_stay old new t account after here set own same q = by (eq_by_cmp name_cmp q 
         ∙ ap (option_map shape_of) (sym (ap (get (world_of old)) (tied_names q t tied) ∙ get_world old t ∙ ap (option_map (λ a. shown a old.vault t)) here))
     by false apart = others_shape old new t q after set own apart
 
+-- what each tenant has staged is what came of its upload, where it is so of this one
+pub staged_after : (old new : HostState) (t : List ℕ) (after : Account) → new.accounts ≡ insert old.accounts t after → IsOwn t old.vault new.vault
+    → ((q : List ℕ) (other : Account) → get old.accounts q ≡ Some other → IsStaged old.vault.honest other.upload (staged_in old.vault q)) → IsStaged old.vault.honest after.upload (staged_in new.vault t)
+    → (q : List ℕ) (other : Account) → get new.accounts q ≡ Some other → IsStaged new.vault.honest other.upload (staged_in new.vault q)
+staged_after old new t after set own before came q other is = subst (λ h. IsStaged h other.upload (staged_in new.vault q)) (sym own.honest) (by (eq_by_cmp name_cmp q t) refl)
+  where
+    by : (b : Bool) → eq_by_cmp name_cmp q t ≡ b → IsStaged old.vault.honest other.upload (staged_in new.vault q)
+    by true same =
+        let itself : Some after ≡ Some other = sym (account_set old new t q after set ∙ ap (λ b. cond b (Some after) (get old.accounts q)) same) ∙ is in
+        subst (λ k. IsStaged old.vault.honest other.upload (staged_in new.vault k)) (sym (tied_names q t same)) (subst (λ (a : Account). IsStaged old.vault.honest a.upload (staged_in new.vault t)) (some_same after other itself) came)
+    by false apart =
+        let differs : q ≢ t = λ same. distinct t q same apart in
+        staged_still old.vault.honest other.upload (staged_in old.vault q) (staged_in new.vault q) (ap (λ (p : Measures × Measures). p.1) (own.shape q differs)) (λ honest. ap (λ p. p.staged) (own.others honest q differs))
+        (before q other (sym (at_other old new t q after set apart) ∙ is))
+
 -- and the state stays whole
 pub whole_after : (Within : Reply → Type 0) (old new : HostState) (t : List ℕ) (ask : Ask) (account after : Account) (reply : Reply) → IsWhole old → get old.accounts t ≡ Some account → new.accounts ≡ insert old.accounts t after
-    → (Trusted old → Steps (world_of old) (Asks t ask) reply (world_of new)) → IsSafe Within (shown account old.vault t) reply (shown after new.vault t) → IsOwn t old.vault new.vault → KeepsStaged t old.vault new.vault → IsWhole new
-whole_after Within old new t ask account after reply whole here set step safe own stays = record {
+    → (Trusted old → Steps (world_of old) (Asks t ask) reply (world_of new)) → IsSafe Within (shown account old.vault t) reply (shown after new.vault t) → IsOwn t old.vault new.vault → IsStaged old.vault.honest after.upload (staged_in new.vault t) → IsWhole new
+whole_after Within old new t ask account after reply whole here set step safe own came = record {
   orderly = orderly_after old new t account after whole.orderly here set own safe.orderly;
   right = λ trusted. (let before = sym own.honest ∙ trusted in right_step (world_of old) (world_of new) (Asks t ask) reply (whole.right before) (step before));
   there = λ q. own.there q ∙ whole.there q ∙ sym (known_still old new t q account after here set);
-  staged = λ q other is. rests q other (eq_by_cmp name_cmp q t) refl is;
+  staged = staged_after old new t after set own (λ q other is. whole.staged q other is) came;
 }
-  where
-    rests : (q : List ℕ) (other : Account) (b : Bool) → eq_by_cmp name_cmp q t ≡ b → get new.accounts q ≡ Some other → staged_in new.vault q ≡ uploaded other.upload
-    rests q other true same is = ap (staged_in new.vault) (tied_names q t same) ∙ none_of (staged_in new.vault t) (stays.shape ∙ ap measures_of (whole.staged t account here))
-    rests q other false apart is =
-        none_of (staged_in new.vault q)
-        (ap (λ (p : Measures × Measures). p.1) (own.shape q (λ same. distinct t q same apart)) ∙ ap measures_of (whole.staged q other (sym (at_other old new t q after set apart) ∙ is)))
 
 -- what a tenant that is there sends
 pub sent_here : (state : HostState) (t : List ℕ) (ask : Ask) (account : Account) → get state.accounts t ≡ Some account → sent_in_world (world_of state) t ask ≡ sent_by (shown account state.vault t) ask

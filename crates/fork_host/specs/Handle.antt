@@ -57,7 +57,12 @@ pub record IsSame {S : Type 0} (old new : Own S) : Type 0 where
   pub vault : new.vault.ghost_name ≡ old.vault.ghost_name
   pub tenant : new.tenant ≡ old.tenant
 
--- it was used for a request: of the vault the tenant's part alone changed, and what is staged stayed
+-- it was used for a request: of the vault the tenant's part alone changed
+pub record Touches {S : Type 0} (old new : Own S) : Type 0 where
+  pub same : IsSame old new
+  pub own : IsOwn old.tenant.now old.vault.now new.vault.now
+
+-- and what is staged stayed
 pub record Uses {S : Type 0} (old new : Own S) : Type 0 where
   pub same : IsSame old new
   pub own : IsOwn old.tenant.now old.vault.now new.vault.now

@@ -1,9 +1,11 @@
 pub mod Adding
 pub mod Bounds
 pub mod Faults
+pub mod Fed
 pub mod Given
 pub mod Handle
 pub mod Keeping
+pub mod Opening
 pub mod Own
 pub mod Pushed
 pub mod Read
@@ -14,5 +16,6 @@ pub mod Safe
 pub mod Sent
 pub mod Shape
 pub mod Shown
+pub mod Staged
 pub mod Swept
 pub mod Uploads

@@ -3,7 +3,7 @@ use Rattle.std.specs.Prelude.{◌≡◌, ◌≢◌, ℕ, ◌≤◌, true, IsTrue
 use Rattle.std.specs.FinMap.{contains_key, empty}
 use Rattle.fork_reach.specs.Objects.{measures_of, use_of}
 use Rattle.fork_reach.specs.Source.{Objects}
-use Rattle.fork_ledger.specs.Private.{both_of, private_measures}
+use Rattle.fork_ledger.specs.Private.{Private, both_of, private_measures}
 use Rattle.fork_ledger.specs.Tenants.{Tenants, VaultState, private_of, shape_of}
 
 -- what a tenant sees, what it has staged, and both as one
@@ -32,6 +32,18 @@ pub record IsOwn (own : List ℕ) (old new : VaultState) : Type 0 where
 pub record KeepsStaged (own : List ℕ) (old new : VaultState) : Type 0 where
   pub shape : measures_of (staged_in new own) ≡ measures_of (staged_in old own)
   pub exact : IsTrue old.honest → staged_in new own ≡ staged_in old own
+
+-- the tenant sees what it saw, and over any store what no store can change of it
+pub record KeepsSeen (own : List ℕ) (old new : VaultState) : Type 0 where
+  pub shape : measures_of (visible_in new own) ≡ measures_of (visible_in old own)
+  pub exact : IsTrue old.honest → visible_in new own ≡ visible_in old own
+
+-- the tenant's private maps alone were changed so: over an honest store they are what the change makes of them, and over any they
+-- have its names, kinds and lengths
+pub record Turns (tenant : List ℕ) (change : Private → Private) (old new : VaultState) : Type 0 where
+  pub own : IsOwn tenant old new
+  pub shape : private_measures (private_of new.tenants tenant) ≡ private_measures (change (private_of old.tenants tenant))
+  pub exact : IsTrue old.honest → private_of new.tenants tenant ≡ change (private_of old.tenants tenant)
 
 -- a vault shows these private maps: over an honest store themselves, and over any what no store can change of them
 pub record IsOf (tenants : Tenants) (vault : VaultState) : Type 0 where

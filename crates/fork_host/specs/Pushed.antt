@@ -1,13 +1,20 @@
 -- What a push is given: the parts of a view, and what a stream holds.
-use Rattle.std.specs.Prelude.{◌≡◌, ℕ, List, Option, Result, Ok, Err, ⊤}
+use Rattle.std.specs.Prelude.{◌≡◌, ℕ, List, [], Option, Result, Ok, Err, ⊤}
 use Rattle.git_name.specs.Object.{Object}
 use Rattle.fork_reach.specs.Source.{Objects}
 use Rattle.push_stream.specs.declared.body.Body.{Body}
 use Rattle.push_stream.specs.declared.fault.BodyError.{BodyError}
 use Rattle.push_stream.specs.declared.fault.BodyError.TheVariants.{Fault, Memory}
+use Rattle.push_stream.specs.Brief.{brief_of}
+use Rattle.push_stream.specs.declared.brief.Brief.{Brief}
 use Rattle.push_stream.specs.Upload.{UploadValue}
+use Rattle.fork_request.specs.declared.host_fault.HostFault.TheVariants.{Memory as NoMemory}
+use Rattle.fork_request.specs.declared.reply.Reply.{Reply}
+use Rattle.fork_request.specs.declared.reply.Reply.TheVariants.{Done, Failed}
+use Rattle.fork_ledger.specs.Tenants.{VaultState}
 use Rattle.fork_model.specs.Answer.{Held}
 use Rattle.fork_model.specs.View.{View, Repositories}
+use Rattle.fork_host.specs.Own.{KeepsStaged, both_in, visible_in}
 
 -- a view of these parts
 abbrev pub view_of : Repositories → Objects → Option UploadValue → ℕ → View
@@ -23,3 +30,14 @@ abbrev pub TellsHeld : Held → Result Body BodyError → Type 0
 TellsHeld held (Ok body) = held ≡ Ok (body.commands.items, body.objects.items)
 TellsHeld held (Err (Fault fault)) = held ≡ Err fault
 TellsHeld held (Err Memory) = ⊤
+
+-- a brief that was made of a stream is that of what the stream holds; want of memory tells nothing
+abbrev pub TellsBrief : Held → Result Brief BodyError → Type 0
+TellsBrief held (Ok brief) = brief_of held ≡ Ok (brief.commands.items, brief.names.items)
+TellsBrief held (Err (Fault fault)) = held ≡ Err fault
+TellsBrief held (Err Memory) = ⊤
+
+-- a repository has these references and what is staged is seen, or want of memory leaves both
+pub data IsTaken (own : List ℕ) (before after : Repositories) (old : VaultState) (reply : Reply) (now : Repositories) (new : VaultState) : Type 0 where
+  Took : reply ≡ Done [] → now ≡ after → visible_in new own ≡ both_in old own → IsTaken own before after old reply now new
+  Lacked : reply ≡ Failed NoMemory → now ≡ before → visible_in new own ≡ visible_in old own → KeepsStaged own old new → IsTaken own before after old reply now new

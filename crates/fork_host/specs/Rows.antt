@@ -1,25 +1,20 @@
 -- What a row of the answer comes to: the row itself, or a host fault: want of memory alone, where it does not ask the store.
-use Rattle.std.specs.Prelude.{◌≡◌, ℕ, ◌+◌, Bool, IsTrue, true, false, nat_lt, List, [], length, Contains, Option, Result, Ok, Err}
+use Rattle.std.specs.Prelude.{◌≡◌, ℕ, Bool, IsTrue, true, List, [], Contains, Option, Result, Ok, Err}
 use Rattle.std.specs.FinMap.{contains_key, retain_keys}
-use Rattle.push_stream.specs.declared.upload.TheConstants.{MAX_UPLOAD}
 use Rattle.git_name.specs.Object.{Object}
 use Rattle.fork_request.specs.declared.host_fault.HostFault.{HostFault}
 use Rattle.fork_request.specs.declared.host_fault.HostFault.TheVariants.{Memory, Store, Damaged, Collision}
-use Rattle.fork_request.specs.declared.refusal.Refusal.TheVariants.{StagedTooLong}
 use Rattle.fork_request.specs.declared.reply.Reply.{Reply}
 use Rattle.fork_request.specs.declared.reply.Reply.TheVariants.{Done, Refused, Failed}
-use Rattle.push_stream.specs.Upload.{UploadValue, continued}
 use Rattle.fork_reach.specs.declared.source.SourceFault.{SourceFault}
 use Rattle.fork_reach.specs.declared.source.SourceFault.TheVariants as source
 use Rattle.fork_ledger.specs.declared.fault.VaultFault.{VaultFault}
 use Rattle.fork_ledger.specs.declared.fault.VaultFault.TheVariants as ledger
 use Rattle.fork_reach.specs.Objects.{measures_of}
 use Rattle.fork_reach.specs.Source.{Objects}
-use Rattle.fork_ledger.specs.Tenants.{VaultState}
 use Rattle.fork_query.specs.declared.query_error.QueryError.{QueryError}
 use Rattle.fork_query.specs.declared.query_error.QueryError.TheVariants as query
-use Rattle.fork_model.specs.View.{View, Repositories}
-use Rattle.fork_host.specs.Own.{Changes, Settles}
+use Rattle.fork_model.specs.View.{View}
 
 pub data Gives (row : Reply × View) (old : View) (reply : Reply) (new : View) : Type 0 where
   -- the row's reply and view
@@ -70,11 +65,6 @@ pub data IsPruned (roots : List (List ℕ)) (old : Objects) (reply : Reply) (new
       → ((name : List ℕ) → Contains roots name → contains_key old name ≡ true → kept name ≡ true) → IsPruned roots old reply new
   Unpruned : (fault : HostFault) → reply ≡ Failed fault → measures_of new ≡ measures_of old → IsPruned roots old reply new
 
--- references are taken and what is staged is seen, or want of memory leaves both
-pub data IsTaken (before after : Repositories) (own : List ℕ) (seen both : Objects) (old : VaultState) (reply : Reply) (now : Repositories) (new : VaultState) : Type 0 where
-  Took : reply ≡ Done [] → now ≡ after → Changes (Settles own both) old new → IsTaken before after own seen both old reply now new
-  Lacked : reply ≡ Failed Memory → now ≡ before → Changes (Settles own seen) old new → IsTaken before after own seen both old reply now new
-
 -- how a source tells a fault of the vault; two objects of one name never meet in a read
 abbrev pub fault_read : VaultFault → SourceFault
 fault_read ledger.Store = source.Store
@@ -85,12 +75,3 @@ fault_read ledger.Collision = source.Damaged
 abbrev pub read_told : Result (Option Object) VaultFault → Result (Option Object) SourceFault
 read_told (Ok found) = Ok found
 read_told (Err fault) = Err (fault_read fault)
-
--- what a piece of an upload comes to
-pub data IsFed (old : UploadValue) (piece : List ℕ) (reply : Reply) (new : UploadValue) : Type 0 where
-  -- it has room
-  Fed : reply ≡ Done [] → new ≡ continued old piece → nat_lt MAX_UPLOAD (old.count + length piece) ≡ false → IsFed old piece reply new
-  -- it has none
-  Full : reply ≡ Refused StagedTooLong → new ≡ old → nat_lt MAX_UPLOAD (old.count + length piece) ≡ true → IsFed old piece reply new
-  -- want of memory
-  Unfed : reply ≡ Failed Memory → new ≡ old → IsFed old piece reply new

@@ -1,21 +1,23 @@
 -- What a host shows: each tenant's account, and what the vault shows that tenant.
-use Rattle.std.specs.Prelude.{◌≡◌, ℕ, IsTrue, List, Option, Some, map, refl}
+use Rattle.std.specs.Prelude.{◌≡◌, ℕ, IsTrue, List, Option, Some, map, option_map, refl}
 use Rattle.std.specs.Coded.{Coded, code_by, coded×, coded_ℕ, coded_list, coded_option}
-use Rattle.std.specs.FinMap.{FinMap, code, contains_key, empty, entries, from_sorted, get}
+use Rattle.std.specs.FinMap.{FinMap, code, contains_key, entries, from_sorted, get}
 use Rattle.git_name.specs.Name.{name_cmp}
-use Rattle.push_stream.specs.Upload.{UploadValue, upload_code}
-use Rattle.fork_reach.specs.Source.{Objects}
+use Rattle.push_stream.specs.Incoming.{reading_code}
+use Rattle.push_stream.specs.Reading.{Reading}
 use Rattle.fork_ledger.specs.Private.{Private}
 use Rattle.fork_ledger.specs.Tenants.{VaultState, private_of, vault_code}
 use Rattle.fork_model.specs.Sound.{IsOrderlyWorld, IsRightWorld}
+use Rattle.fork_model.specs.Uploads.{upload_among}
 use Rattle.fork_model.specs.View.{View, Repositories}
 use Rattle.fork_model.specs.World.{World}
 use Rattle.fork_host.specs.Own.{staged_in}
+use Rattle.fork_host.specs.Staged.{IsStaged}
 
--- what a host keeps of a tenant beside its objects
+-- what a host keeps of a tenant beside its objects; of an open upload what is known of its bytes
 pub record Account : Type 0 where
   pub repositories : Repositories
-  pub upload : Option UploadValue
+  pub upload : Option Reading
   pub limit : ℕ
 
 abbrev pub Accounts : Type 0
@@ -31,7 +33,7 @@ state_of accounts vault = record { accounts = accounts; vault = vault }
 
 -- the view of a tenant of this account that has these private maps
 abbrev pub seen_by : Account → Private → View
-seen_by account own = record { repositories = account.repositories; objects = own.visible; upload = account.upload; limit = account.limit }
+seen_by account own = record { repositories = account.repositories; objects = own.visible; upload = option_map (upload_among own.staged) account.upload; limit = account.limit }
 
 -- the view of a tenant of this account over a vault
 abbrev pub shown : Account → VaultState → List ℕ → View
@@ -45,13 +47,14 @@ entry_shown vault entry = (entry.0, shown entry.1 vault entry.0)
 unfoldable pub world_of : HostState → World
 world_of state = from_sorted (map (entry_shown state.vault) (entries state.accounts))
 
--- what an open upload has staged: nothing, as it keeps its bytes itself
-abbrev pub uploaded : Option UploadValue → Objects
-uploaded upload = empty
-
 -- the store gives what it was given
 abbrev pub Trusted : HostState → Type 0
 Trusted state = IsTrue state.vault.honest
+
+-- between requests each tenant has staged just what came of its open upload: none where its bytes are wrong, and none where it has
+-- no upload open
+abbrev pub StagesUploads : HostState → Type 0
+StagesUploads state = (tenant : List ℕ) (account : Account) → get state.accounts tenant ≡ Some account → IsStaged state.vault.honest account.upload (staged_in state.vault tenant)
 
 -- the world is in order, and right where the store is trusted; the vault has the tenants of the accounts, each with what its
 -- open upload has staged
@@ -59,7 +62,7 @@ pub record IsWhole (state : HostState) : Type 0 where
   pub orderly : IsOrderlyWorld (world_of state)
   pub right : Trusted state → IsRightWorld (world_of state)
   pub there : (tenant : List ℕ) → contains_key state.vault.tenants tenant ≡ contains_key state.accounts tenant
-  pub staged : (tenant : List ℕ) (account : Account) → get state.accounts tenant ≡ Some account → staged_in state.vault tenant ≡ uploaded account.upload
+  pub staged : StagesUploads state
 
 -- accounts and states have codes, so that they can be a model's value
 abbrev bytes_code : Coded (List ℕ)
@@ -67,7 +70,7 @@ bytes_code = coded_list coded_ℕ
 
 abbrev pub account_code : Coded Account
 account_code =
-    code_by (Repositories × (Option UploadValue × ℕ)) (coded× (code bytes_code (code bytes_code bytes_code)) (coded× (coded_option upload_code) coded_ℕ))
+    code_by (Repositories × (Option Reading × ℕ)) (coded× (code bytes_code (code bytes_code bytes_code)) (coded× (coded_option reading_code) coded_ℕ))
     (λ a. (a.repositories, (a.upload, a.limit))) (λ p. record { repositories = p.0; upload = p.1.0; limit = p.1.1 }) (λ _. refl)
 
 abbrev pub host_code : Coded HostState

@@ -1,6 +1,8 @@
 -- The uploads that are open (own): whose they are, and what their bytes stand for.
-use Rattle.std.specs.Prelude.{ℕ, List, [], ◌∷◌, Option, Some, None, flat_map}
-use Rattle.std.specs.FinMap.{entries}
+use Rattle.std.specs.Prelude.{ℕ, List, [], ◌∷◌, Option, Some, None, flat_map, is_some, map}
+use Rattle.std.specs.FinMap.{entries, get}
+use Rattle.std.specs.List.{filter}
+use Rattle.std.specs.Option.{option_and_then}
 use Rattle.push_stream.specs.Upload.{UploadValue}
 use Rattle.fork_model.specs.View.{View}
 use Rattle.fork_model.specs.World.{World}
@@ -12,13 +14,17 @@ abbrev pub opened : List ℕ → Option UploadValue → List (List ℕ × Upload
 opened tenant (Some upload) = (tenant, upload) ∷ []
 opened tenant None = []
 
--- those of all accounts, in the order of their tenants' names
-abbrev pub uploads_in : List (List ℕ × Account) → List (List ℕ × UploadValue)
-uploads_in accounts = flat_map (λ entry. opened entry.0 entry.1.upload) accounts
+-- the tenants of these accounts that have an upload open, in the same order
+abbrev pub uploading_in : List (List ℕ × Account) → List (List ℕ)
+uploading_in accounts = map (λ entry. entry.0) (filter (λ entry. is_some entry.1.upload) accounts)
 
--- those of a world
+-- the uploads of a world, in the order of their tenants' names
 abbrev pub uploads_of : World → List (List ℕ × UploadValue)
 uploads_of world = flat_map (λ entry. opened entry.0 entry.1.upload) (entries world)
+
+-- a tenant's upload, where the tenant is there and has one open
+abbrev pub upload_at : World → List ℕ → Option UploadValue
+upload_at world tenant = option_and_then (λ view. view.upload) (get world tenant)
 
 -- a view without its open upload, and a world of such views
 abbrev pub closed : View → View

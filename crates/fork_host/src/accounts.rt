@@ -1,4 +1,4 @@
-ghost use Rattle.std.specs.Prelude.{◌≡◌, ◌≢◌, IfOk, IsTrue, List, ℕ, OnOk, OnErr, Some, None, false, map as each};
+ghost use Rattle.std.specs.Prelude.{◌≡◌, ◌≢◌, IfOk, IsTrue, List, ℕ, OnOk, OnErr, Some, None, false, option_map};
 ghost use Rattle.push_stream.specs.Upload.{upload_of};
 ghost use Rattle.std.specs.FinMap as map;
 ghost use Rattle.std.specs.BTreeMap.{IsUnchanged, Updates};
@@ -9,24 +9,28 @@ ghost use Rattle.fork_model.specs.Runs.{Asks};
 ghost use Rattle.fork_model.specs.Sound.{IsOrderlyWorld};
 ghost use Rattle.fork_model.specs.World.{Steps};
 ghost use Rattle.state_text.specs.Kept.{states_of};
+ghost use Rattle.fork_ledger.specs.Tenants.{shape_of};
 ghost use Rattle.fork_host.specs.Adding.{new_account};
 ghost use Rattle.fork_host.specs.Bounds.{IsBounded};
 ghost use Rattle.fork_model.specs.Answer.{answer};
-ghost use Rattle.fork_host.specs.Own.{IsOwn, IsReady, KeepsStaged, staged_in};
+ghost use Rattle.fork_host.specs.Own.{IsOwn, IsReady, staged_in};
 ghost use Rattle.fork_host.specs.Rows.{YieldsOver};
 ghost use Rattle.fork_host.specs.Safe.{IsNamedReply, IsSafe};
 ghost use Rattle.fork_host.specs.Sent.{sent_by, sent_in_world};
 ghost use Rattle.fork_host.specs.Shape.{SameShape};
-ghost use Rattle.fork_host.specs.Uploads.{uploads_in};
+ghost use Rattle.fork_host.specs.Uploads.{upload_at, uploading_in};
 ghost use Rattle.fork_host.specs.Shown.{Account, IsWhole, Trusted, shown, state_of, world_of};
+ghost use Rattle.fork_host.specs.Staged.{Came, IsStaged};
 
 use crate::keeping::keep_tenant;
+use crate::opening::bytes_of;
 use crate::own::Own;
 use crate::repositories::Repositories;
 use crate::tenant::Tenant;
 use fork_ledger::Vault;
-use fork_request::{Refusal, Reply, Request, TenantName};
+use fork_request::{HostFault, Refusal, Reply, Request, TenantName};
 use loose_store::LooseFiles;
+use push_stream::Incoming;
 use state_text::States;
 use std::alloc::{AllocError, Global};
 use std::collections::BTreeMap;
@@ -122,18 +126,42 @@ impl Accounts {
         Ok(states)
     }
 
-    // The open uploads, tenant by tenant.
-    pub(crate) fn uploads(&self, alloc: Global) -> Result<Vec<(TenantName, &[u8])>, AllocError>
-        ensures { IfOk result (λ uploads. each (λ upload. (upload.0, upload_of upload.1.now)) uploads.items ≡ uploads_in (map.entries self.now)) }
+    // The tenants that have an upload open, in the order of their names.
+    pub(crate) fn uploading(&self, alloc: Global) -> Result<Vec<TenantName>, AllocError>
+        ensures { IfOk result (λ names. names.items ≡ uploading_in (map.entries self.now)) }
     {
-        let mut uploads = Vec::new(alloc);
+        let mut names = Vec::new(alloc);
         for (name, tenant) in self.tenants.iter() {
-            match tenant.upload() {
-                Some(bytes) => uploads.push((name.copy(), bytes))?,
-                None => {}
+            if tenant.is_uploading() {
+                names.push(name.copy())?;
             }
         }
-        Ok(uploads)
+        Ok(names)
+    }
+
+    // The bytes that open a tenant's upload again, where the tenant is there and has one open.
+    pub(crate) fn upload<S: LooseFiles>(
+        &self,
+        alloc: Global,
+        vault: &mut Vault<S>,
+        name: &TenantName,
+    ) -> Result<Option<Vec<u8>>, HostFault>
+        requires whole { IsWhole (state_of self.now vault.old) }
+        ensures found { IsTrue vault.old.honest → IfOk result (λ found. option_map (λ bytes. upload_of bytes.items) found ≡ upload_at (world_of (state_of self.now vault.old)) name.now) }
+        ensures kept { IsTrue vault.old.honest → vault.new.tenants ≡ vault.old.tenants }
+        ensures shape { shape_of vault.new.tenants ≡ shape_of vault.old.tenants }
+        ensures honest { vault.new.honest ≡ vault.old.honest }
+    {
+        let Some(tenant) = self.tenants.get(name) else {
+            return Ok(None);
+        };
+        let Some(upload) = tenant.upload() else {
+            return Ok(None);
+        };
+        match read_upload(alloc, vault, name, upload) {
+            Ok(bytes) => Ok(Some(bytes)),
+            Err(fault) => Err(fault),
+        }
     }
 
     // Answers a tenant's request from its account and its own part of the vault.
@@ -162,6 +190,23 @@ impl Accounts {
     }
 }
 
+// The bytes that open a tenant's upload again.
+fn read_upload<S: LooseFiles>(
+    alloc: Global,
+    vault: &mut Vault<S>,
+    name: &TenantName,
+    upload: &Incoming,
+) -> Result<Vec<u8>, HostFault>
+    requires staged { IsStaged vault.old.honest (Some upload.now.brief) (staged_in vault.old name.now) }
+    ensures opens { (bytes : List ℕ) → IsTrue vault.old.honest → Came vault.old.honest bytes upload.now.brief (staged_in vault.old name.now) → IfOk result (λ again. upload_of again.items ≡ upload_of bytes) }
+    ensures kept { IsTrue vault.old.honest → vault.new.tenants ≡ vault.old.tenants }
+    ensures shape { shape_of vault.new.tenants ≡ shape_of vault.old.tenants }
+    ensures honest { vault.new.honest ≡ vault.old.honest }
+{
+    let mut own = Own::new(vault, name);
+    bytes_of(alloc, &mut own, upload)
+}
+
 // Answers a request from a tenant's account and its own part of the vault.
 fn answer_from<S: LooseFiles>(
     alloc: Global,
@@ -171,12 +216,12 @@ fn answer_from<S: LooseFiles>(
     request: Request<'_>,
 ) -> Reply
     requires ready { IsReady vault.old name.now tenant.old.limit }
-    requires quiet { staged_in vault.old name.now ≡ map.empty }
+    requires staged { IsStaged vault.old.honest tenant.old.upload (staged_in vault.old name.now) }
     ensures row { YieldsOver vault.old.honest (answer (shown tenant.old vault.old name.now) (ask_of request.entry)) (shown tenant.old vault.old name.now) result (shown tenant.new vault.new name.now) }
     ensures safe { IsSafe (IsBounded (sent_by (shown tenant.old vault.old name.now) (ask_of request.entry)) vault.old vault.new) (shown tenant.old vault.old name.now) result (shown tenant.new vault.new name.now) }
     ensures named { IsNamedReply (ask_of request.entry) result }
     ensures own { IsOwn name.now vault.old vault.new }
-    ensures staged { KeepsStaged name.now vault.old vault.new }
+    ensures staged { IsStaged vault.old.honest tenant.new.upload (staged_in vault.new name.now) }
 {
     let mut own = Own::new(vault, name);
     tenant.answer(alloc, &mut own, request)

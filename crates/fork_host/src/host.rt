@@ -1,6 +1,6 @@
-ghost use Rattle.std.specs.Prelude.{◌≡◌, ◌≢◌, ◌⊎◌, IsTrue, IfOk, IfErr, OnOk, OnErr, List, [], ℕ, Some, None, false, true, map as each};
+ghost use Rattle.std.specs.Prelude.{◌≡◌, ◌≢◌, ◌⊎◌, IsTrue, IfOk, IfErr, OnOk, OnErr, List, [], ℕ, Some, None, false, option_map, true, map as each};
 ghost use Rattle.push_stream.specs.Upload.{upload_of};
-ghost use Rattle.fork_host.specs.Uploads.{uploads_of};
+ghost use Rattle.fork_host.specs.Uploads.{upload_at, uploads_of};
 ghost use Rattle.std.specs.FinMap as map;
 ghost use Rattle.fork_request.specs.Asked.{ask_of};
 ghost use Rattle.fork_request.specs.Told.{is_done};
@@ -17,7 +17,7 @@ ghost use Rattle.fork_host.specs.Adding.{new_account, new_view, refusal_to_add};
 ghost use Rattle.fork_host.specs.Faults.{FaultsAlong, FaultsWithin};
 ghost use Rattle.fork_host.specs.Safe.{IsNamedReply};
 ghost use Rattle.fork_host.specs.Shape.{SameShape};
-ghost use Rattle.fork_host.specs.Shown.{Trusted, world_of};
+ghost use Rattle.fork_host.specs.Shown.{StagesUploads, Trusted, world_of};
 ghost use Rattle.fork_host.specs.Swept.{IsSharp, KeepsTaken, SharpAfterSweeps, Tends, TendsAlong, TendsAt};
 
 use crate::accounts::Accounts;
@@ -27,7 +27,7 @@ use crate::step::HostStep;
 use crate::tending::tend;
 use fork_ledger::{Vault, VaultFault, sharp_slices};
 use fork_model::{MAX_TENANTS, a_run_is_private, what_runs_show_was_seen_or_sent};
-use fork_request::{HostRequest, MAX_LIMIT, Reply, Request, TenantName};
+use fork_request::{HostFault, HostRequest, MAX_LIMIT, Reply, Request, TenantName};
 use loose_store::LooseFiles;
 use read_cache::CachedStore;
 use state_text::States;
@@ -97,11 +97,13 @@ impl<S: LooseFiles> Host<S> {
         self.vault.close()
     }
 
-    /// How many tenants there are. What a host shows is in order, and right where its store is trusted.
+    /// How many tenants there are. What a host shows is in order, and right where its store is trusted;
+    /// and each tenant has staged just what came of its open upload.
     pub fn tenants(&self) -> usize
         ensures value { result ≡ map.len (world_of self.now) }
         ensures orderly { IsOrderlyWorld (world_of self.now) }
         ensures right { Trusted self.now → IsRightWorld (world_of self.now) }
+        ensures staged { StagesUploads self.now }
     {
         self.accounts.len()
     }
@@ -117,15 +119,29 @@ impl<S: LooseFiles> Host<S> {
         Ok(states)
     }
 
-    /// The uploads that are open, in the order of their tenants' names: whose they are, and the bytes
-    /// that came.
-    pub fn uploads(&self, alloc: Global) -> Result<Vec<(TenantName, &[u8])>, NoMemory>
-        ensures { IfOk result (λ uploads. each (λ upload. (upload.0, upload_of upload.1.now)) uploads.items ≡ uploads_of (world_of self.now)) }
+    /// The tenants that have an upload open, in the order of their names.
+    pub fn uploading(&self, alloc: Global) -> Result<Vec<TenantName>, NoMemory>
+        ensures { IfOk result (λ names. names.items ≡ each (λ upload. upload.0) (uploads_of (world_of self.now))) }
     {
-        let Ok(uploads) = self.accounts.uploads(alloc) else {
+        let Ok(names) = self.accounts.uploading(alloc) else {
             return Err(NoMemory);
         };
-        Ok(uploads)
+        Ok(names)
+    }
+
+    /// The bytes of a tenant's open upload, or others that stand for the same upload; nothing where none
+    /// is open or the tenant is unknown. Its objects are read from the store.
+    pub fn upload(&mut self, alloc: Global, name: &TenantName) -> Result<Option<Vec<u8>>, HostFault>
+        ensures found { Trusted self.old → IfOk result (λ found. option_map (λ bytes. upload_of bytes.items) found ≡ upload_at (world_of self.old) name.now) }
+        ensures kept { Trusted self.old → world_of self.new ≡ world_of self.old }
+        ensures trusted { Trusted self.old → Trusted self.new }
+        ensures orderly { IsOrderlyWorld (world_of self.new) }
+        ensures right { Trusted self.old → IsRightWorld (world_of self.new) }
+
+        // Over any store.
+        ensures shape { (tenant : List ℕ) → SameShape tenant (world_of self.old) (world_of self.new) }
+    {
+        self.accounts.upload(alloc, &mut self.vault, name)
     }
 
     /// Adds a tenant that sees nothing and may use so many bytes. Where it fails, the host is as it

@@ -13,6 +13,7 @@ mod keeping;
 mod later;
 mod laws;
 mod open_error;
+mod opening;
 mod own;
 mod pruning;
 mod reading;

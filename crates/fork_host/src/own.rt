@@ -9,14 +9,16 @@ ghost use Rattle.fork_reach.specs.Faults.{fault_in as source_fault_in};
 ghost use Rattle.fork_reach.specs.Objects.{use_of};
 ghost use Rattle.fork_reach.specs.Reach.{is_reached, linked_names};
 ghost use Rattle.fork_reach.specs.Source.{kind_in};
-ghost use Rattle.fork_ledger.specs.Private.{with_discarded, with_kept, with_published, with_staged};
-ghost use Rattle.fork_ledger.specs.Store.{AsksStore, LeavesStore, Meets, Recalls, StoresAlone, fault_in};
-ghost use Rattle.fork_ledger.specs.Tenants.{at_tenant, shape_of};
+ghost use Rattle.fork_ledger.specs.AllStaged.{MeetsAmong, StoresAmong, with_all_staged};
+ghost use Rattle.fork_ledger.specs.Private.{with_discarded, with_kept, with_published};
+ghost use Rattle.fork_ledger.specs.Store.{AsksStore, LeavesStore, Recalls, fault_in};
+ghost use Rattle.fork_ledger.specs.Tenants.{at_tenant, private_of, shape_of};
 ghost use Rattle.fork_ledger.specs.Used.{capped};
 ghost use Rattle.fork_push.specs.Push.{judged};
 ghost use Rattle.fork_push.specs.Verdict.{IfAccepted, IsOrderly, TellsJudged, fault_of_verdict};
 ghost use Rattle.fork_host.specs.Bounds.{IsRead};
-ghost use Rattle.std.specs.Prelude.{ℕ, List, Contains, true};
+ghost use Rattle.std.specs.Prelude.{ℕ, List, Contains, Some, true};
+ghost use Rattle.std.specs.List.{AllByRecursion};
 
 use crate::both::Both;
 use fork_ledger::{Held, RecallFault, Vault, VaultFault};
@@ -47,7 +49,7 @@ impl<'a, S: LooseFiles> Own<'a, S> {
         Own { vault, tenant }
     }
 
-    ghost use Rattle.fork_host.specs.Handle.{IsSame, both_by, visible_by};
+    ghost use Rattle.fork_host.specs.Handle.{IsSame, both_by, staged_by, visible_by};
 
     // The kind of an object that the tenant sees, without a read.
     pub(crate) fn kind_seen(&self, name: Name) -> Option<Kind>
@@ -71,21 +73,45 @@ impl<'a, S: LooseFiles> Own<'a, S> {
         self.vault.get(alloc, self.tenant, name)
     }
 
-    // Stages an object.
-    pub(crate) fn stage(&mut self, alloc: Global, sealed: Sealed) -> Result<(), VaultFault>
-        ensures ok { IsTrue self.old.vault.now.honest → OnOk result (self.new.vault.now.tenants ≡ at_tenant self.old.vault.now.tenants self.old.tenant.now (with_staged sealed)) }
+    // The object that the tenant has staged under this name.
+    pub(crate) fn get_staged(
+        &mut self,
+        alloc: Global,
+        name: Name,
+    ) -> Result<Option<Sealed>, VaultFault>
+        ensures found { IsTrue self.old.vault.now.honest → IfOk result (λ found. found ≡ map.get (staged_by self.old) name) }
+        ensures kept { IsTrue self.old.vault.now.honest → self.new.vault.now.tenants ≡ self.old.vault.now.tenants }
+        ensures files { IsTrue self.old.vault.now.honest → self.new.vault.now.files ≡ self.old.vault.now.files }
+        ensures there { IfOk result (λ found. is_some found ≡ map.contains_key (staged_by self.old) name) }
+        ensures named { IfOk result (λ found. IfSome found (λ object. object_name object ≡ name)) }
+        ensures shape { shape_of self.new.vault.now.tenants ≡ shape_of self.old.vault.now.tenants }
+        ensures store { AsksStore self.old.vault.now self.new.vault.now (fault_in result) }
+        ensures apart { IfErr result (λ fault. fault ≢ VaultFault.Collision) }
+        ensures same { IsSame self.old self.new }
+    {
+        self.vault.get_staged(alloc, self.tenant, name)
+    }
+
+    // Stages objects, in order, all or none.
+    pub(crate) fn stage_all(
+        &mut self,
+        alloc: Global,
+        objects: Vec<Sealed>,
+    ) -> Result<(), VaultFault>
+        ensures ok { IsTrue self.old.vault.now.honest → OnOk result (self.new.vault.now.tenants ≡ at_tenant self.old.vault.now.tenants self.old.tenant.now (with_all_staged objects.items)) }
         ensures err { IsTrue self.old.vault.now.honest → OnErr result (self.new.vault.now.tenants ≡ self.old.vault.now.tenants) }
-        ensures stored { IsTrue self.old.vault.now.honest → OnOk result (StoresAlone sealed self.old.vault.now.files self.new.vault.now.files) }
-        ensures collision { IsTrue self.old.vault.now.honest → IfErr result (λ fault. fault ≡ VaultFault.Collision → Meets sealed self.old.vault.now.files) }
-        ensures still { IsTrue self.old.vault.now.honest → IfErr result (λ fault. fault ≡ VaultFault.Collision → self.new.vault.now.files ≡ self.old.vault.now.files) }
+        ensures came { IsTrue self.old.vault.now.honest → map.contains_key self.old.vault.now.tenants self.old.tenant.now ≡ true → OnOk result (AllByRecursion (λ object. map.get (private_of self.new.vault.now.tenants self.old.tenant.now).staged (object_name object) ≡ Some object) objects.items) }
+        ensures stored { IsTrue self.old.vault.now.honest → OnOk result (StoresAmong objects.items self.old.vault.now.files self.new.vault.now.files) }
+        ensures collision { IsTrue self.old.vault.now.honest → IfErr result (λ fault. fault ≡ VaultFault.Collision → MeetsAmong objects.items self.old.vault.now.files) }
+        ensures still { IsTrue self.old.vault.now.honest → IfErr result (λ fault. fault ≡ VaultFault.Collision → StoresAmong objects.items self.old.vault.now.files self.new.vault.now.files) }
 
         // Over any store.
-        ensures shape { OnOk result (shape_of self.new.vault.now.tenants ≡ shape_of (at_tenant self.old.vault.now.tenants self.old.tenant.now (with_staged sealed))) }
+        ensures shape { OnOk result (shape_of self.new.vault.now.tenants ≡ shape_of (at_tenant self.old.vault.now.tenants self.old.tenant.now (with_all_staged objects.items))) }
         ensures kept { OnErr result (shape_of self.new.vault.now.tenants ≡ shape_of self.old.vault.now.tenants) }
         ensures store { AsksStore self.old.vault.now self.new.vault.now (fault_in result) }
         ensures same { IsSame self.old self.new }
     {
-        self.vault.stage(alloc, self.tenant, sealed)
+        self.vault.stage_all(alloc, self.tenant, objects)
     }
 
     // Stages the object of this name, where a survey of the store found it there, of this kind and of

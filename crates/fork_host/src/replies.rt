@@ -1,6 +1,7 @@
 // What a tenant is told where a request gives no data.
 ghost use Rattle.std.specs.Prelude.{◌≡◌, ◌⊎◌, [], ◌++◌, codes, decimal};
 ghost use Rattle.fork_request.specs.declared.refusal.Refusal.TheVariants.{BadName};
+ghost use Rattle.fork_request.specs.Told.{is_done, is_host_fault};
 ghost use Rattle.fork_model.specs.Answer.{command_refusal, push_refusal, stream_refusal, transaction_refusal};
 ghost use Rattle.fork_host.specs.Rows.{fault_told, query_told, vault_told};
 
@@ -13,6 +14,26 @@ use git_reftx::{CommandFault, TxRefusal};
 use push_stream::StreamFault;
 use std::alloc::Global;
 use std::io::Write;
+
+// Whether a reply is done.
+pub(crate) fn is_done(reply: &Reply) -> bool
+    ensures { result ≡ is_done reply.now }
+{
+    match reply {
+        Reply::Done(_) => true,
+        _ => false,
+    }
+}
+
+// Whether it is a host fault.
+pub(crate) fn is_failed(reply: &Reply) -> bool
+    ensures { result ≡ is_host_fault reply.now }
+{
+    match reply {
+        Reply::Failed(_) => true,
+        _ => false,
+    }
+}
 
 // There is nothing more to tell.
 pub(crate) fn done(alloc: Global) -> Reply

@@ -1,14 +1,17 @@
-// What a push does to a tenant's own part of the vault.
-ghost use Rattle.std.specs.Prelude.{◌≡◌, IfErr, OnOk, OnErr, true};
+// What pushes and uploads do to a tenant's own part of the vault.
+ghost use Rattle.std.specs.Prelude.{◌≡◌, IfErr, IsTrue, OnOk, OnErr, Some, true};
 ghost use Rattle.std.specs.FinMap as map;
-ghost use Rattle.fork_reach.specs.Objects.{with_objects};
+ghost use Rattle.std.specs.List.{AllByRecursion};
+ghost use Rattle.git_name.specs.Object.{object_name};
 ghost use Rattle.fork_reach.specs.Source.{Objects};
 ghost use Rattle.fork_request.specs.declared.reply.Reply.TheVariants.{Failed};
+ghost use Rattle.fork_ledger.specs.AllStaged.{with_all_staged};
+ghost use Rattle.fork_ledger.specs.Private.{with_discarded, with_published};
 ghost use Rattle.fork_ledger.specs.Store.{LeavesStore};
 ghost use Rattle.fork_ledger.specs.Tenants.{VaultState};
 ghost use Rattle.fork_host.specs.Bounds.{Gains, IsBounded};
-ghost use Rattle.fork_host.specs.Handle.{IsSame, both_by, visible_by};
-ghost use Rattle.fork_host.specs.Own.{Changes, Settles, Stages, visible_in};
+ghost use Rattle.fork_host.specs.Handle.{IsSame};
+ghost use Rattle.fork_host.specs.Own.{Changes, Settles, Stages, Turns, both_in, staged_in, visible_in};
 ghost use Rattle.fork_host.specs.Rows.{vault_told};
 
 use crate::own::Own;
@@ -17,32 +20,30 @@ use git_name::Sealed;
 use loose_store::LooseFiles;
 use std::alloc::Global;
 
-// Stages these objects in turn. Where it fails, nothing is staged.
+// Stages these objects in turn, beside what is staged. Where it fails, none of them is.
 pub(crate) fn stage_all<S: LooseFiles>(
     alloc: Global,
     own: &mut Own<'_, S>,
     sent: Vec<Sealed>,
 ) -> Result<(), VaultFault>
     requires there { map.contains_key own.old.vault.now.tenants own.old.tenant.now ≡ true }
-    ensures ok { OnOk result (Changes (Stages own.old.tenant.now (with_objects (both_by own.old) sent.items)) own.old.vault.now own.new.vault.now) }
-    ensures err { OnErr result (Changes (Settles own.old.tenant.now (visible_by own.old)) own.old.vault.now own.new.vault.now) }
+    ensures ok { OnOk result (Turns own.old.tenant.now (with_all_staged sent.items) own.old.vault.now own.new.vault.now) }
+    ensures err { OnErr result (Turns own.old.tenant.now (λ private. private) own.old.vault.now own.new.vault.now) }
+    ensures came { IsTrue own.old.vault.now.honest → OnOk result (AllByRecursion (λ object. map.get (staged_in own.new.vault.now own.old.tenant.now) (object_name object) ≡ Some object) sent.items) }
     ensures gains { OnOk result (Gains sent.items own.old.vault.now own.new.vault.now) }
     ensures bounds { IfErr result (λ fault. IsBounded sent.items own.old.vault.now own.new.vault.now (Failed (vault_told fault))) }
     ensures same { IsSame own.old own.new }
 {
-    for sealed in sent {
-        if let Err(fault) = own.stage(alloc, sealed) {
-            discard(own);
-            return Err(fault);
-        }
-    }
-    Ok(())
+    own.stage_all(alloc, sent)
 }
 
 // What is staged goes.
 pub(crate) fn discard<S: LooseFiles>(own: &mut Own<'_, S>)
     requires there { map.contains_key own.old.vault.now.tenants own.old.tenant.now ≡ true }
     ensures settles { (before : VaultState) (both : Objects) → Changes (Stages own.old.tenant.now both) before own.old.vault.now → Changes (Settles own.old.tenant.now (visible_in before own.old.tenant.now)) before own.new.vault.now }
+    ensures turns { Turns own.old.tenant.now with_discarded own.old.vault.now own.new.vault.now }
+    ensures none { staged_in own.new.vault.now own.old.tenant.now ≡ map.empty }
+    ensures still { visible_in own.new.vault.now own.old.tenant.now ≡ visible_in own.old.vault.now own.old.tenant.now }
     ensures store { LeavesStore own.old.vault.now own.new.vault.now }
     ensures same { IsSame own.old own.new }
 {
@@ -53,6 +54,9 @@ pub(crate) fn discard<S: LooseFiles>(own: &mut Own<'_, S>)
 pub(crate) fn publish<S: LooseFiles>(own: &mut Own<'_, S>)
     requires there { map.contains_key own.old.vault.now.tenants own.old.tenant.now ≡ true }
     ensures settles { (before : VaultState) (both : Objects) → Changes (Stages own.old.tenant.now both) before own.old.vault.now → Changes (Settles own.old.tenant.now both) before own.new.vault.now }
+    ensures turns { Turns own.old.tenant.now with_published own.old.vault.now own.new.vault.now }
+    ensures none { staged_in own.new.vault.now own.old.tenant.now ≡ map.empty }
+    ensures seen { visible_in own.new.vault.now own.old.tenant.now ≡ both_in own.old.vault.now own.old.tenant.now }
     ensures store { LeavesStore own.old.vault.now own.new.vault.now }
     ensures same { IsSame own.old own.new }
 {

@@ -1,24 +1,27 @@
-ghost use Rattle.std.specs.Prelude.{◌≡◌, IsTrue, IfOk, IfSome, Ok, Option, Some, map as map_list, true};
+// What a whole stream holds is taken: all of it or nothing.
+ghost use Rattle.std.specs.Prelude.{◌≡◌, ℕ, IsTrue, IfOk, IfSome, Ok, List, Option, Some, false, map as map_list, true};
 ghost use Rattle.std.specs.FinMap as map;
-ghost use Rattle.git_name.specs.Object.{object_name};
+ghost use Rattle.git_name.specs.Object.{Object, object_name};
 ghost use Rattle.git_reftx.specs.Transaction.{References};
 ghost use Rattle.push_stream.specs.Brief.{brief_shown};
+ghost use Rattle.push_stream.specs.Stream.{Stream, finished as finished_in, sent_in};
 ghost use Rattle.push_stream.specs.Upload.{UploadValue};
-ghost use Rattle.fork_reach.specs.Source.{Objects};
+ghost use Rattle.fork_reach.specs.Objects.{with_objects};
+ghost use Rattle.fork_request.specs.Told.{is_done};
 ghost use Rattle.fork_ledger.specs.Store.{LeavesStore};
-ghost use Rattle.fork_ledger.specs.Tenants.{VaultState, shape_of};
+ghost use Rattle.fork_ledger.specs.Tenants.{shape_of};
 ghost use Rattle.fork_push.specs.Push.{judged};
 ghost use Rattle.fork_push.specs.Verdict.{IfAccepted, IsOrderly, TellsJudged, fault_of_verdict};
-ghost use Rattle.fork_model.specs.Answer.{pushed};
-ghost use Rattle.fork_host.specs.Bounds.{Gains, IsBounded, IsRead};
+ghost use Rattle.fork_model.specs.Answer.{Held, pushed};
+ghost use Rattle.fork_host.specs.Bounds.{IsBounded, IsRead};
 ghost use Rattle.fork_host.specs.Handle.{IsSame, Ready, Uses, both_by, staged_by, visible_by};
-ghost use Rattle.fork_host.specs.Own.{Changes, Stages, visible_in};
-ghost use Rattle.fork_host.specs.Rows.{Yields, IsTaken};
+ghost use Rattle.fork_host.specs.Own.{IsOwn, KeepsStaged, visible_in};
+ghost use Rattle.fork_host.specs.Rows.{Yields};
 ghost use Rattle.fork_host.specs.Safe.{IsSafe};
-ghost use Rattle.fork_host.specs.Pushed.{view_of};
+ghost use Rattle.fork_host.specs.Pushed.{IsTaken, Sends, TellsBrief, TellsHeld, view_of};
 
 use crate::own::Own;
-use crate::replies::{done, host_fault, push_refusal, vault_fault};
+use crate::replies::{done, host_fault, push_refusal, stream_refusal, vault_fault};
 use crate::repositories::Repositories;
 use crate::staging::{discard, publish, stage_all};
 use fork_push::Verdict;
@@ -26,12 +29,39 @@ use fork_request::{HostFault, Reply, RepositoryName};
 use git_name::{Name, Sealed};
 use git_reftx::Refs;
 use loose_store::LooseFiles;
-use push_stream::{Body, Brief, StreamFault};
+use push_stream::{Body, BodyError, Brief, StreamFault};
 use std::alloc::{AllocError, Global};
 
-// What a whole stream holds is judged, and done in a repository that is there: all of it or nothing.
-// The sent objects are staged while they are judged.
-pub(crate) fn take<S: LooseFiles>(
+#[tactic(auto, unfolding(fork_push::specs::Push::judged))]
+// What the body of a push gave is taken, where nothing is staged.
+pub(crate) fn take_body<S: LooseFiles>(
+    alloc: Global,
+    repositories: &mut Repositories,
+    own: &mut Own<'_, S>,
+    limit: u64,
+    name: RepositoryName,
+    finished: Result<Body, BodyError>,
+) -> Reply
+    requires ready { Ready own.old limit }
+    requires quiet { staged_by own.old ≡ map.empty }
+    requires there { map.contains_key repositories.old name ≡ true }
+    ensures row { (upload : Option UploadValue) (held : Held) (references : References) → TellsHeld held finished → map.get repositories.old name ≡ Some references → IsTrue own.old.vault.now.honest
+        → Yields (pushed (view_of repositories.old (visible_by own.old) upload limit) name references held)
+        (view_of repositories.old (visible_by own.old) upload limit) result (view_of repositories.new (visible_in own.new.vault.now own.old.tenant.now) upload limit) }
+    // Over any store.
+    ensures safe { (upload : Option UploadValue) (sent : List Object) → Sends sent finished → IsSafe (IsBounded sent own.old.vault.now own.new.vault.now) (view_of repositories.old (visible_by own.old) upload limit)
+        result (view_of repositories.new (visible_in own.new.vault.now own.old.tenant.now) upload limit) }
+    ensures own { Uses own.old own.new }
+{
+    match finished {
+        Ok(body) => take(alloc, repositories, own, limit, name, body),
+        Err(BodyError::Fault(fault)) => Reply::Refused(stream_refusal(fault)),
+        Err(BodyError::Memory) => Reply::Failed(HostFault::Memory),
+    }
+}
+
+// The commands and objects of a body: the objects are staged while they are judged.
+fn take<S: LooseFiles>(
     alloc: Global,
     repositories: &mut Repositories,
     own: &mut Own<'_, S>,
@@ -60,17 +90,81 @@ pub(crate) fn take<S: LooseFiles>(
     if let Err(fault) = stage_all(alloc, own, sent) {
         return Reply::Failed(vault_fault(fault));
     }
-    let finished = Ok(Brief { commands, names });
+    let brief = Brief { commands, names };
+    let reply = settle(alloc, repositories, own, limit, name, brief);
+    discard(own);
+    reply
+}
+
+// The names of these objects, in their order.
+fn names_of(alloc: Global, sent: &[Sealed]) -> Result<Vec<Name>, AllocError>
+    ensures { IfOk result (λ names. names.items ≡ map_list object_name sent.now) }
+{
+    let mut names = Vec::new(alloc);
+    for sealed in sent {
+        names.push(sealed.name())?;
+    }
+    Ok(names)
+}
+
+#[tactic(auto, unfolding(fork_push::specs::Push::judged))]
+// What an upload gave at its end is taken, where its objects are staged.
+pub(crate) fn settle_upload<S: LooseFiles>(
+    alloc: Global,
+    repositories: &mut Repositories,
+    own: &mut Own<'_, S>,
+    limit: u64,
+    name: RepositoryName,
+    finished: Result<Brief, BodyError>,
+) -> Reply
+    requires ready { Ready own.old limit }
+    requires there { map.contains_key repositories.old name ≡ true }
+    ensures row { (upload : Option UploadValue) (stream : Stream) (references : References) → TellsBrief (finished_in stream) finished → map.get repositories.old name ≡ Some references → IsTrue own.old.vault.now.honest
+        → both_by own.old ≡ with_objects (visible_by own.old) (sent_in stream)
+        → Yields (pushed (view_of repositories.old (visible_by own.old) upload limit) name references (finished_in stream))
+        (view_of repositories.old (visible_by own.old) upload limit) result (view_of repositories.new (visible_in own.new.vault.now own.old.tenant.now) upload limit) }
+    // Over any store.
+    ensures safe { (upload : Option UploadValue) (sent : List Object) → IsSafe (IsBounded sent own.old.vault.now own.new.vault.now) (view_of repositories.old (visible_by own.old) upload limit)
+        result (view_of repositories.new (visible_in own.new.vault.now own.old.tenant.now) upload limit) }
+    ensures own { IsOwn own.old.tenant.now own.old.vault.now own.new.vault.now }
+    ensures kept { is_done result ≡ false → KeepsStaged own.old.tenant.now own.old.vault.now own.new.vault.now }
+    ensures same { IsSame own.old own.new }
+{
+    match finished {
+        Ok(brief) => settle(alloc, repositories, own, limit, name, brief),
+        Err(BodyError::Fault(fault)) => Reply::Refused(stream_refusal(fault)),
+        Err(BodyError::Memory) => Reply::Failed(HostFault::Memory),
+    }
+}
+
+// The commands and the objects of these names, which are staged, are judged, and taken where they are
+// accepted. What is not accepted stays staged.
+fn settle<S: LooseFiles>(
+    alloc: Global,
+    repositories: &mut Repositories,
+    own: &mut Own<'_, S>,
+    limit: u64,
+    name: RepositoryName,
+    brief: Brief,
+) -> Reply
+    requires ready { Ready own.old limit }
+    requires there { map.contains_key repositories.old name ≡ true }
+    ensures row { (upload : Option UploadValue) (sent : List Object) (references : References) → map.get repositories.old name ≡ Some references → IsTrue own.old.vault.now.honest
+        → brief.names.items ≡ map_list object_name sent → both_by own.old ≡ with_objects (visible_by own.old) sent
+        → Yields (pushed (view_of repositories.old (visible_by own.old) upload limit) name references (Ok (brief.commands.items, sent)))
+        (view_of repositories.old (visible_by own.old) upload limit) result (view_of repositories.new (visible_in own.new.vault.now own.old.tenant.now) upload limit) }
+    // Over any store.
+    ensures safe { (upload : Option UploadValue) (sent : List Object) → IsSafe (IsBounded sent own.old.vault.now own.new.vault.now) (view_of repositories.old (visible_by own.old) upload limit)
+        result (view_of repositories.new (visible_in own.new.vault.now own.old.tenant.now) upload limit) }
+    ensures own { IsOwn own.old.tenant.now own.old.vault.now own.new.vault.now }
+    ensures kept { is_done result ≡ false → KeepsStaged own.old.tenant.now own.old.vault.now own.new.vault.now }
+    ensures same { IsSame own.old own.new }
+{
+    let finished = Ok(brief);
     match verdict(alloc, repositories, own, limit, &name, &finished) {
         Verdict::Accepted(new) => accept(alloc, repositories, own, name, new),
-        Verdict::Refused(refusal) => {
-            discard(own);
-            Reply::Refused(push_refusal(refusal))
-        }
-        Verdict::Failed(fault) => {
-            discard(own);
-            Reply::Failed(host_fault(fault))
-        }
+        Verdict::Refused(refusal) => Reply::Refused(push_refusal(refusal)),
+        Verdict::Failed(fault) => Reply::Failed(host_fault(fault)),
     }
 }
 
@@ -83,28 +177,16 @@ fn accept<S: LooseFiles>(
     new: Refs,
 ) -> Reply
     requires there { map.contains_key own.old.vault.now.tenants own.old.tenant.now ≡ true }
-    ensures taken { (before : VaultState) (both : Objects) → Changes (Stages own.old.tenant.now both) before own.old.vault.now
-        → IsTaken repositories.old (map.insert repositories.old name new) own.old.tenant.now (visible_in before own.old.tenant.now) both before result repositories.new own.new.vault.now }
+    ensures taken { IsTaken own.old.tenant.now repositories.old (map.insert repositories.old name new) own.old.vault.now result repositories.new own.new.vault.now }
+    ensures own { IsOwn own.old.tenant.now own.old.vault.now own.new.vault.now }
     ensures store { LeavesStore own.old.vault.now own.new.vault.now }
     ensures same { IsSame own.old own.new }
 {
     let Ok(()) = repositories.insert(name, new) else {
-        discard(own);
         return Reply::Failed(HostFault::Memory);
     };
     publish(own);
     done(alloc)
-}
-
-// The names of these objects, in their order.
-fn names_of(alloc: Global, sent: &[Sealed]) -> Result<Vec<Name>, AllocError>
-    ensures { IfOk result (λ names. names.items ≡ map_list object_name sent.now) }
-{
-    let mut names = Vec::new(alloc);
-    for sealed in sent {
-        names.push(sealed.name())?;
-    }
-    Ok(names)
 }
 
 // What a push into a repository that is there comes to.

@@ -1,14 +1,15 @@
 ghost use Rattle.std.specs.Prelude.{◌≡◌, IsTrue};
-ghost use Rattle.std.specs.FinMap.{empty};
 ghost use Rattle.fork_request.specs.Asked.{ask_of};
 ghost use Rattle.fork_model.specs.Answer.{answer};
 ghost use Rattle.fork_host.specs.Adding.{new_account};
 ghost use Rattle.fork_host.specs.Bounds.{IsBounded};
-ghost use Rattle.fork_host.specs.Handle.{Ready, Uses, shown_by, staged_by};
+ghost use Rattle.fork_host.specs.Handle.{Ready, Touches, shown_by, staged_by};
+ghost use Rattle.fork_host.specs.Own.{staged_in};
 ghost use Rattle.fork_host.specs.Rows.{YieldsOver};
 ghost use Rattle.fork_host.specs.Safe.{IsNamedReply, IsSafe};
 ghost use Rattle.fork_host.specs.Sent.{sent_by};
 ghost use Rattle.fork_host.specs.Shown.{shown};
+ghost use Rattle.fork_host.specs.Staged.{IsStaged};
 
 mod keeping;
 mod objects;
@@ -22,7 +23,7 @@ use crate::repositories::Repositories;
 use fork_request::{Refusal, Reply, Request};
 use git_name::Name;
 use loose_store::LooseFiles;
-use push_stream::Upload;
+use push_stream::Incoming;
 use std::alloc::Global;
 use std::marker::Model;
 
@@ -30,18 +31,19 @@ use std::marker::Model;
 #[derive(Drop)]
 pub(crate) struct Tenant {
     repositories: Repositories,
-    upload: Option<Upload>,
+    upload: Option<Incoming>,
     limit: u64,
 }
 
 impl Model for Tenant {
+    ghost use Rattle.std.specs.Prelude.{option_map};
     ghost use Rattle.fork_host.specs.Shown.{Account, account_code};
 
     ghost Value = { Account };
 
     ghost coded = { account_code };
 
-    ghost view = { λ a. record { repositories = a.repositories; upload = a.upload; limit = a.limit } };
+    ghost view = { λ a. record { repositories = a.repositories; upload = option_map (λ upload. upload.brief) a.upload; limit = a.limit } };
 }
 
 impl Tenant {
@@ -73,20 +75,21 @@ impl Tenant {
         request: Request<'_>,
     ) -> Reply
         requires ready { Ready own.old self.old.limit }
-        requires quiet { staged_by own.old ≡ empty }
+        requires staged { IsStaged own.old.vault.now.honest self.old.upload (staged_by own.old) }
         ensures row { YieldsOver own.old.vault.now.honest (answer (shown_by self.old own.old) (ask_of request.entry)) (shown_by self.old own.old) result (shown self.new own.new.vault.now own.old.tenant.now) }
         ensures safe { IsSafe (IsBounded (sent_by (shown_by self.old own.old) (ask_of request.entry)) own.old.vault.now own.new.vault.now) (shown_by self.old own.old) result (shown self.new own.new.vault.now own.old.tenant.now) }
         ensures named { IsNamedReply (ask_of request.entry) result }
-        ensures own { Uses own.old own.new }
+        ensures own { Touches own.old own.new }
+        ensures staged { IsStaged own.old.vault.now.honest self.new.upload (staged_in own.new.vault.now own.old.tenant.now) }
     {
         match request {
             Request::Init(word) => self.init(alloc, word),
             Request::Drop(word) => self.drop_repository(alloc, word),
             Request::Fork(source, copy) => self.fork(alloc, source, copy),
             Request::Push(word, body) => self.push(alloc, own, word, body),
-            Request::Part(body) => self.part(alloc, body),
+            Request::Part(body) => self.part(alloc, own, body),
             Request::PartEnd(word) => self.part_end(alloc, own, word),
-            Request::PartDrop => self.part_drop(alloc),
+            Request::PartDrop => self.part_drop(alloc, own),
             Request::UpdateRefs(word, body) => self.update_refs(alloc, own, word, body),
             Request::CatFile(name) => self.cat_file(alloc, own, Name::new(name)),
             Request::LsTree(name) => self.ls_tree(alloc, own, Name::new(name)),

@@ -1,22 +1,52 @@
-ghost use Rattle.std.specs.Prelude.{◌≡◌, ◌≤◌, ◌+◌, ◌<◌, [], length};
-ghost use Rattle.push_stream.specs.Upload.{continued};
-ghost use Rattle.fork_host.specs.Rows.{IsFed};
+// A piece more of an upload, whose objects are staged as they come.
+ghost use Rattle.std.specs.Prelude.{◌≡◌, ◌≤◌, ◌+◌, ◌<◌, ◌++◌, ℕ, [], List, length, true};
+ghost use Rattle.std.specs.FinMap as map;
+ghost use Rattle.push_stream.specs.Stream.{sent_in, stream_of};
+ghost use Rattle.fork_host.specs.Bounds.{IsBounded};
+ghost use Rattle.fork_host.specs.Fed.{IsFed};
+ghost use Rattle.fork_host.specs.Handle.{IsSame, staged_by};
+ghost use Rattle.fork_host.specs.Own.{IsOwn, KeepsSeen};
+ghost use Rattle.fork_host.specs.Staged.{Came};
 
-use crate::replies::done;
+use crate::own::Own;
+use crate::replies::{done, vault_fault};
+use crate::staging::{discard, stage_all};
 use fork_request::{HostFault, Refusal, Reply};
-use push_stream::{MAX_UPLOAD, Upload};
+use loose_store::LooseFiles;
+use push_stream::{Incoming, MAX_UPLOAD};
 use std::alloc::Global;
 
-// A piece more of an upload, where it has room.
-pub(crate) fn feed(alloc: Global, upload: &mut Upload, piece: &[u8]) -> Reply
-    ensures { IsFed upload.old piece.now result upload.new }
+// A piece more of an upload, where it has room. The objects that come with it are staged beside those
+// before; where the stream is wrong with it, none stays staged. A host fault leaves what came before.
+pub(crate) fn feed<S: LooseFiles>(
+    alloc: Global,
+    own: &mut Own<'_, S>,
+    upload: &mut Incoming,
+    piece: &[u8],
+) -> Reply
+    requires there { map.contains_key own.old.vault.now.tenants own.old.tenant.now ≡ true }
+    ensures fed { IsFed own.old.tenant.now upload.old.brief piece.now own.old.vault.now result upload.new.brief own.new.vault.now }
+    ensures bounds { (bytes : List ℕ) → Came own.old.vault.now.honest bytes upload.old.brief (staged_by own.old) → IsBounded (sent_in (stream_of (bytes ++ piece.now))) own.old.vault.now own.new.vault.now result }
+    ensures seen { KeepsSeen own.old.tenant.now own.old.vault.now own.new.vault.now }
+    ensures own { IsOwn own.old.tenant.now own.old.vault.now own.new.vault.now }
+    ensures same { IsSame own.old own.new }
 {
     let room = MAX_UPLOAD as u64 - upload.count();
     if piece.len() as u64 > room {
         return Reply::Refused(Refusal::StagedTooLong);
     }
-    match upload.feed(piece) {
-        Ok(()) => done(alloc),
-        Err(_) => Reply::Failed(HostFault::Memory),
+    let Ok(step) = upload.look(alloc, piece) else {
+        return Reply::Failed(HostFault::Memory);
+    };
+    if step.is_fault {
+        upload.take();
+        discard(own);
+        return done(alloc);
     }
+    if let Err(fault) = stage_all(alloc, own, step.objects) {
+        upload.leave();
+        return Reply::Failed(vault_fault(fault));
+    }
+    upload.take();
+    done(alloc)
 }

@@ -157,11 +157,11 @@ copied_row view source copy None is right = refuses view (NoRepository source)
 copied_row view source copy (Some references) is right = new_row view copy references right (λ sound. sound.references source references is)
 
 -- references stay right where objects come
-references_kept : (objects : Objects) (sent : List Object) (references : References) → AreReferences objects references → AreReferences (with_objects objects sent) references
-references_kept objects sent references right = record {
+references_kept : (objects both : Objects) (references : References) → ((name : List ℕ) → contains_key objects name ≡ true → get both name ≡ get objects name) → AreReferences objects references → AreReferences both references
+references_kept objects both references grown right = record {
   each = λ reference target is.
       let at = right.each reference target is in
-      let kept = kept_all objects sent target at.there in
+      let kept = grown target at.there in
       record {
         named = at.named;
         there = ap is_some kept ∙ at.there;
@@ -176,14 +176,12 @@ still_few view word old new there few =
     subst (λ n. n ≤ 256) (sym (len-insert name_total view.repositories word new ∙ ap (λ b. cond b (len view.repositories) (len view.repositories + 1)) (ap is_some there))) few
 
 -- an accepted push leaves an orderly view
-pub orderly_pushed : (view : View) (word : List ℕ) (old new : References) (commands : List Command) (sent : List Object) → get view.repositories word ≡ Some old → IsRepositoryName word
-    → transacted old commands (kind_in (with_objects view.objects sent)) ≡ Ok new → use_of (with_objects view.objects sent) ≤ view.limit → IsOrderly view
-    → IsOrderly (record view { repositories = insert view.repositories word new; objects = with_objects view.objects sent })
-orderly_pushed view word old new commands sent there right carried within orderly =
-    let both = with_objects view.objects sent in
+pub orderly_pushed : (view : View) (word : List ℕ) (old new : References) (commands : List Command) (both : Objects) → ((name : List ℕ) → contains_key view.objects name ≡ true → get both name ≡ get view.objects name) → get view.repositories word ≡ Some old
+    → IsRepositoryName word → transacted old commands (kind_in both) ≡ Ok new → use_of both ≤ view.limit → IsOrderly view → IsOrderly (record view { repositories = insert view.repositories word new; objects = both })
+orderly_pushed view word old new commands both grown there right carried within orderly =
     let each = each_inserted both view.repositories word new right
-    (sound_transacted both old new commands (references_kept view.objects sent old (orderly.references word old there)) carried)
-    (λ name references is. (orderly.repositories name references is, references_kept view.objects sent references (orderly.references name references is))) in
+    (sound_transacted both old new commands (references_kept view.objects both old grown (orderly.references word old there)) carried)
+    (λ name references is. (orderly.repositories name references is, references_kept view.objects both references grown (orderly.references name references is))) in
     record {
       upload = orderly.upload;
       within_limit = within;
@@ -219,7 +217,7 @@ pushed_row view word old (Ok held) there right are =
     taken_row view word (with_objects view.objects held.1) (judged (with_objects view.objects held.1) old view.limit (Ok (held.0, map object_name held.1)))
     (λ new is orderly.
     let told = accepted (with_objects view.objects held.1) old view.limit (held.0, map object_name held.1) new is in
-    orderly_pushed view word old new held.0 held.1 there right told.carried told.within orderly)
+    orderly_pushed view word old new held.0 (with_objects view.objects held.1) (λ name seen. kept_all view.objects held.1 name seen) there right told.carried told.within orderly)
     (λ new is was. right_pushed view word old new held (are was) (accepted (with_objects view.objects held.1) old view.limit (held.0, map object_name held.1) new is) was)
 pushed_row view word old (Err fault) there right are = faulty_row view word old fault
 

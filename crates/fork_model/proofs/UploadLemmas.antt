@@ -19,7 +19,7 @@ use Rattle.fork_model.proofs.ProvenanceLemmas.{among_both}
 use Rattle.fork_model.proofs.TransferLemmas.{came, none_there}
 
 -- each object is found by what was told of it
-found_again : (objects : Objects) (sent : List Object) → AllByRecursion (λ object. get objects (object_name object) ≡ Some object) sent → map (object_at objects) (map sent_of sent) ≡ sent
+pub found_again : (objects : Objects) (sent : List Object) → AllByRecursion (λ object. get objects (object_name object) ≡ Some object) sent → map (object_at objects) (map sent_of sent) ≡ sent
 found_again objects [] each = refl
 found_again objects (object ∷ sent) each =
     let here : object_at objects (sent_of object) ≡ object = ap (λ found. unwrap_or found (record { kind = object.kind; bytes = [] })) each.0 in

@@ -10,10 +10,13 @@ use Rattle.std.proofs.lemmas.List.{length-take, map-append}
 use Rattle.std.proofs.lemmas.List.Concat.{flat_map-append, flat_map-cons}
 use Rattle.std.proofs.lemmas.List.Elements.{All-append, All-cons, All-nil}
 use Rattle.fork_request.specs.Names.{IsTenantName}
-use Rattle.push_stream.specs.Upload.{UploadValue, upload_of}
+use Rattle.push_stream.specs.Upload.{UploadValue}
+use Rattle.fork_model.specs.World.{World}
+use Rattle.fork_host.specs.Uploads.{opened, upload_at, uploads_of}
 use Rattle.fork_frame.specs.Frame.{IsFrame, frame_bytes}
 use Rattle.fork_frame.specs.declared.frame.Frame.{Frame}
-use Rattle.fork_wire.specs.Reopening.{AreParts, Reopens, ReopensOne, part_frame}
+use Rattle.fork_wire.specs.Reopening.{AreParts, Reopens, part_frame}
+use Rattle.fork_wire.proofs.UploadsLemmas.{all_named, uploads_by}
 
 one_frame : (frame : Frame) → flat_map frame_bytes (frame ∷ []) ≡ frame_bytes frame
 one_frame frame = flat_map-cons frame_bytes frame [] ∙ append-nil (frame_bytes frame)
@@ -96,31 +99,40 @@ pub all_sent : (tenant front bytes : List ℕ) (before after : Option (List ℕ)
 all_sent tenant front bytes before after so_far is =
     (so_far.frames, record { pieces = so_far.pieces; some = so_far.some; whole = so_far.whole ∙ is; sent = so_far.sent; right = so_far.wrote.right }, so_far.wrote.written)
 
--- uploads of which the frames were written
-pub record Reopening (uploads : List (List ℕ × UploadValue)) (before after : Option (List ℕ)) : Type 0 where
-  pub frames : List Frame
-  pub opens : Reopens uploads frames
-  pub wrote : Wrote frames before after
+-- frames that open these uploads again were written
+abbrev pub Written : List (List ℕ × UploadValue) → Option (List ℕ) → Option (List ℕ) → Type 0
+Written uploads before after = (frames : List Frame) × Reopens uploads frames × All IsFrame frames × Appends before after (flat_map frame_bytes frames)
 
-pub none_reopened : (before : Option (List ℕ)) → Reopening [] before before
-none_reopened before = record { frames = []; opens = refl; wrote = record { right = All-nil IsFrame; written = Appends-nil before } }
+pub none_written : (before : Option (List ℕ)) → Written [] before before
+none_written before = ([], refl, All-nil IsFrame, Appends-nil before)
 
-reopens_more : (uploads : List (List ℕ × UploadValue)) (frames : List Frame) (upload : List ℕ × UploadValue) (others : List Frame) → Reopens uploads frames → ReopensOne upload.0 upload.1 others → Reopens (uploads ++ upload ∷ []) (frames ++ others)
-reopens_more [] frames upload others so_far one = (others, [], ap (λ fs. fs ++ others) so_far ∙ sym (append-nil others), one, refl)
-reopens_more (u ∷ uploads) frames upload others so_far one =
-    (so_far.0, so_far.1 ++ others, ap (λ fs. fs ++ others) so_far.2 ∙ append_assoc so_far.0 so_far.1 others, so_far.3, reopens_more uploads so_far.1 upload others so_far.4 one)
+reopens_both : (uploads : List (List ℕ × UploadValue)) (frames : List Frame) (others : List (List ℕ × UploadValue)) (more : List Frame) → Reopens uploads frames → Reopens others more → Reopens (uploads ++ others) (frames ++ more)
+reopens_both [] frames others more one other = subst (λ fs. Reopens others (fs ++ more)) (sym one) other
+reopens_both (u ∷ uploads) frames others more one other =
+    (one.0, one.1 ++ more, ap (λ fs. fs ++ more) one.2 ∙ append_assoc one.0 one.1 more, one.3, reopens_both uploads one.1 others more one.4 other)
 
-pub one_reopened : (uploads : List (List ℕ × UploadValue)) (tenant bytes : List ℕ) (before during after : Option (List ℕ)) → Reopening uploads before during → (frames : List Frame) × AreParts tenant bytes frames × Appends during after (flat_map frame_bytes frames)
-    → Reopening (uploads ++ (tenant, upload_of bytes) ∷ []) before after
-one_reopened uploads tenant bytes before during after so_far more = record {
-  frames = so_far.frames ++ more.0;
-  opens = reopens_more uploads so_far.frames (tenant, upload_of bytes) more.0 so_far.opens (record { bytes = bytes; stands = refl; parts = more.1 });
-  wrote = wrote_more so_far.frames more.0 before during after so_far.wrote (record { right = more.1.right; written = more.2 });
-}
+both_written : (uploads others : List (List ℕ × UploadValue)) (before during after : Option (List ℕ)) → Written uploads before during → Written others during after → Written (uploads ++ others) before after
+both_written uploads others before during after one other =
+    let wrote = wrote_more one.0 other.0 before during after (record { right = one.2; written = one.3 }) (record { right = other.2; written = other.3 }) in
+    (one.0 ++ other.0, reopens_both uploads one.0 others other.0 one.1 other.1, wrote.right, wrote.written)
 
--- all of them, where no more are left
-pub all_reopened : {X : Type 0} (f : X → List ℕ × UploadValue) (done all : List (List ℕ × UploadValue)) (rest : List X) (before after : Option (List ℕ)) (len : ℕ) → len ≡ length rest → len ≡ 0 → done ++ map f rest ≡ all → Reopening done before after
-    → (frames : List Frame) × Reopens all frames × All IsFrame frames × Appends before after (flat_map frame_bytes frames)
-all_reopened f done all [] before after len counted zero parts so_far =
-    (so_far.frames, subst (λ uploads. Reopens uploads so_far.frames) (sym (append-nil done) ∙ parts) so_far.opens, so_far.wrote.right, so_far.wrote.written)
-all_reopened f done all (x ∷ rest) before after len counted zero parts so_far = (let e : length (x ∷ rest) ≡ 0 = sym counted ∙ zero in absurd (omega (arith, e)))
+-- the upload of one more tenant
+pub next_written : (world : World) (done : List (List ℕ)) (tenant : List ℕ) (before during after : Option (List ℕ)) → Written (uploads_by world done) before during → Written (opened tenant (upload_at world tenant)) during after
+    → Written (uploads_by world (done ++ tenant ∷ [])) before after
+next_written world done tenant before during after so_far one =
+    subst (λ uploads. Written uploads before after)
+    (sym (flat_map-append (λ name. opened name (upload_at world name)) done (tenant ∷ [])
+    ∙ ap (λ last. uploads_by world done ++ last) (flat_map-cons (λ name. opened name (upload_at world name)) tenant [] ∙ append-nil (opened tenant (upload_at world tenant)))))
+    (both_written (uploads_by world done) (opened tenant (upload_at world tenant)) before during after so_far one)
+
+none_left : {X : Type 0} (rest : List X) (len : ℕ) → len ≡ length rest → len ≡ 0 → rest ≡ []
+none_left [] len counted zero = refl
+none_left (x ∷ rest) len counted zero = (let e : length (x ∷ rest) ≡ 0 = sym counted ∙ zero in absurd (omega (arith, e)))
+
+-- all of them, where no more tenants are left
+pub all_written : (world : World) (done rest : List (List ℕ)) (before after : Option (List ℕ)) (len : ℕ) → len ≡ length rest → len ≡ 0 → done ++ rest ≡ map (λ u. u.0) (uploads_of world) → Written (uploads_by world done) before after
+    → Written (uploads_of world) before after
+all_written world done rest before after len counted zero parts so_far =
+    subst (λ uploads. Written uploads before after)
+    (ap (uploads_by world) (sym (append-nil done) ∙ ap (λ r. done ++ r) (sym (none_left rest len counted zero)) ∙ parts) ∙ all_named world)
+    so_far

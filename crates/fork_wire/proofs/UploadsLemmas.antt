@@ -4,7 +4,7 @@ use Rattle.std.specs.Prelude.{flat_map, is_some, ◌||◌}
 use Rattle.std.specs.List.{AllByRecursion, list_any}
 use Rattle.std.specs.List.Sorted.{IsStrictlySortedBy}
 use Rattle.std.specs.FinMap.{contains_key, contains_key-keys, entries, find, get, get-entries, get-insert, insert, keys, same_map}
-use Rattle.std.specs.Option.{option_map}
+use Rattle.std.specs.Option.{option_and_then, option_map}
 use Rattle.std.specs.Ordering.{eq_by_cmp}
 use Rattle.std.specs.Cmp.{eq_by_cmp_equiv}
 use Rattle.std.specs.declared.cmp.Ordering.TheVariants.{Less}
@@ -24,7 +24,7 @@ use Rattle.fork_model.specs.World.{Explains, World}
 use Rattle.fork_model.proofs.ClosedLemmas.{joined}
 use Rattle.fork_reach.proofs.KeptObjects.{tied_names}
 use Rattle.fork_host.specs.Shown.{HostState, Trusted, world_of}
-use Rattle.fork_host.specs.Uploads.{closed, closed_world, opened, uploads_of}
+use Rattle.fork_host.specs.Uploads.{closed, closed_world, opened, upload_at, uploads_of}
 use Rattle.fork_frame.specs.declared.frame.Frame.{Frame}
 use Rattle.fork_wire.specs.Again.{AreFine}
 use Rattle.fork_wire.specs.Reopening.{Reopens, with_upload}
@@ -176,3 +176,27 @@ pub all_served : (world : World) (frames : List Frame) (old new : HostState) (re
 all_served world frames old new replies orderly opens answered fine trusted same =
     let told = all_opened world frames orderly opens in
     same_world_run (world_of old) (world_of new) (closed_world world) world (events_of frames) replies told.0 same (answered.explained trusted) told.1 fine told.2
+
+-- the uploads that these tenants have open
+abbrev pub uploads_by : World → List (List ℕ) → List (List ℕ × UploadValue)
+uploads_by world names = flat_map (λ name. opened name (upload_at world name)) names
+
+one_named : (world : World) (t : List ℕ) (view : View) (o : Option UploadValue) (rest : List (List ℕ × UploadValue)) → view.upload ≡ o → get world t ≡ Some view → uploads_by world (map (λ u. u.0) rest) ≡ rest
+    → uploads_by world (map (λ u. u.0) (opened t o ++ rest)) ≡ opened t o ++ rest
+one_named world t view None rest is here more = more
+one_named world t view (Some upload) rest is here more =
+    flat_map-cons (λ name. opened name (upload_at world name)) t (map (λ u. u.0) rest)
+    ∙ ap (λ o. opened t o ++ uploads_by world (map (λ u. u.0) rest)) (ap (option_and_then (λ (v : View). v.upload)) here ∙ is)
+    ∙ ap (λ uploads. opened t (Some upload) ++ uploads) more
+
+named_along : (world : World) (es : List (List ℕ × View)) → IsStrictlySortedBy name_cmp (names_of es) → Has world es
+    → uploads_by world (map (λ u. u.0) (flat_map (λ e. opened e.0 e.1.upload) es)) ≡ flat_map (λ e. opened e.0 e.1.upload) es
+unfolding IsStrictlySortedBy
+named_along world [] sorted has = refl
+named_along world (e ∷ es) sorted has =
+    subst (λ (uploads : List (List ℕ × UploadValue)). uploads_by world (map (λ u. u.0) uploads) ≡ uploads) (sym (flat_map-cons (λ x. opened x.0 x.1.upload) e es))
+    (one_named world e.0 e.1 e.1.upload (flat_map (λ x. opened x.0 x.1.upload) es) refl (has_first world e es has) (named_along world es sorted.1 (has_rest world e es sorted.0 has)))
+
+-- all uploads of a world are those of their tenants
+pub all_named : (world : World) → uploads_by world (map (λ u. u.0) (uploads_of world)) ≡ uploads_of world
+all_named world = named_along world (entries world) (keys_ascend world) (λ q view is. get-entries world q ∙ is)

@@ -1,8 +1,9 @@
 ghost use Rattle.std.specs.Prelude.{◌≡◌, ◌<◌, ◌≤◌, ◌∷◌, [], ℕ, All, List, IfOk, OnOk, flat_map, length};
 ghost use Rattle.std.specs.Io.KnownBytes.{Appends};
 ghost use Rattle.fork_request.specs.Names.{IsTenantName};
-ghost use Rattle.fork_host.specs.Shown.{world_of};
-ghost use Rattle.fork_host.specs.Uploads.{uploads_of};
+ghost use Rattle.fork_host.specs.Shape.{SameShape};
+ghost use Rattle.fork_host.specs.Shown.{Trusted, world_of};
+ghost use Rattle.fork_host.specs.Uploads.{opened, upload_at, uploads_of};
 ghost use Rattle.fork_frame.specs.Frame.{IsFrame, frame_bytes};
 ghost use Rattle.fork_frame.specs.declared.frame.Frame.{Frame as FrameValue};
 ghost use Rattle.fork_wire.specs.Reopening.{AreParts, Reopens, part_frame};
@@ -77,27 +78,56 @@ fn write_upload<W: Write>(
     Ok(())
 }
 
+// Writes the frames of a tenant's open upload, and says how many bytes these have. Where none is open
+// nothing is written.
+fn write_upload_of<S: LooseFiles, W: Write>(
+    host: &mut Host<S>,
+    alloc: Global,
+    writer: &mut W,
+    tenant: &TenantName,
+) -> Result<u64, NotKept>
+    ensures sent { Trusted host.old → OnOk result ((frames : List FrameValue) × Reopens (opened tenant.now (upload_at (world_of host.old) tenant.now)) frames × All IsFrame frames
+        × Appends (W.contents writer.old) (W.contents writer.new) (flat_map frame_bytes frames)) }
+    ensures kept { Trusted host.old → world_of host.new ≡ world_of host.old }
+    ensures trusted { Trusted host.old → Trusted host.new }
+    ensures shape { (name : List ℕ) → SameShape name (world_of host.old) (world_of host.new) }
+{
+    let Ok(found) = host.upload(alloc, tenant) else {
+        return Err(NotKept);
+    };
+    let Some(bytes) = found else {
+        return Ok(0);
+    };
+    match write_upload(writer, alloc, tenant, bytes.as_slice()) {
+        Ok(()) => Ok(bytes.len() as u64),
+        Err(fault) => Err(fault),
+    }
+}
+
 /// Writes frames that open the host's open uploads again, and says how many bytes these have. Nothing
 /// is flushed.
 pub fn write_uploads<S: LooseFiles, W: Write>(
-    host: &Host<S>,
+    host: &mut Host<S>,
     alloc: Global,
     writer: &mut W,
 ) -> Result<u64, NotKept>
-    ensures { IfOk result (λ _. (frames : List FrameValue) × Reopens (uploads_of (world_of host.now)) frames × All IsFrame frames
+    ensures sent { Trusted host.old → IfOk result (λ _. (frames : List FrameValue) × Reopens (uploads_of (world_of host.old)) frames × All IsFrame frames
         × Appends (W.contents writer.old) (W.contents writer.new) (flat_map frame_bytes frames)) }
+    ensures kept { Trusted host.old → world_of host.new ≡ world_of host.old }
+    ensures trusted { Trusted host.old → Trusted host.new }
+
+    // Over any store.
+    ensures shape { (tenant : List ℕ) → SameShape tenant (world_of host.old) (world_of host.new) }
 {
-    let Ok(uploads) = host.uploads(alloc) else {
+    let Ok(names) = host.uploading(alloc) else {
         return Err(NotKept);
     };
     let mut total = 0u64;
-    for upload in uploads {
-        let (tenant, bytes) = upload;
-        match write_upload(writer, alloc, &tenant, bytes) {
-            Ok(()) => {}
+    for name in names {
+        match write_upload_of(host, alloc, writer, &name) {
+            Ok(bytes) => total = total.saturating_add(bytes),
             Err(fault) => return Err(fault),
         }
-        total = total.saturating_add(bytes.len() as u64);
     }
     Ok(total)
 }

@@ -1,11 +1,11 @@
 -- The host that the given tenants were added to, and what comes of it.
-use Rattle.std.proofs.Common.{◌≡◌, ◌⊎◌, inl, inr, ℕ, Bool, true, false, List, Option, IfErr, OnErr, OnOk, Result, Ok, Err, is_some}
+use Rattle.std.proofs.Common.{◌≡◌, ◌⊎◌, inl, inr, ℕ, Bool, true, false, List, Option, IfErr, OnErr, OnOk, Result, Ok, Err, is_some, refl}
 use Rattle.std.proofs.KnownBytes.{Keeps-refl}
 use Rattle.std.specs.FinMap.{empty}
 use Rattle.fork_command.specs.declared.hosting.Hosting.{Hosting}
 use Rattle.fork_host.specs.Shown.{HostState, Trusted, world_of}
 use Rattle.forkhost.specs.Given.{AreGiven, AreUngiven}
-use Rattle.forkhost.specs.Keeping.{IsUntouched}
+use Rattle.forkhost.specs.Keeping.{IsSaved, IsUntouched}
 use Rattle.forkhost.specs.Running.{IsBegun, IsHostOf, IsUnhosted, Ungiven}
 use Rattle.forkhost.specs.Serving.{AreSomeVisits, Deaf, IsLost, IsUnbound, IsUnlistened, Lost}
 use Rattle.forkhost.specs.declared.fault.Fault.{Fault}
@@ -22,11 +22,15 @@ some_dir false is other = cc
 begun_kept : (hosting : Hosting) (begun : HostState) → is_some hosting.dir ≡ true → IsBegun hosting begun
 begun_kept hosting begun kept none = absurd (some_dir (is_some hosting.dir) kept none)
 
-pub new_host : (hosting : Hosting) (begun first : HostState) → Trusted begun → world_of begun ≡ empty → AreGiven hosting.tenants.items begun first → IsHostOf hosting first
-new_host hosting begun first trusted shows given = record { begun = begun; right = begun_new hosting begun trusted shows; given = given }
+-- a host whose state is not saved is as it was
+pub unsaved : (host : HostState) → IsSaved host host
+unsaved host = record { shape = λ tenant. refl; trusted = λ trusted. trusted; shows = λ trusted. refl }
 
-pub kept_host : (hosting : Hosting) (begun first : HostState) → is_some hosting.dir ≡ true → AreGiven hosting.tenants.items begun first → IsHostOf hosting first
-kept_host hosting begun first kept given = record { begun = begun; right = begun_kept hosting begun kept; given = given }
+pub new_host : (hosting : Hosting) (begun first : HostState) → Trusted begun → world_of begun ≡ empty → AreGiven hosting.tenants.items begun first → IsHostOf hosting first
+new_host hosting begun first trusted shows given = record { begun = begun; added = first; right = begun_new hosting begun trusted shows; given = given; saved = unsaved first }
+
+pub kept_host : (hosting : Hosting) (begun added first : HostState) → is_some hosting.dir ≡ true → AreGiven hosting.tenants.items begun added → IsSaved added first → IsHostOf hosting first
+kept_host hosting begun added first kept given saved = record { begun = begun; added = added; right = begun_kept hosting begun kept; given = given; saved = saved }
 
 pub ungiven_new : (hosting : Hosting) (begun : HostState) (fault : Fault) → Trusted begun → world_of begun ≡ empty → AreUngiven (world_of begun) hosting.tenants.items fault → IsUnhosted hosting fault
 ungiven_new hosting begun fault trusted shows why = Ungiven begun (begun_new hosting begun trusted shows) why

@@ -1,6 +1,8 @@
 -- The host that a folder keeps, and what `check` does (own). Of what a device holds nothing is claimed.
-use Rattle.std.specs.Prelude.{ℕ, ◌==◌, List, [], ◌++◌, codes, decimal, if◌then◌else◌, Option, ⊤}
+use Rattle.std.specs.Prelude.{◌≡◌, ℕ, ◌==◌, List, [], ◌++◌, codes, decimal, if◌then◌else◌, Option, ⊤}
 use Rattle.std.specs.Io.KnownBytes.{Keeps}
+use Rattle.fork_host.specs.Shape.{SameShape}
+use Rattle.fork_host.specs.Shown.{HostState, Trusted, world_of}
 use Rattle.forkhost.specs.declared.fault.Fault.{Fault}
 use Rattle.forkhost.specs.declared.fault.Fault.TheVariants.{Write, Memory, Store, NoState, Unreadable, Journal, Line, Lost, Damaged, Unsound, OverLimit}
 
@@ -21,6 +23,13 @@ IsUnkept (Damaged name) = ⊤
 IsUnkept (Unsound name) = ⊤
 IsUnkept (OverLimit tenant) = ⊤
 IsUnkept _ = ⊥
+
+-- saving a host's state leaves what it shows: over any store each view has the shape that it had, and over a trusted one the
+-- world is the same
+pub record IsSaved (old new : HostState) : Type 0 where
+  pub shape : (tenant : List ℕ) → SameShape tenant (world_of old) (world_of new)
+  pub trusted : Trusted old → Trusted new
+  pub shows : Trusted old → world_of new ≡ world_of old
 
 -- what `check` prints: a line, and another where requests of the journal are to be done again, with their number
 abbrev pub sound_lines : ℕ → List ℕ

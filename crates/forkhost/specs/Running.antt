@@ -8,7 +8,7 @@ use Rattle.fork_host.specs.Shown.{HostState, Trusted, world_of}
 use Rattle.fork_wire.specs.Sessions.{IsServed, IsStopped}
 use Rattle.fork_wire.specs.declared.fault.SessionFault.TheVariants as session
 use Rattle.forkhost.specs.Given.{AreGiven, AreUngiven}
-use Rattle.forkhost.specs.Keeping.{IsUnkept, IsUntouched}
+use Rattle.forkhost.specs.Keeping.{IsSaved, IsUnkept, IsUntouched}
 use Rattle.forkhost.specs.declared.fault.Fault.{Fault}
 use Rattle.forkhost.specs.declared.fault.Fault.TheVariants.{BadFrame, Read, Write, Memory, NotKept, NotSaved}
 
@@ -21,11 +21,13 @@ pub record IsNew (host : HostState) : Type 0 where
 abbrev pub IsBegun : Hosting → HostState → Type 0
 IsBegun hosting host = is_some hosting.dir ≡ false → IsNew host
 
--- a host that has the given tenants, which see nothing yet
+-- a host that has the given tenants, which see nothing yet; its state may have been saved then
 pub record IsHostOf (hosting : Hosting) (host : HostState) : Type 0 where
   pub begun : HostState
+  pub added : HostState
   pub right : IsBegun hosting begun
-  pub given : AreGiven hosting.tenants.items begun host
+  pub given : AreGiven hosting.tenants.items begun added
+  pub saved : IsSaved added host
 
 -- a session of such a host was served up to this end
 pub record IsRun (hosting : Hosting) (input before after : Option (List ℕ)) (ended : Ended) : Type 0 where

@@ -5,6 +5,7 @@ use Rattle.fork_frame.specs.declared.frame.Frame.{Frame}
 use Rattle.fork_host.specs.Shown.{HostState}
 use Rattle.fork_request.specs.declared.reply.Reply.{Reply}
 use Rattle.fork_wire.specs.Sessions.{IsAnswered}
+use Rattle.forkhost.specs.Keeping.{IsSaved}
 use Rattle.forkhost.specs.Running.{IsHostOf, IsUnhosted}
 use Rattle.forkhost.specs.declared.fault.Fault.{Fault}
 use Rattle.forkhost.specs.declared.fault.Fault.TheVariants.{Memory, NotKept, NotSaved, Socket}
@@ -16,10 +17,16 @@ pub data IsVisit (old new : HostState) : Type 0 where
   -- each of these frames was answered
   Asked : (frames : List Frame) (replies : List Reply) → IsAnswered old new frames replies → IsVisit old new
 
+-- a connection, and behind it the host's state may have been saved
+pub record IsVisitThenSaved (old new : HostState) : Type 0 where
+  pub left : HostState
+  pub visit : IsVisit old left
+  pub saved : IsSaved left new
+
 -- the host came from the one state to the other by way of these, one behind each connection
 abbrev pub Visits : HostState → List HostState → HostState → Type 0
 Visits old [] new = old ≡ new
-Visits old (next ∷ states) new = IsVisit old next × Visits next states new
+Visits old (next ∷ states) new = IsVisitThenSaved old next × Visits next states new
 
 -- so many connections were served
 pub record AreVisits (old new : HostState) (n : ℕ) : Type 0 where

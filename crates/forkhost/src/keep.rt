@@ -1,4 +1,5 @@
 ghost use Rattle.std.specs.Prelude.{◌≡◌, IfErr};
+ghost use Rattle.forkhost.specs.Keeping.{IsSaved};
 
 use crate::fault::Fault;
 use fork_host::Host;
@@ -31,9 +32,10 @@ fn saved<H: Files<File = File> + AllocGlobal, S: LooseFiles>(
     rt: &H,
     alloc: Global,
     dir: &str,
-    host: &Host<S>,
+    host: &mut Host<S>,
 ) -> Result<(File, u64), Fault>
-    ensures { IfErr result (λ fault. fault ≡ Fault.NotSaved) }
+    ensures cause { IfErr result (λ fault. fault ≡ Fault.NotSaved) }
+    ensures saved { IsSaved host.old host.new }
 {
     let Ok(state) = fork_state::save(alloc, host) else {
         return Err(Fault::NotSaved);
@@ -64,9 +66,10 @@ impl<'a, H: Files<File = File> + AllocGlobal> Keep<'a, H> {
         rt: &'a H,
         alloc: Global,
         dir: &'a str,
-        host: &Host<S>,
+        host: &mut Host<S>,
     ) -> Result<Keep<'a, H>, Fault>
-        ensures { IfErr result (λ fault. fault ≡ Fault.NotSaved) }
+        ensures cause { IfErr result (λ fault. fault ≡ Fault.NotSaved) }
+        ensures saved { IsSaved host.old host.new }
     {
         let (file, bytes) = match saved(rt, alloc, dir, host) {
             Ok(saved) => saved,
@@ -85,8 +88,9 @@ impl<'a, H: Files<File = File> + AllocGlobal> Keep<'a, H> {
 
     /// Saves the host's state, where anything was done since it was saved last, and lets go of what was
     /// swept. After an `Err` nothing more is to be kept.
-    pub fn save<S: LooseFiles>(&mut self, alloc: Global, host: &Host<S>) -> Result<(), Fault>
-        ensures { IfErr result (λ fault. fault ≡ Fault.NotSaved) }
+    pub fn save<S: LooseFiles>(&mut self, alloc: Global, host: &mut Host<S>) -> Result<(), Fault>
+        ensures cause { IfErr result (λ fault. fault ≡ Fault.NotSaved) }
+        ensures saved { IsSaved host.old host.new }
     {
         if self.journal.bytes() == 0 {
             let _emptied = empty_swept(&self.rt, alloc, self.dir);
@@ -103,8 +107,9 @@ impl<'a, H: Files<File = File> + AllocGlobal> Keep<'a, H> {
 
     /// Saves the host's state, where the journal has grown longer than it and than a MiB, or where
     /// anything was swept. After an `Err` nothing more is to be kept.
-    pub fn settle<S: LooseFiles>(&mut self, alloc: Global, host: &Host<S>) -> Result<(), Fault>
-        ensures { IfErr result (λ fault. fault ≡ Fault.NotSaved) }
+    pub fn settle<S: LooseFiles>(&mut self, alloc: Global, host: &mut Host<S>) -> Result<(), Fault>
+        ensures cause { IfErr result (λ fault. fault ≡ Fault.NotSaved) }
+        ensures saved { IsSaved host.old host.new }
     {
         if self.journal.bytes() > self.saved.max(SPARE) || has_swept(&self.rt, alloc, self.dir) {
             return self.save(alloc, host);

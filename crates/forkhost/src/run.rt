@@ -84,12 +84,12 @@ fn run_in_folder<'x, H: Files<File = File> + AllocGlobal, R: Read, W: Write>(
         Ok(()) => {}
         Err(fault) => return Err(fault),
     }
-    let mut keep = match Keep::begin(rt, alloc, dir, &host) {
+    let mut keep = match Keep::begin(rt, alloc, dir, &mut host) {
         Ok(keep) => keep,
         Err(fault) => return Err(fault),
     };
     let served = session(&mut host, alloc, &mut keep.journal, reader, writer);
-    let saved = keep.save(alloc, &host);
+    let saved = keep.save(alloc, &mut host);
     match served {
         Ok(()) => saved,
         Err(fault) => Err(fault),

@@ -103,7 +103,7 @@ fn serve_in_folder<'x, H: Files<File = File> + Net + AllocGlobal>(
         Ok(listening) => listening,
         Err(fault) => return Err(fault),
     };
-    let mut keep = match Keep::begin(rt, alloc, dir, &host) {
+    let mut keep = match Keep::begin(rt, alloc, dir, &mut host) {
         Ok(keep) => keep,
         Err(fault) => {
             let _removed = fs::remove_file(rt, socket);
@@ -119,7 +119,7 @@ fn serve_in_folder<'x, H: Files<File = File> + Net + AllocGlobal>(
         socket,
         connections,
     );
-    let saved = keep.save(alloc, &host);
+    let saved = keep.save(alloc, &mut host);
     match served {
         Ok(()) => saved,
         Err(fault) => Err(fault),

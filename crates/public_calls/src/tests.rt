@@ -6,6 +6,7 @@ mod pieces;
 mod pushes;
 mod runs;
 mod stores;
+mod uploads;
 mod vaults;
 mod walks;
 mod wires;

@@ -14,4 +14,5 @@ pub mod RecordLemmas
 pub mod RestLemmas
 pub mod SpellingLemmas
 pub mod StreamLemmas
+pub mod WithinLemmas
 pub mod WrittenLemmas

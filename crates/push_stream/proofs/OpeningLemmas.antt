@@ -13,7 +13,7 @@ use Rattle.push_stream.specs.Incoming.{IsStanding, flow_from, rest_of}
 use Rattle.push_stream.specs.Reading.{Flow, Going, Broken, Reading, added_in, flow_of, reading_of, sent_of}
 use Rattle.push_stream.specs.Record.{record_line, record_of}
 use Rattle.push_stream.specs.Spelling.{AreWithin, records_of}
-use Rattle.push_stream.specs.Stream.{AreObjects, Breaks, Flows, Stream, behind, records_in, stream_of}
+use Rattle.push_stream.specs.Stream.{AreObjects, Breaks, Flows, Stream, behind, records_in, sent_in, stream_of}
 use Rattle.push_stream.specs.Upload.{stream_with}
 use Rattle.push_stream.proofs.GainingLemmas.{open_in}
 use Rattle.push_stream.proofs.IncomingLemmas.{waits_on}
@@ -199,3 +199,31 @@ opened_again header tail missing count commands sent headed rest (Some fault) op
     ap (λ (os : List Object). reading_of (header ++ (records_of os ++ (tail ++ ends)))) nothing
     ∙ ap reading_of (sym (append_assoc header tail ends))
     ∙ same_reading ((header ++ tail) ++ ends) (record { count = count; flow = Broken fault }) (omega arith) (ap flow_of (sym (stream_grows (header ++ tail) ends) ∙ ap (λ (s : Stream). stream_with s ends) opens.breaks))
+
+-- ---- the objects of an upload again
+-- a stream that goes on holds these objects
+going_sent : (header rest : List ℕ) (commands : List Command) (sent : List Sent) (headed : Bool) (objects : List Object) → AreObjects objects → AreWithin objects → map sent_of objects ≡ sent → (headed ≡ false → sent ≡ [])
+    → stream_of header ≡ Flows commands [] headed [] → added_in headed (length commands) rest ≡ Flows [] [] headed rest → sent_in (stream_of (header ++ (records_of objects ++ rest))) ≡ objects
+going_sent header rest commands sent true objects are within told bare asks waits = ap sent_in (records_behind header rest commands objects are within asks waits)
+going_sent header rest commands sent false objects are within told bare asks waits =
+    let none : objects ≡ [] = none_told objects sent told (bare refl) in
+    ap (λ (os : List Object). sent_in (stream_of (header ++ (records_of os ++ rest)))) none
+    ∙ ap sent_in (header_before header rest commands false asks ∙ ap (behind commands []) waits)
+    ∙ sym none
+
+-- what was kept opens the upload with these objects
+pub sent_again : (header tail : List ℕ) (missing count : ℕ) (commands : List Command) (sent : List Sent) (headed : Bool) (rest : List ℕ) (fault : Option StreamFault)
+    → OpensAs header tail count (flow_from commands sent headed rest fault) → (is_some fault ≡ false → missing ≡ 0)
+    → (objects : List Object) → AreObjects objects → AreWithin objects → map sent_of objects ≡ told_in (flow_from commands sent headed rest fault)
+    → sent_in (stream_of (header ++ (records_of objects ++ (tail ++ replicate missing 0)))) ≡ objects
+sent_again header tail missing count commands sent headed rest None opens none objects are within told =
+    ap₂ (λ (l : List ℕ) (n : ℕ). sent_in (stream_of (header ++ (records_of objects ++ (l ++ replicate n 0))))) opens.left (none refl)
+    ∙ ap (λ (l : List ℕ). sent_in (stream_of (header ++ (records_of objects ++ l)))) (append-nil rest)
+    ∙ going_sent header rest commands sent headed objects are within told opens.bare opens.asks opens.waits
+sent_again header tail missing count commands sent headed rest (Some fault) opens none objects are within told =
+    let nothing : objects ≡ [] = none_told objects [] told refl in
+    let ends : List ℕ = replicate missing 0 in
+    ap (λ (os : List Object). sent_in (stream_of (header ++ (records_of os ++ (tail ++ ends))))) nothing
+    ∙ ap (λ (l : List ℕ). sent_in (stream_of l)) (sym (append_assoc header tail ends))
+    ∙ ap sent_in (sym (stream_grows (header ++ tail) ends) ∙ ap (λ (s : Stream). stream_with s ends) opens.breaks)
+    ∙ sym nothing

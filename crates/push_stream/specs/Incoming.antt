@@ -139,7 +139,7 @@ flow-parts (Broken fault) = refl
 abbrev flow_code : Coded Flow
 flow_code = code_by (((List Command × List Sent) × (Bool × List ℕ)) ⊎ StreamFault) (coded⊎ (coded× (coded× (coded_list command.the_row.coded) (coded_list sent.the_row.coded)) (coded× coded_bool (coded_list coded_ℕ))) fault.the_row.coded) parts flow flow-parts
 
-abbrev reading_code : Coded Reading
+abbrev pub reading_code : Coded Reading
 reading_code = code_by (ℕ × Flow) (coded× coded_ℕ flow_code) (λ r. (r.count, r.flow)) (λ p. record { count = p.0; flow = p.1 }) (λ _. refl)
 
 abbrev pub incoming_code : Coded IncomingValue

@@ -7,7 +7,7 @@ ghost use Rattle.push_stream.specs.Again.{told_in};
 ghost use Rattle.push_stream.specs.Incoming.{IsHeld, RollsBack, TellsEnd, flow_from, is_broken, reading_at, reading_kept};
 ghost use Rattle.push_stream.specs.Reading.{finished_flow, gained, read_on, reading_of, rest_in, sent_of};
 ghost use Rattle.push_stream.specs.Spelling.{AreWithin, records_of};
-ghost use Rattle.push_stream.specs.Stream.{AreObjects};
+ghost use Rattle.push_stream.specs.Stream.{AreObjects, sent_in, stream_of};
 
 use crate::again::Again;
 use crate::brief::Brief;
@@ -102,11 +102,24 @@ impl Incoming {
         &self.draft.bytes[..self.kept.bytes]
     }
 
+    /// What was sent so far, in the stream's order; nothing where the stream is wrong.
+    pub fn sent(&self) -> &[Sent]
+        ensures { result.now ≡ told_in self.now.brief.flow }
+    {
+        let sent = &self.draft.sent[..self.kept.sent];
+        if self.is_fault() {
+            return &[];
+        }
+        sent
+    }
+
     /// The parts of the bytes that open this upload again, and of objects that are told as what was
-    /// sent: whichever they are, the bytes have the reading that this upload has. Zero bytes stand for
-    /// those that came after the stream broke, of which only the number is kept.
+    /// sent: whichever they are, the bytes have the reading that this upload has, and hold just these
+    /// objects. Zero bytes stand for those that came after the stream broke, of which only the number is
+    /// kept.
     pub fn again(&self) -> Again<'_>
         ensures read { (objects : List Object) → AreObjects objects → AreWithin objects → map sent_of objects ≡ told_in self.now.brief.flow → reading_of (result.header.now ++ (records_of objects ++ (result.tail.now ++ replicate result.zeros 0))) ≡ self.now.brief }
+        ensures sent { (objects : List Object) → AreObjects objects → AreWithin objects → map sent_of objects ≡ told_in self.now.brief.flow → sent_in (stream_of (result.header.now ++ (records_of objects ++ (result.tail.now ++ replicate result.zeros 0)))) ≡ objects }
         ensures whole { is_broken self.now.brief.flow ≡ false → result.zeros ≡ 0 }
         ensures rest { is_broken self.now.brief.flow ≡ false → result.tail.now ≡ rest_in self.now.brief.flow }
         ensures short { length result.header.now ≤ MAX_HEADER }

@@ -13,10 +13,11 @@ pub fn pieces_join()
     ensures pieces { (bytes : List ℕ) (pieces : List (List ℕ)) → fed (upload_of bytes) pieces ≡ upload_of (bytes ++ concat pieces) }
 {}
 
-/// A law, and no work: what a stream holds are objects, each of its kind's grammar, and pieces add no
-/// others.
+/// A law, and no work: what a stream holds are objects, each of its kind's grammar and no longer than a
+/// host takes, and pieces add no others.
 pub fn streams_hold_objects()
     ensures whole { (bytes : List ℕ) → AreObjects (sent_in (stream_of bytes)) }
+    ensures within { (bytes : List ℕ) → AreWithin (sent_in (stream_of bytes)) }
     ensures pieces { (upload : UploadValue) (piece : List ℕ) → AreObjects (sent_in upload.stream) → AreObjects (sent_in (continued upload piece).stream) }
 {}
 

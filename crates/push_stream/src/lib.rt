@@ -32,5 +32,5 @@ pub use crate::reading::{briefs_suffice, readings_go_on, rests_are_short};
 pub use crate::record::{MAX_CONTENT, MAX_REST};
 pub use crate::sent::Sent;
 pub use crate::step::Step;
-pub use crate::upload::{MAX_UPLOAD, Upload};
+pub use crate::upload::MAX_UPLOAD;
 pub use crate::write::write_record;

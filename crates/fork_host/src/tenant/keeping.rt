@@ -1,6 +1,5 @@
 // What of a tenant outlives the host's process.
-ghost use Rattle.std.specs.Prelude.{◌≡◌, IfOk, option_map};
-ghost use Rattle.push_stream.specs.Upload.{upload_of};
+ghost use Rattle.std.specs.Prelude.{◌≡◌, IfOk, is_some, option_map};
 ghost use Rattle.fork_model.specs.Sound.{IsOrderly};
 ghost use Rattle.state_text.specs.Kept.{kept_of};
 ghost use Rattle.fork_host.specs.Shown.{shown};
@@ -10,6 +9,7 @@ use crate::tenant::Tenant;
 use fork_ledger::Vault;
 use fork_request::TenantName;
 use loose_store::LooseFiles;
+use push_stream::Incoming;
 use state_text::TenantState;
 use std::alloc::{AllocError, Global};
 
@@ -33,12 +33,19 @@ impl Tenant {
         Ok(state)
     }
 
-    // The bytes of the upload, where one is open.
-    pub(crate) fn upload(&self) -> Option<&[u8]>
-        ensures { option_map (λ bytes. upload_of bytes.now) result ≡ self.now.upload }
+    // Whether an upload is open.
+    pub(crate) fn is_uploading(&self) -> bool
+        ensures { result ≡ is_some self.now.upload }
+    {
+        self.upload.is_some()
+    }
+
+    // The upload, where one is open.
+    pub(crate) fn upload(&self) -> Option<&Incoming>
+        ensures { option_map (λ upload. upload.now.brief) result ≡ self.now.upload }
     {
         match &self.upload {
-            Some(upload) => Some(upload.as_bytes()),
+            Some(upload) => Some(upload),
             None => None,
         }
     }

@@ -26,7 +26,8 @@ impl Tenant {
         word: &[u8],
         body: &[u8],
     ) -> Reply
-        ensures { Gives (update_answer (shown_by self.old own.now) word.now body.now) (shown_by self.old own.now) result (shown_by self.new own.now) }
+        ensures row { Gives (update_answer (shown_by self.old own.now) word.now body.now) (shown_by self.old own.now) result (shown_by self.new own.now) }
+        ensures upload { self.new.upload ≡ self.old.upload }
     {
         let Some(name) = RepositoryName::read(word) else {
             return bad_name(alloc, word);
@@ -50,8 +51,9 @@ impl Tenant {
         commands: &[Command],
     ) -> Reply
         requires { map.contains_key self.old.repositories name.now ≡ true }
-        ensures { (old : References) → map.get self.old.repositories name.now ≡ Some old
+        ensures row { (old : References) → map.get self.old.repositories name.now ≡ Some old
             → Gives (with_references (shown_by self.old own.now) name.now (transacted old commands.now (kind_in (visible_by own.now)))) (shown_by self.old own.now) result (shown_by self.new own.now) }
+        ensures upload { self.new.upload ≡ self.old.upload }
     {
         match self.repositories.apply(alloc, name, commands, own) {
             Ok(()) => done(alloc),

@@ -1,4 +1,5 @@
 // Rows about a tenant's repositories.
+ghost use Rattle.std.specs.Prelude.{◌≡◌};
 ghost use Rattle.std.specs.FinMap as map;
 ghost use Rattle.fork_ledger.specs.Private.{Private};
 ghost use Rattle.fork_model.specs.Answer.{copied, drop_answer, fork_answer, init_answer, new_repository};
@@ -16,7 +17,8 @@ impl Tenant {
     #[tactic(auto, unfolding(fork_model::specs::Answer::init_answer))]
     // A new repository without references.
     pub(crate) fn init(&mut self, alloc: Global, word: &[u8]) -> Reply
-        ensures { (own : Private) → Gives (init_answer (seen_by self.old own) word.now) (seen_by self.old own) result (seen_by self.new own) }
+        ensures row { (own : Private) → Gives (init_answer (seen_by self.old own) word.now) (seen_by self.old own) result (seen_by self.new own) }
+        ensures upload { self.new.upload ≡ self.old.upload }
     {
         match RepositoryName::read(word) {
             Some(name) => self.add_repository(alloc, name, Refs::new(alloc)),
@@ -26,7 +28,8 @@ impl Tenant {
 
     // A new repository with these references.
     fn add_repository(&mut self, alloc: Global, name: RepositoryName, references: Refs) -> Reply
-        ensures { (own : Private) → Gives (new_repository (seen_by self.old own) name references) (seen_by self.old own) result (seen_by self.new own) }
+        ensures row { (own : Private) → Gives (new_repository (seen_by self.old own) name references) (seen_by self.old own) result (seen_by self.new own) }
+        ensures upload { self.new.upload ≡ self.old.upload }
     {
         if self.repositories.contains(&name) {
             return Reply::Refused(Refusal::RepositoryExists(name));
@@ -43,7 +46,8 @@ impl Tenant {
     #[tactic(auto, unfolding(fork_model::specs::Answer::drop_answer))]
     // A repository goes, and its references with it.
     pub(crate) fn drop_repository(&mut self, alloc: Global, word: &[u8]) -> Reply
-        ensures { (own : Private) → Gives (drop_answer (seen_by self.old own) word.now) (seen_by self.old own) result (seen_by self.new own) }
+        ensures row { (own : Private) → Gives (drop_answer (seen_by self.old own) word.now) (seen_by self.old own) result (seen_by self.new own) }
+        ensures upload { self.new.upload ≡ self.old.upload }
     {
         let Some(name) = RepositoryName::read(word) else {
             return bad_name(alloc, word);
@@ -58,7 +62,8 @@ impl Tenant {
     #[tactic(auto, unfolding(fork_model::specs::Answer::fork_answer))]
     // A new repository with the references of another.
     pub(crate) fn fork(&mut self, alloc: Global, source: &[u8], copy: &[u8]) -> Reply
-        ensures { (own : Private) → Gives (fork_answer (seen_by self.old own) source.now copy.now) (seen_by self.old own) result (seen_by self.new own) }
+        ensures row { (own : Private) → Gives (fork_answer (seen_by self.old own) source.now copy.now) (seen_by self.old own) result (seen_by self.new own) }
+        ensures upload { self.new.upload ≡ self.old.upload }
     {
         let Some(from) = RepositoryName::read(source) else {
             return bad_name(alloc, source);
@@ -71,7 +76,8 @@ impl Tenant {
 
     // The same, where both words are names.
     fn copy_repository(&mut self, alloc: Global, from: RepositoryName, to: RepositoryName) -> Reply
-        ensures { (own : Private) → Gives (copied (seen_by self.old own) from to (map.get self.old.repositories from)) (seen_by self.old own) result (seen_by self.new own) }
+        ensures row { (own : Private) → Gives (copied (seen_by self.old own) from to (map.get self.old.repositories from)) (seen_by self.old own) result (seen_by self.new own) }
+        ensures upload { self.new.upload ≡ self.old.upload }
     {
         let Some(references) = self.repositories.get(&from) else {
             return Reply::Refused(Refusal::NoRepository(from));

@@ -90,6 +90,21 @@ fn forty_objects_come_once_each_in_pieces_by_chance(rt: HostRuntime) -> Result<(
     Ok(())
 }
 
+#[test]
+fn what_was_sent_is_told_of_an_upload(rt: HostRuntime) -> Result<(), Fail> {
+    let mut upload = Incoming::new(rt.alloc());
+    assert!(rt; upload.sent().is_empty());
+    assert_eq!(rt; fed(rt.alloc(), &mut upload, STREAM)?, 2);
+    match upload.sent() {
+        [tree, commit] => {
+            assert!(rt; tree.kind == Kind::Tree && tree.length == 0);
+            assert!(rt; commit.kind == Kind::Commit && commit.length == 128);
+        }
+        _ => assert!(rt; false),
+    }
+    Ok(())
+}
+
 // The bytes that open an upload again, of which this was all that came, in pieces of so many bytes.
 fn again(alloc: Global, bytes: &[u8], size: usize) -> Result<Vec<u8>, AllocError> {
     let mut upload = Incoming::new(alloc);
@@ -150,6 +165,7 @@ fn a_broken_upload_is_opened_again_by_as_many_bytes(rt: HostRuntime) -> Result<(
     let mut upload = Incoming::new(alloc);
     assert_eq!(rt; fed(alloc, &mut upload, opened.as_slice())?, 0);
     assert!(rt; upload.is_fault() && upload.count() == 279);
+    assert!(rt; upload.sent().is_empty());
     match upload.finish(alloc) {
         Err(BodyError::Fault(StreamFault::WrongName(_))) => {}
         _ => assert!(rt; false),

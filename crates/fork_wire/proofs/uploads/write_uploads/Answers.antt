@@ -1,24 +1,35 @@
-use Rattle.std.proofs.Common.{◌≡◌, [], ◌∷◌, ◌++◌, append_assoc, ap, Bor, List, map, rules, subst, sym, ℕ, ◌∙◌}
-use Rattle.push_stream.specs.Upload.{UploadValue, upload_of}
+use Rattle.std.proofs.Common.{◌≡◌, [], ◌∷◌, ◌++◌, append_assoc, ap, map, refl, rules, subst, sym, ◌∙◌}
+use Rattle.fork_model.specs.World.{World}
 use Rattle.fork_host.specs.Shown.{world_of}
-use Rattle.fork_host.specs.Uploads.{uploads_of}
-use Rattle.fork_wire.proofs.ReopeningLemmas.{all_reopened, none_reopened, one_reopened}
+use Rattle.fork_host.specs.Uploads.{opened, upload_at, uploads_of}
+use Rattle.fork_wire.proofs.ReopeningLemmas.{Written, all_written, next_written, none_written}
 use Rattle.fork_wire.proofs.uploads.write_uploads.Goals as goal
 
-abbrev told : List ℕ × Bor (List ℕ) → List ℕ × UploadValue
-told upload = (upload.0, upload_of upload.1.now)
+pub loop-name-init : goal.loop-name-init
+loop-name-init g c = record {
+  done = [];
+  parts = subst (λ items. items ≡ map (λ upload. upload.0) (uploads_of (world_of c.args.host.now))) (search rules) c.in-Ok.ensures;
+  sent = λ trusted. none_written _;
+  kept = λ trusted. refl;
+  trusted = λ trusted. trusted;
+  shape = λ name. refl;
+}
 
-pub loop-upload-init : goal.loop-upload-init
-loop-upload-init g c = ([], subst (λ items. map told items ≡ uploads_of (world_of c.args.host.now)) (search rules) c.in-Ok.ensures, none_reopened _)
+pub loop-name-preserved : goal.loop-name-preserved
+loop-name-preserved g c =
+    let before = c.loop-name.invariant in
+    let world = world_of c.args.host.now in
+    record {
+      done = before.done ++ c.in-Some.name ∷ [];
+      parts = append_assoc before.done (c.in-Some.name ∷ []) c.next.new.self.rest.items ∙ ap (λ rest. before.done ++ rest) (sym c.in-Some.ensures.steps.0) ∙ before.parts;
+      sent = λ trusted. next_written world before.done c.in-Some.name _ _ _ (before.sent trusted)
+          (subst (λ (shown : World). Written (opened c.in-Some.name (upload_at shown c.in-Some.name)) (g.W.Write.contents c.loop-name.writer) (g.W.Write.contents c.write_upload_of.new.writer)) (before.kept trusted) (c.in-Ok-write_upload_of.ensures.sent (before.trusted trusted)));
+      kept = λ trusted. c.in-Ok-write_upload_of.ensures.kept (before.trusted trusted) ∙ before.kept trusted;
+      trusted = λ trusted. c.in-Ok-write_upload_of.ensures.trusted (before.trusted trusted);
+      shape = λ name. c.in-Ok-write_upload_of.ensures.shape name ∙ before.shape name;
+    }
 
-pub loop-upload-preserved : goal.loop-upload-preserved
-loop-upload-preserved g c =
-    let done = c.loop-upload.invariant.0 in
-    let one : List (List ℕ × UploadValue) = told c.in-Some.upload ∷ [] in (
-      done ++ one,
-      append_assoc done one (map told c.next.new.self.rest.items) ∙ ap (λ rest. done ++ rest) (sym (ap (map told) c.in-Some.ensures.steps.0)) ∙ c.loop-upload.invariant.1,
-      one_reopened done _ _ _ _ _ c.loop-upload.invariant.2 c.in-Ok-write_upload.ensures,
-    )
-
-pub returns : goal.returns
-returns g c = all_reopened told _ _ c.loop-upload.upload-iterator.rest.items _ _ _ c.loop-upload.upload-iterator.rest.ok.0 c.in-None.ensures.steps.0 c.loop-upload.invariant.1 c.loop-upload.invariant.2
+pub returns-clause-sent : goal.returns-clause-sent
+returns-clause-sent g c = λ trusted.
+    let so_far = c.loop-name.invariant in
+    all_written (world_of c.args.host.now) so_far.done c.loop-name.name-iterator.rest.items _ _ _ c.loop-name.name-iterator.rest.ok.0 c.in-None.ensures.steps.0 so_far.parts (so_far.sent trusted)

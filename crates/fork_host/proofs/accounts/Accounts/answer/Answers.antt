@@ -25,7 +25,7 @@ returns-in_default-clause-explained g c trusted =
 pub answer_from-requires : goal.answer_from-requires
 answer_from-requires g c =
     let here = found_in c.args.self.now c.self.inside.tenants.entries c.args.name.now (Some c.in-Some.tenant.now) c.self.view_is c.in-Some.ensures.value in
-    record { ready = ready (state_of c.args.self.now c.args.vault.now) c.args.name.now c.in-Some.tenant.now c.requires.whole here; quiet = c.requires.whole.staged c.args.name.now c.in-Some.tenant.now here }
+    record { ready = ready (state_of c.args.self.now c.args.vault.now) c.args.name.now c.in-Some.tenant.now c.requires.whole here; staged = c.requires.whole.staged c.args.name.now c.in-Some.tenant.now here }
 
 pub returns-clause-explained : goal.returns-clause-explained
 returns-clause-explained g c trusted =

@@ -3,6 +3,8 @@ use Rattle.std.specs.FinMap as map
 use Rattle.fork_ledger.proofs.UpdateLemmas.{insert_same}
 use Rattle.fork_ledger.proofs.BothLemmas.{none_of}
 use Rattle.fork_model.specs.Sound.{IsOrderly, IsRight}
+use Rattle.std.specs.Option.{option_map}
+use Rattle.fork_model.specs.Uploads.{upload_among}
 use Rattle.fork_host.specs.Adding.{new_view}
 use Rattle.fork_host.specs.Own.{Changes, Settles, staged_in, visible_in}
 use Rattle.fork_host.specs.Read.{AreRead}
@@ -12,6 +14,7 @@ use Rattle.fork_host.specs.Shown.{Account, Accounts, HostState, shown, state_of,
 use Rattle.fork_host.proofs.AddingLemmas.{orderly_new_view, right_new_view}
 use Rattle.fork_host.proofs.OwnLemmas.{none_staged, own_of, seen_measures}
 use Rattle.fork_host.proofs.RefillLemmas.{account_shown, keys_set, orderly_refilled, refilled, refilled_in, restored_by, right_refilled, whole_set}
+use Rattle.fork_host.proofs.PartLemmas.{none_among, staged_none}
 use Rattle.fork_host.proofs.host.Host.refill.Given as given
 use Rattle.fork_host.proofs.host.Host.refill.Goals as goal
 
@@ -28,7 +31,8 @@ see_in-requires-clause-nothing g c =
     let t = c.args.state.now.name in
     let found = account_shown state t (new_view c.args.state.now.limit) (ap (λ (s : HostState). map.get (world_of s) t) c.self.view_is ∙ c.requires.fresh) in
     let visible = ap (visible_in c.self.inside.vault) c.name-name.ensures.name ∙ ap (λ v. v.objects) found.2 in
-    let staged = ap (staged_in c.self.inside.vault) c.name-name.ensures.name ∙ c.self.invariant.staged t found.0 found.1 in
+    let none = none_among (staged_in c.self.inside.vault t) found.0.upload (ap (λ v. v.upload) found.2) in
+    let staged = ap (staged_in c.self.inside.vault) c.name-name.ensures.name ∙ staged_none c.self.inside.vault.honest found.0.upload (staged_in c.self.inside.vault t) none (c.self.invariant.staged t found.0 found.1) in
     λ i. record { visible = visible i; staged = staged i }
 
 pub see_in-requires-clause-read : goal.see_in-requires-clause-read
@@ -45,7 +49,7 @@ account_of g c =
 set_to : (g : given.Over) (c : goal.After-settle g) → c.settle.new.self ≡ map.insert c.self.inside.accounts c.args.state.now.name (refilled c.in-Ok.gathered c.args.state.now.limit)
 set_to g c =
     let found = account_of g c in
-    let upload = ap (λ v. v.upload) found.2 in
+    let upload = none_among (staged_in c.self.inside.vault c.args.state.now.name) found.0.upload (ap (λ v. v.upload) found.2) in
     let low = ap (λ v. v.limit) found.2 in
     c.settle.ensures found.0 (ap (map.get c.self.inside.accounts) c.name-name.ensures.name ∙ found.1)
     ∙ ap (λ t. map.insert c.self.inside.accounts t (record { repositories = c.in-Ok.gathered; upload = found.0.upload; limit = found.0.limit })) c.name-name.ensures.name
@@ -80,9 +84,12 @@ invariant_of-self-in-Err-see_in g c =
     let found = account_shown old t (new_view limit) fresh in
     let changes = subst (λ n. Changes (Settles n map.empty) old.vault new.vault) c.name-name.ensures.name c.in-Err.ensures.err in
     let seen : visible_in new.vault t ≡ map.empty = none_of (visible_in new.vault t) (seen_measures old.vault new.vault t map.empty changes) in
-    let view = ap (λ objects. view_of found.0.repositories objects found.0.upload found.0.limit) (seen ∙ sym (ap (λ v. v.objects) found.2)) ∙ found.2 in
+    let none = none_among (staged_in old.vault t) found.0.upload (ap (λ v. v.upload) found.2) in
+    let told = ap (λ v. v.repositories) found.2 in
+    let low = ap (λ v. v.limit) found.2 in
+    let view : shown found.0 new.vault t ≡ new_view limit = λ i. view_of (told i) (seen i) (option_map (upload_among (staged_in new.vault t)) (none i)) (low i) in
     whole_set old new t found.0 found.0 c.self.invariant found.1 (sym (insert_same c.self.inside.accounts t found.0 found.1)) (own_of old.vault new.vault t map.empty changes)
-    (none_staged old.vault new.vault t map.empty changes) (ap (λ v. v.upload) found.2)
+    (none_staged old.vault new.vault t map.empty changes) none
     (subst IsOrderly (sym view) (orderly_new_view limit (c.self.invariant.orderly.views t (new_view limit) fresh).limit))
     (λ honest. subst IsRight (sym view) (right_new_view limit))
 

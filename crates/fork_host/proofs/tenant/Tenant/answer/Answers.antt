@@ -1,85 +1,86 @@
 use Rattle.fork_request.specs.Asked.{ask_of}
-use Rattle.std.proofs.Common.{subst}
+use Rattle.std.proofs.Common.{subst, sym}
 use Rattle.fork_model.specs.Answer.{answer, cat_file_answer, ls_tree_answer}
-use Rattle.fork_host.specs.Handle.{private_by, shown_by}
+use Rattle.fork_host.specs.Handle.{private_by, shown_by, staged_by}
+use Rattle.fork_host.specs.Own.{staged_in}
 use Rattle.fork_host.specs.Rows.{Gives, Yields}
 use Rattle.fork_host.specs.Sent.{sent_by}
 use Rattle.fork_host.specs.Shown.{shown}
-use Rattle.fork_host.proofs.BoundLemmas.{bounded_still, quiet_row}
+use Rattle.fork_host.specs.Staged.{IsStaged}
+use Rattle.fork_host.proofs.BoundLemmas.{bounded_left, bounded_still, quiet_row}
+use Rattle.fork_host.proofs.HandleLemmas.{same_own}
+use Rattle.fork_host.proofs.OwnLemmas.{own_same}
 use Rattle.fork_host.proofs.RowLemmas.{yields_of}
 use Rattle.fork_host.proofs.SafeLemmas.{safe_gives}
+use Rattle.fork_host.proofs.StagedLemmas.{staged_kept_still}
 use Rattle.fork_host.proofs.tenant.Tenant.answer.Goals as goal
 
 pub returns-in-Init-clause-row : goal.returns-in-Init-clause-row
 unfolding answer
-returns-in-Init-clause-row g c = record { yields = λ honest. yields_of _ _ _ _ (rw c.in-Init.is (c.init.ensures (private_by c.args.own.now))) }
+returns-in-Init-clause-row g c = record { yields = λ honest. yields_of _ _ _ _ (rw c.in-Init.is (c.init.ensures.row (private_by c.args.own.now))) }
 
 pub returns-in-Init-clause-safe : goal.returns-in-Init-clause-safe
 unfolding answer
 returns-in-Init-clause-safe g c =
     let view = shown_by c.args.self.now c.args.own.now in
     let new = shown c.init.new.self c.args.own.now.vault.now c.args.own.now.tenant.now in
-    let gives : Gives (answer view (ask_of c.args.request)) view c.init.result new = rw c.in-Init.is (c.init.ensures (private_by c.args.own.now)) in
+    let gives : Gives (answer view (ask_of c.args.request)) view c.init.result new = rw c.in-Init.is (c.init.ensures.row (private_by c.args.own.now)) in
     safe_gives _ view new (ask_of c.args.request) c.init.result (bounded_still (sent_by view (ask_of c.args.request)) c.args.own.now.vault.now c.init.result (quiet_row view new (ask_of c.args.request) c.init.result gives)) gives
 
 pub returns-in-Drop-clause-row : goal.returns-in-Drop-clause-row
 unfolding answer
-returns-in-Drop-clause-row g c = record { yields = λ honest. yields_of _ _ _ _ (rw c.in-Drop.is (c.drop_repository.ensures (private_by c.args.own.now))) }
+returns-in-Drop-clause-row g c = record { yields = λ honest. yields_of _ _ _ _ (rw c.in-Drop.is (c.drop_repository.ensures.row (private_by c.args.own.now))) }
 
 pub returns-in-Drop-clause-safe : goal.returns-in-Drop-clause-safe
 unfolding answer
 returns-in-Drop-clause-safe g c =
     let view = shown_by c.args.self.now c.args.own.now in
     let new = shown c.drop_repository.new.self c.args.own.now.vault.now c.args.own.now.tenant.now in
-    let gives : Gives (answer view (ask_of c.args.request)) view c.drop_repository.result new = rw c.in-Drop.is (c.drop_repository.ensures (private_by c.args.own.now)) in
+    let gives : Gives (answer view (ask_of c.args.request)) view c.drop_repository.result new = rw c.in-Drop.is (c.drop_repository.ensures.row (private_by c.args.own.now)) in
     safe_gives _ view new (ask_of c.args.request) c.drop_repository.result (bounded_still (sent_by view (ask_of c.args.request)) c.args.own.now.vault.now c.drop_repository.result (quiet_row view new (ask_of c.args.request) c.drop_repository.result gives)) gives
 
 pub returns-in-Fork-clause-row : goal.returns-in-Fork-clause-row
 unfolding answer
-returns-in-Fork-clause-row g c = record { yields = λ honest. yields_of _ _ _ _ (rw c.in-Fork.is (c.fork.ensures (private_by c.args.own.now))) }
+returns-in-Fork-clause-row g c = record { yields = λ honest. yields_of _ _ _ _ (rw c.in-Fork.is (c.fork.ensures.row (private_by c.args.own.now))) }
 
 pub returns-in-Fork-clause-safe : goal.returns-in-Fork-clause-safe
 unfolding answer
 returns-in-Fork-clause-safe g c =
     let view = shown_by c.args.self.now c.args.own.now in
     let new = shown c.fork.new.self c.args.own.now.vault.now c.args.own.now.tenant.now in
-    let gives : Gives (answer view (ask_of c.args.request)) view c.fork.result new = rw c.in-Fork.is (c.fork.ensures (private_by c.args.own.now)) in
+    let gives : Gives (answer view (ask_of c.args.request)) view c.fork.result new = rw c.in-Fork.is (c.fork.ensures.row (private_by c.args.own.now)) in
     safe_gives _ view new (ask_of c.args.request) c.fork.result (bounded_still (sent_by view (ask_of c.args.request)) c.args.own.now.vault.now c.fork.result (quiet_row view new (ask_of c.args.request) c.fork.result gives)) gives
 
 pub returns-in-Part-clause-row : goal.returns-in-Part-clause-row
 unfolding answer
-returns-in-Part-clause-row g c = record { yields = λ honest. yields_of _ _ _ _ (rw c.in-Part.is (c.part.ensures (private_by c.args.own.now))) }
-
-pub returns-in-Part-clause-safe : goal.returns-in-Part-clause-safe
-unfolding answer
-returns-in-Part-clause-safe g c =
-    let view = shown_by c.args.self.now c.args.own.now in
-    let new = shown c.part.new.self c.args.own.now.vault.now c.args.own.now.tenant.now in
-    let gives : Gives (answer view (ask_of c.args.request)) view c.part.result new = rw c.in-Part.is (c.part.ensures (private_by c.args.own.now)) in
-    safe_gives _ view new (ask_of c.args.request) c.part.result (bounded_still (sent_by view (ask_of c.args.request)) c.args.own.now.vault.now c.part.result (quiet_row view new (ask_of c.args.request) c.part.result gives)) gives
+returns-in-Part-clause-row g c = record { yields = λ honest. rw c.in-Part.is (c.part.ensures.row honest) }
 
 pub returns-in-PartDrop-clause-row : goal.returns-in-PartDrop-clause-row
 unfolding answer
-returns-in-PartDrop-clause-row g c = record { yields = λ honest. yields_of _ _ _ _ (rw c.in-PartDrop.is (c.part_drop.ensures (private_by c.args.own.now))) }
+returns-in-PartDrop-clause-row g c = record { yields = λ honest. yields_of _ _ _ _ (rw c.in-PartDrop.is c.part_drop.ensures.row) }
 
 pub returns-in-PartDrop-clause-safe : goal.returns-in-PartDrop-clause-safe
 unfolding answer
 returns-in-PartDrop-clause-safe g c =
     let view = shown_by c.args.self.now c.args.own.now in
-    let new = shown c.part_drop.new.self c.args.own.now.vault.now c.args.own.now.tenant.now in
-    let gives : Gives (answer view (ask_of c.args.request)) view c.part_drop.result new = rw c.in-PartDrop.is (c.part_drop.ensures (private_by c.args.own.now)) in
-    safe_gives _ view new (ask_of c.args.request) c.part_drop.result (bounded_still (sent_by view (ask_of c.args.request)) c.args.own.now.vault.now c.part_drop.result (quiet_row view new (ask_of c.args.request) c.part_drop.result gives)) gives
+    let old = c.args.own.now.vault.now in
+    let now = c.part_drop.new.own.vault.now in
+    let new = shown c.part_drop.new.self now c.args.own.now.tenant.now in
+    let sent = sent_by view (ask_of c.args.request) in
+    let gives : Gives (answer view (ask_of c.args.request)) view c.part_drop.result new = rw c.in-PartDrop.is c.part_drop.ensures.row in
+    safe_gives _ view new (ask_of c.args.request) c.part_drop.result
+    (bounded_left sent old old now c.part_drop.result (bounded_still sent old c.part_drop.result (quiet_row view new (ask_of c.args.request) c.part_drop.result gives)) c.part_drop.ensures.store) gives
 
 pub returns-in-UpdateRefs-clause-row : goal.returns-in-UpdateRefs-clause-row
 unfolding answer
-returns-in-UpdateRefs-clause-row g c = record { yields = λ honest. yields_of _ _ _ _ (rw c.in-UpdateRefs.is c.update_refs.ensures) }
+returns-in-UpdateRefs-clause-row g c = record { yields = λ honest. yields_of _ _ _ _ (rw c.in-UpdateRefs.is c.update_refs.ensures.row) }
 
 pub returns-in-UpdateRefs-clause-safe : goal.returns-in-UpdateRefs-clause-safe
 unfolding answer
 returns-in-UpdateRefs-clause-safe g c =
     let view = shown_by c.args.self.now c.args.own.now in
     let new = shown c.update_refs.new.self c.args.own.now.vault.now c.args.own.now.tenant.now in
-    let gives : Gives (answer view (ask_of c.args.request)) view c.update_refs.result new = rw c.in-UpdateRefs.is c.update_refs.ensures in
+    let gives : Gives (answer view (ask_of c.args.request)) view c.update_refs.result new = rw c.in-UpdateRefs.is c.update_refs.ensures.row in
     safe_gives _ view new (ask_of c.args.request) c.update_refs.result (bounded_still (sent_by view (ask_of c.args.request)) c.args.own.now.vault.now c.update_refs.result (quiet_row view new (ask_of c.args.request) c.update_refs.result gives)) gives
 
 pub returns-in-ForEachRef-clause-row : goal.returns-in-ForEachRef-clause-row
@@ -137,3 +138,83 @@ returns-in-Fetch-clause-row g c = record { yields = λ honest. rw c.in-Fetch.is 
 pub returns-in-Prune-clause-row : goal.returns-in-Prune-clause-row
 unfolding answer
 returns-in-Prune-clause-row g c = record { yields = λ honest. rw c.in-Prune.is (c.prune.ensures.row honest) }
+
+pub returns-in-Init-clause-own : goal.returns-in-Init-clause-own
+returns-in-Init-clause-own g c = record { same = same_own c.args.own.now; own = own_same c.args.own.now.vault.now c.args.own.now.tenant.now }
+
+pub returns-in-Init-clause-staged : goal.returns-in-Init-clause-staged
+returns-in-Init-clause-staged g c = subst (λ upload. IsStaged c.args.own.now.vault.now.honest upload (staged_by c.args.own.now)) (sym c.init.ensures.upload) c.requires.staged
+
+pub returns-in-Drop-clause-own : goal.returns-in-Drop-clause-own
+returns-in-Drop-clause-own g c = record { same = same_own c.args.own.now; own = own_same c.args.own.now.vault.now c.args.own.now.tenant.now }
+
+pub returns-in-Drop-clause-staged : goal.returns-in-Drop-clause-staged
+returns-in-Drop-clause-staged g c = subst (λ upload. IsStaged c.args.own.now.vault.now.honest upload (staged_by c.args.own.now)) (sym c.drop_repository.ensures.upload) c.requires.staged
+
+pub returns-in-Fork-clause-own : goal.returns-in-Fork-clause-own
+returns-in-Fork-clause-own g c = record { same = same_own c.args.own.now; own = own_same c.args.own.now.vault.now c.args.own.now.tenant.now }
+
+pub returns-in-Fork-clause-staged : goal.returns-in-Fork-clause-staged
+returns-in-Fork-clause-staged g c = subst (λ upload. IsStaged c.args.own.now.vault.now.honest upload (staged_by c.args.own.now)) (sym c.fork.ensures.upload) c.requires.staged
+
+pub returns-in-UpdateRefs-clause-own : goal.returns-in-UpdateRefs-clause-own
+returns-in-UpdateRefs-clause-own g c = record { same = same_own c.args.own.now; own = own_same c.args.own.now.vault.now c.args.own.now.tenant.now }
+
+pub returns-in-UpdateRefs-clause-staged : goal.returns-in-UpdateRefs-clause-staged
+returns-in-UpdateRefs-clause-staged g c = subst (λ upload. IsStaged c.args.own.now.vault.now.honest upload (staged_by c.args.own.now)) (sym c.update_refs.ensures.upload) c.requires.staged
+
+pub returns-in-ForEachRef-clause-own : goal.returns-in-ForEachRef-clause-own
+returns-in-ForEachRef-clause-own g c = record { same = same_own c.args.own.now; own = own_same c.args.own.now.vault.now c.args.own.now.tenant.now }
+
+pub returns-in-ForEachRef-clause-staged : goal.returns-in-ForEachRef-clause-staged
+returns-in-ForEachRef-clause-staged g c = c.requires.staged
+
+pub returns-in-Quota-clause-own : goal.returns-in-Quota-clause-own
+returns-in-Quota-clause-own g c = record { same = same_own c.args.own.now; own = own_same c.args.own.now.vault.now c.args.own.now.tenant.now }
+
+pub returns-in-Quota-clause-staged : goal.returns-in-Quota-clause-staged
+returns-in-Quota-clause-staged g c = c.requires.staged
+
+pub returns-in-CatFile-clause-own : goal.returns-in-CatFile-clause-own
+returns-in-CatFile-clause-own g c = record { same = c.cat_file.ensures.own.same; own = c.cat_file.ensures.own.own }
+
+pub returns-in-CatFile-clause-staged : goal.returns-in-CatFile-clause-staged
+returns-in-CatFile-clause-staged g c = staged_kept_still c.args.own.now.vault.now c.cat_file.new.own.vault.now c.args.own.now.tenant.now c.args.self.now.upload c.cat_file.ensures.own.staged c.requires.staged
+
+pub returns-in-LsTree-clause-own : goal.returns-in-LsTree-clause-own
+returns-in-LsTree-clause-own g c = record { same = c.ls_tree.ensures.own.same; own = c.ls_tree.ensures.own.own }
+
+pub returns-in-LsTree-clause-staged : goal.returns-in-LsTree-clause-staged
+returns-in-LsTree-clause-staged g c = staged_kept_still c.args.own.now.vault.now c.ls_tree.new.own.vault.now c.args.own.now.tenant.now c.args.self.now.upload c.ls_tree.ensures.own.staged c.requires.staged
+
+pub returns-in-RevList-clause-own : goal.returns-in-RevList-clause-own
+returns-in-RevList-clause-own g c = record { same = c.rev_list.ensures.own.same; own = c.rev_list.ensures.own.own }
+
+pub returns-in-RevList-clause-staged : goal.returns-in-RevList-clause-staged
+returns-in-RevList-clause-staged g c = staged_kept_still c.args.own.now.vault.now c.rev_list.new.own.vault.now c.args.own.now.tenant.now c.args.self.now.upload c.rev_list.ensures.own.staged c.requires.staged
+
+pub returns-in-MergeBase-clause-own : goal.returns-in-MergeBase-clause-own
+returns-in-MergeBase-clause-own g c = record { same = c.merge_base.ensures.own.same; own = c.merge_base.ensures.own.own }
+
+pub returns-in-MergeBase-clause-staged : goal.returns-in-MergeBase-clause-staged
+returns-in-MergeBase-clause-staged g c = staged_kept_still c.args.own.now.vault.now c.merge_base.new.own.vault.now c.args.own.now.tenant.now c.args.self.now.upload c.merge_base.ensures.own.staged c.requires.staged
+
+pub returns-in-Fetch-clause-own : goal.returns-in-Fetch-clause-own
+returns-in-Fetch-clause-own g c = record { same = c.fetch.ensures.own.same; own = c.fetch.ensures.own.own }
+
+pub returns-in-Fetch-clause-staged : goal.returns-in-Fetch-clause-staged
+returns-in-Fetch-clause-staged g c = staged_kept_still c.args.own.now.vault.now c.fetch.new.own.vault.now c.args.own.now.tenant.now c.args.self.now.upload c.fetch.ensures.own.staged c.requires.staged
+
+pub returns-in-Prune-clause-own : goal.returns-in-Prune-clause-own
+returns-in-Prune-clause-own g c = record { same = c.prune.ensures.own.same; own = c.prune.ensures.own.own }
+
+pub returns-in-Prune-clause-staged : goal.returns-in-Prune-clause-staged
+returns-in-Prune-clause-staged g c = staged_kept_still c.args.own.now.vault.now c.prune.new.own.vault.now c.args.own.now.tenant.now c.args.self.now.upload c.prune.ensures.own.staged c.requires.staged
+
+pub returns-in-Push-clause-own : goal.returns-in-Push-clause-own
+returns-in-Push-clause-own g c = record { same = c.push.ensures.own.same; own = c.push.ensures.own.own }
+
+pub returns-in-Push-clause-staged : goal.returns-in-Push-clause-staged
+returns-in-Push-clause-staged g c =
+    subst (λ upload. IsStaged c.args.own.now.vault.now.honest upload (staged_in c.push.new.own.vault.now c.args.own.now.tenant.now)) (sym c.push.ensures.upload)
+    (staged_kept_still c.args.own.now.vault.now c.push.new.own.vault.now c.args.own.now.tenant.now c.args.self.now.upload c.push.ensures.own.staged c.requires.staged)

@@ -1,38 +1,59 @@
-use Rattle.std.proofs.Common.{ap, subst, sym, ◌∙◌}
+use Rattle.std.proofs.Common.{◌≡◌, Some, ap, subst, sym, ◌∙◌}
 use Rattle.std.specs.FinMap as map
-use Rattle.push_stream.specs.Stream.{finished, sent_in}
+use Rattle.std.specs.Option.{option_map}
+use Rattle.push_stream.specs.Stream.{finished, sent_in, stream_of}
+use Rattle.push_stream.specs.Upload.{upload_of}
 use Rattle.fork_request.specs.declared.reply.Reply.{Reply}
 use Rattle.fork_model.specs.Answer.{open_upload, pushed}
+use Rattle.fork_model.specs.Uploads.{upload_among}
 use Rattle.fork_model.specs.View.{View}
 use Rattle.fork_host.specs.Bounds.{IsBounded}
-use Rattle.fork_host.specs.Handle.{shown_by}
+use Rattle.fork_host.specs.Handle.{shown_by, staged_by, visible_by}
+use Rattle.fork_host.specs.Own.{visible_in}
+use Rattle.fork_host.specs.Pushed.{view_of}
 use Rattle.fork_host.specs.Rows.{Yields}
-use Rattle.fork_host.specs.Safe.{IsSafe}
-use Rattle.fork_host.specs.Shown.{Account, shown}
-use Rattle.fork_host.proofs.PushLemmas.{end_is, sends_held, tells_held}
+use Rattle.fork_host.specs.Shown.{Account}
+use Rattle.fork_host.proofs.PartLemmas.{safe_as, staged_some, tells_brief, yields_as}
+use Rattle.fork_host.proofs.PushLemmas.{end_is}
 use Rattle.fork_host.proofs.QueryLemmas.{named_is}
+use Rattle.fork_host.proofs.StagedLemmas.{came_beside, came_upload}
 use Rattle.fork_host.proofs.UpdateLemmas.{found}
 use Rattle.fork_host.proofs.tenant.Tenant.end_upload.Goals as goal
 
 pub returns-clause-row : goal.returns-clause-row
 returns-clause-row g c honest =
     let account = c.args.self.now in
-    let view = shown_by account c.args.own.now in
-    let new = shown c.judge.new.self c.judge.new.own.vault.now c.args.own.now.tenant.now in
+    let own = c.args.own.now in
+    let view = shown_by account own in
+    let inside = c.self.inside in
+    let objects = visible_in c.settle_upload.new.own.vault.now own.tenant.now in
+    let now = view_of c.settle_upload.new.repositories objects view.upload account.limit in
     let word = c.args.word.now in
     let name = c.in-Some.name in
-    let upload = c.in-Some-upload.upload in
-    let there = found (map.get c.self.inside.repositories name) (sym c.contains.ensures ∙ c.if-not-contains.false) in
+    let reading = c.in-Some-upload.upload.brief in
+    let there = found (map.get inside.repositories name) (sym c.contains.ensures ∙ c.if-not-contains.false) in
     let here = ap (λ (a : Account). map.get a.repositories name) (sym c.self.view_is) ∙ there.1 in
-    let waits = ap (λ (a : Account). a.upload) (sym c.self.view_is) ∙ c.in-Some-upload.is in
-    let row = end_is view word (map.get account.repositories word) there.0 upload (ap (map.get account.repositories) (sym c.in-Some.ensures.found.0) ∙ here) waits in
-    subst (λ (r : Reply × View). Yields r view c.judge.result new) (sym (named_is view word _ (sym c.in-Some.ensures.test) ∙ row))
-    (subst (λ w. Yields (pushed view w there.0 (finished upload.stream)) view c.judge.result new) c.in-Some.ensures.found.0
-    (c.judge.ensures.row (finished upload.stream) there.0 (tells_held upload.stream c.finish-finished.result c.finish-finished.ensures.found c.finish-finished.ensures.exact) here honest))
+    let waits : account.upload ≡ Some reading = ap (λ (a : Account). a.upload) (sym c.self.view_is) ∙ ap (option_map (λ upload. upload.brief)) c.in-Some-upload.is in
+    let came = staged_some own.vault.now.honest account.upload reading (staged_by own) waits c.requires.staged in
+    let bytes = came.0 in
+    let is = ap (option_map (upload_among (staged_by own))) waits ∙ ap Some (came_upload bytes reading own.vault.now.honest (staged_by own) honest came.1) in
+    let row = end_is view word (map.get account.repositories word) there.0 (upload_of bytes) (ap (map.get account.repositories) (sym c.in-Some.ensures.found.0) ∙ here) is in
+    subst (λ (r : Reply × View). Yields r view c.settle_upload.result now) (sym (named_is view word _ (sym c.in-Some.ensures.test) ∙ row))
+    (subst (λ w. Yields (pushed view w there.0 (finished (stream_of bytes))) view c.settle_upload.result now) c.in-Some.ensures.found.0
+    (yields_as (λ v. pushed v name there.0 (finished (stream_of bytes))) (view_of inside.repositories (visible_by own) view.upload inside.limit) view (view_of c.settle_upload.new.repositories objects view.upload inside.limit) now c.settle_upload.result
+    (ap (λ (a : Account). view_of a.repositories (visible_by own) view.upload a.limit) c.self.view_is) (ap (λ (a : Account). view_of c.settle_upload.new.repositories objects view.upload a.limit) c.self.view_is)
+    (c.settle_upload.ensures.row view.upload (stream_of bytes) there.0 (tells_brief bytes reading c.finish-finished.result came.1.read c.finish-finished.ensures.found c.finish-finished.ensures.exact) there.1 honest
+    (came_beside bytes reading own.vault.now.honest (visible_by own) (staged_by own) honest came.1))))
 
 pub returns-clause-safe : goal.returns-clause-safe
 returns-clause-safe g c =
-    let upload = c.in-Some-upload.upload in
-    let waits = ap (λ (a : Account). a.upload) (sym c.self.view_is) ∙ c.in-Some-upload.is in
-    subst (λ sent. IsSafe (IsBounded sent c.args.own.now.vault.now c.judge.new.own.vault.now) (shown_by c.args.self.now c.args.own.now) c.judge.result (shown c.judge.new.self c.judge.new.own.vault.now c.args.own.now.tenant.now))
-    (ap (λ o. sent_in (open_upload o).stream) (sym waits)) (c.judge.ensures.safe (sent_in upload.stream) (sends_held upload.stream c.finish-finished.result c.finish-finished.ensures.found))
+    let account = c.args.self.now in
+    let own = c.args.own.now in
+    let view = shown_by account own in
+    let inside = c.self.inside in
+    let objects = visible_in c.settle_upload.new.own.vault.now own.tenant.now in
+    let sent = sent_in (open_upload view.upload).stream in
+    safe_as (IsBounded sent own.vault.now c.settle_upload.new.own.vault.now) (view_of inside.repositories (visible_by own) view.upload inside.limit) view
+    (view_of c.settle_upload.new.repositories objects view.upload inside.limit) (view_of c.settle_upload.new.repositories objects view.upload account.limit) c.settle_upload.result
+    (ap (λ (a : Account). view_of a.repositories (visible_by own) view.upload a.limit) c.self.view_is) (ap (λ (a : Account). view_of c.settle_upload.new.repositories objects view.upload a.limit) c.self.view_is)
+    (c.settle_upload.ensures.safe view.upload sent)

@@ -1,32 +1,74 @@
-use Rattle.std.proofs.Common.{is_some, ap, subst, sym, ◌∙◌}
+use Rattle.std.proofs.Common.{◌≡◌, None, Option, is_some, ap, subst, sym, ◌∙◌}
 use Rattle.std.specs.FinMap as map
+use Rattle.std.specs.Option.{option_map}
+use Rattle.push_stream.specs.Reading.{Reading}
 use Rattle.push_stream.specs.Stream.{finished, sent_in, stream_of}
 use Rattle.fork_request.specs.declared.reply.Reply.{Reply}
 use Rattle.fork_model.specs.Answer.{push_answer, pushed}
+use Rattle.fork_model.specs.Uploads.{upload_among}
 use Rattle.fork_model.specs.View.{View}
-use Rattle.fork_host.specs.Handle.{shown_by}
+use Rattle.fork_host.specs.Bounds.{IsBounded}
+use Rattle.fork_host.specs.Handle.{Ready, shown_by, staged_by, visible_by}
+use Rattle.fork_host.specs.Own.{visible_in}
+use Rattle.fork_host.specs.Pushed.{view_of}
 use Rattle.fork_host.specs.Rows.{Yields}
 use Rattle.fork_host.specs.Shown.{Account, shown}
+use Rattle.fork_host.proofs.PartLemmas.{account_of, none_waits, safe_as, staged_none, yields_as}
 use Rattle.fork_host.proofs.PushLemmas.{push_is, sends_held, tells_held}
 use Rattle.fork_host.proofs.QueryLemmas.{named_is}
 use Rattle.fork_host.proofs.UpdateLemmas.{found}
 use Rattle.fork_host.proofs.tenant.Tenant.push.Goals as goal
 
+pub take_body-requires : goal.take_body-requires
+take_body-requires g c =
+    let own = c.args.own.now in
+    let none = none_waits (λ upload. upload.brief) c.self.inside.upload (sym c.is_some.ensures ∙ c.if-is_some.false) in
+    record {
+      ready = subst (λ (a : Account). Ready own a.limit) (sym c.self.view_is) c.requires.ready;
+      quiet = staged_none own.vault.now.honest c.args.self.now.upload (staged_by own) (ap (λ (a : Account). a.upload) (sym c.self.view_is) ∙ none) c.requires.staged;
+      there = sym c.contains.ensures ∙ c.if-not-contains.false;
+    }
+
 pub returns-clause-row : goal.returns-clause-row
 unfolding push_answer
 returns-clause-row g c honest =
     let account = c.args.self.now in
-    let view = shown_by account c.args.own.now in
-    let new = shown c.judge.new.self c.judge.new.own.vault.now c.args.own.now.tenant.now in
+    let own = c.args.own.now in
+    let new = c.take_body.new.own.vault.now in
+    let t = own.tenant.now in
+    let view = shown_by account own in
     let word = c.args.word.now in
     let name = c.in-Some.name in
-    let there = found (map.get c.self.inside.repositories name) (sym c.contains.ensures ∙ c.if-not-contains.false) in
+    let inside = c.self.inside in
+    let there = found (map.get inside.repositories name) (sym c.contains.ensures ∙ c.if-not-contains.false) in
     let here = ap (λ (a : Account). map.get a.repositories name) (sym c.self.view_is) ∙ there.1 in
-    let none = ap (λ (a : Account). is_some a.upload) (sym c.self.view_is) ∙ sym c.is_some.ensures ∙ c.if-is_some.false in
+    let shut = none_waits (λ upload. upload.brief) inside.upload (sym c.is_some.ensures ∙ c.if-is_some.false) in
+    let none = ap (λ (a : Account). is_some (option_map (upload_among (staged_by own)) a.upload)) (sym c.self.view_is) ∙ ap (λ (upload : Option Reading). is_some (option_map (upload_among (staged_by own)) upload)) shut in
     let row = push_is view word c.args.body.now (map.get account.repositories word) there.0 (ap (map.get account.repositories) (sym c.in-Some.ensures.found.0) ∙ here) none in
-    subst (λ (r : Reply × View). Yields r view c.judge.result new) (sym (named_is view word _ (sym c.in-Some.ensures.test) ∙ row))
-    (subst (λ w. Yields (pushed view w there.0 (finished (stream_of c.args.body.now))) view c.judge.result new) c.in-Some.ensures.found.0
-    (c.judge.ensures.row (finished (stream_of c.args.body.now)) there.0 (tells_held (stream_of c.args.body.now) c.read_body.result c.read_body.ensures.found c.read_body.ensures.exact) here honest))
+    let now = shown (account_of c.take_body.new.repositories (option_map (λ upload. upload.brief) inside.upload) inside.limit) new t in
+    let before : view_of inside.repositories (visible_by own) None inside.limit ≡ view =
+    ap (λ (upload : Option Reading). shown_by (account_of inside.repositories upload inside.limit) own) (sym shut) ∙ ap (λ (a : Account). shown_by a own) c.self.view_is in
+    let after : view_of c.take_body.new.repositories (visible_in new t) None inside.limit ≡ now =
+    ap (λ (upload : Option Reading). shown (account_of c.take_body.new.repositories upload inside.limit) new t) (sym shut) in
+    subst (λ (r : Reply × View). Yields r view c.take_body.result now) (sym (named_is view word _ (sym c.in-Some.ensures.test) ∙ row))
+    (subst (λ w. Yields (pushed view w there.0 (finished (stream_of c.args.body.now))) view c.take_body.result now) c.in-Some.ensures.found.0
+    (yields_as (λ v. pushed v name there.0 (finished (stream_of c.args.body.now))) _ view _ now c.take_body.result before after
+    (c.take_body.ensures.row None (finished (stream_of c.args.body.now)) there.0
+    (tells_held (stream_of c.args.body.now) c.read_body-read.result c.read_body-read.ensures.found c.read_body-read.ensures.exact) there.1 honest)))
 
 pub returns-clause-safe : goal.returns-clause-safe
-returns-clause-safe g c = c.judge.ensures.safe (sent_in (stream_of c.args.body.now)) (sends_held (stream_of c.args.body.now) c.read_body.result c.read_body.ensures.found)
+returns-clause-safe g c =
+    let own = c.args.own.now in
+    let new = c.take_body.new.own.vault.now in
+    let t = own.tenant.now in
+    let inside = c.self.inside in
+    let shut = none_waits (λ upload. upload.brief) inside.upload (sym c.is_some.ensures ∙ c.if-is_some.false) in
+    let view = shown_by c.args.self.now own in
+    let now = shown (account_of c.take_body.new.repositories (option_map (λ upload. upload.brief) inside.upload) inside.limit) new t in
+    let before : view_of inside.repositories (visible_by own) None inside.limit ≡ view =
+    ap (λ (upload : Option Reading). shown_by (account_of inside.repositories upload inside.limit) own) (sym shut) ∙ ap (λ (a : Account). shown_by a own) c.self.view_is in
+    let after : view_of c.take_body.new.repositories (visible_in new t) None inside.limit ≡ now =
+    ap (λ (upload : Option Reading). shown (account_of c.take_body.new.repositories upload inside.limit) new t) (sym shut) in
+    let sent = sent_in (stream_of c.args.body.now) in
+    safe_as (IsBounded sent own.vault.now new) _ view _ now c.take_body.result before after
+    (c.take_body.ensures.safe None sent (sends_held (stream_of c.args.body.now) c.read_body-read.result c.read_body-read.ensures.found))

@@ -5,7 +5,8 @@ use Rattle.push_stream.specs.Again.{told_in}
 use Rattle.push_stream.specs.Incoming.{IncomingValue, reading_kept}
 use Rattle.push_stream.specs.Reading.{reading_of}
 use Rattle.push_stream.specs.Spelling.{records_of}
-use Rattle.push_stream.proofs.OpeningLemmas.{opened_again, opens_short}
+use Rattle.push_stream.specs.Stream.{sent_in, stream_of}
+use Rattle.push_stream.proofs.OpeningLemmas.{opened_again, opens_short, sent_again}
 use Rattle.push_stream.proofs.incoming.Incoming.again.Goals as goal
 
 pub returns-clause-read : goal.returns-clause-read
@@ -20,6 +21,15 @@ returns-clause-read c = λ objects are within told.
     ∙ opened_again (take kept.header draft.header.items) (take kept.bytes draft.bytes.items) zeros kept.mark.count (take kept.commands draft.commands.items) (take kept.sent draft.sent.items) kept.mark.headed (take kept.bytes draft.bytes.items) kept.mark.fault
     c.self.invariant.opens c.missing-zeros.ensures.going all objects are within (told ∙ ap (λ (v : IncomingValue). told_in v.brief.flow) (sym c.self.view_is))
     ∙ ap (λ (v : IncomingValue). v.brief) c.self.view_is
+
+pub returns-clause-sent : goal.returns-clause-sent
+returns-clause-sent c = λ objects are within told.
+    let draft = c.self.inside.draft in
+    let kept = c.self.inside.kept in
+    let zeros = c.missing-zeros.result in
+    ap₂ (λ (h t : List ℕ). sent_in (stream_of (take kept.header h ++ (records_of objects ++ (take kept.bytes t ++ replicate zeros 0))))) c.deref.ensures.value c.deref-2.ensures.value
+    ∙ sent_again (take kept.header draft.header.items) (take kept.bytes draft.bytes.items) zeros kept.mark.count (take kept.commands draft.commands.items) (take kept.sent draft.sent.items) kept.mark.headed (take kept.bytes draft.bytes.items) kept.mark.fault
+    c.self.invariant.opens c.missing-zeros.ensures.going objects are within (told ∙ ap (λ (v : IncomingValue). told_in v.brief.flow) (sym c.self.view_is))
 
 pub returns-clause-short : goal.returns-clause-short
 returns-clause-short c =

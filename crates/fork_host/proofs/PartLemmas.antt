@@ -1,0 +1,313 @@
+-- Rows of uploads: a piece comes, the upload is at its end, or it goes.
+use Rattle.std.proofs.Common.{◌≡◌, ℕ, ◌+◌, ◌≤◌, Bool, true, false, cond, IsTrue, List, [], ◌++◌, Option, None, Some, Result, Ok, Err, refl, sym, ap, subst, ◌∙◌, is_some, length, length-append, arith}
+use Rattle.std.specs.Prelude.{IfErr, IfOk, nat_lt}
+use Rattle.std.proofs.lemmas.Bool.Decides.{nat_tests}
+use Rattle.std.specs.Option.{option_map}
+use Rattle.std.specs.FinMap.{empty}
+use Rattle.git_name.specs.Object.{Object}
+use Rattle.push_stream.specs.declared.brief.Brief.{Brief}
+use Rattle.push_stream.specs.declared.fault.BodyError.{BodyError}
+use Rattle.push_stream.specs.declared.fault.BodyError.TheVariants.{Fault, Memory}
+use Rattle.push_stream.specs.declared.fault.StreamFault.{StreamFault}
+use Rattle.push_stream.specs.declared.upload.TheConstants.{MAX_UPLOAD}
+use Rattle.push_stream.specs.Brief.{brief_of}
+use Rattle.push_stream.specs.Incoming.{TellsEnd}
+use Rattle.push_stream.specs.Reading.{Reading, finished_flow, reading_of}
+use Rattle.push_stream.specs.Stream.{finished, sent_in, stream_of}
+use Rattle.push_stream.specs.Upload.{UploadValue, continued, upload_of}
+use Rattle.push_stream.proofs.PieceLemmas.{piece_joins}
+use Rattle.push_stream.proofs.ReadingLemmas.{finished_is}
+use Rattle.fork_request.specs.Told.{is_done, is_host_fault}
+use Rattle.fork_request.specs.declared.refusal.Refusal.TheVariants.{NoUpload, StagedTooLong}
+use Rattle.fork_request.specs.declared.reply.Reply.{Reply}
+use Rattle.fork_request.specs.declared.reply.Reply.TheVariants.{Done, Failed, Refused}
+use Rattle.fork_reach.specs.Source.{Objects}
+use Rattle.fork_ledger.specs.Tenants.{VaultState}
+use Rattle.fork_model.specs.Answer.{Held, ended, open_upload, part_answer, part_drop_answer, without_upload}
+use Rattle.fork_model.specs.Sound.{IsOrderly}
+use Rattle.fork_model.specs.Uploads.{upload_among}
+use Rattle.fork_model.specs.View.{View, Repositories}
+use Rattle.fork_host.specs.Bounds.{IsBounded, IsCollision, StoresSent}
+use Rattle.fork_host.specs.Fed.{IsFed, Fed, Full, Unfed}
+use Rattle.fork_host.specs.Own.{KeepsSeen, KeepsStaged, staged_in, visible_in}
+use Rattle.fork_host.specs.Pushed.{TellsBrief, view_of}
+use Rattle.fork_host.specs.Rows.{Gives, Given, Yields, Yielded, Lacking, Faulted}
+use Rattle.fork_host.specs.Safe.{IsSafe}
+use Rattle.fork_host.specs.Shown.{Account, shown}
+use Rattle.fork_host.specs.Staged.{Came, IsStaged}
+use Rattle.fork_host.proofs.SafeLemmas.{count_in, orderly_measured, shape_measured}
+use Rattle.fork_host.proofs.StagedLemmas.{came_none, came_upload, staged_kept_still}
+
+-- an account of these parts
+abbrev pub account_of : Repositories → Option Reading → ℕ → Account
+account_of repositories upload limit = record { repositories = repositories; upload = upload; limit = limit }
+
+-- an upload, or one of which nothing came yet, went on by a piece, and stands so
+pub record IsPart (own : List ℕ) (waits now : Option Reading) (old new : Reading) (body : List ℕ) (before : VaultState) (reply : Reply) (after : VaultState) : Type 0 where
+  pub bytes : List ℕ
+  pub came : Came before.honest bytes old (staged_in before own)
+  pub opened : IsTrue before.honest → open_upload (option_map (upload_among (staged_in before own)) waits) ≡ upload_of bytes
+  pub fed : IsFed own old body before reply new after
+  pub done : is_done reply ≡ true → now ≡ Some new
+  pub still : is_done reply ≡ false → now ≡ waits
+
+-- what was not fed is as it was
+unfed : (own : List ℕ) (old new : Reading) (body : List ℕ) (before after : VaultState) (reply : Reply) → is_done reply ≡ false → IsFed own old body before reply new after → new ≡ old
+unfed own old new body before after reply not_done (Fed told room more) = (let differs : ⊥ = cc (sym not_done ∙ ap is_done told) in absurd differs)
+unfed own old new body before after reply not_done (Full told room same kept) = same
+unfed own old new body before after reply not_done (Unfed fault told same kept) = same
+
+-- one that is open
+pub part_more : (own : List ℕ) (waits : Option Reading) (old new : Reading) (body : List ℕ) (before after : VaultState) (reply : Reply) → waits ≡ Some old → IsStaged before.honest waits (staged_in before own) → IsFed own old body before reply new after
+    → IsPart own waits (Some new) old new body before reply after
+part_more own waits old new body before after reply is staged fed =
+    let came = subst (λ upload. IsStaged before.honest upload (staged_in before own)) is staged in
+    record {
+      bytes = came.0;
+      came = came.1;
+      opened = λ honest. ap (λ upload. open_upload (option_map (upload_among (staged_in before own)) upload)) is ∙ came_upload came.0 old before.honest (staged_in before own) honest came.1;
+      fed = fed;
+      done = λ _. refl;
+      still = λ not_done. ap Some (unfed own old new body before after reply not_done fed) ∙ sym is;
+    }
+
+-- and one that begins
+part_begun : (own : List ℕ) (waits now : Option Reading) (old new : Reading) (body : List ℕ) (before after : VaultState) (reply : Reply) → waits ≡ None → old ≡ reading_of [] → IsStaged before.honest waits (staged_in before own)
+    → IsFed own old body before reply new after → (is_done reply ≡ true → now ≡ Some new) → (is_done reply ≡ false → now ≡ waits) → IsPart own waits now old new body before reply after
+part_begun own waits now old new body before after reply is begins staged fed done still =
+    let none : staged_in before own ≡ empty = subst (λ upload. IsStaged before.honest upload (staged_in before own)) is staged in
+    record {
+      bytes = [];
+      came = subst (λ reading. Came before.honest [] reading (staged_in before own)) (sym begins) (came_none before.honest (staged_in before own) none);
+      opened = λ honest. ap (λ upload. open_upload (option_map (upload_among (staged_in before own)) upload)) is;
+      fed = fed;
+      done = done;
+      still = still;
+    }
+
+-- where it is not done, none is open still
+pub part_kept : (own : List ℕ) (waits : Option Reading) (old new : Reading) (body : List ℕ) (before after : VaultState) (reply : Reply) → waits ≡ None → old ≡ reading_of [] → IsStaged before.honest waits (staged_in before own)
+    → IsFed own old body before reply new after → is_done reply ≡ false → IsPart own waits waits old new body before reply after
+part_kept own waits old new body before after reply is begins staged fed not_done =
+    part_begun own waits waits old new body before after reply is begins staged fed (λ done. (let differs : ⊥ = cc (sym done ∙ not_done) in absurd differs)) (λ _. refl)
+
+-- and where it is done, it is open
+pub part_opened : (own : List ℕ) (waits : Option Reading) (old new : Reading) (body : List ℕ) (before after : VaultState) (reply : Reply) → waits ≡ None → old ≡ reading_of [] → IsStaged before.honest waits (staged_in before own)
+    → IsFed own old body before reply new after → is_done reply ≡ true → IsPart own waits (Some new) old new body before reply after
+part_opened own waits old new body before after reply is begins staged fed done =
+    part_begun own waits (Some new) old new body before after reply is begins staged fed (λ _. refl) (λ not_done. (let differs : ⊥ = cc (sym not_done ∙ done) in absurd differs))
+
+-- the views are the same, where what is staged, what is seen and whether an upload is open stay
+same_shown : (repositories : Repositories) (limit : ℕ) (own : List ℕ) (waits now : Option Reading) (before after : VaultState) → now ≡ waits → staged_in after own ≡ staged_in before own → visible_in after own ≡ visible_in before own
+    → shown (account_of repositories now limit) after own ≡ shown (account_of repositories waits limit) before own
+same_shown repositories limit own waits now before after upload staged seen = λ i. view_of repositories (seen i) (option_map (upload_among (staged i)) (upload i)) limit
+
+-- the row of a piece
+pub part_row : (repositories : Repositories) (limit : ℕ) (own : List ℕ) (waits now : Option Reading) (old new : Reading) (body : List ℕ) (before after : VaultState) (reply : Reply) → IsTrue before.honest → KeepsSeen own before after → IsPart own waits now old new body before reply after
+    → Yields (part_answer (shown (account_of repositories waits limit) before own) body) (shown (account_of repositories waits limit) before own) reply (shown (account_of repositories now limit) after own)
+unfolding part_answer
+part_row repositories limit own waits now old new body before after reply honest seen part = by part.fed
+  where
+    view : View
+    view = shown (account_of repositories waits limit) before own
+
+    counted : (open_upload view.upload).count ≡ old.count
+    counted = ap (λ (upload : UploadValue). upload.count) (part.opened honest) ∙ ap (λ (reading : Reading). reading.count) part.came.read
+
+    row : (b : Bool) → nat_lt MAX_UPLOAD (old.count + length body) ≡ b
+        → part_answer view body ≡ cond b (Refused StagedTooLong, view) (Done [], record { repositories = repositories; objects = visible_in before own; upload = Some (continued (open_upload view.upload) body); limit = limit })
+    row b is = ap (λ t. cond t (Refused StagedTooLong, view) (Done [], record { repositories = repositories; objects = visible_in before own; upload = Some (continued (open_upload view.upload) body); limit = limit }))
+        (ap (λ n. nat_lt MAX_UPLOAD (n + length body)) counted ∙ is)
+
+    grown : Came before.honest (part.bytes ++ body) new (staged_in after own) → upload_among (staged_in after own) new ≡ continued (open_upload view.upload) body
+    grown came = came_upload (part.bytes ++ body) new before.honest (staged_in after own) honest came ∙ sym (piece_joins part.bytes body) ∙ ap (λ (upload : UploadValue). continued upload body) (sym (part.opened honest))
+
+    by : IsFed own old body before reply new after → Yields (part_answer view body) view reply (shown (account_of repositories now limit) after own)
+    by (Fed told room more) =
+        let is = row false room in
+        let upload : option_map (upload_among (staged_in after own)) now ≡ Some (continued (open_upload view.upload) body) = ap (option_map (upload_among (staged_in after own))) (part.done (ap is_done told)) ∙ ap Some (grown (more part.bytes part.came)) in
+        Yielded (told ∙ sym (ap (λ (r : Reply × View). r.0) is)) ((λ i. view_of repositories (seen.exact honest i) (upload i) limit) ∙ sym (ap (λ (r : Reply × View). r.1) is))
+    by (Full told room same kept) =
+        let is = row true room in
+        Yielded (told ∙ sym (ap (λ (r : Reply × View). r.0) is))
+        (same_shown repositories limit own waits now before after (part.still (ap is_done told)) (kept.exact honest) (seen.exact honest) ∙ sym (ap (λ (r : Reply × View). r.1) is))
+    by (Unfed fault told same kept) = Faulted fault told (same_shown repositories limit own waits now before after (part.still (ap is_done told)) (kept.exact honest) (seen.exact honest))
+
+-- an upload within its limit
+within : (count more : ℕ) → nat_lt MAX_UPLOAD (count + more) ≡ false → count + more ≤ MAX_UPLOAD
+within count more is = grind (arith, nat_tests)
+
+-- another upload, within its limit
+orderly_opened : (repositories : Repositories) (objects : Objects) (upload other : Option UploadValue) (limit : ℕ) → ((waits : UploadValue) → other ≡ Some waits → waits.count ≤ MAX_UPLOAD)
+    → IsOrderly (view_of repositories objects upload limit) → IsOrderly (view_of repositories objects other limit)
+orderly_opened repositories objects upload other limit few orderly = record {
+  upload = few;
+  within_limit = orderly.within_limit;
+  limit = orderly.limit;
+  few_repositories = orderly.few_repositories;
+  repositories = orderly.repositories;
+  references = orderly.references;
+}
+
+-- an open upload with its objects has as many bytes
+counted_among : (staged : Objects) (waits : Option Reading) (n : ℕ) → ((reading : Reading) → waits ≡ Some reading → reading.count ≤ n) → (upload : UploadValue) → option_map (upload_among staged) waits ≡ Some upload → upload.count ≤ n
+counted_among staged None n few upload is = absurd (cc)
+counted_among staged (Some reading) n few upload is =
+    let same : reading.count ≡ upload.count = cc in
+    subst (λ m. m ≤ n) same (few reading refl)
+
+-- and one that was in order before
+counts_among : (staged : Objects) (waits : Option Reading) (n : ℕ) → ((upload : UploadValue) → option_map (upload_among staged) waits ≡ Some upload → upload.count ≤ n) → (reading : Reading) → waits ≡ Some reading → reading.count ≤ n
+counts_among staged None n few reading is = absurd (cc)
+counts_among staged (Some waits) n few reading is =
+    let same : waits.count ≡ reading.count = cc in
+    subst (λ m. m ≤ n) same (few (upload_among staged waits) refl)
+
+-- over any store a piece leaves a view in order
+part_few : (own : List ℕ) (waits now : Option Reading) (old new : Reading) (body : List ℕ) (before after : VaultState) (reply : Reply) → IsPart own waits now old new body before reply after → ((reading : Reading) → waits ≡ Some reading → reading.count ≤ MAX_UPLOAD)
+    → (reading : Reading) → now ≡ Some reading → reading.count ≤ MAX_UPLOAD
+part_few own waits now old new body before after reply part few reading is = by part.fed
+  where
+    by : IsFed own old body before reply new after → reading.count ≤ MAX_UPLOAD
+    by (Fed told room more) =
+        let opened : Some new ≡ Some reading = sym (part.done (ap is_done told)) ∙ is in
+        let same : new ≡ reading = cc in
+        let all : length (part.bytes ++ body) ≡ reading.count = ap (λ (r : Reading). r.count) ((more part.bytes part.came).read ∙ same) in
+        let first : length part.bytes ≡ old.count = ap (λ (r : Reading). r.count) part.came.read in
+        let joined : length (part.bytes ++ body) ≡ length part.bytes + length body = length-append part.bytes body in
+        let fits : old.count + length body ≤ MAX_UPLOAD = within old.count (length body) room in
+        subst (λ n. n ≤ MAX_UPLOAD) (ap (λ n. n + length body) (sym first) ∙ sym joined ∙ all) fits
+    by (Full told room same kept) = few reading (sym (part.still (ap is_done told)) ∙ is)
+    by (Unfed fault told same kept) = few reading (sym (part.still (ap is_done told)) ∙ is)
+
+pub part_safe : (Within : Reply → Type 0) (repositories : Repositories) (limit : ℕ) (own : List ℕ) (waits now : Option Reading) (old new : Reading) (body : List ℕ) (before after : VaultState) (reply : Reply) → Within reply → KeepsSeen own before after → IsPart own waits now old new body before reply after
+    → IsSafe Within (shown (account_of repositories waits limit) before own) reply (shown (account_of repositories now limit) after own)
+part_safe Within repositories limit own waits now old new body before after reply within seen part = record {
+  orderly = λ orderly.
+      orderly_opened repositories (visible_in after own) (option_map (upload_among (staged_in before own)) waits) (option_map (upload_among (staged_in after own)) now) limit
+      (counted_among (staged_in after own) now MAX_UPLOAD (part_few own waits now old new body before after reply part (counts_among (staged_in before own) waits MAX_UPLOAD orderly.upload)))
+      (orderly_measured repositories (visible_in before own) (visible_in after own) (option_map (upload_among (staged_in before own)) waits) (option_map (upload_among (staged_in before own)) waits) limit seen.shape refl orderly);
+  kept = λ _. shape_measured repositories (visible_in before own) (visible_in after own) (option_map (upload_among (staged_in after own)) now) (option_map (upload_among (staged_in before own)) waits) limit seen.shape;
+  faults = within;
+}
+
+-- the objects that the upload has with the piece, over an honest store
+pub part_sent : (repositories : Repositories) (limit : ℕ) (own : List ℕ) (waits now : Option Reading) (old new : Reading) (body : List ℕ) (before after : VaultState) (reply : Reply) → (part : IsPart own waits now old new body before reply after) → IsTrue before.honest
+    → sent_in (stream_of (part.bytes ++ body)) ≡ sent_in (continued (open_upload (shown (account_of repositories waits limit) before own).upload) body).stream
+part_sent repositories limit own waits now old new body before after reply part honest =
+    ap (λ (upload : UploadValue). sent_in upload.stream) (sym (piece_joins part.bytes body) ∙ ap (λ (upload : UploadValue). continued upload body) (sym (part.opened honest)))
+
+-- what came is staged
+pub part_staged : (own : List ℕ) (waits now : Option Reading) (old new : Reading) (body : List ℕ) (before after : VaultState) (reply : Reply) → IsStaged before.honest waits (staged_in before own) → IsPart own waits now old new body before reply after
+    → IsStaged before.honest now (staged_in after own)
+part_staged own waits now old new body before after reply staged part = by part.fed
+  where
+    stays : KeepsStaged own before after → now ≡ waits → IsStaged before.honest now (staged_in after own)
+    stays kept same = subst (λ upload. IsStaged before.honest upload (staged_in after own)) (sym same) (staged_kept_still before after own waits kept staged)
+
+    by : IsFed own old body before reply new after → IsStaged before.honest now (staged_in after own)
+    by (Fed told room more) = subst (λ upload. IsStaged before.honest upload (staged_in after own)) (sym (part.done (ap is_done told))) (part.bytes ++ body, more part.bytes part.came)
+    by (Full told room same kept) = stays kept (part.still (ap is_done told))
+    by (Unfed fault told same kept) = stays kept (part.still (ap is_done told))
+
+-- ---- the upload is at its end
+-- the error of the stream's end is that of the stream
+same_end : (held : Held) (fault : StreamFault) → brief_of held ≡ Err fault → held ≡ Err fault
+same_end (Ok held) fault is = absurd (cc)
+same_end (Err other) fault is =
+    let same : other ≡ fault = cc in
+    ap Err same
+
+pub tells_brief : (bytes : List ℕ) (reading : Reading) (r : Result Brief BodyError) → reading_of bytes ≡ reading → IfOk r (λ brief. finished_flow reading.flow ≡ Ok (brief.commands.items, brief.names.items)) → IfErr r (TellsEnd reading.flow)
+    → TellsBrief (finished (stream_of bytes)) r
+tells_brief bytes reading (Ok brief) read found exact = sym (finished_is (stream_of bytes)) ∙ ap (λ (r : Reading). finished_flow r.flow) read ∙ found
+tells_brief bytes reading (Err (Fault fault)) read found exact = same_end (finished (stream_of bytes)) fault (sym (finished_is (stream_of bytes)) ∙ ap (λ (r : Reading). finished_flow r.flow) read ∙ exact)
+tells_brief bytes reading (Err Memory) read found exact = tt
+
+-- a row that ends the upload
+pub ended_told : (row : Reply × View) (old : View) (reply : Reply) (new : View) → is_host_fault reply ≡ false → Yields row old reply new → Yields (ended row) old reply (without_upload new)
+ended_told row old reply new told (Yielded is same) = Yielded is (ap without_upload same)
+ended_told row old reply new told (Lacking wanting stays) = (let differs : ⊥ = cc (sym told ∙ ap is_host_fault wanting) in absurd differs)
+ended_told row old reply new told (Faulted fault is stays) = (let differs : ⊥ = cc (sym told ∙ ap is_host_fault is) in absurd differs)
+
+-- ---- the upload goes
+is_some_among : (staged : Objects) (waits : Option Reading) → is_some (option_map (upload_among staged) waits) ≡ is_some waits
+is_some_among staged None = refl
+is_some_among staged (Some reading) = refl
+
+pub drop_row : (repositories : Repositories) (limit : ℕ) (own : List ℕ) (waits : Option Reading) (before after : VaultState) (reply : Reply) → is_some waits ≡ true → reply ≡ Done [] → visible_in after own ≡ visible_in before own
+    → Gives (part_drop_answer (shown (account_of repositories waits limit) before own)) (shown (account_of repositories waits limit) before own) reply (shown (account_of repositories None limit) after own)
+unfolding part_drop_answer
+drop_row repositories limit own waits before after reply is told seen =
+    let view = shown (account_of repositories waits limit) before own in
+    let row = ap (λ b. cond b (Done [], without_upload view) (Refused NoUpload, view)) (is_some_among (staged_in before own) waits ∙ is) in
+    Given (told ∙ sym (ap (λ (r : Reply × View). r.0) row)) ((λ i. view_of repositories (seen i) None limit) ∙ sym (ap (λ (r : Reply × View). r.1) row))
+
+pub drop_refused : (account : Account) (own : List ℕ) (vault : VaultState) → is_some account.upload ≡ false
+    → Gives (part_drop_answer (shown account vault own)) (shown account vault own) (Refused NoUpload) (shown account vault own)
+unfolding part_drop_answer
+drop_refused account own vault none =
+    let view = shown account vault own in
+    let row = ap (λ b. cond b (Done [], without_upload view) (Refused NoUpload, view)) (is_some_among (staged_in vault own) account.upload ∙ none) in
+    Given (sym (ap (λ (r : Reply × View). r.0) row)) (sym (ap (λ (r : Reply × View). r.1) row))
+
+-- ---- bounds
+-- the bounds over an honest store speak of what was sent
+pub bounded_among : (sent others : List Object) (a b : VaultState) (reply : Reply) → (IsTrue a.honest → sent ≡ others) → IsBounded sent a b reply → IsBounded others a b reply
+bounded_among sent others a b reply same bounded = record {
+  honest = bounded.honest;
+  counted = bounded.counted;
+  undamaged = bounded.undamaged;
+  collided = λ honest is. subst (λ objects. IsCollision objects a.files) (same honest) (bounded.collided honest is);
+  stored = λ honest store memory. subst (λ objects. StoresSent objects a.files b.files) (same honest) (bounded.stored honest store memory);
+}
+
+-- ---- accounts and views
+-- no upload is open
+pub none_waits : {A B : Type 0} (f : A → B) (upload : Option A) → is_some upload ≡ false → option_map f upload ≡ None
+none_waits f None is = refl
+none_waits f (Some a) is = absurd (cc)
+
+-- so nothing is staged
+pub staged_none : (honest : Bool) (upload : Option Reading) (staged : Objects) → upload ≡ None → IsStaged honest upload staged → staged ≡ empty
+staged_none honest upload staged none is = subst (λ u. IsStaged honest u staged) none is
+
+-- of one that is open what came is staged
+pub staged_some : (honest : Bool) (upload : Option Reading) (reading : Reading) (staged : Objects) → upload ≡ Some reading → IsStaged honest upload staged → (bytes : List ℕ) × Came honest bytes reading staged
+staged_some honest upload reading staged some is = subst (λ u. IsStaged honest u staged) some is
+
+-- what is told of views is told of the same views
+pub yields_as : (row : View → Reply × View) (old view now new : View) (reply : Reply) → old ≡ view → now ≡ new → Yields (row old) old reply now → Yields (row view) view reply new
+yields_as row old view now new reply is same yields = subst (λ v. Yields (row v) v reply new) is (subst (λ v. Yields (row old) old reply v) same yields)
+
+pub safe_as : (Within : Reply → Type 0) (old view now new : View) (reply : Reply) → old ≡ view → now ≡ new → IsSafe Within old reply now → IsSafe Within view reply new
+safe_as Within old view now new reply is same safe = subst (λ v. IsSafe Within v reply new) is (subst (λ v. IsSafe Within old reply v) same safe)
+
+-- whether one is open
+pub some_told : {A B : Type 0} (f : A → B) (upload : Option A) (there : Bool) → is_some upload ≡ there → is_some (option_map f upload) ≡ there
+some_told f None there is = is
+some_told f (Some a) there is = is
+
+-- nor in a view, so none in the account
+pub none_among : (staged : Objects) (upload : Option Reading) → option_map (upload_among staged) upload ≡ None → upload ≡ None
+none_among staged None is = refl
+none_among staged (Some reading) is = absurd (cc)
+
+-- what is safe, is safe with each upload of as many bytes
+pub safe_upload : (Within : Reply → Type 0) (old : View) (repositories : Repositories) (objects : Objects) (upload other : Option UploadValue) (limit : ℕ) (reply : Reply) → count_in other ≡ count_in upload → IsSafe Within old reply (view_of repositories objects upload limit)
+    → IsSafe Within old reply (view_of repositories objects other limit)
+safe_upload Within old repositories objects upload other limit reply counted safe = record {
+  orderly = λ before. orderly_measured repositories objects objects upload other limit refl counted (safe.orderly before);
+  kept = safe.kept;
+  faults = safe.faults;
+}
+
+-- a host fault is not done
+pub failed_not_done : (reply : Reply) → is_host_fault reply ≡ true → is_done reply ≡ false
+failed_not_done (Done text) is = absurd (cc)
+failed_not_done (Refused refusal) is = refl
+failed_not_done (Failed fault) is = refl
+
+-- a safe answer keeps wider bounds too
+pub safe_within : (Within Over : Reply → Type 0) (old : View) (reply : Reply) (new : View) → (Within reply → Over reply) → IsSafe Within old reply new → IsSafe Over old reply new
+safe_within Within Over old reply new over safe = record { orderly = safe.orderly; kept = safe.kept; faults = over safe.faults }

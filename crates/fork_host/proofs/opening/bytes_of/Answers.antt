@@ -1,0 +1,35 @@
+use Rattle.std.proofs.Common.{◌≡◌, ◌++◌, ℕ, List, ap, map, rules, sym, ◌∙◌}
+use Rattle.std.specs.Prelude.{replicate}
+use Rattle.git_name.specs.Object.{Object}
+use Rattle.push_stream.specs.Reading.{reading_of}
+use Rattle.push_stream.specs.Spelling.{records_of}
+use Rattle.push_stream.specs.Stream.{sent_in, stream_of}
+use Rattle.fork_model.specs.Uploads.{object_at}
+use Rattle.fork_host.specs.Handle.{staged_by}
+use Rattle.fork_host.proofs.OpeningLemmas.{same_upload, text_is, told_of, told_records, told_there}
+use Rattle.fork_host.proofs.opening.bytes_of.Goals as goal
+
+pub add_records-requires : goal.add_records-requires
+add_records-requires g c =
+    let own = c.args.own.now in
+    let came = c.requires.staged in
+    record { there = told_there own.vault.now.honest came.0 c.args.upload.now.brief (staged_by own) c.sent.result.now came.1 c.sent.ensures }
+
+pub returns-in-Ok-add_end-clause-opens : goal.returns-in-Ok-add_end-clause-opens
+returns-in-Ok-add_end-clause-opens g c = λ bytes honest came.
+    let staged = staged_by c.args.own.now in
+    let reading = c.args.upload.now.brief in
+    let again = c.again-again.result in
+    let sent = c.sent.result.now in
+    let text = c.add_end.new.bytes.items in
+    let objects : List Object = sent_in (stream_of bytes) in
+    let end : List ℕ = again.tail.now ++ replicate again.zeros 0 in
+    let are = c.streams_hold_objects.ensures.whole bytes in
+    let within = c.streams_hold_objects.ensures.within bytes in
+    let told = told_of bytes reading came.read in
+    let header : c.in-Ok.bytes.items ≡ again.header.now = search rules in
+    let is : text ≡ again.header.now ++ (records_of objects ++ end) =
+    text_is c.in-Ok.bytes.items again.header.now (records_of (map (object_at staged) sent)) (records_of objects) end c.add_records.new.bytes.items text
+    header (told_records bytes reading staged sent came.read (came.exact honest) c.sent.ensures) (c.in-Ok-add_records.ensures.added honest) c.in-Ok-add_end.ensures in
+    let read : reading_of text ≡ reading = ap reading_of is ∙ c.again-again.ensures.read objects are within told in
+    same_upload text bytes staged (came.exact honest) (read ∙ sym came.read) (ap (λ (l : List ℕ). sent_in (stream_of l)) is ∙ c.again-again.ensures.sent objects are within told)

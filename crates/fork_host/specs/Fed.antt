@@ -1,0 +1,20 @@
+-- What a piece of an upload comes to (own).
+use Rattle.std.specs.Prelude.{◌≡◌, ℕ, ◌+◌, true, false, nat_lt, List, [], ◌++◌, length}
+use Rattle.push_stream.specs.declared.upload.TheConstants.{MAX_UPLOAD}
+use Rattle.push_stream.specs.Reading.{Reading}
+use Rattle.fork_request.specs.declared.host_fault.HostFault.{HostFault}
+use Rattle.fork_request.specs.declared.refusal.Refusal.TheVariants.{StagedTooLong}
+use Rattle.fork_request.specs.declared.reply.Reply.{Reply}
+use Rattle.fork_request.specs.declared.reply.Reply.TheVariants.{Done, Refused, Failed}
+use Rattle.fork_ledger.specs.Tenants.{VaultState}
+use Rattle.fork_host.specs.Own.{KeepsStaged, staged_in}
+use Rattle.fork_host.specs.Staged.{Came}
+
+pub data IsFed (own : List ℕ) (old : Reading) (piece : List ℕ) (before : VaultState) (reply : Reply) (new : Reading) (after : VaultState) : Type 0 where
+  -- it has room: whichever bytes came before, these came too
+  Fed : reply ≡ Done [] → nat_lt MAX_UPLOAD (old.count + length piece) ≡ false
+      → ((bytes : List ℕ) → Came before.honest bytes old (staged_in before own) → Came before.honest (bytes ++ piece) new (staged_in after own)) → IsFed own old piece before reply new after
+  -- it has none
+  Full : reply ≡ Refused StagedTooLong → nat_lt MAX_UPLOAD (old.count + length piece) ≡ true → new ≡ old → KeepsStaged own before after → IsFed own old piece before reply new after
+  -- a host fault leaves it
+  Unfed : (fault : HostFault) → reply ≡ Failed fault → new ≡ old → KeepsStaged own before after → IsFed own old piece before reply new after

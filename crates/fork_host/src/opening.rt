@@ -1,0 +1,126 @@
+// The bytes that open an upload again. Its objects are read from the store.
+ghost use Rattle.std.specs.Prelude.{◌≡◌, ◌≤◌, ◌++◌, ℕ, List, IfOk, IsTrue, OnOk, Some, map as each, replicate, true};
+ghost use Rattle.std.specs.FinMap as map;
+ghost use Rattle.std.specs.List.{AllByRecursion};
+ghost use Rattle.push_stream.specs.declared.upload.TheConstants.{MAX_UPLOAD};
+ghost use Rattle.push_stream.specs.Record.{record_of};
+ghost use Rattle.push_stream.specs.Spelling.{records_of};
+ghost use Rattle.push_stream.specs.Upload.{upload_of};
+ghost use Rattle.fork_ledger.specs.Tenants.{shape_of};
+ghost use Rattle.fork_model.specs.Uploads.{object_at};
+ghost use Rattle.fork_host.specs.Handle.{IsSame, staged_by};
+ghost use Rattle.fork_host.specs.Opening.{OnlyReads};
+ghost use Rattle.fork_host.specs.Staged.{Came, IsStaged};
+
+use crate::own::Own;
+use crate::replies::vault_fault;
+use fork_request::HostFault;
+use git_name::{Name, Sealed};
+use loose_store::LooseFiles;
+use push_stream::{Incoming, Sent, streams_hold_objects, write_record};
+use std::alloc::{AllocError, Global};
+
+// The bytes that open an upload again, with the objects that the tenant has staged for it.
+pub(crate) fn bytes_of<S: LooseFiles>(
+    alloc: Global,
+    own: &mut Own<'_, S>,
+    upload: &Incoming,
+) -> Result<Vec<u8>, HostFault>
+    requires staged { IsStaged own.old.vault.now.honest (Some upload.now.brief) (staged_by own.old) }
+    ensures opens { (bytes : List ℕ) → IsTrue own.old.vault.now.honest → Came own.old.vault.now.honest bytes upload.now.brief (staged_by own.old) → IfOk result (λ again. upload_of again.items ≡ upload_of bytes) }
+    ensures kept { IsTrue own.old.vault.now.honest → own.new.vault.now.tenants ≡ own.old.vault.now.tenants }
+    ensures shape { shape_of own.new.vault.now.tenants ≡ shape_of own.old.vault.now.tenants }
+    ensures read { own.new.vault.now.honest ≡ own.old.vault.now.honest }
+    ensures same { IsSame own.old own.new }
+{
+    streams_hold_objects();
+    let _count = upload.count();
+    let again = upload.again();
+    let Ok(mut bytes) = again.header.to_vec(alloc) else {
+        return Err(HostFault::Memory);
+    };
+    match add_records(alloc, own, upload.sent(), &mut bytes) {
+        Ok(()) => {}
+        Err(fault) => return Err(fault),
+    }
+    match add_end(&mut bytes, again.tail, again.zeros) {
+        Ok(()) => Ok(bytes),
+        Err(_) => Err(HostFault::Memory),
+    }
+}
+
+// Adds the records of the staged objects of these names, in this order.
+fn add_records<S: LooseFiles>(
+    alloc: Global,
+    own: &mut Own<'_, S>,
+    sent: &[Sent],
+    bytes: &mut Vec<u8>,
+) -> Result<(), HostFault>
+    requires there { AllByRecursion (λ one. map.contains_key (staged_by own.old) one.name ≡ true) sent.now }
+    ensures added { IsTrue own.old.vault.now.honest → OnOk result (bytes.new.items ≡ bytes.old.items ++ records_of (each (object_at (staged_by own.old)) sent.now)) }
+    ensures reads { OnlyReads own.old own.new }
+{
+    for one in sent {
+        match add_record(alloc, own, one, bytes) {
+            Ok(()) => {}
+            Err(fault) => return Err(fault),
+        }
+    }
+    Ok(())
+}
+
+// Adds the record of the staged object of this name.
+fn add_record<S: LooseFiles>(
+    alloc: Global,
+    own: &mut Own<'_, S>,
+    one: &Sent,
+    bytes: &mut Vec<u8>,
+) -> Result<(), HostFault>
+    requires there { map.contains_key (staged_by own.old) one.now.name ≡ true }
+    ensures added { IsTrue own.old.vault.now.honest → OnOk result (bytes.new.items ≡ bytes.old.items ++ record_of (object_at (staged_by own.old) one.now)) }
+    ensures reads { OnlyReads own.old own.new }
+{
+    match staged(alloc, own, one.name) {
+        Ok(sealed) => write_behind(alloc, &sealed, bytes),
+        Err(fault) => Err(fault),
+    }
+}
+
+// The staged object of this name, which is there.
+fn staged<S: LooseFiles>(
+    alloc: Global,
+    own: &mut Own<'_, S>,
+    name: Name,
+) -> Result<Sealed, HostFault>
+    requires there { map.contains_key (staged_by own.old) name ≡ true }
+    ensures found { IsTrue own.old.vault.now.honest → IfOk result (λ object. map.get (staged_by own.old) name ≡ Some object) }
+    ensures reads { OnlyReads own.old own.new }
+{
+    match own.get_staged(alloc, name) {
+        Ok(Some(sealed)) => Ok(sealed),
+        Ok(None) => unreachable!(),
+        Err(fault) => Err(vault_fault(fault)),
+    }
+}
+
+// Adds the record of an object.
+fn write_behind(alloc: Global, sealed: &Sealed, bytes: &mut Vec<u8>) -> Result<(), HostFault>
+    ensures { OnOk result (bytes.new.items ≡ bytes.old.items ++ record_of sealed.now) }
+{
+    let Ok(text) = write_record(alloc, sealed) else {
+        return Err(HostFault::Memory);
+    };
+    match bytes.extend_from_slice(text.as_slice()) {
+        Ok(()) => Ok(()),
+        Err(_) => Err(HostFault::Memory),
+    }
+}
+
+// Adds the unfinished rest, and zero bytes for those that are missing.
+fn add_end(bytes: &mut Vec<u8>, tail: &[u8], zeros: u64) -> Result<(), AllocError>
+    requires { zeros ≤ MAX_UPLOAD }
+    ensures { OnOk result (bytes.new.items ≡ bytes.old.items ++ (tail.now ++ replicate zeros 0)) }
+{
+    bytes.extend_from_slice(tail)?;
+    bytes.resize(bytes.len() + zeros as usize, 0)
+}

@@ -1,0 +1,121 @@
+"""Uploads in parts: what of them is on the store as they come, and what the process keeps of them."""
+import os
+import random
+import re
+
+from cases import B, C, D, OBJECTS, O, T
+from folder import Folder, content, write
+from live import Live
+from objects import name_of, record, stored
+from program import done
+
+ALICE, HOST = b"alice", b"@host"
+ORDER = [B, O, T, C, D]
+RECORDS = [record(*OBJECTS[name]) for name in ORDER]
+HEAD = b"create refs/heads/main %s\n\n" % D
+BODY = HEAD + b"".join(RECORDS)
+ENDS = [len(HEAD) + len(b"".join(RECORDS[: at + 1])) for at in range(len(ORDER))]
+MIB = 1 << 20
+
+
+def begun(checks, program, folder):
+    live = Live(program, "--dir", folder.path, "alice=1000000000")
+    checks.same("init", b"ok\n", live.asked(ALICE, b"init r\n"))
+    return live
+
+
+def files_of(names):
+    return {name: stored(*OBJECTS[name]) for name in names}
+
+
+def show_staged(checks, program, work):
+    """However a body is cut, the objects whose records are whole are on the store, and no tenant sees one before its end."""
+    for number in range(40):
+        chance = random.Random(number)
+        folder = Folder(os.path.join(work, str(number)))
+        live = begun(checks, program, folder)
+        cuts = sorted([0, *(chance.randrange(len(BODY)) for _ in range(chance.randrange(9))), len(BODY)])
+        for at, end in zip(cuts, cuts[1:]):
+            checks.same(f"{number}: a part", b"ok\n", live.asked(ALICE, b"part\n" + BODY[at:end]))
+            came = [name for name, whole in zip(ORDER, ENDS) if whole <= end]
+            checks.same(f"{number}: what came by {end} bytes", files_of(came), folder.files())
+            checks.same(f"{number}: the census", b"ok\n%d\n" % len(came), live.asked(HOST, b"census\n"))
+            checks.same(f"{number}: none goes", b"ok\n0\n", live.asked(HOST, b"collect\n"))
+            name = chance.choice(ORDER)
+            checks.same(f"{number}: nothing is seen", b"no missing %s\n" % name, live.asked(ALICE, b"cat-file %s\n" % name))
+        if number % 2:
+            checks.same(f"{number}: it goes", b"ok\n", live.asked(ALICE, b"part-drop\n"))
+            checks.same(f"{number}: and what came", b"ok\n%d\n" % len(ORDER), live.asked(HOST, b"collect\n"))
+            checks.same(f"{number}: nothing is left", {}, folder.files())
+        else:
+            checks.same(f"{number}: its end", b"ok\n", live.asked(ALICE, b"part-end r\n"))
+            checks.same(f"{number}: it is seen", b"ok\n" + RECORDS[-1], live.asked(ALICE, b"cat-file %s\n" % D))
+        checks.same(f"{number}: the end", done(), live.ended())
+
+
+def show_broken(checks, program, work):
+    """A part that breaks the stream leaves nothing staged, and no later one does."""
+    for number, end in enumerate((len(HEAD), *ENDS)):
+        folder = Folder(os.path.join(work, str(number)))
+        live = begun(checks, program, folder)
+        checks.same("a part", b"ok\n", live.asked(ALICE, b"part\n" + BODY[:end]))
+        checks.same("one that is wrong", b"ok\n", live.asked(ALICE, b"part\nzz\n"))
+        checks.same("what came goes", b"ok\n%d\n" % number, live.asked(HOST, b"collect\n"))
+        checks.same("one more", b"ok\n", live.asked(ALICE, b"part\n" + b"".join(RECORDS)))
+        checks.same("nothing came with it", {}, folder.files())
+        checks.same("its end", b"no syntax\n", live.asked(ALICE, b"part-end r\n"))
+        checks.same("the end", done(), live.ended())
+
+
+def show_altered(checks, program, work):
+    """The process has no copy of its own: a file that is altered between two requests is found so, and the upload stays."""
+    folder = Folder(os.path.join(work, "altered"))
+    live = begun(checks, program, folder)
+    for piece in (BODY[: ENDS[2]], BODY[ENDS[2] :]):
+        checks.same("a part", b"ok\n", live.asked(ALICE, b"part\n" + piece))
+    for name in (T, C, D):
+        whole = content(folder.file_of(name))
+        write(folder.file_of(name), whole[:-1] + bytes([whole[-1] ^ 1]))
+        checks.same("an end over an altered file", b"host damaged\n", live.asked(ALICE, b"part-end r\n"))
+        checks.same("the upload stays", b"no upload-open\n", live.asked(ALICE, b"push r\n\n"))
+        write(folder.file_of(name), whole)
+    checks.same("its end", b"ok\n", live.asked(ALICE, b"part-end r\n"))
+    checks.same("the end", done(), live.ended())
+
+
+def show_kept(checks, program, work):
+    """An upload outlives its host with what is staged: behind a start it goes on, and holds what it held."""
+    folder = Folder(os.path.join(work, "kept"))
+    live = begun(checks, program, folder)
+    for at, end in zip((0, *ENDS), ENDS):
+        checks.same("a part", b"ok\n", live.asked(ALICE, b"part\n" + BODY[at : end - 1]))
+        checks.same("its last byte", b"ok\n", live.asked(ALICE, b"part\n" + BODY[end - 1 : end]))
+        checks.same("the end", done(), live.ended())
+        live = Live(program, "--dir", folder.path)
+        checks.same("nothing goes", b"ok\n0\n", live.asked(HOST, b"collect\n"))
+        checks.same("what came is there", files_of(ORDER[: ENDS.index(end) + 1]), folder.files())
+    checks.same("its end", b"ok\n", live.asked(ALICE, b"part-end r\n"))
+    checks.same("it is seen", b"ok\n" + RECORDS[-1], live.asked(ALICE, b"cat-file %s\n" % D))
+    checks.same("the end", done(), live.ended())
+
+
+def peak(live):
+    """What the process had in memory at its peak, in bytes."""
+    with open(f"/proc/{live.child.pid}/status", encoding="ascii") as file:
+        return int(re.search(r"VmHWM:\s*(\d+) kB", file.read())[1]) * 1024
+
+
+def show_memory(checks, program, work):
+    """While an upload of 30 MB comes the process grows by no more than its largest object and 16 MiB."""
+    folder = Folder(os.path.join(work, "large"))
+    blobs = [(b"blob", random.Random(number).randbytes(300_000)) for number in range(100)]
+    body = b"\n" + b"".join(record(*thing) for thing in blobs)
+    live = begun(checks, program, folder)
+    before = peak(live)
+    for at in range(0, len(body), MIB - 5):
+        checks.same("a part", b"ok\n", live.asked(ALICE, b"part\n" + body[at : at + MIB - 5]))
+    checks.same("its end", b"ok\n", live.asked(ALICE, b"part-end r\n"))
+    grown = peak(live) - before
+    checks.same(f"it grew by {grown:,} bytes", True, grown <= 300_000 + 16 * MIB)
+    checks.same("what came", {name_of(*thing) for thing in blobs}, set(folder.files()))
+    checks.same("the end", done(), live.ended())

@@ -230,6 +230,11 @@ class Life:
         torn = [name for name, file in self.folder.files().items() if not whole(name, file)]
         self.checks.same(f"{label}: files that are torn", [], torn)
 
+    def drop_uploads(self, label, host):
+        """No upload is open, so that what is held is what is seen."""
+        drops = [(who, b"part-drop\n") for who in TENANTS]
+        self.told.went(label, drops, self.at_once(host, drops, None))
+
     def sweep_and_kill(self, label, host):
         """What a round takes away, and a kill before the connection's end undoes, the next round takes away again."""
         with host.client() as stream:
@@ -282,6 +287,7 @@ def show_killed(checks, program, work):
             life.killed(label, host)
             host = life.start_again(label)
             life.looked(label, host)
+        life.drop_uploads(f"life {seed}, its uploads", host)
         end = life.sweep_to_the_end if seed % 2 else life.sweep_and_kill
         end(f"life {seed}, its end", host)
         show_collected(checks, program, life.folder, f"life {seed}")

@@ -2,6 +2,7 @@
 import os
 import random
 import re
+import time
 
 from cases import B, C, D, OBJECTS, O, T
 from folder import Folder, content, write
@@ -10,8 +11,10 @@ from objects import name_of, record, stored
 from program import done
 
 ALICE, HOST = b"alice", b"@host"
-ORDER = [B, O, T, C, D]
-RECORDS = [record(*OBJECTS[name]) for name in ORDER]
+BLOBS = [(b"blob", b"%d more\n" % number * number) for number in range(35)]
+THINGS = [OBJECTS[name] for name in (B, O, T, C)] + BLOBS + [OBJECTS[D]]
+ORDER = [name_of(*thing) for thing in THINGS]
+RECORDS = [record(*thing) for thing in THINGS]
 HEAD = b"create refs/heads/main %s\n\n" % D
 BODY = HEAD + b"".join(RECORDS)
 ENDS = [len(HEAD) + len(b"".join(RECORDS[: at + 1])) for at in range(len(ORDER))]
@@ -24,8 +27,9 @@ def begun(checks, program, folder):
     return live
 
 
-def files_of(names):
-    return {name: stored(*OBJECTS[name]) for name in names}
+def files_of(count):
+    """The files of so many objects, the first that come."""
+    return {name: stored(*thing) for name, thing in zip(ORDER[:count], THINGS)}
 
 
 def show_staged(checks, program, work):
@@ -34,12 +38,12 @@ def show_staged(checks, program, work):
         chance = random.Random(number)
         folder = Folder(os.path.join(work, str(number)))
         live = begun(checks, program, folder)
-        cuts = sorted([0, *(chance.randrange(len(BODY)) for _ in range(chance.randrange(9))), len(BODY)])
+        cuts = sorted([0, *(chance.randrange(len(BODY)) for _ in range(chance.randrange(20))), len(BODY)])
         for at, end in zip(cuts, cuts[1:]):
             checks.same(f"{number}: a part", b"ok\n", live.asked(ALICE, b"part\n" + BODY[at:end]))
-            came = [name for name, whole in zip(ORDER, ENDS) if whole <= end]
+            came = sum(whole <= end for whole in ENDS)
             checks.same(f"{number}: what came by {end} bytes", files_of(came), folder.files())
-            checks.same(f"{number}: the census", b"ok\n%d\n" % len(came), live.asked(HOST, b"census\n"))
+            checks.same(f"{number}: the census", b"ok\n%d\n" % came, live.asked(HOST, b"census\n"))
             checks.same(f"{number}: none goes", b"ok\n0\n", live.asked(HOST, b"collect\n"))
             name = chance.choice(ORDER)
             checks.same(f"{number}: nothing is seen", b"no missing %s\n" % name, live.asked(ALICE, b"cat-file %s\n" % name))
@@ -55,7 +59,7 @@ def show_staged(checks, program, work):
 
 def show_broken(checks, program, work):
     """A part that breaks the stream leaves nothing staged, and no later one does."""
-    for number, end in enumerate((len(HEAD), *ENDS)):
+    for number, end in enumerate((len(HEAD), *ENDS[:9])):
         folder = Folder(os.path.join(work, str(number)))
         live = begun(checks, program, folder)
         checks.same("a part", b"ok\n", live.asked(ALICE, b"part\n" + BODY[:end]))
@@ -71,7 +75,7 @@ def show_altered(checks, program, work):
     """The process has no copy of its own: a file that is altered between two requests is found so, and the upload stays."""
     folder = Folder(os.path.join(work, "altered"))
     live = begun(checks, program, folder)
-    for piece in (BODY[: ENDS[2]], BODY[ENDS[2] :]):
+    for piece in (BODY[: ENDS[20]], BODY[ENDS[20] :]):
         checks.same("a part", b"ok\n", live.asked(ALICE, b"part\n" + piece))
     for name in (T, C, D):
         whole = content(folder.file_of(name))
@@ -93,9 +97,25 @@ def show_kept(checks, program, work):
         checks.same("the end", done(), live.ended())
         live = Live(program, "--dir", folder.path)
         checks.same("nothing goes", b"ok\n0\n", live.asked(HOST, b"collect\n"))
-        checks.same("what came is there", files_of(ORDER[: ENDS.index(end) + 1]), folder.files())
+        checks.same("what came is there", files_of(ENDS.index(end) + 1), folder.files())
     checks.same("its end", b"ok\n", live.asked(ALICE, b"part-end r\n"))
     checks.same("it is seen", b"ok\n" + RECORDS[-1], live.asked(ALICE, b"cat-file %s\n" % D))
+    checks.same("the end", done(), live.ended())
+
+
+def show_linear(checks, program, work):
+    """A record is hashed once, when it is whole: one of 8 MiB in parts of 1 KiB takes seconds, and not minutes."""
+    folder = Folder(os.path.join(work, "linear"))
+    large = (b"blob", random.Random(1).randbytes(8 * MIB))
+    body = b"\n" + record(*large)
+    live = begun(checks, program, folder)
+    start = time.monotonic()
+    told = {live.asked(ALICE, b"part\n" + body[at : at + 1024]) for at in range(0, len(body), 1024)}
+    took = time.monotonic() - start
+    checks.same("each part", {b"ok\n"}, told)
+    checks.same(f"it took {took:.1f} s", True, took < 30)
+    checks.same("its end", b"ok\n", live.asked(ALICE, b"part-end r\n"))
+    checks.same("it is seen", b"ok\n" + record(*large), live.asked(ALICE, b"cat-file %s\n" % name_of(*large)))
     checks.same("the end", done(), live.ended())
 
 

@@ -6,11 +6,12 @@ import time
 
 from cases import B, C, D, OBJECTS, O, T
 from folder import Folder, content, write
-from live import Live
+from forkhost_client.frames import frame, framed, frames
+from live import Live, Serving
 from objects import name_of, record, stored
 from program import done
 
-ALICE, HOST = b"alice", b"@host"
+ALICE, BOB, HOST = b"alice", b"bob", b"@host"
 BLOBS = [(b"blob", b"%d more\n" % number * number) for number in range(35)]
 THINGS = [OBJECTS[name] for name in (B, O, T, C)] + BLOBS + [OBJECTS[D]]
 ORDER = [name_of(*thing) for thing in THINGS]
@@ -139,3 +140,25 @@ def show_memory(checks, program, work):
     checks.same(f"it grew by {grown:,} bytes", True, grown <= 300_000 + 16 * MIB)
     checks.same("what came", {name_of(*thing) for thing in blobs}, set(folder.files()))
     checks.same("the end", done(), live.ended())
+
+
+def show_unreadable(checks, program, work):
+    """Where an open upload can not be read no state is saved, and all are served on; once it can be, it is saved again."""
+    folder, path = Folder(os.path.join(work, "kept")), os.path.join(work, "socket")
+    serving = Serving(program, path, 6, "--dir", folder.path, "alice=10000", "bob=10000000")
+    ok = framed(b"ok\n")
+    sent = frames([(ALICE, b"init r\n"), (ALICE, b"part\n" + BODY), (BOB, b"init r\n")])
+    checks.same("an upload", ok * 3, serving.told(sent))
+    whole, state = content(folder.file_of(D)), folder.state()
+    write(folder.file_of(D), whole[:-1])
+    large = [record(b"blob", random.Random(number).randbytes(900_000)) for number in range(4)]
+    for number, text in enumerate(large[:2]):
+        checks.same(f"a push of another one, {number}", ok, serving.told(frame(BOB, b"push r\n\n" + text)))
+    checks.same("the state stays, however long the journal is", (state, True), (folder.state(), len(folder.journal()) > MIB))
+    checks.same("what was pushed", framed(b"ok\n" + large[0]), serving.told(frame(BOB, b"cat-file " + large[0][:64] + b"\n")))
+    write(folder.file_of(D), whole)
+    checks.same("one push more", ok, serving.told(frame(BOB, b"push r\n\n" + large[2])))
+    checks.same("it is saved", False, folder.state() == state)
+    checks.same("the upload's end", ok, serving.told(frame(ALICE, b"part-end r\n")))
+    checks.same("the end", done(), serving.ended())
+    checks.same("check", done(b"sound\n"), program.checked(folder.path))

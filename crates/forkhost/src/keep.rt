@@ -25,28 +25,56 @@ pub struct Keep<'a, H> {
     saved: u64,
 }
 
-// Saves the host's state, and begins a journal behind it with the open uploads: the journal first, under
-// the name of the state that is to come, and then the state, so that at each moment the state that
-// stands there has its journal.
-fn saved<H: Files<File = File> + AllocGlobal, S: LooseFiles>(
+// A state that is to come, and the journal that begins behind it with the open uploads.
+#[derive(Drop)]
+struct Draft {
+    state: Vec<u8>,
+    file: File,
+    uploads: u64,
+}
+
+// Drafts the host's state, and a journal behind it. The folder has its old state still, and its journal.
+fn drafted<H: Files<File = File> + AllocGlobal, S: LooseFiles>(
     rt: &H,
     alloc: Global,
     dir: &str,
     host: &mut Host<S>,
-) -> Result<(File, u64), Fault>
+) -> Result<Draft, Fault>
     ensures cause { IfErr result (λ fault. fault ≡ Fault.NotSaved) }
     ensures saved { IsSaved host.old host.new }
 {
     let Ok(state) = fork_state::save(alloc, host) else {
         return Err(Fault::NotSaved);
     };
-    let name = journal_name(state.as_slice());
     let Ok(mut file) = begin_journal(rt, alloc, dir) else {
         return Err(Fault::NotSaved);
     };
     let Ok(uploads) = write_uploads(host, alloc, &mut file) else {
         return Err(Fault::NotSaved);
     };
+    Ok(Draft {
+        state,
+        file,
+        uploads,
+    })
+}
+
+// Puts a drafted state in its place: the journal first, under the name of the state that is to come, and
+// then the state, so that at each moment the state that stands there has its journal.
+fn put<H: Files<File = File> + AllocGlobal>(
+    rt: &H,
+    alloc: Global,
+    dir: &str,
+    draft: Draft,
+) -> Result<(File, u64), Fault>
+    ensures { IfErr result (λ fault. fault ≡ Fault.NotSaved) }
+{
+    let Draft {
+        state,
+        file,
+        uploads,
+    } = draft;
+    let name = journal_name(state.as_slice());
     let Ok(()) = settle_journal(rt, alloc, dir, name, &file) else {
         return Err(Fault::NotSaved);
     };
@@ -71,7 +99,17 @@ impl<'a, H: Files<File = File> + AllocGlobal> Keep<'a, H> {
         ensures cause { IfErr result (λ fault. fault ≡ Fault.NotSaved) }
         ensures saved { IsSaved host.old host.new }
     {
-        let (file, bytes) = match saved(rt, alloc, dir, host) {
+        match drafted(rt, alloc, dir, host) {
+            Ok(draft) => Keep::over(rt, alloc, dir, draft),
+            Err(fault) => Err(fault),
+        }
+    }
+
+    // The folder with a drafted state in its place.
+    fn over(rt: &'a H, alloc: Global, dir: &'a str, draft: Draft) -> Result<Keep<'a, H>, Fault>
+        ensures { IfErr result (λ fault. fault ≡ Fault.NotSaved) }
+    {
+        let (file, bytes) = match put(rt, alloc, dir, draft) {
             Ok(saved) => saved,
             Err(fault) => return Err(fault),
         };
@@ -106,14 +144,29 @@ impl<'a, H: Files<File = File> + AllocGlobal> Keep<'a, H> {
     }
 
     /// Saves the host's state, where the journal has grown longer than it and than a MiB, or where
-    /// anything was swept. After an `Err` nothing more is to be kept.
+    /// anything was swept. Where it can not be drafted, as an upload's object can not be read, the
+    /// journal goes on behind the old state. After an `Err` nothing more is to be kept.
     pub fn settle<S: LooseFiles>(&mut self, alloc: Global, host: &mut Host<S>) -> Result<(), Fault>
         ensures cause { IfErr result (λ fault. fault ≡ Fault.NotSaved) }
         ensures saved { IsSaved host.old host.new }
     {
-        if self.journal.bytes() > self.saved.max(SPARE) || has_swept(&self.rt, alloc, self.dir) {
-            return self.save(alloc, host);
+        let grown = self.journal.bytes() > self.saved.max(SPARE);
+        if !grown && !has_swept(&self.rt, alloc, self.dir) {
+            return Ok(());
         }
-        Ok(())
+        if self.journal.bytes() == 0 {
+            let _emptied = empty_swept(&self.rt, alloc, self.dir);
+            return Ok(());
+        }
+        let Ok(draft) = drafted(self.rt, alloc, self.dir, host) else {
+            return Ok(());
+        };
+        match Keep::over(self.rt, alloc, self.dir, draft) {
+            Ok(keep) => {
+                *self = keep;
+                Ok(())
+            }
+            Err(fault) => Err(fault),
+        }
     }
 }

@@ -158,7 +158,7 @@ def show_unreadable(checks, program, work):
     checks.same("what was pushed", framed(b"ok\n" + large[0]), serving.told(frame(BOB, b"cat-file " + large[0][:64] + b"\n")))
     write(folder.file_of(D), whole)
     checks.same("one push more", ok, serving.told(frame(BOB, b"push r\n\n" + large[2])))
-    checks.same("it is saved", False, folder.state() == state)
     checks.same("the upload's end", ok, serving.told(frame(ALICE, b"part-end r\n")))
+    checks.same("it was saved before that", False, folder.state() == state)
     checks.same("the end", done(), serving.ended())
     checks.same("check", done(b"sound\n"), program.checked(folder.path))

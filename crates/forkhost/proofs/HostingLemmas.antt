@@ -27,10 +27,10 @@ pub unsaved : (host : HostState) → IsSaved host host
 unsaved host = record { shape = λ tenant. refl; trusted = λ trusted. trusted; shows = λ trusted. refl }
 
 pub new_host : (hosting : Hosting) (begun first : HostState) → Trusted begun → world_of begun ≡ empty → AreGiven hosting.tenants.items begun first → IsHostOf hosting first
-new_host hosting begun first trusted shows given = record { begun = begun; added = first; right = begun_new hosting begun trusted shows; given = given; saved = unsaved first }
+new_host hosting begun first trusted shows given = record { begun = begun; added = first; right = begun_new hosting begun trusted shows; given = given; unkept = λ none. refl; saved = unsaved first }
 
 pub kept_host : (hosting : Hosting) (begun added first : HostState) → is_some hosting.dir ≡ true → AreGiven hosting.tenants.items begun added → IsSaved added first → IsHostOf hosting first
-kept_host hosting begun added first kept given saved = record { begun = begun; added = added; right = begun_kept hosting begun kept; given = given; saved = saved }
+kept_host hosting begun added first kept given saved = record { begun = begun; added = added; right = begun_kept hosting begun kept; given = given; unkept = λ none. absurd (some_dir (is_some hosting.dir) kept none); saved = saved }
 
 pub ungiven_new : (hosting : Hosting) (begun : HostState) (fault : Fault) → Trusted begun → world_of begun ≡ empty → AreUngiven (world_of begun) hosting.tenants.items fault → IsUnhosted hosting fault
 ungiven_new hosting begun fault trusted shows why = Ungiven begun (begun_new hosting begun trusted shows) why

@@ -21,12 +21,13 @@ pub record IsNew (host : HostState) : Type 0 where
 abbrev pub IsBegun : Hosting → HostState → Type 0
 IsBegun hosting host = is_some hosting.dir ≡ false → IsNew host
 
--- a host that has the given tenants, which see nothing yet; its state may have been saved then
+-- a host that has the given tenants, which see nothing yet; where a folder keeps it, its state may have been saved then
 pub record IsHostOf (hosting : Hosting) (host : HostState) : Type 0 where
   pub begun : HostState
   pub added : HostState
   pub right : IsBegun hosting begun
   pub given : AreGiven hosting.tenants.items begun added
+  pub unkept : is_some hosting.dir ≡ false → host ≡ added
   pub saved : IsSaved added host
 
 -- a session of such a host was served up to this end

@@ -48,11 +48,14 @@ fn link_names(alloc: Global, sealed: &Sealed) -> Result<Vec<Name>, AllocError>
     Ok(names)
 }
 
+// Most commits have so many parents: room for no more is made before there are more.
+const USUAL_PARENTS: usize = 1;
+
 // The names of the commit's parents, in their order.
 pub(crate) fn parents_of(alloc: Global, commit: &Commit<'_>) -> Result<Vec<Name>, AllocError>
     ensures { IfOk result (λ names. names.items ≡ (commit_of commit.now).parents) }
 {
-    let mut names = Vec::new(alloc);
+    let mut names = Vec::with_capacity(alloc, USUAL_PARENTS)?;
     for parent in commit.parents() {
         names.push(parent)?;
     }

@@ -2,7 +2,7 @@
 use Rattle.std.proofs.Common.{◌≡◌, ℕ, ◌+◌, ◌-◌, ◌≤◌, Bool, false, List, [], ◌∷◌, ◌++◌, length, take, drop, Result, Ok, Err, refl, sym, ap, subst, ◌∙◌, arith, append_assoc, length-append}
 use Rattle.std.specs.Prelude.{OnOk, is_err}
 use Rattle.std.proofs.lemmas.List.{take_at, drop_at}
-use Rattle.git_tree.specs.declared.fronts.Fronts.{Fronts}
+use Rattle.git_tree.specs.Fronts.{FrontLengths}
 use Rattle.git_tree.specs.Mode.{digits, is_tree}
 use Rattle.git_tree.specs.Entry.{Entry, spelled}
 use Rattle.git_tree.specs.Tree.{AreEntries}
@@ -33,7 +33,7 @@ name_at bytes e long start is =
       omega (arith, ap length rest, tail_len),
     )
 
-pub built_push : (bytes seen new : List ℕ) (start len : ℕ) (t t' : Bool) (fronts fronts' : Fronts) (e : Entry) (s : ℕ) → IsBuilt bytes start len t fronts → seen ≡ bytes
+pub built_push : (bytes seen new : List ℕ) (start len : ℕ) (t t' : Bool) (fronts fronts' : FrontLengths) (e : Entry) (s : ℕ) → IsBuilt bytes start len t fronts → seen ≡ bytes
     → new ≡ bytes ++ spelled e → MayFollow (entries_in seen) e → Steps (record { file_name = take len (drop start seen); is_tree = t; fronts = fronts }) e s → t' ≡ is_tree e.mode
     → ((n : ℕ) → n ≤ s → Knows fronts n → Knows fronts' n) → (is_tree e.mode ≡ false → Knows fronts' (length e.file_name))
     → IsBuilt new (length new - 33 - length e.file_name) (length e.file_name) t' fronts' × (entries_in new ≡ entries_in bytes ++ e ∷ [])

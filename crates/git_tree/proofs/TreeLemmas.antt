@@ -8,7 +8,7 @@ use Rattle.git_tree.specs.Entry.{Entry, IsEntry, spelled, key}
 use Rattle.git_tree.specs.Tree.{IsBelow, Differ, AreEntries}
 use Rattle.git_tree.specs.Fault.{IsPlaceFault, IsTreeFault}
 use Rattle.git_tree.specs.Row.{IsRow, entries_in}
-use Rattle.git_tree.specs.declared.fronts.Fronts.{Fronts}
+use Rattle.git_tree.specs.Fronts.{FrontLengths}
 use Rattle.git_tree.specs.Building.{IsBuilt}
 use Rattle.git_tree.specs.Tracks.{Reached, Tracks, MayFollow}
 use Rattle.git_tree.proofs.OrderLemmas.{nil_below}
@@ -68,7 +68,7 @@ misplaced f b at e after within parts is row are wrong = record {
   wrong = inr (record { entry = e; after = after; is = is; parts = parts; wrong = wrong });
 }
 
-pub built_none : (bytes : List ℕ) (fronts : Fronts) → bytes ≡ [] → IsBuilt bytes 0 0 false fronts
+pub built_none : (bytes : List ℕ) (fronts : FrontLengths) → bytes ≡ [] → IsBuilt bytes 0 0 false fronts
 built_none bytes fronts none = subst (λ (b : List ℕ). IsBuilt b 0 0 false fronts) (sym none) (record {
   row = row_none_is;
   are = are_none;

@@ -4,7 +4,7 @@ use Rattle.std.specs.List.{AllByRecursion}
 use Rattle.std.specs.declared.cmp.Ordering.TheVariants.{Less}
 use Rattle.git_name.specs.Name.{name_cmp}
 use Rattle.git_tree.specs.declared.place.Last.{Last}
-use Rattle.git_tree.specs.declared.fronts.Fronts.{Fronts}
+use Rattle.git_tree.specs.Fronts.{FrontLengths}
 use Rattle.git_tree.specs.Mode.{is_tree}
 use Rattle.git_tree.specs.Entry.{Entry, IsEntry, key, entry_key}
 use Rattle.git_tree.specs.Tree.{IsBelow, Differ}
@@ -18,14 +18,14 @@ AtMost a k = (name_cmp a k ≡ Less) ⊎ (a ≡ k)
 pub record Reached : Type 0 where
   pub file_name : List ℕ
   pub is_tree : Bool
-  pub fronts : Fronts
+  pub fronts : FrontLengths
 
 -- the same, without where the file name lies in memory
-abbrev pub reached_by : Last → Fronts → Reached
+abbrev pub reached_by : Last → FrontLengths → Reached
 reached_by last fronts = record { file_name = last.file_name.now; is_tree = last.is_tree; fronts = fronts }
 
 -- the same, where the file name stands in bytes
-abbrev pub reached_at : List ℕ → ℕ → ℕ → Bool → Fronts → Reached
+abbrev pub reached_at : List ℕ → ℕ → ℕ → Bool → FrontLengths → Reached
 reached_at bytes start len is_tree fronts = record { file_name = take len (drop start bytes); is_tree = is_tree; fronts = fronts }
 
 -- the entry may stand behind those

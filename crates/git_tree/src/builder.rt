@@ -9,7 +9,7 @@ ghost use Rattle.git_tree.specs.Tree.{IsTree};
 
 use crate::entry::TreeEntry;
 use crate::fault::TreeFault;
-use crate::fronts::Fronts;
+use crate::fronts::{Fronts, MANY};
 use crate::mode::Mode;
 use crate::place::{Last, place};
 use crate::reading::is_file_name;
@@ -40,7 +40,7 @@ pub struct TreeBuilder {
     start: usize,
     len: usize,
     is_tree: bool,
-    fronts: Fronts,
+    fronts: Fronts<MANY>,
 }
 
 impl Model for TreeBuilder {
@@ -89,7 +89,7 @@ fn judge(
     start: usize,
     len: usize,
     is_tree: bool,
-    fronts: &Fronts,
+    fronts: &Fronts<MANY>,
     mode: Mode,
     file_name: &[u8],
     name: Name,

@@ -1,24 +1,34 @@
 ghost use Rattle.std.specs.Prelude.{◌≡◌, ◌<◌, ◌≤◌, ℕ, true, false, IsTrue, slice_index};
-ghost use Rattle.git_tree.specs.Fronts.{IsRising};
 
 use std::fmt;
+use std::marker::Model;
 
 // How many lengths are kept. So many file names, each of which begins with the one before, take
 // more than 8 MiB in a tree: n of them have n * (n + 1) / 2 bytes, and 40 more each.
-const DEPTH: usize = 4096;
+pub(crate) const MANY: usize = 4096;
 
-// The lengths of those earlier files' names that the last file name begins with, rising. No other
-// file name can come back in order, since the keys between begin with it.
+// The lengths of those earlier files' names that the last file name begins with, rising, of which
+// `DEPTH` are kept at the most. No other file name can come back in order, since the keys between
+// begin with it.
 #[derive(Drop)]
-pub(crate) struct Fronts {
-    lengths: [u32; 4096],
+pub(crate) struct Fronts<const DEPTH: usize> {
+    lengths: [u32; DEPTH],
     count: usize,
     is_full: bool,
-    ghost within: { count ≤ 4096 },
-    ghost rising: { IsRising lengths count },
 }
 
-impl fmt::Debug for Fronts {
+impl<const DEPTH: usize> Model for Fronts<DEPTH> {
+    ghost use Rattle.std.specs.Prelude.{◌≤◌};
+    ghost use Rattle.git_tree.specs.Fronts.{FrontLengths, IsRising};
+
+    ghost Value = { FrontLengths };
+
+    ghost view = { λ a. record { lengths = a.lengths; count = a.count; is_full = a.is_full } };
+
+    ghost invariant = { λ a. (a.count ≤ DEPTH) × IsRising a.lengths a.count };
+}
+
+impl<const DEPTH: usize> fmt::Debug for Fronts<DEPTH> {
     fn fmt<W: fmt::Write>(&self, f: &mut fmt::Formatter<W>) -> fmt::Result {
         f.debug_struct("Fronts")
             .field("count", &self.count)
@@ -27,11 +37,11 @@ impl fmt::Debug for Fronts {
     }
 }
 
-impl Fronts {
+impl<const DEPTH: usize> Fronts<DEPTH> {
     ghost use Rattle.git_tree.specs.Known.{Knows};
 
     // With none.
-    pub(crate) fn new() -> Fronts {
+    pub(crate) fn new() -> Fronts<DEPTH> {
         Fronts {
             lengths: [0; DEPTH],
             count: 0,

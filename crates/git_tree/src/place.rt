@@ -20,9 +20,9 @@ pub(crate) struct Last<'a> {
 // Whether the next entry may stand behind those of `before`, of which the last one is given, and
 // how many bytes the two file names have in common at the front. The entries before are read again
 // only where one of them has the file name, or the next one is out of order.
-pub(crate) fn place(
+pub(crate) fn place<const DEPTH: usize>(
     last: Last<'_>,
-    fronts: &Fronts,
+    fronts: &Fronts<DEPTH>,
     before: &[u8],
     entry: TreeEntry<'_>,
 ) -> Result<usize, TreeFault>

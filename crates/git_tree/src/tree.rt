@@ -7,17 +7,35 @@ ghost use Rattle.git_tree.specs.Tree.{IsTree};
 ghost use Rattle.git_tree.specs.TreeIn.{tree_in};
 
 use crate::fault::TreeFault;
-use crate::fronts::Fronts;
+use crate::fronts::{Fronts, MANY};
 use crate::place::{Last, place};
 use crate::reading::take_entry;
 use crate::row::Entries;
 
-// Whether the bytes are a tree.
+// A tree of so many bytes has fewer than `FEW` file names each of which begins with the one before: so
+// many would take 4,640 bytes.
+const SHORT: usize = 4096;
+
+const FEW: usize = 64;
+
+// Whether the bytes are a tree. A short one keeps few lengths, as to make room for many takes longer
+// than to read it.
 fn check(bytes: &[u8]) -> Result<(), TreeFault>
     ensures found { IfOk result (λ _. IsTree (entries_in bytes.now) bytes.now) }
     ensures exact { IfErr result (λ fault. IsTreeFault fault bytes.now) }
 {
-    let mut fronts = Fronts::new();
+    if bytes.len() <= SHORT {
+        check_by(bytes, &mut Fronts::<FEW>::new())
+    } else {
+        check_by(bytes, &mut Fronts::<MANY>::new())
+    }
+}
+
+// The same, where so many lengths are kept.
+fn check_by<const DEPTH: usize>(bytes: &[u8], fronts: &mut Fronts<DEPTH>) -> Result<(), TreeFault>
+    ensures found { IfOk result (λ _. IsTree (entries_in bytes.now) bytes.now) }
+    ensures exact { IfErr result (λ fault. IsTreeFault fault bytes.now) }
+{
     let mut last = Last {
         file_name: &bytes[..0],
         is_tree: false,
@@ -29,7 +47,7 @@ fn check(bytes: &[u8]) -> Result<(), TreeFault>
             Err(fault) => return Err(fault),
         };
         let (file_name, is_tree) = (entry.file_name, entry.mode.is_tree());
-        let shared = match place(last, &fronts, &bytes[..at], entry) {
+        let shared = match place(last, fronts, &bytes[..at], entry) {
             Ok(shared) => shared,
             Err(fault) => return Err(fault),
         };

@@ -1,5 +1,5 @@
 -- A tree of tenants' ledgers, seen as the finite map that it is.
-use Rattle.std.proofs.Common.{◌≡◌, ℕ, Bool, true, false, cond, List, Option, None, Some, refl, sym, ap, ◌∙◌, is_some}
+use Rattle.std.proofs.Common.{◌≡◌, ℕ, Bool, true, false, not, cond, List, Option, None, Some, refl, sym, ap, ◌∙◌, is_some}
 use Rattle.std.specs.Option.{unwrap_or}
 use Rattle.std.specs.Map.{lookup}
 use Rattle.std.specs.BTreeMap.{is_at}
@@ -51,3 +51,24 @@ added_is ledgers es fs t own b is found absent set none =
 -- one that is there already stays
 pub there_already : (ledgers : AllWords) (es : List (List ℕ × Words)) (t : List ℕ) (b : Bool) → from_entries es ≡ ledgers → b ≡ is_some (lookup (is_at (name_cmp t)) es) → b ≡ true → ledgers ≡ with_ledger ledgers t
 there_already ledgers es t b is found there = ap (λ c. cond c ledgers (insert ledgers t empty)) (sym there ∙ there_is ledgers es t b is found)
+
+-- an unknown tenant has no ledger
+pub fresh_unknown : (ledgers : AllWords) (es : List (List ℕ × Words)) (t name : List ℕ) (own : Words) → from_entries es ≡ ledgers → None ≡ lookup (is_at (name_cmp t)) es → get ledgers t ≡ Some own → false ≡ not (contains_key own name)
+fresh_unknown ledgers es t name own is none here =
+    let lacks = found_in ledgers es t None is none in
+    let no : ⊥ = cc (lacks, here) in absurd no
+
+-- what is found is the tenant's ledger
+pub fresh_known : (ledgers : AllWords) (es : List (List ℕ × Words)) (t name : List ℕ) (found own : Words) (b : Bool) → from_entries es ≡ ledgers → Some found ≡ lookup (is_at (name_cmp t)) es → b ≡ not (contains_key found name)
+    → get ledgers t ≡ Some own → b ≡ not (contains_key own name)
+fresh_known ledgers es t name found own b is there fresh here =
+    fresh ∙ ap (λ o. not (contains_key (unwrap_or o empty) name)) (sym (found_in ledgers es t (Some found) is there) ∙ here)
+
+-- what a test of an absence says of what it asks
+pub was_there : (is_new there : Bool) → is_new ≡ not there → is_new ≡ false → there ≡ true
+was_there is_new true is old = refl
+was_there is_new false is old = absurd (cc)
+
+pub was_absent : (is_new there : Bool) → is_new ≡ not there → is_new ≡ true → there ≡ false
+was_absent is_new true is new = absurd (cc)
+was_absent is_new false is new = refl

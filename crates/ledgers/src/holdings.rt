@@ -308,14 +308,13 @@ fn stage_counted(
     ensures err { OnErr result (ledgers.new ≡ ledgers.old) }
     ensures places { places_of catalogue.new ≡ places_of catalogue.old }
 {
-    let Some(own) = ledgers.get(tenant) else {
+    let Some(_) = ledgers.get(tenant) else {
         return Ok(());
     };
-    let is_there = own.get(name).is_some();
-    let Ok(()) = ledgers.stage(tenant, name, kind, length) else {
+    let Ok(is_new) = ledgers.stage(tenant, name, kind, length) else {
         return Err(AllocError);
     };
-    if is_there {
+    if !is_new {
         return Ok(());
     }
     let _tenants = ledgers.len();

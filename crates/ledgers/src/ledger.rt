@@ -1,4 +1,4 @@
-ghost use Rattle.std.specs.Prelude.{◌≡◌, ◌≤◌, ◌+◌, List, ℕ, OnOk, OnErr, IfOk, nat_le};
+ghost use Rattle.std.specs.Prelude.{◌≡◌, ◌≤◌, ◌+◌, List, ℕ, not, OnOk, OnErr, IfOk, nat_le};
 ghost use Rattle.std.specs.BTreeSet.{contains};
 ghost use Rattle.std.specs.FinMap as map;
 ghost use Rattle.git_name.specs.Name.{name_cmp};
@@ -78,20 +78,21 @@ impl Ledger {
         self.total <= limit as u128
     }
 
-    /// Stages an object. Where there is a word of its name, that one's kind and length stay.
-    pub fn stage(&mut self, name: Name, kind: Kind, length: u64) -> Result<(), AllocError>
+    /// Stages an object. Where there is a word of its name, that one's kind and length stay. Answers
+    /// whether there was none.
+    pub fn stage(&mut self, name: Name, kind: Kind, length: u64) -> Result<bool, AllocError>
         ensures ok { OnOk result (self.new ≡ staged_words name kind length self.old) }
+        ensures fresh { IfOk result (λ is_new. is_new ≡ not (map.contains_key self.old name)) }
         ensures err { OnErr result (self.new ≡ self.old) }
     {
-        let before = self.get(name);
-        let Ok(()) = self.words.stage(name, kind, length) else {
+        let Ok(is_new) = self.words.stage(name, kind, length) else {
             return Err(AllocError);
         };
-        if before.is_some() {
-            return Ok(());
+        if !is_new {
+            return Ok(false);
         }
         self.total = self.total.saturating_add(size_of(length));
-        Ok(())
+        Ok(true)
     }
 
     /// What is staged becomes visible. It takes no memory.

@@ -1,4 +1,4 @@
-ghost use Rattle.std.specs.Prelude.{◌≡◌, ◌≤◌, ◌+◌, List, ℕ, OnOk, OnErr};
+ghost use Rattle.std.specs.Prelude.{◌≡◌, ◌≤◌, ◌+◌, List, ℕ, Some, not, IfOk, OnOk, OnErr};
 ghost use Rattle.std.specs.BTreeSet.{contains};
 ghost use Rattle.std.specs.FinMap as map;
 ghost use Rattle.std.specs.Option.{option_copied};
@@ -6,7 +6,7 @@ ghost use Rattle.git_name.specs.Name.{name_cmp};
 ghost use Rattle.catalogue.specs.Counted.{count_of, places_of};
 ghost use Rattle.ledgers.specs.Due.{due_at, leaves_discarded};
 ghost use Rattle.ledgers.specs.Ledgers.{at_ledger, ledger_at, with_ledger};
-ghost use Rattle.ledgers.specs.Words.{discarded_words, kept_words, published_words, staged_words, unstaged_words};
+ghost use Rattle.ledgers.specs.Words.{Words, discarded_words, kept_words, published_words, staged_words, unstaged_words};
 
 use crate::ledger::Ledger;
 use catalogue::Catalogue;
@@ -71,24 +71,26 @@ impl Ledgers {
         }
     }
 
-    /// Stages an object for a tenant.
+    /// Stages an object for a tenant. Answers whether a tenant that is there had no word of
+    /// its name.
     pub fn stage(
         &mut self,
         tenant: &TenantName,
         name: Name,
         kind: Kind,
         length: u64,
-    ) -> Result<(), AllocError>
+    ) -> Result<bool, AllocError>
         ensures ok { OnOk result (self.new ≡ at_ledger self.old tenant.now (staged_words name kind length)) }
+        ensures fresh { IfOk result (λ is_new. (own : Words) → map.get self.old tenant.now ≡ Some own → is_new ≡ not (map.contains_key own name)) }
         ensures err { OnErr result (self.new ≡ self.old) }
     {
         let Some(own) = self.tenants.get_mut(tenant) else {
-            return Ok(());
+            return Ok(false);
         };
-        let Ok(()) = own.stage(name, kind, length) else {
+        let Ok(is_new) = own.stage(name, kind, length) else {
             return Err(AllocError);
         };
-        Ok(())
+        Ok(is_new)
     }
 
     /// What a tenant has staged becomes visible to it. It takes no memory.

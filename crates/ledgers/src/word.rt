@@ -1,4 +1,5 @@
-ghost use Rattle.std.specs.Prelude.{◌≡◌, Some, is_some, not, if◌then◌else◌};
+ghost use Rattle.std.specs.Prelude.{◌≡◌, Some, false, is_some, not, if◌then◌else◌};
+ghost use Rattle.std.specs.Option.{option_map_or};
 ghost use Rattle.ledgers.specs.Words.{is_staged, is_visible, kept_as, kept_word, seen_word, staged_over, staged_too, unstaged_if, unstaged_word};
 
 use git_name::Kind;
@@ -41,6 +42,16 @@ impl Word {
             Standing::Staged => true,
             Standing::Both => true,
         }
+    }
+}
+
+// Whether a word says that its object is staged.
+pub(crate) fn is_staged(word: Option<Word>) -> bool
+    ensures { result ≡ option_map_or is_staged word false }
+{
+    match word {
+        Some(word) => word.is_staged(),
+        None => false,
     }
 }
 

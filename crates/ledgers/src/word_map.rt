@@ -1,4 +1,4 @@
-ghost use Rattle.std.specs.Prelude.{◌≡◌, ◌≤◌, ◌+◌, List, ℕ, OnOk, OnErr, IfOk};
+ghost use Rattle.std.specs.Prelude.{◌≡◌, ◌≤◌, ◌+◌, List, ℕ, not, OnOk, OnErr, IfOk};
 ghost use Rattle.std.specs.BTreeSet.{contains};
 ghost use Rattle.std.specs.FinMap as map;
 ghost use Rattle.git_name.specs.Name.{name_cmp};
@@ -8,7 +8,7 @@ ghost use Rattle.ledgers.specs.Totals.{capped, total_of, used_by};
 ghost use Rattle.ledgers.specs.Words.{discarded_words, is_visible, kept_words, published_words, staged_words, unstaged_words, words_that};
 
 use crate::counting::{lower_left, lower_unstaged};
-use crate::word::{Word, word_over};
+use crate::word::{Word, is_staged, word_over};
 use crate::words::{
     keep_among, leave_out, put_staged, see_all, seen_names, unstage_all, unstage_among, uses,
     word_at,
@@ -74,19 +74,22 @@ impl WordMap {
         uses(&self.words)
     }
 
-    /// Stages an object. Where there is a word of its name, that one's kind and length stay.
-    pub fn stage(&mut self, name: Name, kind: Kind, length: u64) -> Result<(), AllocError>
+    /// Stages an object. Where there is a word of its name, that one's kind and length stay. Answers
+    /// whether there was none.
+    pub fn stage(&mut self, name: Name, kind: Kind, length: u64) -> Result<bool, AllocError>
         ensures ok { OnOk result (self.new ≡ staged_words name kind length self.old) }
+        ensures fresh { IfOk result (λ is_new. is_new ≡ not (map.contains_key self.old name)) }
         ensures err { OnErr result (self.new ≡ self.old) }
     {
-        if self.staged.contains(&name) {
-            return Ok(());
+        let before = self.get(name);
+        if is_staged(before) {
+            return Ok(false);
         }
-        let word = word_over(kind, length, self.get(name));
+        let word = word_over(kind, length, before);
         let Ok(()) = put_staged(&mut self.words, &mut self.staged, name, word) else {
             return Err(AllocError);
         };
-        Ok(())
+        Ok(before.is_none())
     }
 
     /// What is staged becomes visible. It takes no memory, and walks what is staged alone.

@@ -8,12 +8,13 @@ use Rattle.git_tree.specs.Row.{entries_in}
 use Rattle.git_tree.specs.Tracks.{Steps, reached_by, last_key}
 use Rattle.git_tree.proofs.PlaceLemmas.{past, above_all, differ_all, not_above}
 use Rattle.git_tree.proofs.ListLemmas.{none_of_any, any_not_below}
+use Rattle.git_tree.proofs.place.place.Given as given
 use Rattle.git_tree.proofs.place.place.Goals as goal
 use Rattle.git_tree.proofs.place.place.Goals.{else-may_repeat-via-then-may_repeat+else-stands_among-2, else-may_repeat-via-else-may_repeat}
 
 -- in order, by as many bytes as both have in common
-steps_of : (c : goal.Joined-else-may_repeat) → Steps (reached_by c.args.last c.args.fronts.now) (entry_of c.args.entry) c.shared_len-shared.result
-steps_of c = record {
+steps_of : (g : given.Over) (c : goal.Joined-else-may_repeat g) → Steps (reached_by c.args.last c.args.fronts.now) (entry_of c.args.entry) c.shared_len-shared.result
+steps_of g c = record {
   is = c.requires.entry;
   order = subst (λ (t : Bool). name_cmp (last_key (reached_by c.args.last c.args.fronts.now)) (key t c.args.entry.file_name.now) ≡ Less) c.is_tree-is_tree.ensures (c.is_below-in_order.ensures.0 c.if-not-in_order.false);
   within = c.shared_len-shared.ensures.within_b;
@@ -22,14 +23,14 @@ steps_of c = record {
 }
 
 pub returns-clause-steps : goal.returns-clause-steps
-returns-clause-steps c = steps_of c
+returns-clause-steps g c = steps_of g c
 
 pub returns-clause-follows : goal.returns-clause-follows
-returns-clause-follows c =
+returns-clause-follows g c =
     let e = entry_of c.args.entry in
     let old = reached_by c.args.last c.args.fronts.now in
     let front = entries_in c.args.before.now in
-    let steps = steps_of c in
+    let steps = steps_of g c in
     let are = past front old c.requires.row.each c.requires.tracks.low c.requires.tracks.known in
     record {
       above = above_all front old e c.shared_len-shared.result steps are;
@@ -41,7 +42,7 @@ returns-clause-follows c =
     }
 
 pub returns-then-not-in_order-clause-fault : goal.returns-then-not-in_order-clause-fault
-returns-then-not-in_order-clause-fault c =
+returns-then-not-in_order-clause-fault g c =
     let e = entry_of c.args.entry in
     let old = reached_by c.args.last c.args.fronts.now in
     let front = entries_in c.args.before.now in

@@ -1,7 +1,14 @@
 use Rattle.std.proofs.Common.{rules}
 use Rattle.ledgers.specs.Words.{staged_words}
-use Rattle.ledgers.proofs.TenantEntries.{changed_is, same_is, unknown_is}
+use Rattle.ledgers.proofs.TenantEntries.{changed_is, fresh_known, fresh_unknown, same_is, unknown_is}
 use Rattle.ledgers.proofs.ledgers.Ledgers.stage.Goals as goal
+
+pub returns-in_default-clause-fresh : goal.returns-in_default-clause-fresh
+returns-in_default-clause-fresh c own here = fresh_unknown c.args.self.now c.self.inside.tenants.entries c.args.tenant.now c.args.name own c.self.view_is c.in_default.ensures.value here
+
+pub returns-clause-fresh : goal.returns-clause-fresh
+returns-clause-fresh c own here =
+    fresh_known c.args.self.now c.self.inside.tenants.entries c.args.tenant.now c.args.name c.in-Some.own.now own c.in-Ok.is_new c.self.view_is c.in-Some.ensures.value c.in-Ok.ensures.fresh here
 
 pub returns-in_default-clause-ok : goal.returns-in_default-clause-ok
 returns-in_default-clause-ok c =

@@ -8,10 +8,10 @@ use Rattle.ledgers.specs.Words.{is_staged, staged_over}
 use Rattle.ledgers.proofs.SettleLemmas.{over_staged, set_at, staged_more, staged_same}
 use Rattle.ledgers.proofs.word_map.WordMap.stage.Goals as goal
 
-pub returns-then-contains-clause-ok : goal.returns-then-contains-clause-ok
-returns-then-contains-clause-ok c =
+pub returns-then-is_staged-clause-ok : goal.returns-then-is_staged-clause-ok
+returns-then-is_staged-clause-ok c =
     staged_same c.args.self.now c.args.name c.args.kind c.args.length
-    (ap (λ m. option_map_or is_staged (map.get m c.args.name) false) (sym c.self.view_is) ∙ sym (c.self.invariant c.args.name) ∙ sym c.contains.ensures ∙ c.if-contains.true)
+    (ap (λ o. option_map_or is_staged o false) (sym c.get-before.ensures) ∙ sym c.is_staged.ensures ∙ c.if-is_staged.true)
 
 pub invariant_of-self : goal.invariant_of-self
 invariant_of-self c = λ q. c.in_default.ensures.kept q ∙ c.self.invariant q ∙ sym (ap (λ es. option_map_or is_staged (map.get {R = name_cmp} (map.from_entries es) q) false) c.in_default.ensures.err)
@@ -19,11 +19,11 @@ invariant_of-self c = λ q. c.in_default.ensures.kept q ∙ c.self.invariant q �
 pub invariant_of-self-2 : goal.invariant_of-self-2
 invariant_of-self-2 c =
     staged_more c.self.inside.staged.keys c.put_staged.new.staged.keys (map.from_entries c.self.inside.words.entries) (map.from_entries c.put_staged.new.words.entries) c.args.name c.word_over-word.result c.self.invariant
-    (ap is_staged c.word_over-word.ensures ∙ over_staged c.args.kind c.args.length c.get.result) c.in-Ok.ensures.noted.0
+    (ap is_staged c.word_over-word.ensures ∙ over_staged c.args.kind c.args.length c.get-before.result) c.in-Ok.ensures.noted.0
     (set_at c.args.name c.self.inside.words.entries c.put_staged.new.words.entries c.word_over-word.result c.in-Ok.ensures.ok.0)
 
 pub returns-clause-ok : goal.returns-clause-ok
 returns-clause-ok c =
     entries_after_insert name_total name_exact c.self.inside.words.entries c.put_staged.new.words.entries c.args.name c.word_over-word.result c.in-Ok.ensures.ok.0
     ∙ ap (λ m. map.insert m c.args.name c.word_over-word.result) c.self.view_is
-    ∙ ap (map.insert c.args.self.now c.args.name) (c.word_over-word.ensures ∙ ap (staged_over c.args.kind c.args.length) c.get.ensures)
+    ∙ ap (map.insert c.args.self.now c.args.name) (c.word_over-word.ensures ∙ ap (staged_over c.args.kind c.args.length) c.get-before.ensures)

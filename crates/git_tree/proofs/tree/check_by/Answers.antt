@@ -1,22 +1,22 @@
-use Rattle.std.proofs.Common.{◌≡◌, ◌++◌, take, drop, refl, sym, ◌∙◌, arith}
+use Rattle.std.proofs.Common.{rules, ◌≡◌, ◌++◌, take, drop, refl, sym, ◌∙◌, arith}
 use Rattle.std.proofs.lemmas.List.{take_rest}
 use Rattle.git_tree.specs.Entry.{entry_of, spelled}
 use Rattle.git_tree.specs.Row.{entries_in}
 use Rattle.git_tree.specs.Tracks.{reached_by}
 use Rattle.git_tree.proofs.PlaceLemmas.{past, tracks_on, grows}
 use Rattle.git_tree.proofs.TreeLemmas.{are_none, row_none_is, tracks_none, reads_on, misplaced}
-use Rattle.git_tree.proofs.tree.check.Goals as goal
+use Rattle.git_tree.proofs.tree.check_by.Goals as goal
 
 pub loop-at-init : goal.loop-at-init
-loop-at-init c = record { within = omega arith; row = row_none_is; are = are_none; tracks = tracks_none _ refl refl }
+loop-at-init g c = record { within = omega arith; row = row_none_is; are = are_none; tracks = tracks_none _ refl refl }
 
 pub returns-in-Err-place-clause-exact : goal.returns-in-Err-place-clause-exact
-returns-in-Err-place-clause-exact c =
+returns-in-Err-place-clause-exact g c =
     let taken : drop c.loop-at.at c.args.bytes.now ≡ spelled (entry_of c.in-Ok.taken.0) ++ c.in-Ok.taken.1.now = sym (take_rest c.args.bytes.now c.loop-at.at) ∙ c.in-Ok.ensures.parts in
     misplaced c.in-Err-place.fault c.args.bytes.now c.loop-at.at (entry_of c.in-Ok.taken.0) c.in-Ok.taken.1.now c.loop-at-test.true taken c.in-Ok.ensures.entry c.loop-at.invariant.row c.loop-at.invariant.are c.in-Err-place.ensures.fault
 
 pub loop-at-preserved : goal.loop-at-preserved
-loop-at-preserved c =
+loop-at-preserved g c =
     let taken : drop c.loop-at.at c.args.bytes.now ≡ spelled (entry_of c.in-Ok.taken.0) ++ c.in-Ok.taken.1.now = sym (take_rest c.args.bytes.now c.loop-at.at) ∙ c.in-Ok.ensures.parts in
     let reads = reads_on c.args.bytes.now c.loop-at.at (entry_of c.in-Ok.taken.0) c.in-Ok.taken.1.now c.loop-at.invariant.within taken c.in-Ok.ensures.entry c.loop-at.invariant.row c.loop-at.invariant.are c.in-Ok-place.ensures.follows in
     record {
@@ -29,4 +29,4 @@ loop-at-preserved c =
     }
 
 pub advance-requires : goal.advance-requires
-advance-requires c = record { grows = λ file. grows (reached_by c.loop-at.last c.loop-at.fronts) (entry_of c.in-Ok.taken.0) c.in-Ok-place.shared c.in-Ok-place.ensures.steps (sym c.is_tree-is_tree.ensures ∙ file) }
+advance-requires g c = (search rules, λ file. grows (reached_by c.loop-at.last c.loop-at.fronts) (entry_of c.in-Ok.taken.0) c.in-Ok-place.shared c.in-Ok-place.ensures.steps (sym c.is_tree-is_tree.ensures ∙ file))

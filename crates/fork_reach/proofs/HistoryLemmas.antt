@@ -1,5 +1,5 @@
 -- A history that is read, commit by commit.
-use Rattle.std.proofs.Common.{◌≡◌, ◌≢◌, ℕ, Bool, true, false, cond, IsTrue, List, [], ◌∷◌, ◌++◌, Option, None, Some, is_some, refl, sym, ap, subst, ◌∙◌, inl, inr, ◌⊎◌}
+use Rattle.std.proofs.Common.{◌≡◌, ℕ, Bool, true, false, cond, IsTrue, List, [], ◌∷◌, ◌++◌, Option, None, Some, is_some, refl, sym, ap, subst, ◌∙◌, inl, inr, ◌⊎◌}
 use Rattle.std.specs.List.{Contains}
 use Rattle.std.specs.FinMap.{FinMap, contains_key, empty, get, get-empty, get-insert, insert, retain_keys, same_map}
 use Rattle.std.specs.Option.{option_map}
@@ -9,31 +9,15 @@ use Rattle.std.proofs.lemmas.List.Elements.{Contains-append_cases}
 use Rattle.git_name.specs.Maps.{map_values}
 use Rattle.git_name.specs.Name.{name_cmp}
 use Rattle.git_name.specs.Object.{Object}
-use Rattle.git_name.specs.declared.kind.Kind.{Kind}
-use Rattle.git_name.specs.declared.kind.Kind.TheVariants.{Blob, Tree, Commit, Tag}
 use Rattle.git_name.proofs.MapLemmas.{get_map_values}
 use Rattle.git_name.proofs.Names.{name_total, name_exact}
 use Rattle.fork_reach.specs.History.{Note, Notes, note_at, note_of, note_of_found}
 use Rattle.fork_reach.specs.Reach.{parent_names, parents_of_found}
 use Rattle.fork_reach.specs.Seeing.{Sees}
-use Rattle.fork_reach.specs.Source.{Objects, kind_in}
+use Rattle.fork_reach.specs.Source.{Objects}
 use Rattle.fork_reach.proofs.HiddenLemmas.{get_kept}
 use Rattle.fork_reach.proofs.KeptObjects.{tied_names}
 use Rattle.fork_reach.proofs.SeeingLemmas.{none_there, sole_there}
-
--- what is no commit is noted as none
-pub no_note : (objects : Objects) (name : List ℕ) → kind_in objects name ≢ Some Commit → note_at objects name ≡ record { parents = []; seconds = 0 }
-no_note objects name other = by (get objects name) other
-  where
-    of_kind : (kind : Kind) (bytes : List ℕ) → Some kind ≢ Some Commit → note_of (record { kind = kind; bytes = bytes }) ≡ record { parents = []; seconds = 0 }
-    of_kind Blob bytes is = refl
-    of_kind Tree bytes is = refl
-    of_kind Commit bytes is = absurd (is refl)
-    of_kind Tag bytes is = refl
-
-    by : (found : Option Object) → option_map (λ object. object.kind) found ≢ Some Commit → note_of_found found ≡ record { parents = []; seconds = 0 }
-    by None is = refl
-    by (Some object) is = of_kind object.kind object.bytes is
 
 -- between two steps: what is seen waits, or is noted rightly, and nothing else is noted
 pub record Keeps (objects : Objects) (honest : Bool) (seen : List ℕ → Bool) (waits : List (List ℕ)) (notes : Notes) : Type 0 where
@@ -41,12 +25,13 @@ pub record Keeps (objects : Objects) (honest : Bool) (seen : List ℕ → Bool) 
   pub only : (name : List ℕ) → contains_key notes name ≡ true → seen name ≡ true
 
 -- nothing is noted, and all that is seen waits
-pub keeps_begin : {X : Type 0} (there : FinMap name_cmp X) (objects : Objects) (honest : Bool) (roots : List (List ℕ)) (seen : List ℕ → Bool) (waits : List (List ℕ)) (now_seen : List ℕ → Bool) (now_waits : List (List ℕ)) (notes : Notes)
-    → ((name : List ℕ) → seen name ≡ true → ⊥) → notes ≡ empty → Sees there roots seen waits now_seen now_waits → Keeps objects honest now_seen now_waits notes
-keeps_begin there objects honest roots seen waits now_seen now_waits notes none_seen none sees = record {
+pub keeps_begin : {X : Type 0} (there : FinMap name_cmp X) (ends : List ℕ → Bool) (objects : Objects) (honest : Bool) (roots : List (List ℕ)) (seen : List ℕ → Bool) (waits : List (List ℕ)) (now_seen : List ℕ → Bool) (now_waits : List (List ℕ)) (notes : Notes)
+    → ((name : List ℕ) → ends name ≡ true → ⊥) → ((name : List ℕ) → seen name ≡ true → ⊥) → notes ≡ empty → Sees there ends roots seen waits now_seen now_waits → Keeps objects honest now_seen now_waits notes
+keeps_begin there ends objects honest roots seen waits now_seen now_waits notes none_ends none_seen none sees = record {
   kept = λ honest_is name is. elim (sees.new name is) [
     | inl before ↦ absurd (none_seen name before)
-    | inr waiting ↦ inl waiting
+    | inr (inl waiting) ↦ inl waiting
+    | inr (inr ended) ↦ absurd (none_ends name ended)
   ];
   only = λ name is. (let nothing : false ≡ true = ap is_some (sym (get-empty name_cmp name)) ∙ subst (λ n. contains_key n name ≡ true) none is in absurd (cc));
 }
@@ -60,12 +45,13 @@ either_there true note found is = inl refl
 either_there false note found is = inr is
 
 -- the last of those that wait was noted
-pub keeps_on : {X : Type 0} (there : FinMap name_cmp X) (objects : Objects) (honest : Bool) (seen : List ℕ → Bool) (waits rest : List (List ℕ)) (last : List ℕ) (names : List (List ℕ)) (now_seen : List ℕ → Bool) (now_waits : List (List ℕ)) (notes now_notes : Notes) (note : Note)
-    → waits ≡ rest ++ last ∷ [] → seen last ≡ true → (IsTrue honest → note ≡ note_at objects last) → now_notes ≡ insert notes last note → Sees there names seen rest now_seen now_waits → Keeps objects honest seen waits notes → Keeps objects honest now_seen now_waits now_notes
-keeps_on there objects honest seen waits rest last names now_seen now_waits notes now_notes note popped was right put sees keeps = record {
+pub keeps_on : {X : Type 0} (there : FinMap name_cmp X) (ends : List ℕ → Bool) (objects : Objects) (honest : Bool) (seen : List ℕ → Bool) (waits rest : List (List ℕ)) (last : List ℕ) (names : List (List ℕ)) (now_seen : List ℕ → Bool) (now_waits : List (List ℕ)) (notes now_notes : Notes) (note : Note)
+    → ((name : List ℕ) → ends name ≡ true → ⊥) → waits ≡ rest ++ last ∷ [] → seen last ≡ true → (IsTrue honest → note ≡ note_at objects last) → now_notes ≡ insert notes last note → Sees there ends names seen rest now_seen now_waits → Keeps objects honest seen waits notes → Keeps objects honest now_seen now_waits now_notes
+keeps_on there ends objects honest seen waits rest last names now_seen now_waits notes now_notes note none_ends popped was right put sees keeps = record {
   kept = λ honest_is name is. elim (sees.new name is) [
     | inl before ↦ on honest_is name (keeps.kept honest_is name before)
-    | inr waiting ↦ inl waiting
+    | inr (inl waiting) ↦ inl waiting
+    | inr (inr ended) ↦ absurd (none_ends name ended)
   ];
   only = λ name is. elim (either_there (eq_by_cmp name_cmp name last) note (get notes name) (ap is_some (sym (found name)) ∙ is)) [
     | inl tied ↦ sees.kept name (subst (λ n. seen n ≡ true) (sym (tied_names name last tied)) was)

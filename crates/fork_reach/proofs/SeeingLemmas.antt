@@ -27,8 +27,8 @@ pub sole : (name : List ℕ) → Contains (name ∷ []) name
 sole name = (0, omega arith, refl)
 
 -- no names
-pub sees_none : {X : Type 0} (objects : FinMap name_cmp X) (seen : List ℕ → Bool) (waits : Names) → Sees objects [] seen waits seen waits
-sees_none objects seen waits = record {
+pub sees_none : {X : Type 0} (objects : FinMap name_cmp X) (ends : List ℕ → Bool) (seen : List ℕ → Bool) (waits : Names) → Sees objects ends [] seen waits seen waits
+sees_none objects ends seen waits = record {
   kept = λ name is. is;
   stays = λ name is. is;
   all = λ name among there. absurd (none_there name among);
@@ -39,9 +39,9 @@ sees_none objects seen waits = record {
 }
 
 -- some names, and then others
-pub sees_both : {X : Type 0} (objects : FinMap name_cmp X) (xs ys : Names) (seen : List ℕ → Bool) (waits : Names) (mid_seen : List ℕ → Bool) (mid_waits : Names) (now_seen : List ℕ → Bool) (now_waits : Names)
-    → Sees objects xs seen waits mid_seen mid_waits → Sees objects ys mid_seen mid_waits now_seen now_waits → Sees objects (xs ++ ys) seen waits now_seen now_waits
-sees_both objects xs ys seen waits mid_seen mid_waits now_seen now_waits first then = record {
+pub sees_both : {X : Type 0} (objects : FinMap name_cmp X) (ends : List ℕ → Bool) (xs ys : Names) (seen : List ℕ → Bool) (waits : Names) (mid_seen : List ℕ → Bool) (mid_waits : Names) (now_seen : List ℕ → Bool) (now_waits : Names)
+    → Sees objects ends xs seen waits mid_seen mid_waits → Sees objects ends ys mid_seen mid_waits now_seen now_waits → Sees objects ends (xs ++ ys) seen waits now_seen now_waits
+sees_both objects ends xs ys seen waits mid_seen mid_waits now_seen now_waits first then = record {
   kept = λ name is. then.kept name (first.kept name is);
   stays = λ name is. then.stays name (first.stays name is);
   all = λ name among there. elim (Contains-append_cases xs ys name among) [
@@ -58,7 +58,8 @@ sees_both objects xs ys seen waits mid_seen mid_waits now_seen now_waits first t
   new = λ name is. elim (then.new name is) [
     | inl before ↦ elim (first.new name before) [
       | inl long ↦ inl long
-      | inr waiting ↦ inr (then.stays name waiting)
+      | inr (inl waiting) ↦ inr (inl (then.stays name waiting))
+      | inr (inr ended) ↦ inr (inr ended)
     ]
     | inr waiting ↦ inr waiting
   ];
@@ -73,8 +74,8 @@ sees_both objects xs ys seen waits mid_seen mid_waits now_seen now_waits first t
 }
 
 -- a name whose object is not there
-pub sees_absent : {X : Type 0} (objects : FinMap name_cmp X) (first : List ℕ) (seen : List ℕ → Bool) (waits : Names) → contains_key objects first ≡ false → Sees objects (first ∷ []) seen waits seen waits
-sees_absent objects first seen waits absent = record {
+pub sees_absent : {X : Type 0} (objects : FinMap name_cmp X) (ends : List ℕ → Bool) (first : List ℕ) (seen : List ℕ → Bool) (waits : Names) → contains_key objects first ≡ false → Sees objects ends (first ∷ []) seen waits seen waits
+sees_absent objects ends first seen waits absent = record {
   kept = λ name is. is;
   stays = λ name is. is;
   all = λ name among there. (let same = sole_there first name among in let no : ⊥ = cc (ap (contains_key objects) same) in absurd no);
@@ -99,8 +100,8 @@ still_seen false old now is seen = is ∙ seen
 pub kept_inserting : (first : List ℕ) (seen now_seen : List ℕ → Bool) → Inserts first seen now_seen → (name : List ℕ) → seen name ≡ true → now_seen name ≡ true
 kept_inserting first seen now_seen inserts name is = still_seen (is_eq (name_cmp first name)) (seen name) (now_seen name) (inserts name) is
 
-sees_again : {X : Type 0} (objects : FinMap name_cmp X) (first : List ℕ) (seen : List ℕ → Bool) (waits : Names) (now_seen : List ℕ → Bool) → Inserts first seen now_seen → seen first ≡ true → Sees objects (first ∷ []) seen waits now_seen waits
-sees_again objects first seen waits now_seen inserts known =
+sees_again : {X : Type 0} (objects : FinMap name_cmp X) (ends : List ℕ → Bool) (first : List ℕ) (seen : List ℕ → Bool) (waits : Names) (now_seen : List ℕ → Bool) → Inserts first seen now_seen → seen first ≡ true → Sees objects ends (first ∷ []) seen waits now_seen waits
+sees_again objects ends first seen waits now_seen inserts known =
     let kept = kept_inserting first seen now_seen inserts in
     let old = (λ (name : List ℕ) (is : now_seen name ≡ true). by name (either_seen (is_eq (name_cmp first name)) (seen name) (now_seen name) (inserts name) is)) in
     record {
@@ -122,8 +123,8 @@ was_seen added true is old = refl
 was_seen added false is old = absurd (cc)
 
 -- a name that was seen before
-pub sees_known : {X : Type 0} (objects : FinMap name_cmp X) (first : List ℕ) (seen : List ℕ → Bool) (waits : Names) (now_seen : List ℕ → Bool) (added : Bool) → added ≡ not (seen first) → added ≡ false → Inserts first seen now_seen → Sees objects (first ∷ []) seen waits now_seen waits
-sees_known objects first seen waits now_seen added is old inserts = sees_again objects first seen waits now_seen inserts (was_seen added (seen first) is old)
+pub sees_known : {X : Type 0} (objects : FinMap name_cmp X) (ends : List ℕ → Bool) (first : List ℕ) (seen : List ℕ → Bool) (waits : Names) (now_seen : List ℕ → Bool) (added : Bool) → added ≡ not (seen first) → added ≡ false → Inserts first seen now_seen → Sees objects ends (first ∷ []) seen waits now_seen waits
+sees_known objects ends first seen waits now_seen added is old inserts = sees_again objects ends first seen waits now_seen inserts (was_seen added (seen first) is old)
 
 -- what is seen behind an insertion
 pub found_inserting : (first : List ℕ) (seen now_seen : List ℕ → Bool) → Inserts first seen now_seen → (name : List ℕ) → now_seen name ≡ true → (first ≡ name) ⊎ (seen name ≡ true)
@@ -139,9 +140,9 @@ unseen_less objects first seen now_seen inserts seen_now new there =
     let key = Contains-keys objects first there in
     left_out_less seen now_seen (kept_inserting first seen now_seen inserts) (keys objects) first key.0 key.1 key.2 new seen_now
 
-sees_last : {X : Type 0} (objects : FinMap name_cmp X) (first : List ℕ) (seen : List ℕ → Bool) (waits : Names) (now_seen : List ℕ → Bool) → Inserts first seen now_seen → now_seen first ≡ true → seen first ≡ false → contains_key objects first ≡ true
-    → Sees objects (first ∷ []) seen waits now_seen (waits ++ first ∷ [])
-sees_last objects first seen waits now_seen inserts seen_now new there = record {
+sees_last : {X : Type 0} (objects : FinMap name_cmp X) (ends : List ℕ → Bool) (first : List ℕ) (seen : List ℕ → Bool) (waits : Names) (now_seen : List ℕ → Bool) → Inserts first seen now_seen → now_seen first ≡ true → seen first ≡ false → contains_key objects first ≡ true
+    → Sees objects ends (first ∷ []) seen waits now_seen (waits ++ first ∷ [])
+sees_last objects ends first seen waits now_seen inserts seen_now new there = record {
   kept = kept_inserting first seen now_seen inserts;
   stays = λ name is. Contains-append_left waits (first ∷ []) name is;
   all = λ name among last. subst (λ n. now_seen n ≡ true) (sole_there first name among) seen_now;
@@ -150,7 +151,7 @@ sees_last objects first seen waits now_seen inserts seen_now new there = record 
     | inr before ↦ inl before
   ];
   new = λ name is. elim (found_inserting first seen now_seen inserts name is) [
-    | inl same ↦ inr (subst (λ n. Contains (waits ++ first ∷ []) n) same (Contains-append_right waits (first ∷ []) first (sole first)))
+    | inl same ↦ inr (inl (subst (λ n. Contains (waits ++ first ∷ []) n) same (Contains-append_right waits (first ∷ []) first (sole first))))
     | inr before ↦ inl before
   ];
   noted = λ name is. elim (Contains-append_cases waits (first ∷ []) name is) [
@@ -168,7 +169,26 @@ was_new added true is new = absurd (cc)
 was_new added false is new = refl
 
 -- a name that is new, and whose object is there
-pub sees_new : {X : Type 0} (objects : FinMap name_cmp X) (first : List ℕ) (seen : List ℕ → Bool) (waits : Names) (now_seen : List ℕ → Bool) (now_waits : Names) (added : Bool) → added ≡ not (seen first) → added ≡ true → Inserts first seen now_seen → now_seen first ≡ true → contains_key objects first ≡ true → now_waits ≡ waits ++ first ∷ []
-    → Sees objects (first ∷ []) seen waits now_seen now_waits
-sees_new objects first seen waits now_seen now_waits added is new inserts seen_now there pushed =
-    subst (λ w. Sees objects (first ∷ []) seen waits now_seen w) (sym pushed) (sees_last objects first seen waits now_seen inserts seen_now (was_new added (seen first) is new) there)
+pub sees_new : {X : Type 0} (objects : FinMap name_cmp X) (ends : List ℕ → Bool) (first : List ℕ) (seen : List ℕ → Bool) (waits : Names) (now_seen : List ℕ → Bool) (now_waits : Names) (added : Bool) → added ≡ not (seen first) → added ≡ true → Inserts first seen now_seen → now_seen first ≡ true → contains_key objects first ≡ true → now_waits ≡ waits ++ first ∷ []
+    → Sees objects ends (first ∷ []) seen waits now_seen now_waits
+sees_new objects ends first seen waits now_seen now_waits added is new inserts seen_now there pushed =
+    subst (λ w. Sees objects ends (first ∷ []) seen waits now_seen w) (sym pushed) (sees_last objects ends first seen waits now_seen inserts seen_now (was_new added (seen first) is new) there)
+
+-- a name that is new, whose object is there, and that goes on to nothing
+pub sees_end : {X : Type 0} (objects : FinMap name_cmp X) (ends : List ℕ → Bool) (first : List ℕ) (seen : List ℕ → Bool) (waits : Names) (now_seen : List ℕ → Bool) (added : Bool) → added ≡ not (seen first) → added ≡ true → Inserts first seen now_seen → now_seen first ≡ true → contains_key objects first ≡ true → ends first ≡ true
+    → Sees objects ends (first ∷ []) seen waits now_seen waits
+sees_end objects ends first seen waits now_seen added is new inserts seen_now there ended = record {
+  kept = kept_inserting first seen now_seen inserts;
+  stays = λ name waiting. waiting;
+  all = λ name last there. subst (λ n. now_seen n ≡ true) (sole_there first name last) seen_now;
+  only = λ name found. elim (found_inserting first seen now_seen inserts name found) [
+    | inl same ↦ inr (subst (λ n. Contains (first ∷ []) n) same (sole first), subst (λ n. contains_key objects n ≡ true) same there)
+    | inr before ↦ inl before
+  ];
+  new = λ name found. elim (found_inserting first seen now_seen inserts name found) [
+    | inl same ↦ inr (inr (subst (λ n. ends n ≡ true) same ended))
+    | inr before ↦ inl before
+  ];
+  noted = λ name waiting. inl waiting;
+  less = (let fewer = unseen_less objects first seen now_seen inserts seen_now (was_new added (seen first) is new) there in omega arith);
+}

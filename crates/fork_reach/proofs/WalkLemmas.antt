@@ -19,9 +19,9 @@ pub record Walks {X : Type 0} (next : List ℕ → List (List ℕ)) (objects : F
   pub closed : IsTrue honest → (from : List ℕ) → seen from ≡ true → Contains waits from ⊎ ((name : List ℕ) → Contains (next from) name → contains_key objects name ≡ true → seen name ≡ true)
 
 -- the roots were seen to, and nothing before
-pub walks_begin : {X : Type 0} (next : List ℕ → List (List ℕ)) (objects : FinMap name_cmp X) (roots : List (List ℕ)) (honest : Bool) (seen : List ℕ → Bool) (waits : List (List ℕ)) (now_seen : List ℕ → Bool) (now_waits : List (List ℕ))
-    → ((name : List ℕ) → seen name ≡ true → ⊥) → waits ≡ [] → Sees objects roots seen waits now_seen now_waits → Walks next objects roots honest now_seen now_waits
-walks_begin next objects roots honest seen waits now_seen now_waits none_seen none_waits sees = record {
+pub walks_begin : {X : Type 0} (next : List ℕ → List (List ℕ)) (objects : FinMap name_cmp X) (ends : List ℕ → Bool) (roots : List (List ℕ)) (honest : Bool) (seen : List ℕ → Bool) (waits : List (List ℕ)) (now_seen : List ℕ → Bool) (now_waits : List (List ℕ))
+    → (IsTrue honest → (from : List ℕ) → ends from ≡ true → next from ≡ []) → ((name : List ℕ) → seen name ≡ true → ⊥) → waits ≡ [] → Sees objects ends roots seen waits now_seen now_waits → Walks next objects roots honest now_seen now_waits
+walks_begin next objects ends roots honest seen waits now_seen now_waits quiet none_seen none_waits sees = record {
   begun = sees.all;
   noted = λ name is. elim (sees.noted name is) [
     | inl before ↦ absurd (none_there name (subst (λ w. Contains w name) none_waits before))
@@ -37,13 +37,14 @@ walks_begin next objects roots honest seen waits now_seen now_waits none_seen no
   ];
   closed = λ honest_is from is. elim (sees.new from is) [
     | inl before ↦ absurd (none_seen from before)
-    | inr waiting ↦ inl waiting
+    | inr (inl waiting) ↦ inl waiting
+    | inr (inr ended) ↦ inr (λ name linked there. absurd (none_there name (subst (λ ns. Contains ns name) (quiet honest_is from ended) linked)))
   ];
 }
 
-walks_past : {X : Type 0} (next : List ℕ → List (List ℕ)) (objects : FinMap name_cmp X) (roots : List (List ℕ)) (honest : Bool) (seen : List ℕ → Bool) (rest : List (List ℕ)) (last : List ℕ) (names : List (List ℕ)) (now_seen : List ℕ → Bool) (now_waits : List (List ℕ))
-    → Walks next objects roots honest seen (rest ++ last ∷ []) → (IsTrue honest → names ≡ next last) → Sees objects names seen rest now_seen now_waits → Walks next objects roots honest now_seen now_waits
-walks_past next objects roots honest seen rest last names now_seen now_waits walks right sees = record {
+walks_past : {X : Type 0} (next : List ℕ → List (List ℕ)) (objects : FinMap name_cmp X) (ends : List ℕ → Bool) (roots : List (List ℕ)) (honest : Bool) (seen : List ℕ → Bool) (rest : List (List ℕ)) (last : List ℕ) (names : List (List ℕ)) (now_seen : List ℕ → Bool) (now_waits : List (List ℕ))
+    → (IsTrue honest → (from : List ℕ) → ends from ≡ true → next from ≡ []) → Walks next objects roots honest seen (rest ++ last ∷ []) → (IsTrue honest → names ≡ next last) → Sees objects ends names seen rest now_seen now_waits → Walks next objects roots honest now_seen now_waits
+walks_past next objects ends roots honest seen rest last names now_seen now_waits quiet walks right sees = record {
   begun = λ name root there. sees.kept name (walks.begun name root there);
   noted = λ name is. elim (sees.noted name is) [
     | inl before ↦ sees.kept name (walks.noted name (Contains-append_left rest (last ∷ []) name before))
@@ -59,7 +60,8 @@ walks_past next objects roots honest seen rest last names now_seen now_waits wal
   ];
   closed = λ honest_is from is. elim (sees.new from is) [
     | inl before ↦ still honest_is from (walks.closed honest_is from before)
-    | inr waiting ↦ inl waiting
+    | inr (inl waiting) ↦ inl waiting
+    | inr (inr ended) ↦ inr (λ name linked there. absurd (none_there name (subst (λ ns. Contains ns name) (quiet honest_is from ended) linked)))
   ];
 }
   where
@@ -74,10 +76,10 @@ walks_past next objects roots honest seen rest last names now_seen now_waits wal
     still honest_is from (inr done) = inr (λ name linked there. sees.kept name (done name linked there))
 
 -- the last of those that wait was followed
-pub walks_on : {X : Type 0} (next : List ℕ → List (List ℕ)) (objects : FinMap name_cmp X) (roots : List (List ℕ)) (honest : Bool) (seen : List ℕ → Bool) (waits rest : List (List ℕ)) (last : List ℕ) (names : List (List ℕ)) (now_seen : List ℕ → Bool) (now_waits : List (List ℕ))
-    → waits ≡ rest ++ last ∷ [] → Walks next objects roots honest seen waits → (IsTrue honest → names ≡ next last) → Sees objects names seen rest now_seen now_waits → Walks next objects roots honest now_seen now_waits
-walks_on next objects roots honest seen waits rest last names now_seen now_waits popped walks right sees =
-    walks_past next objects roots honest seen rest last names now_seen now_waits (subst (λ w. Walks next objects roots honest seen w) popped walks) right sees
+pub walks_on : {X : Type 0} (next : List ℕ → List (List ℕ)) (objects : FinMap name_cmp X) (ends : List ℕ → Bool) (roots : List (List ℕ)) (honest : Bool) (seen : List ℕ → Bool) (waits rest : List (List ℕ)) (last : List ℕ) (names : List (List ℕ)) (now_seen : List ℕ → Bool) (now_waits : List (List ℕ))
+    → (IsTrue honest → (from : List ℕ) → ends from ≡ true → next from ≡ []) → waits ≡ rest ++ last ∷ [] → Walks next objects roots honest seen waits → (IsTrue honest → names ≡ next last) → Sees objects ends names seen rest now_seen now_waits → Walks next objects roots honest now_seen now_waits
+walks_on next objects ends roots honest seen waits rest last names now_seen now_waits quiet popped walks right sees =
+    walks_past next objects ends roots honest seen rest last names now_seen now_waits quiet (subst (λ w. Walks next objects roots honest seen w) popped walks) right sees
 
 -- where nothing waits, what is reached is seen
 all_seen : {X : Type 0} (next : List ℕ → List (List ℕ)) (objects : FinMap name_cmp X) (roots : List (List ℕ)) (honest : Bool) (seen : List ℕ → Bool) → Walks next objects roots honest seen [] → IsTrue honest → (name : List ℕ) → IsReached next objects roots name → seen name ≡ true

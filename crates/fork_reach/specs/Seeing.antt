@@ -8,12 +8,12 @@ use Rattle.git_name.specs.Name.{name_cmp}
 abbrev pub unseen : {X : Type 0} → FinMap name_cmp X → (List ℕ → Bool) → ℕ
 unseen objects seen = count_by (λ name. not (seen name)) (keys objects)
 
--- names were seen to: those that are there are seen now, and those that are new wait
-pub record Sees {X : Type 0} (objects : FinMap name_cmp X) (names : List (List ℕ)) (seen : List ℕ → Bool) (waits : List (List ℕ)) (now_seen : List ℕ → Bool) (now_waits : List (List ℕ)) : Type 0 where
+-- names were seen to: those that are there are seen now, and those that are new wait, unless they go on to nothing
+pub record Sees {X : Type 0} (objects : FinMap name_cmp X) (ends : List ℕ → Bool) (names : List (List ℕ)) (seen : List ℕ → Bool) (waits : List (List ℕ)) (now_seen : List ℕ → Bool) (now_waits : List (List ℕ)) : Type 0 where
   pub kept : (name : List ℕ) → seen name ≡ true → now_seen name ≡ true
   pub stays : (name : List ℕ) → Contains waits name → Contains now_waits name
   pub all : (name : List ℕ) → Contains names name → contains_key objects name ≡ true → now_seen name ≡ true
   pub only : (name : List ℕ) → now_seen name ≡ true → (seen name ≡ true) ⊎ (Contains names name × (contains_key objects name ≡ true))
-  pub new : (name : List ℕ) → now_seen name ≡ true → (seen name ≡ true) ⊎ Contains now_waits name
+  pub new : (name : List ℕ) → now_seen name ≡ true → (seen name ≡ true) ⊎ (Contains now_waits name ⊎ (ends name ≡ true))
   pub noted : (name : List ℕ) → Contains now_waits name → Contains waits name ⊎ (now_seen name ≡ true)
   pub less : unseen objects now_seen + length now_waits ≤ unseen objects seen + length waits

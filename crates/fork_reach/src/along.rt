@@ -1,8 +1,7 @@
-ghost use Rattle.std.specs.Prelude.{◌≡◌, ◌≢◌, [], List, ℕ, map, IsTrue, IfOk, IfErr};
-ghost use Rattle.std.specs.Bool.{OnFalse};
+ghost use Rattle.std.specs.Prelude.{◌≡◌, map, not, IsTrue, IfOk};
 ghost use Rattle.git_commit.specs.Whole.{commit_of};
 ghost use Rattle.git_object.specs.ObjectIn.{links_in};
-ghost use Rattle.fork_reach.specs.Along.{names_along, names_in};
+ghost use Rattle.fork_reach.specs.Along.{names_along, names_in, rests, rests_in};
 ghost use Rattle.fork_reach.specs.Faults.{IsAsked, fault_in};
 ghost use Rattle.fork_reach.specs.Reach.{parents_in};
 
@@ -21,16 +20,25 @@ pub(crate) enum Along {
     Parents,
 }
 
-#[tactic(auto, using(crate::proofs::AlongLemmas::blob_goes_on))]
 // Whether objects of the kind go on to others at all.
 fn goes_on(along: Along, kind: Kind) -> bool
-    ensures { OnFalse result ((bytes : List ℕ) → names_in along kind bytes ≡ []) }
+    ensures { result ≡ not (rests along kind) }
 {
     match (along, kind) {
         (_, Kind::Blob) => false,
         (Along::Links, _) => true,
         (Along::Parents, Kind::Commit) => true,
         (Along::Parents, _) => false,
+    }
+}
+
+// The same where it is said along what.
+pub(crate) fn goes_on_in(along: Option<Along>, kind: Kind) -> bool
+    ensures { result ≡ not (rests_in along kind) }
+{
+    match along {
+        Some(along) => goes_on(along, kind),
+        None => true,
     }
 }
 
@@ -85,8 +93,7 @@ fn names_of(alloc: Global, along: Along, sealed: &Sealed) -> Result<Vec<Name>, A
     }
 }
 
-// The names that the object of this name goes on to. It is read at the most once, and not at all
-// where its kind goes on to none.
+// The names that the object of this name goes on to. It is read once.
 pub(crate) fn next_names<S: Source>(
     alloc: Global,
     source: &mut S,
@@ -96,12 +103,6 @@ pub(crate) fn next_names<S: Source>(
     ensures next { IsTrue (S.state source.old).honest → IfOk result (λ names. names.items ≡ names_along along (S.state source.old).objects name) }
     ensures asked { IsAsked (S.state source.old) (S.state source.new) (fault_in result) }
 {
-    let Some(kind) = source.kind_of(name) else {
-        return Ok(Vec::new(alloc));
-    };
-    if !goes_on(along, kind) {
-        return Ok(Vec::new(alloc));
-    }
     match source.read(alloc, name) {
         Ok(Some(sealed)) => names_of(alloc, along, &sealed).map_err(|_| SourceFault::Memory),
         Ok(None) => Ok(Vec::new(alloc)),

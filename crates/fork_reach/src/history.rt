@@ -36,14 +36,21 @@ impl Model for History {
 }
 
 impl Names for History {
+    ghost use Rattle.std.specs.Prelude.{false};
     ghost use Rattle.fork_reach.specs.History.{Note};
 
     ghost Of = { Note };
 
     ghost names = { λ history. history };
 
-    fn holds(&self, name: Name) -> bool {
-        self.contains(name)
+    ghost ends = { λ _ _. false };
+
+    fn leads(&self, name: Name) -> Option<bool> {
+        if self.contains(name) {
+            Some(true)
+        } else {
+            None
+        }
     }
 }
 

@@ -1,32 +1,38 @@
 ghost use Rattle.std.specs.Prelude.{[], ◌∷◌, OnOk};
 ghost use Rattle.std.specs.BTreeSet.{contains};
 ghost use Rattle.git_name.specs.Name.{name_cmp};
+ghost use Rattle.fork_reach.specs.Along.{rests_at};
 ghost use Rattle.fork_reach.specs.Hidden.{without};
 ghost use Rattle.fork_reach.specs.Objects.{measures_of};
 ghost use Rattle.fork_reach.specs.Seeing.{Sees};
 
+use crate::along::Along;
 use crate::names::{Names, Open};
 use crate::source::Source;
 use git_name::Name;
 use std::alloc::AllocError;
 use std::collections::BTreeSet;
 
-// Notes the name as seen, and as one that waits, where it is there and was not seen yet.
+// Notes the name as seen, and as one that waits where a walk goes on from it, where it is there and was
+// not seen yet.
 fn note<N: Names>(
     there: &N,
     name: Name,
     seen: &mut BTreeSet<Name>,
     waiting: &mut Vec<Name>,
 ) -> Result<(), AllocError>
-    ensures { OnOk result (Sees (N.names there.now) (name ∷ []) (contains name_cmp seen.old) waiting.old.items (contains name_cmp seen.new) waiting.new.items) }
+    ensures { OnOk result (Sees (N.names there.now) (N.ends there.now) (name ∷ []) (contains name_cmp seen.old) waiting.old.items (contains name_cmp seen.new) waiting.new.items) }
 {
-    if !there.holds(name) {
+    let Some(leads) = there.leads(name) else {
         return Ok(());
-    }
+    };
     let Ok(is_new) = seen.insert(name) else {
         return Err(AllocError);
     };
     if !is_new {
+        return Ok(());
+    }
+    if !leads {
         return Ok(());
     }
     waiting.push(name)?;
@@ -40,7 +46,7 @@ pub(crate) fn note_all<N: Names>(
     seen: &mut BTreeSet<Name>,
     waiting: &mut Vec<Name>,
 ) -> Result<(), AllocError>
-    ensures { OnOk result (Sees (N.names there.now) names.now (contains name_cmp seen.old) waiting.old.items (contains name_cmp seen.new) waiting.new.items) }
+    ensures { OnOk result (Sees (N.names there.now) (N.ends there.now) names.now (contains name_cmp seen.old) waiting.old.items (contains name_cmp seen.new) waiting.new.items) }
 {
     for name in names {
         note(there, *name, seen, waiting)?;
@@ -52,11 +58,17 @@ pub(crate) fn note_all<N: Names>(
 pub(crate) fn note_open<S: Source>(
     source: &S,
     hidden: &BTreeSet<Name>,
+    along: Option<Along>,
     names: &[Name],
     seen: &mut BTreeSet<Name>,
     waiting: &mut Vec<Name>,
 ) -> Result<(), AllocError>
-    ensures { OnOk result (Sees (without (measures_of (S.state source.now).objects) (contains name_cmp hidden.now)) names.now (contains name_cmp seen.old) waiting.old.items (contains name_cmp seen.new) waiting.new.items) }
+    ensures { OnOk result (Sees (without (measures_of (S.state source.now).objects) (contains name_cmp hidden.now)) (rests_at along (measures_of (S.state source.now).objects)) names.now (contains name_cmp seen.old) waiting.old.items (contains name_cmp seen.new) waiting.new.items) }
 {
-    note_all(&Open { source, hidden }, names, seen, waiting)
+    let open = Open {
+        source,
+        hidden,
+        along,
+    };
+    note_all(&open, names, seen, waiting)
 }

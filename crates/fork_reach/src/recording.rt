@@ -42,7 +42,7 @@ pub fn read_history<S: Source>(
     let mut history = History::new(alloc);
     let mut seen = BTreeSet::new(alloc);
     let mut waiting = Vec::new(alloc);
-    let Ok(()) = note_open(source, hidden, commits, &mut seen, &mut waiting) else {
+    let Ok(()) = note_open(source, hidden, None, commits, &mut seen, &mut waiting) else {
         return Err(SourceFault::Memory);
     };
     'waiting: while let Some(name) = waiting.pop() {
@@ -50,7 +50,14 @@ pub fn read_history<S: Source>(
             Ok(noted) => noted,
             Err(fault) => return Err(fault),
         };
-        let Ok(()) = note_open(source, hidden, noted.parents(), &mut seen, &mut waiting) else {
+        let Ok(()) = note_open(
+            source,
+            hidden,
+            None,
+            noted.parents(),
+            &mut seen,
+            &mut waiting,
+        ) else {
             return Err(SourceFault::Memory);
         };
         let Ok(()) = history.insert(name, noted) else {

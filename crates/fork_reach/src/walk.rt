@@ -16,7 +16,8 @@ use std::alloc::Global;
 use std::collections::BTreeSet;
 
 // The names that are reached from the roots, past none that is hidden. A name is seen when it is put on
-// the list of those that wait to be followed, so that each is followed once.
+// the list of those that wait to be followed, so that each is followed once; one whose kind goes on to
+// none is never put there.
 pub(crate) fn walk<S: Source>(
     alloc: Global,
     source: &mut S,
@@ -31,7 +32,7 @@ pub(crate) fn walk<S: Source>(
 {
     let mut seen = BTreeSet::new(alloc);
     let mut waiting = Vec::new(alloc);
-    let Ok(()) = note_open(source, hidden, roots, &mut seen, &mut waiting) else {
+    let Ok(()) = note_open(source, hidden, Some(along), roots, &mut seen, &mut waiting) else {
         return Err(SourceFault::Memory);
     };
     'waiting: while let Some(name) = waiting.pop() {
@@ -39,7 +40,14 @@ pub(crate) fn walk<S: Source>(
             Ok(names) => names,
             Err(fault) => return Err(fault),
         };
-        let Ok(()) = note_open(source, hidden, names.as_slice(), &mut seen, &mut waiting) else {
+        let Ok(()) = note_open(
+            source,
+            hidden,
+            Some(along),
+            names.as_slice(),
+            &mut seen,
+            &mut waiting,
+        ) else {
             return Err(SourceFault::Memory);
         };
     }

@@ -5,11 +5,13 @@ use Rattle.std.proofs.lemmas.Bool.{and_parts}
 use Rattle.std.proofs.lemmas.List.Elements.{Contains-append_right}
 use Rattle.std.specs.List.{Contains}
 use Rattle.git_name.specs.Name.{name_cmp}
+use Rattle.fork_reach.specs.Along.{rests_at}
 use Rattle.fork_reach.specs.Hidden.{without}
 use Rattle.fork_reach.specs.History.{note_at}
 use Rattle.fork_reach.specs.Objects.{measures_of}
 use Rattle.fork_reach.specs.Reach.{is_reached, parent_names}
 use Rattle.fork_reach.specs.Seeing.{Sees}
+use Rattle.fork_reach.proofs.AlongLemmas.{none_rests}
 use Rattle.fork_reach.proofs.AskedLemmas.{asked_again, not_asked}
 use Rattle.fork_reach.proofs.HiddenLemmas.{measured_without, there_without}
 use Rattle.fork_reach.proofs.HistoryLemmas.{keeps_begin, keeps_end, keeps_on, note_parents}
@@ -26,8 +28,8 @@ waiting-init g c =
     let none_seen = empty_holds_none c.new-seen.result.keys c.new-seen.ensures.empty in
     record {
       asked = not_asked old;
-      walks = walks_begin (parent_names old.objects) there c.args.commits.now old.honest (contains name_cmp c.new-seen.result) c.new-waiting.result.items (contains name_cmp c.note_open.new.seen) c.note_open.new.waiting.items none_seen c.new-waiting.ensures.items c.in-Ok.ensures;
-      keeps = keeps_begin there old.objects old.honest c.args.commits.now (contains name_cmp c.new-seen.result) c.new-waiting.result.items (contains name_cmp c.note_open.new.seen) c.note_open.new.waiting.items c.new-history.result none_seen c.new-history.ensures c.in-Ok.ensures;
+      walks = walks_begin (parent_names old.objects) there (rests_at None (measures_of old.objects)) c.args.commits.now old.honest (contains name_cmp c.new-seen.result) c.new-waiting.result.items (contains name_cmp c.note_open.new.seen) c.note_open.new.waiting.items (λ honest from rests. absurd (none_rests (measures_of old.objects) from rests)) none_seen c.new-waiting.ensures.items c.in-Ok.ensures;
+      keeps = keeps_begin there (rests_at None (measures_of old.objects)) old.objects old.honest c.args.commits.now (contains name_cmp c.new-seen.result) c.new-waiting.result.items (contains name_cmp c.note_open.new.seen) c.note_open.new.waiting.items c.new-history.result (none_rests (measures_of old.objects)) none_seen c.new-history.ensures c.in-Ok.ensures;
     }
 
 pub waiting-preserved : goal.waiting-preserved
@@ -47,14 +49,14 @@ waiting-preserved g c =
     let names = c.parents.result.now in
     let now_seen = contains name_cmp c.note_open-in-Some.new.seen in
     let now_waits = c.note_open-in-Some.new.waiting.items in
-    let sees = subst (λ measures. Sees (without measures hides) names seen rest now_seen now_waits) asked.measures c.in-Ok-note_open.ensures in
+    let sees = subst (λ measures. Sees (without measures hides) (rests_at None measures) names seen rest now_seen now_waits) asked.measures c.in-Ok-note_open.ensures in
     let right = (λ (honest : IsTrue old.honest). told.noted (subst IsTrue (sym before.asked.honest) honest) ∙ ap (λ all. note_at all name) (before.asked.objects honest)) in
     let popped = c.in-Some.ensures.items in
     record {
       asked = asked;
-      walks = walks_on (parent_names old.objects) there c.args.commits.now old.honest seen waits rest name names now_seen now_waits popped before.walks
+      walks = walks_on (parent_names old.objects) there (rests_at None (measures_of old.objects)) c.args.commits.now old.honest seen waits rest name names now_seen now_waits (λ honest from rests. absurd (none_rests (measures_of old.objects) from rests)) popped before.walks
           (λ honest. c.parents.ensures ∙ ap (λ n. n.parents) (right honest) ∙ note_parents old.objects name) sees;
-      keeps = keeps_on there old.objects old.honest seen waits rest name names now_seen now_waits c.waiting.history c.insert.new.self note popped
+      keeps = keeps_on there (rests_at None (measures_of old.objects)) old.objects old.honest seen waits rest name names now_seen now_waits c.waiting.history c.insert.new.self note (none_rests (measures_of old.objects)) popped
           (before.walks.noted name (subst (λ w. Contains w name) (sym popped) (Contains-append_right rest _ name (sole name)))) right c.in-Ok-insert.ensures.ok sees before.keeps;
     }
 

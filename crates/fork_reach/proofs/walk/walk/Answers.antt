@@ -1,10 +1,11 @@
-use Rattle.std.proofs.Common.{IsTrue, None, vec_len, subst, sym, ◌∙◌, ap}
+use Rattle.std.proofs.Common.{IsTrue, None, Some, vec_len, subst, sym, ◌∙◌, ap}
 use Rattle.std.specs.BTreeSet.{contains}
 use Rattle.git_name.specs.Name.{name_cmp}
-use Rattle.fork_reach.specs.Along.{names_along}
+use Rattle.fork_reach.specs.Along.{names_along, rests_at}
 use Rattle.fork_reach.specs.Hidden.{without}
 use Rattle.fork_reach.specs.Objects.{measures_of}
 use Rattle.fork_reach.specs.Seeing.{Sees}
+use Rattle.fork_reach.proofs.AlongLemmas.{quiet_along}
 use Rattle.fork_reach.proofs.AskedLemmas.{asked_again, not_asked}
 use Rattle.fork_reach.proofs.HiddenLemmas.{measured_without}
 use Rattle.fork_reach.proofs.NameLemmas.{empty_holds_none}
@@ -17,8 +18,8 @@ waiting-init g c =
     let old = g.S.Source.state c.args.source.now in
     record {
       asked = not_asked old;
-      walks = walks_begin (names_along c.args.along old.objects) (without (measures_of old.objects) (contains name_cmp c.args.hidden.now)) c.args.roots.now old.honest (contains name_cmp c.new-seen.result) c.new-waiting.result.items (contains name_cmp c.note_open.new.seen) c.note_open.new.waiting.items
-          (empty_holds_none c.new-seen.result.keys c.new-seen.ensures.empty) c.new-waiting.ensures.items c.in-Ok.ensures;
+      walks = walks_begin (names_along c.args.along old.objects) (without (measures_of old.objects) (contains name_cmp c.args.hidden.now)) (rests_at (Some c.args.along) (measures_of old.objects)) c.args.roots.now old.honest (contains name_cmp c.new-seen.result) c.new-waiting.result.items (contains name_cmp c.note_open.new.seen) c.note_open.new.waiting.items
+          (λ honest from rests. quiet_along c.args.along old.objects from rests) (empty_holds_none c.new-seen.result.keys c.new-seen.ensures.empty) c.new-waiting.ensures.items c.in-Ok.ensures;
     }
 
 pub waiting-preserved : goal.waiting-preserved
@@ -38,9 +39,9 @@ waiting-preserved g c =
     let now_waits = c.note_open-in-Some.new.waiting.items in
     record {
       asked = asked;
-      walks = walks_on next (without (measures_of old.objects) hides) c.args.roots.now old.honest seen c.waiting.waiting.items rest name names now_seen now_waits c.in-Some.ensures.items before.walks
+      walks = walks_on next (without (measures_of old.objects) hides) (rests_at (Some c.args.along) (measures_of old.objects)) c.args.roots.now old.honest seen c.waiting.waiting.items rest name names now_seen now_waits (λ honest from rests. quiet_along c.args.along old.objects from rests) c.in-Some.ensures.items before.walks
           (λ honest. c.as_slice.ensures.value ∙ told.next (subst IsTrue (sym before.asked.honest) honest) ∙ ap (λ all. names_along c.args.along all name) (before.asked.objects honest))
-          (subst (λ measures. Sees (without measures hides) names seen rest now_seen now_waits) asked.measures c.in-Ok-note_open.ensures);
+          (subst (λ measures. Sees (without measures hides) (rests_at (Some c.args.along) measures) names seen rest now_seen now_waits) asked.measures c.in-Ok-note_open.ensures);
     }
 
 pub returns-clause-found : goal.returns-clause-found

@@ -1,4 +1,4 @@
-use Rattle.std.proofs.Common.{true, refl, vec_len}
+use Rattle.std.proofs.Common.{true, false, refl, vec_len}
 use Rattle.std.specs.BTreeSet.{contains}
 use Rattle.git_name.specs.Name.{name_cmp}
 use Rattle.fork_reach.specs.History.{noted_parents}
@@ -9,14 +9,14 @@ use Rattle.fork_reach.proofs.history.History.ancestors.Goals as goal
 pub waiting-init : goal.waiting-init
 waiting-init c =
     let self = c.args.self.now in
-    walks_begin (noted_parents self) self c.args.commits.now true (contains name_cmp c.new-seen.result) c.new-waiting.result.items (contains name_cmp c.note_all.new.seen) c.note_all.new.waiting.items
-    (empty_holds_none c.new-seen.result.keys c.new-seen.ensures.empty) c.new-waiting.ensures.items c.in-Ok.ensures
+    walks_begin (noted_parents self) self (λ _. false) c.args.commits.now true (contains name_cmp c.new-seen.result) c.new-waiting.result.items (contains name_cmp c.note_all.new.seen) c.note_all.new.waiting.items
+    (λ honest from is. absurd (cc)) (empty_holds_none c.new-seen.result.keys c.new-seen.ensures.empty) c.new-waiting.ensures.items c.in-Ok.ensures
 
 pub waiting-preserved : goal.waiting-preserved
 waiting-preserved c =
     let self = c.args.self.now in
-    walks_on (noted_parents self) self c.args.commits.now true (contains name_cmp c.waiting.seen) c.waiting.waiting.items c.pop.new.self.items c.in-Some.name c.parents.result.now (contains name_cmp c.note_all-in-Some.new.seen) c.note_all-in-Some.new.waiting.items
-    c.in-Some.ensures.items c.waiting.invariant (λ honest. c.parents.ensures) c.in-Ok-note_all.ensures
+    walks_on (noted_parents self) self (λ _. false) c.args.commits.now true (contains name_cmp c.waiting.seen) c.waiting.waiting.items c.pop.new.self.items c.in-Some.name c.parents.result.now (contains name_cmp c.note_all-in-Some.new.seen) c.note_all-in-Some.new.waiting.items
+    (λ honest from is. absurd (cc)) c.in-Some.ensures.items c.waiting.invariant (λ honest. c.parents.ensures) c.in-Ok-note_all.ensures
 
 pub returns : goal.returns
 returns c = λ name.

@@ -1,0 +1,26 @@
+use Rattle.std.proofs.Common.{sym, ap, ◌∙◌, is_some}
+use Rattle.std.specs.BTreeSet.{contains}
+use Rattle.git_name.specs.Name.{name_cmp}
+use Rattle.fork_reach.specs.Along.{rests_in}
+use Rattle.fork_reach.specs.Objects.{measures_of}
+use Rattle.fork_reach.proofs.AlongLemmas.{rests_by_kind}
+use Rattle.fork_reach.proofs.HiddenLemmas.{hidden_away, kind_shown}
+use Rattle.fork_reach.proofs.SeeingLemmas.{was_seen}
+use Rattle.fork_reach.proofs.names.OpenNames.leads.Goals as goal
+
+pub returns-then-contains-clause-there : goal.returns-then-contains-clause-there
+returns-then-contains-clause-there g c =
+    sym (hidden_away (measures_of (g.S.Source.state c.args.self.now.source.now).objects) (contains name_cmp c.args.self.now.hidden.now) c.args.name (sym c.contains.ensures ∙ c.if-contains.true))
+
+pub returns-in_default-clause-there : goal.returns-in_default-clause-there
+returns-in_default-clause-there g c =
+    ap is_some c.in_default.ensures ∙ sym (kind_shown (g.S.Source.state c.args.self.now.source.now).objects (contains name_cmp c.args.self.now.hidden.now) c.args.name (sym c.contains.ensures ∙ c.if-contains.false))
+
+pub returns-clause-there : goal.returns-clause-there
+returns-clause-there g c =
+    ap is_some c.in-Some.ensures ∙ sym (kind_shown (g.S.Source.state c.args.self.now.source.now).objects (contains name_cmp c.args.self.now.hidden.now) c.args.name (sym c.contains.ensures ∙ c.if-contains.false))
+
+pub returns-clause-ends : goal.returns-clause-ends
+returns-clause-ends g c rests =
+    rests_by_kind c.args.self.now.along (g.S.Source.state c.args.self.now.source.now).objects c.args.name c.in-Some.kind c.in-Some.ensures
+    ∙ was_seen c.goes_on_in.result (rests_in c.args.self.now.along c.in-Some.kind) c.goes_on_in.ensures rests

@@ -9,7 +9,7 @@ ghost use Rattle.fork_ledger.specs.Store.{CountsFault, Meets, fault_in};
 
 use crate::fault::VaultFault;
 use git_name::Sealed;
-use loose_store::{FileFault, LooseFiles, StoreFault, file_of};
+use loose_store::{FileFault, LooseFiles, StoreFault};
 use read_cache::CachedStore;
 use std::alloc::Global;
 
@@ -86,10 +86,7 @@ fn put_whole<S: LooseFiles>(
     ensures undamaged { IfErr result (λ fault. fault ≢ VaultFault.Damaged) }
     ensures apart { IfErr result (λ fault. fault ≢ VaultFault.Collision) }
 {
-    let Ok(file) = file_of(alloc, sealed) else {
-        return Err(VaultFault::Memory);
-    };
-    match files.put(alloc, sealed.name(), file.as_slice()) {
+    match files.put(alloc, sealed) {
         Ok(()) => Ok(()),
         Err(FileFault::Device) => Err(VaultFault::Store),
         Err(FileFault::Memory) => Err(VaultFault::Memory),

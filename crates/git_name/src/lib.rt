@@ -14,5 +14,5 @@ mod text;
 pub use crate::kind::Kind;
 pub use crate::name::{Name, name_of};
 pub use crate::number::decimal;
-pub use crate::sealed::{Sealed, seal};
+pub use crate::sealed::{Sealed, seal, seal_as};
 pub use crate::text::{first_word, split_once};

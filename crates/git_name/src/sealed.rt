@@ -33,6 +33,14 @@ pub fn seal(kind: Kind, bytes: Vec<u8>) -> Sealed
     Sealed { kind, bytes, name }
 }
 
+/// The same of an object whose name is known already. It hashes nothing.
+pub fn seal_as(kind: Kind, bytes: Vec<u8>, name: Name) -> Sealed
+    requires { name ≡ object_name (record { kind = kind; bytes = bytes.items }) }
+    ensures { result ≡ record { kind = kind; bytes = bytes.items } }
+{
+    Sealed { kind, bytes, name }
+}
+
 impl Sealed {
     /// What the object is.
     pub fn kind(&self) -> Kind

@@ -101,6 +101,10 @@ impl LooseFiles for Memory {
         Ok(names_in(alloc, &self.files)?)
     }
 
+    fn is_fresh(&self) -> bool {
+        self.files.is_empty()
+    }
+
     fn failures(&self) -> u64 {
         0
     }

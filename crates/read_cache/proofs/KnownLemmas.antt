@@ -19,7 +19,7 @@ is_equal Less e = cc
 is_equal Equal e = refl
 is_equal Greater e = cc
 
-tied_names : (q k : List ℕ) → eq_by_cmp name_cmp q k ≡ true → q ≡ k
+pub tied_names : (q k : List ℕ) → eq_by_cmp name_cmp q k ≡ true → q ≡ k
 tied_names q k same = name_exact q k (is_equal (name_cmp q k) same)
 
 -- nothing is noted

@@ -1,3 +1,4 @@
 pub mod CacheLemmas
 pub mod KnownLemmas
+pub mod SureLemmas
 pub mod WholeLemmas

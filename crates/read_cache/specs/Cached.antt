@@ -1,6 +1,7 @@
 -- What a cache of objects has (own).
-use Rattle.std.specs.Prelude.{◌≡◌, ℕ, List, Contains}
+use Rattle.std.specs.Prelude.{◌≡◌, ℕ, Bool, true, IsTrue, List, Some, Contains}
 use Rattle.std.specs.Coded.{Coded, coded×, coded_list, coded_ℕ}
+use Rattle.std.specs.FinMap.{get}
 use Rattle.git_name.specs.Object.{Object, object_name}
 use Rattle.git_name.specs.contracts.sealed.Sealed as sealed
 use Rattle.loose_store.specs.Files.{Files}
@@ -21,3 +22,11 @@ AreNamed entries = (name : List ℕ) (object : Object) → Contains entries (nam
 -- each object stands whole on the store
 abbrev pub AreWhole : Cached → Files → Type 0
 AreWhole entries files = (name : List ℕ) (object : Object) → Contains entries (name, object) → Whole files name object
+
+-- each file is whole of some object, under its name
+abbrev pub AllWhole : Files → Type 0
+AllWhole files = (name bytes : List ℕ) → get files name ≡ Some bytes → (object : Object) × Whole files name object
+
+-- where a store is sure, it is honest, and each of its files is whole
+abbrev pub IsSure : Bool → Bool → Files → Type 0
+IsSure sure honest files = sure ≡ true → IsTrue honest × AllWhole files

@@ -1,32 +1,35 @@
 ghost use Rattle.std.specs.Prelude.{◌≡◌, IsTrue, IfOk, IfSome, OnOk, Some, true};
 ghost use Rattle.std.specs.FinMap as map;
-ghost use Rattle.git_name.specs.Object.{object_name};
+ghost use Rattle.git_name.specs.Object.{object_name, typed_bytes};
 ghost use Rattle.loose_store.specs.Files.{SameBut};
 ghost use Rattle.loose_store.specs.Failures.{Counts};
 ghost use Rattle.loose_store.specs.Stored.{ReadsTo, CountsRead as CountsAsked};
 ghost use Rattle.read_cache.specs.Known.{AreKnown, IsKnown};
-ghost use Rattle.read_cache.specs.Stores.{CountsRead};
+ghost use Rattle.read_cache.specs.Stores.{CountsPut, CountsRead};
 
 use crate::read_cache::ReadCache;
 use crate::survey::Survey;
-use git_name::{Kind, Name, Sealed};
-use loose_store::{FileFault, LooseFiles, StoreFault, read_checked};
+use git_name::{Kind, Name, Sealed, seal_as};
+use loose_store::{
+    FileFault, LooseFiles, StoreFault, content_of, file_of, one_object, read_checked,
+};
 use std::alloc::{AllocError, Global};
 use std::marker::Model;
 
 /// A store, the objects that were read from it last, and what a survey of it found. Seen from outside
 /// it is the store alone; over an honest one each object that is kept or was surveyed stands whole in
-/// its file.
+/// its file. Of a store that was fresh each file was put here, whole, and is not hashed again.
 #[derive(Drop)]
 pub struct CachedStore<S: LooseFiles> {
     files: S,
     cache: ReadCache,
     survey: Survey,
+    is_sure: bool,
 }
 
 impl<S: LooseFiles> Model for CachedStore<S> {
     ghost use Rattle.std.specs.Prelude.{IsTrue};
-    ghost use Rattle.read_cache.specs.Cached.{AreWhole};
+    ghost use Rattle.read_cache.specs.Cached.{AreWhole, IsSure};
     ghost use Rattle.read_cache.specs.Known.{AreKnown};
     ghost use Rattle.read_cache.specs.Stores.{StoreState, store_code};
 
@@ -40,7 +43,7 @@ impl<S: LooseFiles> Model for CachedStore<S> {
       failures = S.failures a.files;
     } };
 
-    ghost invariant = { λ a. (IsTrue (S.honest a.files) → AreWhole a.cache (S.contents a.files)) × AreKnown (S.honest a.files) (S.contents a.files) a.survey };
+    ghost invariant = { λ a. (IsTrue (S.honest a.files) → AreWhole a.cache (S.contents a.files)) × AreKnown (S.honest a.files) (S.contents a.files) a.survey × IsSure a.is_sure (S.honest a.files) (S.contents a.files) };
 }
 
 impl<S: LooseFiles + Drop> CachedStore<S> {
@@ -52,10 +55,12 @@ impl<S: LooseFiles + Drop> CachedStore<S> {
     {
         let cache = ReadCache::new(alloc)?;
         let survey = Survey::new(alloc);
+        let is_sure = files.is_fresh();
         Ok(CachedStore {
             files,
             cache,
             survey,
+            is_sure,
         })
     }
 }
@@ -80,7 +85,7 @@ impl<S: LooseFiles> CachedStore<S> {
         ensures honest { self.new.honest ≡ self.old.honest }
         ensures cause { CountsRead self.old.failures self.new.failures result }
     {
-        read_through(alloc, &mut self.files, &mut self.cache, name)
+        read_through(alloc, &mut self.files, &mut self.cache, self.is_sure, name)
     }
 
     /// The same, asked of the store alone. Nothing is kept.
@@ -135,16 +140,24 @@ impl<S: LooseFiles> CachedStore<S> {
         self.files.names(alloc)
     }
 
-    /// Writes one file whole, in the place of one that is there.
-    pub fn put(&mut self, alloc: Global, name: Name, bytes: &[u8]) -> Result<(), FileFault>
-        ensures ok { IsTrue self.old.honest → OnOk result (self.new.contents ≡ map.insert self.old.contents name bytes.now) }
-        ensures others { IsTrue self.old.honest → SameBut name self.old.contents self.new.contents }
+    /// Writes the file of an object, in the place of one that is there.
+    pub fn put(&mut self, alloc: Global, sealed: &Sealed) -> Result<(), FileFault>
+        ensures ok { IsTrue self.old.honest → OnOk result (self.new.contents ≡ map.insert self.old.contents (object_name sealed.now) (typed_bytes sealed.now)) }
+        ensures others { IsTrue self.old.honest → SameBut (object_name sealed.now) self.old.contents self.new.contents }
         ensures honest { self.new.honest ≡ self.old.honest }
-        ensures cause { Counts self.old.failures self.new.failures result }
+        ensures cause { CountsPut self.old.failures self.new.failures result }
     {
+        let Ok(file) = file_of(alloc, sealed) else {
+            return Err(FileFault::Memory);
+        };
+        let name = sealed.name();
         self.cache.forget(name);
         self.survey.end();
-        self.files.put(alloc, name, bytes)
+        let Err(fault) = self.files.put(alloc, name, file.as_slice()) else {
+            return Ok(());
+        };
+        self.is_sure = false;
+        Err(fault)
     }
 
     /// Takes one file away. Where none is there it succeeds and changes nothing.
@@ -156,20 +169,26 @@ impl<S: LooseFiles> CachedStore<S> {
     {
         self.cache.forget(name);
         self.survey.end();
-        self.files.remove(alloc, name)
+        let Err(fault) = self.files.remove(alloc, name) else {
+            return Ok(());
+        };
+        self.is_sure = false;
+        Err(fault)
     }
 }
 
-ghost use Rattle.read_cache.specs.Cached.{AreWhole};
+ghost use Rattle.read_cache.specs.Cached.{AllWhole, AreWhole, IsSure};
 
 // The object of a name, out of the cache or from the store.
 fn read_through<S: LooseFiles>(
     alloc: Global,
     files: &mut S,
     cache: &mut ReadCache,
+    is_sure: bool,
     name: Name,
 ) -> Result<Option<Sealed>, StoreFault>
-    requires { IsTrue (S.honest files.old) → AreWhole cache.old (S.contents files.old) }
+    requires kept { IsTrue (S.honest files.old) → AreWhole cache.old (S.contents files.old) }
+    requires sure { IsSure is_sure (S.honest files.old) (S.contents files.old) }
     ensures reads { IsTrue (S.honest files.old) → ReadsTo (S.contents files.old) name result }
     ensures kept { IsTrue (S.honest files.old) → S.contents files.new ≡ S.contents files.old }
     ensures whole { IsTrue (S.honest files.old) → AreWhole cache.new (S.contents files.new) }
@@ -183,7 +202,7 @@ fn read_through<S: LooseFiles>(
     if let Some(sealed) = kept {
         return Ok(Some(sealed));
     }
-    read_and_keep(alloc, files, cache, name)
+    read_and_keep(alloc, files, cache, is_sure, name)
 }
 
 // The object of a name, from the store, which is kept.
@@ -191,9 +210,11 @@ fn read_and_keep<S: LooseFiles>(
     alloc: Global,
     files: &mut S,
     cache: &mut ReadCache,
+    is_sure: bool,
     name: Name,
 ) -> Result<Option<Sealed>, StoreFault>
-    requires { IsTrue (S.honest files.old) → AreWhole cache.old (S.contents files.old) }
+    requires kept { IsTrue (S.honest files.old) → AreWhole cache.old (S.contents files.old) }
+    requires sure { IsSure is_sure (S.honest files.old) (S.contents files.old) }
     ensures reads { IsTrue (S.honest files.old) → ReadsTo (S.contents files.old) name result }
     ensures kept { IsTrue (S.honest files.old) → S.contents files.new ≡ S.contents files.old }
     ensures whole { IsTrue (S.honest files.old) → AreWhole cache.new (S.contents files.new) }
@@ -201,7 +222,7 @@ fn read_and_keep<S: LooseFiles>(
     ensures honest { S.honest files.new ≡ S.honest files.old }
     ensures cause { CountsRead (S.failures files.old) (S.failures files.new) result }
 {
-    match read_checked(alloc, files, name) {
+    match read_either(alloc, files, is_sure, name) {
         Ok(Some(sealed)) => {
             cache.keep(&sealed);
             Ok(Some(sealed))
@@ -209,6 +230,59 @@ fn read_and_keep<S: LooseFiles>(
         Ok(None) => Ok(None),
         Err(fault) => Err(fault),
     }
+}
+
+// The object of a name, from the store. Where the store is sure it is not hashed.
+fn read_either<S: LooseFiles>(
+    alloc: Global,
+    files: &mut S,
+    is_sure: bool,
+    name: Name,
+) -> Result<Option<Sealed>, StoreFault>
+    requires { IsSure is_sure (S.honest files.old) (S.contents files.old) }
+    ensures reads { IsTrue (S.honest files.old) → ReadsTo (S.contents files.old) name result }
+    ensures kept { IsTrue (S.honest files.old) → S.contents files.new ≡ S.contents files.old }
+    ensures named { IfOk result (λ found. IfSome found (λ sealed. object_name sealed ≡ name)) }
+    ensures honest { S.honest files.new ≡ S.honest files.old }
+    ensures cause { CountsRead (S.failures files.old) (S.failures files.new) result }
+{
+    if is_sure {
+        read_unhashed(alloc, files, name)
+    } else {
+        read_checked(alloc, files, name)
+    }
+}
+
+// The object of a name, from a store of which each file is whole.
+fn read_unhashed<S: LooseFiles>(
+    alloc: Global,
+    files: &mut S,
+    name: Name,
+) -> Result<Option<Sealed>, StoreFault>
+    requires honest { IsTrue (S.honest files.old) }
+    requires whole { AllWhole (S.contents files.old) }
+    ensures reads { ReadsTo (S.contents files.old) name result }
+    ensures kept { S.contents files.new ≡ S.contents files.old }
+    ensures named { IfOk result (λ found. IfSome found (λ sealed. object_name sealed ≡ name)) }
+    ensures honest { S.honest files.new ≡ S.honest files.old }
+    ensures cause { CountsRead (S.failures files.old) (S.failures files.new) result }
+{
+    one_object();
+    let found = match files.get(alloc, name) {
+        Ok(found) => found,
+        Err(FileFault::Device) => return Err(StoreFault::Device),
+        Err(FileFault::Memory) => return Err(StoreFault::Memory),
+    };
+    let Some(file) = found else {
+        return Ok(None);
+    };
+    let Some((kind, content)) = content_of(file.as_slice()) else {
+        unreachable!();
+    };
+    let Ok(content) = content.to_vec(alloc) else {
+        return Err(StoreFault::Memory);
+    };
+    Ok(Some(seal_as(kind, content, name)))
 }
 
 // The object of a name, from the store, which is noted.

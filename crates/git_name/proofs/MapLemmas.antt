@@ -4,10 +4,10 @@ use Rattle.std.specs.declared.cmp.Ordering.{Ordering}
 use Rattle.std.specs.Ordering.{eq_by_cmp, is_lt}
 use Rattle.std.specs.Prelude.{T}
 use Rattle.std.specs.Option.{option_map, option_or}
-use Rattle.std.specs.Cmp.{IsTotalOrder, eq_by_cmp_equiv}
+use Rattle.std.specs.Cmp.{IsTotalOrder}
 use Rattle.std.specs.BTreeMap.{is_at}
 use Rattle.std.specs.Map.{lookup}
-use Rattle.std.specs.FinMap.{FinMap, IsAntisymmetric, empty, entries, entries_sorted, entries-from_sorted, find, from_entries, get, get-empty, get-entries, get-from_sorted, get-insert, insert, is_sorted, same_map}
+use Rattle.std.specs.FinMap.{FinMap, IsAntisymmetric, empty, entries, entries_sorted, entries-from_sorted, find, get, get-empty, get-entries, get-from_sorted, get-insert, insert, is_sorted, same_map}
 use Rattle.std.specs.FinMap.Entries.{below_all}
 use Rattle.git_name.specs.Maps.{joined, map_values, mapped}
 use Rattle.git_name.proofs.TreeMaps.{find_is_lookup, get_of_entries}

@@ -1,5 +1,5 @@
 -- A history that is read, commit by commit.
-use Rattle.std.proofs.Common.{◌≡◌, ℕ, Bool, true, false, cond, IsTrue, List, [], ◌∷◌, ◌++◌, Option, None, Some, is_some, refl, sym, ap, subst, ◌∙◌, inl, inr, ◌⊎◌}
+use Rattle.std.proofs.Common.{◌≡◌, ◌≢◌, ℕ, Bool, true, false, cond, IsTrue, List, [], ◌∷◌, ◌++◌, Option, None, Some, is_some, refl, sym, ap, subst, ◌∙◌, inl, inr, ◌⊎◌}
 use Rattle.std.specs.List.{Contains}
 use Rattle.std.specs.FinMap.{FinMap, contains_key, empty, get, get-empty, get-insert, insert, retain_keys, same_map}
 use Rattle.std.specs.Option.{option_map}
@@ -9,15 +9,31 @@ use Rattle.std.proofs.lemmas.List.Elements.{Contains-append_cases}
 use Rattle.git_name.specs.Maps.{map_values}
 use Rattle.git_name.specs.Name.{name_cmp}
 use Rattle.git_name.specs.Object.{Object}
+use Rattle.git_name.specs.declared.kind.Kind.{Kind}
+use Rattle.git_name.specs.declared.kind.Kind.TheVariants.{Blob, Tree, Commit, Tag}
 use Rattle.git_name.proofs.MapLemmas.{get_map_values}
 use Rattle.git_name.proofs.Names.{name_total, name_exact}
 use Rattle.fork_reach.specs.History.{Note, Notes, note_at, note_of, note_of_found}
 use Rattle.fork_reach.specs.Reach.{parent_names, parents_of_found}
 use Rattle.fork_reach.specs.Seeing.{Sees}
-use Rattle.fork_reach.specs.Source.{Objects}
+use Rattle.fork_reach.specs.Source.{Objects, kind_in}
 use Rattle.fork_reach.proofs.HiddenLemmas.{get_kept}
 use Rattle.fork_reach.proofs.KeptObjects.{tied_names}
 use Rattle.fork_reach.proofs.SeeingLemmas.{none_there, sole_there}
+
+-- what is no commit is noted as none
+pub no_note : (objects : Objects) (name : List ℕ) → kind_in objects name ≢ Some Commit → note_at objects name ≡ record { parents = []; seconds = 0 }
+no_note objects name other = by (get objects name) other
+  where
+    of_kind : (kind : Kind) (bytes : List ℕ) → Some kind ≢ Some Commit → note_of (record { kind = kind; bytes = bytes }) ≡ record { parents = []; seconds = 0 }
+    of_kind Blob bytes is = refl
+    of_kind Tree bytes is = refl
+    of_kind Commit bytes is = absurd (is refl)
+    of_kind Tag bytes is = refl
+
+    by : (found : Option Object) → option_map (λ object. object.kind) found ≢ Some Commit → note_of_found found ≡ record { parents = []; seconds = 0 }
+    by None is = refl
+    by (Some object) is = of_kind object.kind object.bytes is
 
 -- between two steps: what is seen waits, or is noted rightly, and nothing else is noted
 pub record Keeps (objects : Objects) (honest : Bool) (seen : List ℕ → Bool) (waits : List (List ℕ)) (notes : Notes) : Type 0 where

@@ -1,4 +1,5 @@
-ghost use Rattle.std.specs.Prelude.{◌≡◌, IsTrue, IfOk};
+ghost use Rattle.std.specs.Prelude.{◌≡◌, ◌≢◌, Some, IsTrue, IfOk};
+ghost use Rattle.std.specs.Bool.{OnFalse};
 ghost use Rattle.std.specs.BTreeSet.{contains};
 ghost use Rattle.std.specs.FinMap as map;
 ghost use Rattle.git_name.specs.Maps.{map_values};
@@ -7,20 +8,35 @@ ghost use Rattle.fork_reach.specs.Faults.{IsAsked, fault_in};
 ghost use Rattle.fork_reach.specs.Hidden.{without};
 ghost use Rattle.fork_reach.specs.History.{note_at, note_of};
 ghost use Rattle.fork_reach.specs.Reach.{is_reached, parent_names};
+ghost use Rattle.fork_reach.specs.Source.{kind_in};
 
 use crate::history::History;
 use crate::noted::Noted;
 use crate::noting::note_open;
 use crate::source::{Source, SourceFault};
-use git_name::Name;
+use git_name::{Kind, Name};
 use std::alloc::Global;
 use std::collections::BTreeSet;
 
-// What is noted of the object of this name, which is read once.
+// Whether the object of this name is a commit. It reads no bytes of it.
+fn is_commit<S: Source>(source: &S, name: Name) -> bool
+    ensures { OnFalse result (kind_in (S.state source.now).objects name ≢ Some Kind.Commit) }
+{
+    match source.kind_of(name) {
+        Some(Kind::Commit) => true,
+        _ => false,
+    }
+}
+
+// What is noted of the object of this name. It is read at the most once, and not at all where it is no
+// commit.
 fn noted<S: Source>(alloc: Global, source: &mut S, name: Name) -> Result<Noted, SourceFault>
     ensures noted { IsTrue (S.state source.old).honest → IfOk result (λ noted. noted ≡ note_at (S.state source.old).objects name) }
     ensures asked { IsAsked (S.state source.old) (S.state source.new) (fault_in result) }
 {
+    if !is_commit(source, name) {
+        return Ok(Noted::none(alloc));
+    }
     match source.read(alloc, name) {
         Ok(Some(sealed)) => Noted::of(alloc, &sealed).map_err(|_| SourceFault::Memory),
         Ok(None) => Ok(Noted::none(alloc)),

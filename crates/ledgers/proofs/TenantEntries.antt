@@ -64,6 +64,12 @@ pub fresh_known : (ledgers : AllWords) (es : List (List ℕ × Words)) (t name :
 fresh_known ledgers es t name found own b is there fresh here =
     fresh ∙ ap (λ o. not (contains_key (unwrap_or o empty) name)) (sym (found_in ledgers es t (Some found) is there) ∙ here)
 
+-- a tenant whose ledger is found is not unknown
+pub known_there : (ledgers : AllWords) (es : List (List ℕ × Words)) (t : List ℕ) (found : Words) → from_entries es ≡ ledgers → Some found ≡ lookup (is_at (name_cmp t)) es → get ledgers t ≡ None → ⊥
+known_there ledgers es t found is there none =
+    let here = found_in ledgers es t (Some found) is there in
+    let no : ⊥ = cc (here, none) in no
+
 -- what a test of an absence says of what it asks
 pub was_there : (is_new there : Bool) → is_new ≡ not there → is_new ≡ false → there ≡ true
 was_there is_new true is old = refl

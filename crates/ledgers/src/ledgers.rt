@@ -1,4 +1,4 @@
-ghost use Rattle.std.specs.Prelude.{◌≡◌, ◌≤◌, ◌+◌, List, ℕ, Some, not, IfOk, OnOk, OnErr};
+ghost use Rattle.std.specs.Prelude.{◌≡◌, ◌≤◌, ◌+◌, List, ℕ, Some, None, false, not, IfOk, OnOk, OnErr};
 ghost use Rattle.std.specs.BTreeSet.{contains};
 ghost use Rattle.std.specs.FinMap as map;
 ghost use Rattle.std.specs.Option.{option_copied};
@@ -71,8 +71,8 @@ impl Ledgers {
         }
     }
 
-    /// Stages an object for a tenant. Answers whether a tenant that is there had no word of
-    /// its name.
+    /// Stages an object for a tenant. Answers whether the tenant is there and had no word
+    /// of its name.
     pub fn stage(
         &mut self,
         tenant: &TenantName,
@@ -82,6 +82,7 @@ impl Ledgers {
     ) -> Result<bool, AllocError>
         ensures ok { OnOk result (self.new ≡ at_ledger self.old tenant.now (staged_words name kind length)) }
         ensures fresh { IfOk result (λ is_new. (own : Words) → map.get self.old tenant.now ≡ Some own → is_new ≡ not (map.contains_key own name)) }
+        ensures absent { IfOk result (λ is_new. map.get self.old tenant.now ≡ None → is_new ≡ false) }
         ensures err { OnErr result (self.new ≡ self.old) }
     {
         let Some(own) = self.tenants.get_mut(tenant) else {

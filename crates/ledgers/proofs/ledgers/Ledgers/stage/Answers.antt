@@ -1,6 +1,6 @@
 use Rattle.std.proofs.Common.{rules}
 use Rattle.ledgers.specs.Words.{staged_words}
-use Rattle.ledgers.proofs.TenantEntries.{changed_is, fresh_known, fresh_unknown, same_is, unknown_is}
+use Rattle.ledgers.proofs.TenantEntries.{changed_is, fresh_known, fresh_unknown, known_there, same_is, unknown_is}
 use Rattle.ledgers.proofs.ledgers.Ledgers.stage.Goals as goal
 
 pub returns-in_default-clause-fresh : goal.returns-in_default-clause-fresh
@@ -23,3 +23,6 @@ pub returns-clause-ok : goal.returns-clause-ok
 returns-clause-ok c =
     let stays = (c.get_mut.follows.holds c.stage.new.self).3 (search rules) in
     changed_is c.args.self.now c.self.inside.tenants.entries (c.get_mut.follows.lender c.stage.new.self).entries c.args.tenant.now c.in-Some.own.now c.stage.new.self (staged_words c.args.name c.args.kind c.args.length) c.self.view_is c.in-Some.ensures.value stays.0 c.in-Ok.ensures.ok
+
+pub returns-clause-absent : goal.returns-clause-absent
+returns-clause-absent c none = absurd (known_there c.args.self.now c.self.inside.tenants.entries c.args.tenant.now c.in-Some.own.now c.self.view_is c.in-Some.ensures.value none)

@@ -19,7 +19,9 @@ pub(crate) enum Taken {
     NoLine,
 }
 
-pub(crate) const CHUNK: usize = 4096;
+// A read asks for so many bytes at the most: more than a buffered reader keeps, so that they come past
+// its buffer.
+pub(crate) const CHUNK: usize = 65536;
 
 /// One read, tried again where a signal interrupts it.
 pub fn read_some<R: Read>(reader: &mut R, buf: &mut [u8]) -> Result<usize, FrameFault>
@@ -55,7 +57,7 @@ fn read_byte<R: Read>(reader: &mut R) -> Result<Option<u8>, FrameFault>
     Ok(Some(one[0]))
 }
 
-/// Adds up to so many bytes, and says how many; none only at the end.
+/// Adds up to so many bytes, and says how many; none only at the end. They are read where they stay.
 pub(crate) fn read_onto<R: Read>(
     reader: &mut R,
     most: usize,
@@ -67,11 +69,12 @@ pub(crate) fn read_onto<R: Read>(
         × (out.new.items ≡ out.old.items ++ more)) }
     ensures end { IfOk result (λ n. n ≡ 0 → IsAtEnd (R.remaining reader.new)) }
 {
-    let mut chunk = [0u8; CHUNK];
-    let n = read_some(reader, &mut chunk[..most])?;
-    let Ok(()) = out.extend_from_slice(&chunk[..n]) else {
+    let at = out.len();
+    let Ok(()) = out.resize(at + most, 0) else {
         return Err(FrameFault::Memory);
     };
+    let n = read_some(reader, &mut out[at..])?;
+    out.truncate(at + n);
     Ok(n)
 }
 

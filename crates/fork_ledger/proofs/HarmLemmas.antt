@@ -15,7 +15,7 @@ use Rattle.git_name.specs.Name.{name_cmp}
 use Rattle.git_name.specs.Object.{Object}
 use Rattle.git_name.proofs.Names.{name_total, name_exact}
 use Rattle.git_name.proofs.TreeMaps.{entries_of_ordered, find_is_lookup, get_of_entries}
-use Rattle.ledgers.proofs.ChosenLemmas.{sorted_entries}
+use Rattle.git_name.proofs.SortedNames.{sorted_entries}
 use Rattle.fork_request.specs.Harms.{Harmed}
 use Rattle.fork_request.specs.declared.harm.Harm.{Harm}
 use Rattle.fork_request.specs.declared.harm.Harm.TheVariants.{Lost, Damaged}

@@ -1,8 +1,10 @@
 pub mod BaseLemmas
 pub mod BeyondLemmas
+pub mod DateLemmas
 pub mod Examples
 pub mod FollowedLemmas
 pub mod KeyLemmas
 pub mod ParentLemmas
 pub mod PeelLemmas
 pub mod SideLemmas
+pub mod SortLemmas

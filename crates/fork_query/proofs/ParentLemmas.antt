@@ -6,10 +6,13 @@ use Rattle.std.specs.Cmp.{eq_by_cmp_equiv}
 use Rattle.std.specs.Str.{bytes_eq}
 use Rattle.std.specs.FinMap.{FinMap, contains_key, keys}
 use Rattle.std.proofs.lemmas.Bool.{and_parts, and_from}
+use Rattle.std.proofs.lemmas.Cmp.{nat_list_eq_equiv}
 use Rattle.std.proofs.lemmas.List.Folds.{Any-from_list_any, list_any-append}
 use Rattle.std.proofs.lemmas.Map.Views.{Contains-from_any, list_any-from_Contains}
 use Rattle.std.proofs.lemmas.Slice.Eq.{bytes_eq-Decides}
 use Rattle.git_name.specs.Name.{name_cmp}
+use Rattle.git_name.specs.Same.{same_name}
+use Rattle.git_name.proofs.HashMaps.{one_name}
 use Rattle.git_name.proofs.Names.{name_total}
 use Rattle.fork_reach.specs.Reach.{is_among}
 use Rattle.fork_reach.proofs.KeptObjects.{tied_names}
@@ -69,15 +72,15 @@ parents_put old before now commit last front apart inserts was name =
         (λ is. subst (λ n. eq_by_cmp name_cmp last n ≡ true) (is_last last name is) ((eq_by_cmp_equiv name_total).refl last))
 
 -- a test of the names of a set is the same test of all names that are in it
-pub any_of_set : {X : Type 0} (values : FinMap name_cmp X) (names : List (List ℕ)) (is_one test : List ℕ → Bool) → ((name : List ℕ) → list_any (eq_by_cmp name_cmp name) names ≡ is_one name) → ((name : List ℕ) → is_one name ≡ true → contains_key values name ≡ true)
+pub any_of_set : {X : Type 0} (values : FinMap name_cmp X) (names : List (List ℕ)) (is_one test : List ℕ → Bool) → ((name : List ℕ) → list_any (same_name name) names ≡ is_one name) → ((name : List ℕ) → is_one name ≡ true → contains_key values name ≡ true)
     → list_any test names ≡ list_any (λ name. is_one name && test name) (keys values)
 any_of_set values names is_one test same there =
     same_tests _ _
     (λ is.
     let any = Any-from_list_any test names is in
-    let one = sym (same any.1) ∙ list_any-from_Contains (eq_by_cmp_equiv name_total) any.1 names (any.0, any.2, any.3) in
+    let one = sym (same any.1) ∙ list_any-from_Contains nat_list_eq_equiv any.1 names (any.0, any.2, any.3) in
     any_passes (λ name. is_one name && test name) (keys values) any.1 (Contains-keys values any.1 (there any.1 one)) (and_from _ _ one any.4))
     (λ is.
     let any = Any-from_list_any (λ name. is_one name && test name) (keys values) is in
     let both = and_parts (is_one any.1) _ any.4 in
-    any_passes test names any.1 (Contains-from_any {eq = eq_by_cmp name_cmp} tied_names any.1 names (same any.1 ∙ both.0)) both.1)
+    any_passes test names any.1 (Contains-from_any {eq = same_name} one_name any.1 names (same any.1 ∙ both.0)) both.1)

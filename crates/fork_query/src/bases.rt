@@ -1,7 +1,7 @@
 ghost use Rattle.std.specs.Prelude.{◌≡◌, ◌&&◌, ◌||◌, not, List, ℕ, IsTrue, IfOk, OnOk};
-ghost use Rattle.std.specs.BTreeSet.{contains};
+ghost use Rattle.std.specs.HashSet.{contains};
 ghost use Rattle.std.specs.Str.{bytes_eq};
-ghost use Rattle.git_name.specs.Name.{name_cmp};
+ghost use Rattle.git_name.specs.Same.{same_name};
 ghost use Rattle.fork_reach.specs.Faults.{IsAsked, fault_in};
 ghost use Rattle.fork_reach.specs.History.{noted_parents};
 ghost use Rattle.fork_reach.specs.Reach.{is_among};
@@ -16,29 +16,29 @@ use crate::items::named_item;
 use crate::name_lines::write_names;
 use crate::query_error::QueryError;
 use crate::want::Want;
-use fork_reach::{History, Source, SourceFault, read_history};
+use fork_reach::{History, Source, SourceFault, ascending, read_history};
 use git_name::Name;
 use git_reftx::Refs;
 use std::alloc::{AllocError, Global};
-use std::collections::BTreeSet;
+use std::collections::{BTreeSet, HashSet};
 
 // Keeps the names that the others have too.
-fn keep_both(names: &mut BTreeSet<Name>, others: &BTreeSet<Name>)
-    ensures { (name : List ℕ) → contains name_cmp names.new name ≡ (contains name_cmp others.now name && contains name_cmp names.old name) }
+fn keep_both(names: &mut HashSet<Name>, others: &HashSet<Name>)
+    ensures { (name : List ℕ) → contains same_name names.new name ≡ (contains same_name others.now name && contains same_name names.old name) }
 {
     names.retain(|name| others.contains(name));
 }
 
 // Takes out the names that the others have.
-fn take_out(names: &mut BTreeSet<Name>, others: &BTreeSet<Name>)
-    ensures { (name : List ℕ) → contains name_cmp names.new name ≡ (not (contains name_cmp others.now name) && contains name_cmp names.old name) }
+fn take_out(names: &mut HashSet<Name>, others: &HashSet<Name>)
+    ensures { (name : List ℕ) → contains same_name names.new name ≡ (not (contains same_name others.now name) && contains same_name names.old name) }
 {
     names.retain(|name| !others.contains(name));
 }
 
 // The common ancestors of both.
-fn common(alloc: Global, history: &History, a: Name, b: Name) -> Result<BTreeSet<Name>, AllocError>
-    ensures { IfOk result (λ common. (name : List ℕ) → contains name_cmp common name ≡ is_common_noted history.now a b name) }
+fn common(alloc: Global, history: &History, a: Name, b: Name) -> Result<HashSet<Name>, AllocError>
+    ensures { IfOk result (λ common. (name : List ℕ) → contains same_name common name ≡ is_common_noted history.now a b name) }
 {
     let mut common = history.ancestors(alloc, &[a])?;
     let of_b = history.ancestors(alloc, &[b])?;
@@ -47,8 +47,8 @@ fn common(alloc: Global, history: &History, a: Name, b: Name) -> Result<BTreeSet
 }
 
 // Puts the parents of a commit among the names, but for itself.
-fn put_parents(names: &mut BTreeSet<Name>, commit: Name, parents: &[Name]) -> Result<(), AllocError>
-    ensures { OnOk result ((name : List ℕ) → contains name_cmp names.new name ≡ (contains name_cmp names.old name || (not (bytes_eq commit name) && is_among parents.now name))) }
+fn put_parents(names: &mut HashSet<Name>, commit: Name, parents: &[Name]) -> Result<(), AllocError>
+    ensures { OnOk result ((name : List ℕ) → contains same_name names.new name ≡ (contains same_name names.old name || (not (bytes_eq commit name) && is_among parents.now name))) }
 {
     for parent in parents {
         if *parent == commit {
@@ -65,11 +65,11 @@ fn put_parents(names: &mut BTreeSet<Name>, commit: Name, parents: &[Name]) -> Re
 fn outdone(
     alloc: Global,
     history: &History,
-    commits: &BTreeSet<Name>,
-) -> Result<BTreeSet<Name>, AllocError>
-    ensures { IfOk result (λ outdone. (name : List ℕ) → contains name_cmp outdone name ≡ list_any (is_other_parent history.now name) commits.now.keys) }
+    commits: &HashSet<Name>,
+) -> Result<HashSet<Name>, AllocError>
+    ensures { IfOk result (λ outdone. (name : List ℕ) → contains same_name outdone name ≡ list_any (is_other_parent history.now name) commits.now.keys) }
 {
-    let mut outdone = BTreeSet::new(alloc);
+    let mut outdone = HashSet::new(alloc);
     for commit in commits {
         put_parents(&mut outdone, *commit, history.parents(*commit))?;
     }
@@ -78,8 +78,8 @@ fn outdone(
 
 // The common ancestors that no other one has as a parent. As the parents of common ancestors are common,
 // these are the best ones.
-fn best(alloc: Global, history: &History, a: Name, b: Name) -> Result<BTreeSet<Name>, AllocError>
-    ensures { IfOk result (λ best. (name : List ℕ) → contains name_cmp best name ≡ is_best_noted history.now a b name) }
+fn best(alloc: Global, history: &History, a: Name, b: Name) -> Result<HashSet<Name>, AllocError>
+    ensures { IfOk result (λ best. (name : List ℕ) → contains same_name best name ≡ is_best_noted history.now a b name) }
 {
     let mut best = common(alloc, history, a, b)?;
     let outdone = outdone(alloc, history, &best)?;
@@ -101,8 +101,11 @@ fn bases<S: Source>(alloc: Global, source: &mut S, a: Name, b: Name) -> Result<V
     let Ok(best) = best(alloc, &history, a, b) else {
         return Err(SourceFault::Memory);
     };
-    let _count = best.len();
-    match write_names(alloc, &best) {
+    let Ok(listed) = ascending(alloc, &best) else {
+        return Err(SourceFault::Memory);
+    };
+    let _count = listed.len();
+    match write_names(alloc, &listed) {
         Ok(text) => Ok(text),
         Err(_) => Err(SourceFault::Memory),
     }

@@ -16,28 +16,25 @@ use fork_reach::{History, Source, SourceFault, ancestors, read_history};
 use git_reftx::Refs;
 use std::alloc::{AllocError, Global};
 use std::cmp::Reverse;
-use std::collections::BTreeSet;
 
 // The commits of the history, the newest first.
-fn dates_of(alloc: Global, history: &History) -> Result<BTreeSet<Dated>, AllocError>
-    ensures { IfOk result (λ dates. dates.keys ≡ newest_first (mapped noted_date (map.entries history.now))) }
+fn dates_of(alloc: Global, history: &History) -> Result<Vec<Dated>, AllocError>
+    ensures { IfOk result (λ dates. dates.items ≡ newest_first (mapped noted_date (map.entries history.now))) }
 {
-    let mut dates = BTreeSet::new(alloc);
+    let mut dates = Vec::new(alloc);
     for (name, noted) in history.iter() {
-        let date = Dated {
+        dates.push(Dated {
             seconds: Reverse(noted.seconds()),
             name: *name,
-        };
-        let Ok(_) = dates.insert(date) else {
-            return Err(AllocError);
-        };
+        })?;
     }
+    dates.sort_unstable();
     Ok(dates)
 }
 
 // Their names, one a line.
-fn lines_of(alloc: Global, dates: &BTreeSet<Dated>) -> Result<Vec<u8>, AllocError>
-    ensures { IfOk result (λ text. text.items ≡ name_lines (mapped (λ date. date.name) dates.now.keys)) }
+fn lines_of(alloc: Global, dates: &[Dated]) -> Result<Vec<u8>, AllocError>
+    ensures { IfOk result (λ text. text.items ≡ name_lines (mapped (λ date. date.name) dates.now)) }
 {
     let mut text = Vec::new(alloc);
     for date in dates {
@@ -68,7 +65,7 @@ fn revisions<S: Source>(
     let Ok(dates) = dates_of(alloc, &history) else {
         return Err(SourceFault::Memory);
     };
-    match lines_of(alloc, &dates) {
+    match lines_of(alloc, dates.as_slice()) {
         Ok(text) => Ok(text),
         Err(_) => Err(SourceFault::Memory),
     }

@@ -4,6 +4,7 @@ pub mod Examples
 pub mod HiddenLemmas
 pub mod HistoryLemmas
 pub mod KeptObjects
+pub mod KeyLemmas
 pub mod MeasureLemmas
 pub mod NameLemmas
 pub mod ReachLemmas

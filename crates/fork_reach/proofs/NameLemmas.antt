@@ -9,6 +9,7 @@ use Rattle.std.proofs.lemmas.List.Folds.{list_any-from_Any}
 use Rattle.std.proofs.lemmas.Map.Views.{Contains-from_any, list_any-from_Contains}
 use Rattle.std.proofs.lemmas.Slice.Eq.{bytes_eq-Decides}
 use Rattle.git_name.specs.Name.{name_cmp}
+use Rattle.git_name.specs.Same.{same_name}
 use Rattle.fork_reach.specs.Reach.{is_among}
 use Rattle.fork_reach.proofs.KeptObjects.{tied_names}
 
@@ -27,8 +28,8 @@ pub any_passes : (test : List ℕ → Bool) (names : List (List ℕ)) (name : Li
 any_passes test names name among passes = list_any-from_Any test names (among.0, name, among.1, among.2, passes)
 
 -- no name is among none
-pub empty_holds_none : (keys : List (List ℕ)) → keys ≡ [] → (name : List ℕ) → list_any (eq_by_cmp name_cmp name) keys ≡ true → ⊥
-empty_holds_none keys empty name among = (let no : false ≡ true = subst (λ ks. list_any (eq_by_cmp name_cmp name) ks ≡ true) empty among in cc)
+pub empty_holds_none : (keys : List (List ℕ)) → keys ≡ [] → (name : List ℕ) → list_any (same_name name) keys ≡ true → ⊥
+empty_holds_none keys empty name among = (let no : false ≡ true = subst (λ ks. list_any (same_name name) ks ≡ true) empty among in cc)
 
 pub empty_lacks : (keys : List (List ℕ)) → keys ≡ [] → (name : List ℕ) → list_any (eq_by_cmp name_cmp name) keys ≡ false
 empty_lacks keys empty name = subst (λ ks. list_any (eq_by_cmp name_cmp name) ks ≡ false) (sym empty) refl

@@ -1,14 +1,16 @@
 -- Names that are seen to one by one, and list by list.
-use Rattle.std.proofs.Common.{◌≡◌, ℕ, zero, suc, ◌+◌, ◌<◌, ◌≤◌, Bool, true, false, not, cond, List, [], ◌∷◌, ◌++◌, refl, sym, ap, subst, ◌∙◌, arith, inl, inr, ◌⊎◌, length, length-append}
+use Rattle.std.proofs.Common.{◌≡◌, ℕ, zero, suc, ◌+◌, ◌<◌, ◌≤◌, Bool, true, false, cond, List, [], ◌∷◌, ◌++◌, refl, sym, ap, subst, ◌∙◌, arith, inl, inr, ◌⊎◌, length, length-append}
 use Rattle.std.specs.List.{Contains, slice_index_or}
 use Rattle.std.specs.FinMap.{FinMap, contains_key, keys}
 use Rattle.std.specs.Ordering.{is_eq}
 use Rattle.std.proofs.lemmas.List.Elements.{Contains-append_left, Contains-append_right, Contains-append_cases}
 use Rattle.git_name.specs.Name.{name_cmp}
+use Rattle.git_name.specs.Same.{same_name}
+use Rattle.git_name.proofs.HashMaps.{one_test}
 use Rattle.fork_reach.specs.Seeing.{Sees, unseen}
 use Rattle.fork_reach.proofs.KeptObjects.{tied_names}
 use Rattle.fork_reach.proofs.NameLemmas.{Contains-keys}
-use Rattle.fork_reach.proofs.UnseenLemmas.{left_out_less, left_out_no_more}
+use Rattle.fork_reach.proofs.UnseenLemmas.{left_out_less}
 
 abbrev Names : Type 0
 Names = List (List ℕ)
@@ -89,6 +91,10 @@ sees_absent objects ends first seen waits absent = record {
 abbrev Inserts : List ℕ → (List ℕ → Bool) → (List ℕ → Bool) → Type 0
 Inserts first seen now_seen = (name : List ℕ) → now_seen name ≡ cond (is_eq (name_cmp first name)) true (seen name)
 
+-- the same where names are told apart byte by byte
+pub inserts_hashed : (first : List ℕ) (seen now_seen : List ℕ → Bool) → ((name : List ℕ) → now_seen name ≡ cond (same_name first name) true (seen name)) → Inserts first seen now_seen
+inserts_hashed first seen now_seen at name = at name ∙ ap (λ b. cond b true (seen name)) (one_test first name)
+
 either_seen : (b old now : Bool) → now ≡ cond b true old → now ≡ true → (b ≡ true) ⊎ (old ≡ true)
 either_seen true old now is seen = inl refl
 either_seen false old now is seen = inr (sym is ∙ seen)
@@ -100,31 +106,17 @@ still_seen false old now is seen = is ∙ seen
 pub kept_inserting : (first : List ℕ) (seen now_seen : List ℕ → Bool) → Inserts first seen now_seen → (name : List ℕ) → seen name ≡ true → now_seen name ≡ true
 kept_inserting first seen now_seen inserts name is = still_seen (is_eq (name_cmp first name)) (seen name) (now_seen name) (inserts name) is
 
-sees_again : {X : Type 0} (objects : FinMap name_cmp X) (ends : List ℕ → Bool) (first : List ℕ) (seen : List ℕ → Bool) (waits : Names) (now_seen : List ℕ → Bool) → Inserts first seen now_seen → seen first ≡ true → Sees objects ends (first ∷ []) seen waits now_seen waits
-sees_again objects ends first seen waits now_seen inserts known =
-    let kept = kept_inserting first seen now_seen inserts in
-    let old = (λ (name : List ℕ) (is : now_seen name ≡ true). by name (either_seen (is_eq (name_cmp first name)) (seen name) (now_seen name) (inserts name) is)) in
-    record {
-      kept = kept;
-      stays = λ name is. is;
-      all = λ name among there. subst (λ n. now_seen n ≡ true) (sole_there first name among) (kept first known);
-      only = λ name is. inl (old name is);
-      new = λ name is. inl (old name is);
-      noted = λ name is. inl is;
-      less = (let no_more = left_out_no_more seen now_seen kept (keys objects) in omega arith);
-    }
-  where
-    by : (name : List ℕ) → (is_eq (name_cmp first name) ≡ true) ⊎ (seen name ≡ true) → seen name ≡ true
-    by name (inl tied) = subst (λ n. seen n ≡ true) (tied_names first name tied) known
-    by name (inr before) = before
-
-pub was_seen : (added before : Bool) → added ≡ not before → added ≡ false → before ≡ true
-was_seen added true is old = refl
-was_seen added false is old = absurd (cc)
-
 -- a name that was seen before
-pub sees_known : {X : Type 0} (objects : FinMap name_cmp X) (ends : List ℕ → Bool) (first : List ℕ) (seen : List ℕ → Bool) (waits : Names) (now_seen : List ℕ → Bool) (added : Bool) → added ≡ not (seen first) → added ≡ false → Inserts first seen now_seen → Sees objects ends (first ∷ []) seen waits now_seen waits
-sees_known objects ends first seen waits now_seen added is old inserts = sees_again objects ends first seen waits now_seen inserts (was_seen added (seen first) is old)
+pub sees_known : {X : Type 0} (objects : FinMap name_cmp X) (ends : List ℕ → Bool) (first : List ℕ) (seen : List ℕ → Bool) (waits : Names) → seen first ≡ true → Sees objects ends (first ∷ []) seen waits seen waits
+sees_known objects ends first seen waits known = record {
+  kept = λ name is. is;
+  stays = λ name is. is;
+  all = λ name among there. subst (λ n. seen n ≡ true) (sole_there first name among) known;
+  only = λ name is. inl is;
+  new = λ name is. inl is;
+  noted = λ name is. inl is;
+  less = omega arith;
+}
 
 -- what is seen behind an insertion
 pub found_inserting : (first : List ℕ) (seen now_seen : List ℕ → Bool) → Inserts first seen now_seen → (name : List ℕ) → now_seen name ≡ true → (first ≡ name) ⊎ (seen name ≡ true)
@@ -164,20 +156,16 @@ sees_last objects ends first seen waits now_seen inserts seen_now new there = re
       omega arith);
 }
 
-pub was_new : (added before : Bool) → added ≡ not before → added ≡ true → before ≡ false
-was_new added true is new = absurd (cc)
-was_new added false is new = refl
-
 -- a name that is new, and whose object is there
-pub sees_new : {X : Type 0} (objects : FinMap name_cmp X) (ends : List ℕ → Bool) (first : List ℕ) (seen : List ℕ → Bool) (waits : Names) (now_seen : List ℕ → Bool) (now_waits : Names) (added : Bool) → added ≡ not (seen first) → added ≡ true → Inserts first seen now_seen → now_seen first ≡ true → contains_key objects first ≡ true → now_waits ≡ waits ++ first ∷ []
+pub sees_new : {X : Type 0} (objects : FinMap name_cmp X) (ends : List ℕ → Bool) (first : List ℕ) (seen : List ℕ → Bool) (waits : Names) (now_seen : List ℕ → Bool) (now_waits : Names) → seen first ≡ false → Inserts first seen now_seen → now_seen first ≡ true → contains_key objects first ≡ true → now_waits ≡ waits ++ first ∷ []
     → Sees objects ends (first ∷ []) seen waits now_seen now_waits
-sees_new objects ends first seen waits now_seen now_waits added is new inserts seen_now there pushed =
-    subst (λ w. Sees objects ends (first ∷ []) seen waits now_seen w) (sym pushed) (sees_last objects ends first seen waits now_seen inserts seen_now (was_new added (seen first) is new) there)
+sees_new objects ends first seen waits now_seen now_waits new inserts seen_now there pushed =
+    subst (λ w. Sees objects ends (first ∷ []) seen waits now_seen w) (sym pushed) (sees_last objects ends first seen waits now_seen inserts seen_now new there)
 
 -- a name that is new, whose object is there, and that goes on to nothing
-pub sees_end : {X : Type 0} (objects : FinMap name_cmp X) (ends : List ℕ → Bool) (first : List ℕ) (seen : List ℕ → Bool) (waits : Names) (now_seen : List ℕ → Bool) (added : Bool) → added ≡ not (seen first) → added ≡ true → Inserts first seen now_seen → now_seen first ≡ true → contains_key objects first ≡ true → ends first ≡ true
+pub sees_end : {X : Type 0} (objects : FinMap name_cmp X) (ends : List ℕ → Bool) (first : List ℕ) (seen : List ℕ → Bool) (waits : Names) (now_seen : List ℕ → Bool) → seen first ≡ false → Inserts first seen now_seen → now_seen first ≡ true → contains_key objects first ≡ true → ends first ≡ true
     → Sees objects ends (first ∷ []) seen waits now_seen waits
-sees_end objects ends first seen waits now_seen added is new inserts seen_now there ended = record {
+sees_end objects ends first seen waits now_seen new inserts seen_now there ended = record {
   kept = kept_inserting first seen now_seen inserts;
   stays = λ name waiting. waiting;
   all = λ name last there. subst (λ n. now_seen n ≡ true) (sole_there first name last) seen_now;
@@ -190,5 +178,5 @@ sees_end objects ends first seen waits now_seen added is new inserts seen_now th
     | inr before ↦ inl before
   ];
   noted = λ name waiting. inl waiting;
-  less = (let fewer = unseen_less objects first seen now_seen inserts seen_now (was_new added (seen first) is new) there in omega arith);
+  less = (let fewer = unseen_less objects first seen now_seen inserts seen_now new there in omega arith);
 }

@@ -1,9 +1,10 @@
 ghost use Rattle.std.specs.Prelude.{◌≡◌, Some, List, ℕ, IfOk, OnOk, OnErr};
 ghost use Rattle.std.specs.Option.{option_copied};
-ghost use Rattle.std.specs.BTreeMap.{IsUnchanged, Updates};
-ghost use Rattle.std.specs.BTreeSet.{contains};
+ghost use Rattle.std.specs.HashMap.{IsUnchanged, Updates};
+ghost use Rattle.std.specs.HashSet.{contains};
+ghost use Rattle.std.specs.List.Sorted.{IsPermutation};
 ghost use Rattle.std.specs.FinMap as map;
-ghost use Rattle.git_name.specs.Name.{name_cmp};
+ghost use Rattle.git_name.specs.Same.{same_name};
 ghost use Rattle.fork_reach.specs.History.{noted_parents};
 ghost use Rattle.fork_reach.specs.Reach.{is_reached};
 
@@ -12,14 +13,14 @@ use crate::noted::Noted;
 use crate::noting::note_all;
 use git_name::Name;
 use std::alloc::{AllocError, Global};
-use std::collections::btree_map::Iter;
-use std::collections::{BTreeMap, BTreeSet};
+use std::collections::hash_map::Iter;
+use std::collections::{HashMap, HashSet};
 use std::marker::Model;
 
 /// Commits in memory, each with its parents and its time. Contracts see a map from names to notes.
 #[derive(Drop)]
 pub struct History {
-    commits: BTreeMap<Name, Noted>,
+    commits: HashMap<Name, Noted>,
 }
 
 impl Model for History {
@@ -60,7 +61,7 @@ impl History {
         ensures { result ≡ map.empty }
     {
         History {
-            commits: BTreeMap::new(alloc),
+            commits: HashMap::new(alloc),
         }
     }
 
@@ -97,19 +98,19 @@ impl History {
         }
     }
 
-    /// The commits by name, in ascending order.
+    /// The commits, in no special order.
     pub fn iter(&self) -> Iter<'_, Name, Noted>
-        ensures { result ≡ map.entries self.now }
+        ensures { IsPermutation (map.entries self.now) result }
     {
         self.commits.iter()
     }
 
     /// The names of those of these commits that parents lead to from the given ones, and of the given
     /// ones themselves. It reads no object.
-    pub fn ancestors(&self, alloc: Global, commits: &[Name]) -> Result<BTreeSet<Name>, AllocError>
-        ensures { IfOk result (λ found. (name : List ℕ) → contains name_cmp found name ≡ is_reached (noted_parents self.now) self.now commits.now name) }
+    pub fn ancestors(&self, alloc: Global, commits: &[Name]) -> Result<HashSet<Name>, AllocError>
+        ensures { IfOk result (λ found. (name : List ℕ) → contains same_name found name ≡ is_reached (noted_parents self.now) self.now commits.now name) }
     {
-        let mut seen = BTreeSet::new(alloc);
+        let mut seen = HashSet::new(alloc);
         let mut waiting = Vec::new(alloc);
         let Ok(()) = note_all(self, commits, &mut seen, &mut waiting) else {
             return Err(AllocError);
@@ -123,8 +124,8 @@ impl History {
     }
 }
 
-fn put(commits: &mut BTreeMap<Name, Noted>, name: Name, noted: Noted) -> Result<(), AllocError>
-    ensures ok { OnOk result (Updates name_cmp commits.old commits.new name (Some noted)) }
+fn put(commits: &mut HashMap<Name, Noted>, name: Name, noted: Noted) -> Result<(), AllocError>
+    ensures ok { OnOk result (Updates same_name commits.old commits.new name (Some noted)) }
     ensures err { OnErr result (IsUnchanged commits.old commits.new) }
 {
     commits.insert(name, noted)?;

@@ -1,6 +1,8 @@
 ghost use Rattle.std.specs.Prelude.{[], ◌∷◌, OnOk};
 ghost use Rattle.std.specs.BTreeSet.{contains};
+ghost use Rattle.std.specs.HashSet as hashed;
 ghost use Rattle.git_name.specs.Name.{name_cmp};
+ghost use Rattle.git_name.specs.Same.{same_name};
 ghost use Rattle.fork_reach.specs.Along.{rests_at};
 ghost use Rattle.fork_reach.specs.Hidden.{without};
 ghost use Rattle.fork_reach.specs.Objects.{measures_of};
@@ -11,27 +13,27 @@ use crate::names::{Names, Open};
 use crate::source::Source;
 use git_name::Name;
 use std::alloc::AllocError;
-use std::collections::BTreeSet;
+use std::collections::{BTreeSet, HashSet};
 
 // Notes the name as seen, and as one that waits where a walk goes on from it, where it is there and was
 // not seen yet.
 fn note<N: Names>(
     there: &N,
     name: Name,
-    seen: &mut BTreeSet<Name>,
+    seen: &mut HashSet<Name>,
     waiting: &mut Vec<Name>,
 ) -> Result<(), AllocError>
-    ensures { OnOk result (Sees (N.names there.now) (N.ends there.now) (name ∷ []) (contains name_cmp seen.old) waiting.old.items (contains name_cmp seen.new) waiting.new.items) }
+    ensures { OnOk result (Sees (N.names there.now) (N.ends there.now) (name ∷ []) (hashed.contains same_name seen.old) waiting.old.items (hashed.contains same_name seen.new) waiting.new.items) }
 {
+    if seen.contains(&name) {
+        return Ok(());
+    }
     let Some(leads) = there.leads(name) else {
         return Ok(());
     };
-    let Ok(is_new) = seen.insert(name) else {
+    let Ok(_) = seen.insert(name) else {
         return Err(AllocError);
     };
-    if !is_new {
-        return Ok(());
-    }
     if !leads {
         return Ok(());
     }
@@ -43,10 +45,10 @@ fn note<N: Names>(
 pub(crate) fn note_all<N: Names>(
     there: &N,
     names: &[Name],
-    seen: &mut BTreeSet<Name>,
+    seen: &mut HashSet<Name>,
     waiting: &mut Vec<Name>,
 ) -> Result<(), AllocError>
-    ensures { OnOk result (Sees (N.names there.now) (N.ends there.now) names.now (contains name_cmp seen.old) waiting.old.items (contains name_cmp seen.new) waiting.new.items) }
+    ensures { OnOk result (Sees (N.names there.now) (N.ends there.now) names.now (hashed.contains same_name seen.old) waiting.old.items (hashed.contains same_name seen.new) waiting.new.items) }
 {
     for name in names {
         note(there, *name, seen, waiting)?;
@@ -60,10 +62,10 @@ pub(crate) fn note_open<S: Source>(
     hidden: &BTreeSet<Name>,
     along: Option<Along>,
     names: &[Name],
-    seen: &mut BTreeSet<Name>,
+    seen: &mut HashSet<Name>,
     waiting: &mut Vec<Name>,
 ) -> Result<(), AllocError>
-    ensures { OnOk result (Sees (without (measures_of (S.state source.now).objects) (contains name_cmp hidden.now)) (rests_at along (measures_of (S.state source.now).objects)) names.now (contains name_cmp seen.old) waiting.old.items (contains name_cmp seen.new) waiting.new.items) }
+    ensures { OnOk result (Sees (without (measures_of (S.state source.now).objects) (contains name_cmp hidden.now)) (rests_at along (measures_of (S.state source.now).objects)) names.now (hashed.contains same_name seen.old) waiting.old.items (hashed.contains same_name seen.new) waiting.new.items) }
 {
     let open = Open {
         source,

@@ -16,7 +16,7 @@ use crate::noting::note_open;
 use crate::source::{Source, SourceFault};
 use git_name::{Kind, Name};
 use std::alloc::Global;
-use std::collections::BTreeSet;
+use std::collections::{BTreeSet, HashSet};
 
 // Whether the object of this name is a commit. It reads no bytes of it.
 fn is_commit<S: Source>(source: &S, name: Name) -> bool
@@ -56,7 +56,7 @@ pub fn read_history<S: Source>(
     ensures asked { IsAsked (S.state source.old) (S.state source.new) (fault_in result) }
 {
     let mut history = History::new(alloc);
-    let mut seen = BTreeSet::new(alloc);
+    let mut seen = HashSet::new(alloc);
     let mut waiting = Vec::new(alloc);
     let Ok(()) = note_open(source, hidden, None, commits, &mut seen, &mut waiting) else {
         return Err(SourceFault::Memory);

@@ -10,10 +10,11 @@ ghost use Rattle.fork_reach.specs.Reach.{is_reached};
 
 use crate::along::{Along, next_names};
 use crate::noting::note_open;
+use crate::order::ascending;
 use crate::source::{Source, SourceFault};
 use git_name::Name;
 use std::alloc::Global;
-use std::collections::BTreeSet;
+use std::collections::{BTreeSet, HashSet};
 
 // The names that are reached from the roots, past none that is hidden. A name is seen when it is put on
 // the list of those that wait to be followed, so that each is followed once; one whose kind goes on to
@@ -30,7 +31,7 @@ pub(crate) fn walk<S: Source>(
     ensures rooted { IfOk result (λ found. (name : List ℕ) → Contains roots.now name → map.contains_key (without (S.state source.old).objects (contains name_cmp hidden.now)) name ≡ true → contains name_cmp found name ≡ true) }
     ensures asked { IsAsked (S.state source.old) (S.state source.new) (fault_in result) }
 {
-    let mut seen = BTreeSet::new(alloc);
+    let mut seen = HashSet::new(alloc);
     let mut waiting = Vec::new(alloc);
     let Ok(()) = note_open(source, hidden, Some(along), roots, &mut seen, &mut waiting) else {
         return Err(SourceFault::Memory);
@@ -51,5 +52,8 @@ pub(crate) fn walk<S: Source>(
             return Err(SourceFault::Memory);
         };
     }
-    Ok(seen)
+    let Ok(found) = ascending(alloc, &seen) else {
+        return Err(SourceFault::Memory);
+    };
+    Ok(found)
 }

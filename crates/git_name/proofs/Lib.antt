@@ -1,10 +1,12 @@
 pub mod DecimalLemmas
 pub mod DigestLemmas
 pub mod DigitLemmas
+pub mod HashMaps
 pub mod MapLemmas
 pub mod Names
 pub mod OrderLemmas
 pub mod PlainLemmas
 pub mod ReadingLemmas
+pub mod SortedNames
 pub mod TextLemmas
 pub mod TreeMaps

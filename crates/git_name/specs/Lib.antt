@@ -3,4 +3,5 @@ pub mod Maps
 pub mod Name
 pub mod Number
 pub mod Object
+pub mod Same
 pub mod Text

@@ -4,13 +4,15 @@ use Rattle.std.specs.Option.{option_map_or}
 use Rattle.std.specs.Cmp.{eq_by_cmp_equiv}
 use Rattle.std.specs.BTreeMap.{is_at}
 use Rattle.std.specs.Map.{lookup, keys_of}
-use Rattle.std.specs.List.Sorted.{IsStrictlySortedBy}
+use Rattle.std.specs.List.{IsDistinct}
+use Rattle.std.specs.Ordering.{eq_by_cmp}
 use Rattle.std.specs.FinMap.{from_entries}
 use Rattle.std.proofs.lemmas.Map.{lookup-none}
 use Rattle.std.proofs.lemmas.Map.Entries.{none_past_head}
-use Rattle.std.proofs.lemmas.Map.Keys.{IsDistinct-from_sorted, sorted_tail}
+use Rattle.std.proofs.lemmas.Map.Keys.{IsDistinct-tail}
 use Rattle.git_name.specs.Name.{name_cmp}
 use Rattle.git_name.proofs.Names.{name_total, name_exact}
+use Rattle.git_name.proofs.HashMaps.{distinct_by_order}
 use Rattle.git_name.proofs.TreeMaps.{get_of_entries}
 use Rattle.looks.specs.Places.{same_name}
 use Rattle.catalogue.specs.Counted.{one_if}
@@ -46,22 +48,22 @@ due_later leaves e rest q o same apart = ap (λ b. rest + one_if (b && leaves e.
     nothing_more : (n : ℕ) → n + 0 ≡ n
     nothing_more n = omega arith
 
-due_lookup : (leaves : List ℕ → Word → Bool) (es : List (List ℕ × Word)) (q : List ℕ) → IsStrictlySortedBy name_cmp (keys_of es) → due_in leaves es q ≡ one_if (option_map_or (leaves q) (lookup (is_at (name_cmp q)) es) false)
-due_lookup leaves [] q sorted = refl
-due_lookup leaves (e ∷ es) q sorted = go (due_lookup leaves es q (sorted_tail name_cmp e.0 (keys_of es) sorted))
+due_lookup : (leaves : List ℕ → Word → Bool) (es : List (List ℕ × Word)) (q : List ℕ) → IsDistinct (eq_by_cmp name_cmp) (keys_of es) → due_in leaves es q ≡ one_if (option_map_or (leaves q) (lookup (is_at (name_cmp q)) es) false)
+due_lookup leaves [] q distinct = refl
+due_lookup leaves (e ∷ es) q distinct = go (due_lookup leaves es q (IsDistinct-tail (eq_by_cmp name_cmp) e.0 (keys_of es) distinct))
   where
     go : due_in leaves es q ≡ one_if (option_map_or (leaves q) (lookup (is_at (name_cmp q)) es) false) → due_in leaves (e ∷ es) q ≡ one_if (option_map_or (leaves q) (lookup (is_at (name_cmp q)) (e ∷ es)) false)
     go rest = by_test _ (is_at (name_cmp q) e.0)
         (λ here. due_here leaves e (due_in leaves es q) q (lookup (is_at (name_cmp q)) es) rest
-        (lookup-none (is_at (name_cmp q)) es (none_past_head (eq_by_cmp_equiv name_total) q e es (IsDistinct-from_sorted name_cmp (keys_of (e ∷ es)) sorted) here)) (one_key {R = name_cmp} name_exact q e.0 here)
+        (lookup-none (is_at (name_cmp q)) es (none_past_head (eq_by_cmp_equiv name_total) q e es distinct here)) (one_key {R = name_cmp} name_exact q e.0 here)
         ∙ ap (λ b. one_if (option_map_or (leaves q) (cond b (Some e.1) (lookup (is_at (name_cmp q)) es)) false)) (sym here))
         (λ apart. due_later leaves e (due_in leaves es q) q (lookup (is_at (name_cmp q)) es) rest
         (by_test _ (same_name e.0 q) (λ same. false_true _ (sym apart ∙ ap (is_at (name_cmp q)) (one_name e.0 q same) ∙ (eq_by_cmp_equiv name_total).refl q)) (λ no_same. no_same))
         ∙ ap (λ b. one_if (option_map_or (leaves q) (cond b (Some e.1) (lookup (is_at (name_cmp q)) es)) false)) (sym apart))
 
--- of ordered entries as many are due as of their finite map
-pub due_words : (leaves : List ℕ → Word → Bool) (es : List (List ℕ × Word)) (q : List ℕ) → IsStrictlySortedBy name_cmp (keys_of es) → due_in leaves es q ≡ due_at leaves (from_entries es) q
-due_words leaves es q sorted = due_lookup leaves es q sorted ∙ ap (λ o. one_if (option_map_or (leaves q) o false)) (sym (get_of_entries name_total es q))
+-- of entries under different names as many are due as of their finite map
+pub due_words : (leaves : List ℕ → Word → Bool) (es : List (List ℕ × Word)) (q : List ℕ) → IsDistinct same_name (keys_of es) → due_in leaves es q ≡ due_at leaves (from_entries es) q
+due_words leaves es q distinct = due_lookup leaves es q (distinct_by_order (keys_of es) distinct) ∙ ap (λ o. one_if (option_map_or (leaves q) o false)) (sym (get_of_entries name_total es q))
 
 -- a word that leaves is one more
 pub due_one : (leaves : List ℕ → Word → Bool) (e : List ℕ × Word) (es : List (List ℕ × Word)) (q : List ℕ) → leaves e.0 e.1 ≡ true → due_in leaves (e ∷ es) q ≡ due_in leaves es q + one_if (same_name e.0 q)

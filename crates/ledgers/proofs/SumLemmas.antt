@@ -5,19 +5,21 @@ use Rattle.std.specs.declared.cmp.Ordering.{Ordering}
 use Rattle.std.specs.declared.cmp.Ordering.TheVariants.{Less, Equal, Greater}
 use Rattle.std.specs.Option.{option_and_then, option_map, option_map_or}
 use Rattle.std.specs.Cmp.{IsTotalOrder, eq_by_cmp_equiv}
-use Rattle.std.specs.Ordering.{is_eq}
+use Rattle.std.specs.Ordering.{eq_by_cmp, is_eq}
 use Rattle.std.specs.BTreeMap.{is_at}
 use Rattle.std.specs.Map.{lookup, keys_of, values_of}
-use Rattle.std.specs.List.{cons_option}
+use Rattle.std.specs.List.{IsDistinct, cons_option}
 use Rattle.std.specs.List.Sorted.{IsStrictlySortedBy}
-use Rattle.std.specs.FinMap.{FinMap, IsAntisymmetric, empty, entries, entries-insert, get, insert, len-empty, len-entries, same_map, values}
+use Rattle.std.specs.FinMap.{FinMap, IsAntisymmetric, empty, entries, entries-insert, from_entries, get, insert, len-empty, len-entries, same_map, values}
 use Rattle.std.specs.FinMap.Entries.{by_order, put}
 use Rattle.std.proofs.lemmas.List.Sums.{sum_by-cons}
 use Rattle.std.proofs.lemmas.Map.{lookup-none}
 use Rattle.std.proofs.lemmas.Map.Entries.{none_below_head, none_past_head}
-use Rattle.std.proofs.lemmas.Map.Keys.{IsDistinct-from_sorted, sorted_tail}
+use Rattle.std.proofs.lemmas.Map.Keys.{IsDistinct-from_sorted, IsDistinct-tail, sorted_tail}
+use Rattle.git_name.proofs.SortedNames.{sorted_entries}
+use Rattle.git_name.proofs.TreeMaps.{entries_after_insert, get_of_entries}
 use Rattle.ledgers.specs.Chosen.{chosen, chosen_in}
-use Rattle.ledgers.proofs.ChosenLemmas.{entries_at, entries_chosen, get_chosen, sorted_entries}
+use Rattle.ledgers.proofs.ChosenLemmas.{entries_at, entries_chosen, get_chosen}
 
 -- the sum over entries
 abbrev pub sum_in : {K X : Type 0} → (X → ℕ) → List (K × X) → ℕ
@@ -72,6 +74,23 @@ entries_of_none {X = X} R = none_left _ (sym (len-entries (empty {X = X} {R = R}
 -- nothing sums up to nothing
 pub sum_empty : {K X : Type 0} (R : K → K → Ordering) (f : X → ℕ) → sum_by f (values (empty {K = K} {X = X} {R = R})) ≡ 0
 sum_empty R f = ap (sum_in f) (entries_of_none R)
+
+-- ---- entries in no order
+from_cons : {K X : Type 0} {R : K → K → Ordering} → IsTotalOrder R → IsAntisymmetric R → (e : K × X) (es : List (K × X)) → from_entries {R = R} (e ∷ es) ≡ insert (from_entries es) e.0 e.1
+from_cons {R = R} total exact e es = entries_after_insert total exact es (e ∷ es) e.0 e.1 (λ q. ap (λ b. cond b (Some e.1) (lookup (is_at (R q)) es)) ((eq_by_cmp_equiv total).symm q e.0))
+
+-- entries under different keys sum up to what their finite map does
+pub sum_of_distinct : {K X : Type 0} {R : K → K → Ordering} → IsTotalOrder R → IsAntisymmetric R → (f : X → ℕ) (es : List (K × X)) → IsDistinct (eq_by_cmp R) (keys_of es)
+    → sum_in f es ≡ sum_by f (values (from_entries {R = R} es))
+sum_of_distinct {R = R} total exact f [] distinct = sym (sum_empty R f)
+sum_of_distinct {R = R} total exact f (e ∷ es) distinct =
+    let first = sum_in-cons f e es in
+    let rest = sum_of_distinct total exact f es (IsDistinct-tail (eq_by_cmp R) e.0 (keys_of es) distinct) in
+    let put = sum_insert total f (from_entries {R = R} es) e.0 e.1 in
+    let none : worth f (get (from_entries {R = R} es) e.0) ≡ 0 =
+    ap (worth f) (get_of_entries total es e.0 ∙ lookup-none (is_at (R e.0)) es (none_past_head (eq_by_cmp_equiv total) e.0 e es distinct ((eq_by_cmp_equiv total).refl e.0))) in
+    let is = ap (λ m. sum_by f (values m)) (from_cons total exact e es) in
+    omega (arith, first, rest, put, none, is)
 
 -- ---- maps whose values count for the same at each key
 some_of : ℕ → Option ℕ

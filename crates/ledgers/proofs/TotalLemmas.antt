@@ -3,12 +3,13 @@ use Rattle.std.proofs.Common.{◌≡◌, ℕ, ◌+◌, Bool, true, false, List, 
 use Rattle.std.specs.Prelude.{sum_by, if◌then◌else◌}
 use Rattle.std.specs.Map.{keys_of, values_of}
 use Rattle.std.specs.Option.{option_and_then}
-use Rattle.std.specs.List.Sorted.{IsStrictlySortedBy}
+use Rattle.std.specs.List.{IsDistinct}
 use Rattle.std.specs.FinMap.{empty, from_entries, get, keys, values}
 use Rattle.git_name.specs.declared.kind.Kind.{Kind}
 use Rattle.git_name.specs.Name.{name_cmp}
 use Rattle.git_name.proofs.Names.{name_total, name_exact}
-use Rattle.git_name.proofs.TreeMaps.{entries_of_ordered}
+use Rattle.git_name.proofs.HashMaps.{distinct_by_order}
+use Rattle.git_name.specs.Same.{same_name}
 use Rattle.ledgers.specs.declared.usage.TheConstants.{WORD_USE}
 use Rattle.ledgers.specs.declared.word.Standing.{Standing}
 use Rattle.ledgers.specs.declared.word.Standing.TheVariants.{Visible, Staged, Both}
@@ -18,7 +19,7 @@ use Rattle.ledgers.specs.Totals.{IsTotalled, capped, seen_use, total_of, use_of_
 use Rattle.ledgers.specs.Words.{Words, discarded_words, is_visible, kept_as, published_words, seen_word, shows, staged_over, staged_too, staged_words, unstaged_word, words_that}
 use Rattle.ledgers.proofs.CappedLemmas.{capped_more}
 use Rattle.ledgers.proofs.ChosenLemmas.{entries_chosen, get_chosen}
-use Rattle.ledgers.proofs.SumLemmas.{entries_of_none, same_sums, sum_empty, sum_insert, worth}
+use Rattle.ledgers.proofs.SumLemmas.{entries_of_none, same_sums, sum_empty, sum_insert, sum_of_distinct, worth}
 
 -- no words
 pub nothing_used : used_by empty ≡ 0
@@ -33,14 +34,14 @@ nothing_in_all = sum_empty name_cmp use_of_word
 pub no_names : (p : Word → Bool) → keys (words_that p empty) ≡ []
 no_names p = ap keys_of (entries_chosen name_total (λ _ word. kept_as (p word) word) empty ∙ ap (chosen_in (λ _ word. kept_as (p word) word)) (entries_of_none name_cmp))
 
--- ordered entries use what the words of their finite map use
-pub used_in : (es : List (List ℕ × Word)) → IsStrictlySortedBy name_cmp (keys_of es) → sum_by seen_use (values_of es) ≡ used_by (from_entries es)
+-- entries under different names use what the words of their finite map use
+pub used_in : (es : List (List ℕ × Word)) → IsDistinct same_name (keys_of es) → sum_by seen_use (values_of es) ≡ used_by (from_entries es)
 unfolding used_by
-used_in es sorted = ap (λ fs. sum_by seen_use (values_of fs)) (sym (entries_of_ordered name_total es sorted))
+used_in es distinct = sum_of_distinct name_total name_exact seen_use es (distinct_by_order (keys_of es) distinct)
 
-pub total_in : (es : List (List ℕ × Word)) → IsStrictlySortedBy name_cmp (keys_of es) → sum_by use_of_word (values_of es) ≡ total_of (from_entries es)
+pub total_in : (es : List (List ℕ × Word)) → IsDistinct same_name (keys_of es) → sum_by use_of_word (values_of es) ≡ total_of (from_entries es)
 unfolding total_of
-total_in es sorted = ap (λ fs. sum_by use_of_word (values_of fs)) (sym (entries_of_ordered name_total es sorted))
+total_in es distinct = sum_of_distinct name_total name_exact use_of_word es (distinct_by_order (keys_of es) distinct)
 
 -- ---- stage
 same_seen : (s : Standing) (n : ℕ) → (if shows (staged_too s) then n else 0) ≡ (if shows s then n else 0)

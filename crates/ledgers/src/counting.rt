@@ -8,11 +8,12 @@ ghost use Rattle.ledgers.specs.Due.{due_in, leaves_kept, leaves_unstaged};
 use crate::word::{Word, goes, goes_unstaged};
 use catalogue::Catalogue;
 use git_name::Name;
-use std::collections::{BTreeMap, BTreeSet};
+use indexmap::IndexMap;
+use std::collections::BTreeSet;
 
 // Lowers the numbers of the names that leave as these alone are kept. It takes no memory.
 pub(crate) fn lower_left(
-    words: &BTreeMap<Name, Word>,
+    words: &IndexMap<Name, Word>,
     names: &BTreeSet<Name>,
     catalogue: &mut Catalogue,
 )
@@ -29,7 +30,7 @@ pub(crate) fn lower_left(
 
 // Lowers the numbers of the names that leave as what is staged under these goes. It takes no memory.
 pub(crate) fn lower_unstaged(
-    words: &BTreeMap<Name, Word>,
+    words: &IndexMap<Name, Word>,
     names: &BTreeSet<Name>,
     catalogue: &mut Catalogue,
 )

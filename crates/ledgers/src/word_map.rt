@@ -15,15 +15,16 @@ use crate::words::{
 };
 use catalogue::Catalogue;
 use git_name::{Kind, Name};
+use indexmap::IndexMap;
 use std::alloc::{AllocError, Global};
-use std::collections::{BTreeMap, BTreeSet};
+use std::collections::BTreeSet;
 use std::marker::Model;
 
 /// Words by the names of their objects, and beside them the names of those that are staged, so that to
 /// publish or to discard these walks no others.
 #[derive(Drop)]
 pub(crate) struct WordMap {
-    words: BTreeMap<Name, Word>,
+    words: IndexMap<Name, Word>,
     staged: BTreeSet<Name>,
 }
 
@@ -47,7 +48,7 @@ impl WordMap {
         ensures { result ≡ map.empty }
     {
         WordMap {
-            words: BTreeMap::new(alloc),
+            words: IndexMap::new(alloc),
             staged: BTreeSet::new(alloc),
         }
     }

@@ -1,27 +1,29 @@
-// Words by the names of their objects, in a tree.
+// Words by the names of their objects, hashed.
 ghost use Rattle.std.specs.Prelude.{◌≡◌, ◌≤◌, ◌+◌, List, ℕ, OnOk, OnErr, IfOk, Some, None, true, false, not, ◌&&◌, sum_by};
-ghost use Rattle.std.specs.BTreeMap.{IsOrdered, IsUnchanged, Updates};
 ghost use Rattle.std.specs.BTreeSet as set;
-ghost use Rattle.std.specs.FinMap.{from_entries, get};
+ghost use Rattle.std.specs.FinMap.{from_entries, get, keys};
+ghost use Rattle.std.specs.List.{IsDistinct};
 ghost use Rattle.std.specs.Map.{keys_of, values_of};
 ghost use Rattle.std.specs.Option.{option_map_or};
 ghost use Rattle.git_name.specs.Name.{name_cmp};
+ghost use Rattle.git_name.specs.Same.{Sets, same_name};
 ghost use Rattle.catalogue.specs.Counted.{count_of, places_of};
 ghost use Rattle.ledgers.specs.Chosen.{chosen_in};
 ghost use Rattle.ledgers.specs.Due.{due_at, leaves_discarded};
 ghost use Rattle.ledgers.specs.Settled.{AreStaged, Settles, is_among};
 ghost use Rattle.ledgers.specs.Totals.{capped, seen_use, use_of_word};
-ghost use Rattle.ledgers.specs.Words.{discarded_words, is_visible, kept_as, kept_word, published_words, seen_word, unstaged_if, unstaged_word};
+ghost use Rattle.ledgers.specs.Words.{discarded_words, is_visible, kept_as, kept_word, published_words, seen_word, unstaged_if, unstaged_word, words_that};
 
 use crate::usage::WORD_USE;
 use crate::word::{Word, keep, see, unstage};
 use catalogue::Catalogue;
 use git_name::Name;
+use indexmap::IndexMap;
 use std::alloc::{AllocError, Global};
-use std::collections::{BTreeMap, BTreeSet};
+use std::collections::BTreeSet;
 
 // The word of a name.
-pub(crate) fn word_at(words: &BTreeMap<Name, Word>, name: Name) -> Option<Word>
+pub(crate) fn word_at(words: &IndexMap<Name, Word>, name: Name) -> Option<Word>
     ensures { result ≡ get {R = name_cmp} (from_entries words.now.entries) name }
 {
     words.get(&name).copied()
@@ -29,15 +31,15 @@ pub(crate) fn word_at(words: &BTreeMap<Name, Word>, name: Name) -> Option<Word>
 
 // Puts a word that is staged under its name, which is noted first.
 pub(crate) fn put_staged(
-    words: &mut BTreeMap<Name, Word>,
+    words: &mut IndexMap<Name, Word>,
     staged: &mut BTreeSet<Name>,
     name: Name,
     word: Word,
 ) -> Result<(), AllocError>
     requires fresh { set.contains name_cmp staged.old name ≡ false }
-    ensures ok { OnOk result (Updates name_cmp words.old words.new name (Some word)) }
+    ensures ok { OnOk result (Sets words.old.entries words.new.entries name (Some word)) }
     ensures noted { OnOk result (set.Updates name_cmp staged.old staged.new name true) }
-    ensures err { OnErr result (IsUnchanged words.old words.new) }
+    ensures err { OnErr result (words.new.entries ≡ words.old.entries) }
     ensures kept { OnErr result ((q : List ℕ) → set.contains name_cmp staged.new q ≡ set.contains name_cmp staged.old q) }
 {
     let Ok(_) = staged.insert(name) else {
@@ -51,7 +53,7 @@ pub(crate) fn put_staged(
 }
 
 // What is staged under a name is seen, and no more staged.
-fn see_one(words: &mut BTreeMap<Name, Word>, name: Name)
+fn see_one(words: &mut IndexMap<Name, Word>, name: Name)
     ensures { Settles (λ word. Some (seen_word word)) name (from_entries words.old.entries) (from_entries words.new.entries) }
 {
     let Some(word) = words.get_mut(&name) else {
@@ -61,7 +63,7 @@ fn see_one(words: &mut BTreeMap<Name, Word>, name: Name)
 }
 
 // What is staged under a name is staged no more. Answers whether the word left.
-fn unstage_one(words: &mut BTreeMap<Name, Word>, name: Name) -> bool
+fn unstage_one(words: &mut IndexMap<Name, Word>, name: Name) -> bool
     ensures settles { Settles unstaged_word name (from_entries words.old.entries) (from_entries words.new.entries) }
     ensures left { result ≡ option_map_or (leaves_discarded name) (get {R = name_cmp} (from_entries words.old.entries) name) false }
 {
@@ -72,12 +74,12 @@ fn unstage_one(words: &mut BTreeMap<Name, Word>, name: Name) -> bool
         see_one(words, name);
         return false;
     }
-    words.remove(&name);
+    words.swap_remove(&name);
     true
 }
 
 // What is staged, which are the words of these names, is seen, and no more staged. It takes no memory.
-pub(crate) fn see_all(words: &mut BTreeMap<Name, Word>, staged: &BTreeSet<Name>)
+pub(crate) fn see_all(words: &mut IndexMap<Name, Word>, staged: &BTreeSet<Name>)
     requires { AreStaged staged.now.keys (from_entries words.old.entries) }
     ensures { from_entries words.new.entries ≡ published_words (from_entries words.old.entries) }
 {
@@ -89,7 +91,7 @@ pub(crate) fn see_all(words: &mut BTreeMap<Name, Word>, staged: &BTreeSet<Name>)
 // What is staged, which are the words of these names, is staged no more, and the numbers of the names
 // that leave are lowered. It takes no memory.
 pub(crate) fn unstage_all(
-    words: &mut BTreeMap<Name, Word>,
+    words: &mut IndexMap<Name, Word>,
     staged: &BTreeSet<Name>,
     catalogue: &mut Catalogue,
 )
@@ -107,18 +109,20 @@ pub(crate) fn unstage_all(
 }
 
 // Of what is seen these names alone stay so. It takes no memory.
-pub(crate) fn keep_among(words: &mut BTreeMap<Name, Word>, names: &BTreeSet<Name>)
+pub(crate) fn keep_among(words: &mut IndexMap<Name, Word>, names: &BTreeSet<Name>)
     ensures entries { words.new.entries ≡ chosen_in (λ name word. kept_word (set.contains name_cmp names.now name) word) words.old.entries }
-    ensures ordered { IsOrdered name_cmp words.old }
+    ensures distinct { IsDistinct same_name (keys_of words.old.entries) }
 {
+    let _count = words.len();
     words.retain(|name, word| keep(word, names.contains(name)));
 }
 
 // What is staged under these names is so no more. It takes no memory.
-pub(crate) fn unstage_among(words: &mut BTreeMap<Name, Word>, names: &BTreeSet<Name>)
+pub(crate) fn unstage_among(words: &mut IndexMap<Name, Word>, names: &BTreeSet<Name>)
     ensures entries { words.new.entries ≡ chosen_in (λ name word. unstaged_if (set.contains name_cmp names.now name) word) words.old.entries }
-    ensures ordered { IsOrdered name_cmp words.old }
+    ensures distinct { IsDistinct same_name (keys_of words.old.entries) }
 {
+    let _count = words.len();
     words.retain(|name, word| unstage(word, names.contains(name)));
 }
 
@@ -129,14 +133,12 @@ pub(crate) fn leave_out(staged: &mut BTreeSet<Name>, names: &BTreeSet<Name>)
     staged.retain(|name| !names.contains(name));
 }
 
-// The names of what is seen, ascending.
-pub(crate) fn seen_names(
-    alloc: Global,
-    words: &BTreeMap<Name, Word>,
-) -> Result<Vec<Name>, AllocError>
+// The names of what is seen, in no order.
+fn seen_among(alloc: Global, words: &IndexMap<Name, Word>) -> Result<Vec<Name>, AllocError>
     ensures names { IfOk result (λ names. names.items ≡ keys_of (chosen_in (λ _ word. kept_as (is_visible word) word) words.now.entries)) }
-    ensures ordered { IsOrdered name_cmp words.now }
+    ensures distinct { IsDistinct same_name (keys_of words.now.entries) }
 {
+    let _count = words.len();
     let mut names = Vec::new(alloc);
     for (name, word) in words {
         if word.is_visible() {
@@ -146,12 +148,25 @@ pub(crate) fn seen_names(
     Ok(names)
 }
 
+// The names of what is seen, ascending.
+pub(crate) fn seen_names(
+    alloc: Global,
+    words: &IndexMap<Name, Word>,
+) -> Result<Vec<Name>, AllocError>
+    ensures { IfOk result (λ names. names.items ≡ keys (words_that is_visible (from_entries words.now.entries))) }
+{
+    let mut names = seen_among(alloc, words)?;
+    names.sort_unstable();
+    Ok(names)
+}
+
 // What the objects use that are seen, and what all use, in one pass.
-pub(crate) fn uses(words: &BTreeMap<Name, Word>) -> (u128, u128)
+pub(crate) fn uses(words: &IndexMap<Name, Word>) -> (u128, u128)
     ensures visible { result.0 ≡ capped (sum_by seen_use (values_of words.now.entries)) }
     ensures both { result.1 ≡ capped (sum_by use_of_word (values_of words.now.entries)) }
-    ensures ordered { IsOrdered name_cmp words.now }
+    ensures distinct { IsDistinct same_name (keys_of words.now.entries) }
 {
+    let _count = words.len();
     let mut visible = 0u128;
     let mut both = 0u128;
     for word in words.values() {

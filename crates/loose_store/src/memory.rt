@@ -1,18 +1,20 @@
 ghost use Rattle.std.specs.Prelude.{◌≡◌, true, OnOk, OnErr, IfOk, Some, None};
-ghost use Rattle.std.specs.BTreeMap.{IsOrdered, IsUnchanged, Updates, keys};
+ghost use Rattle.std.specs.Map.{keys_of};
 ghost use Rattle.std.specs.FinMap as map;
+ghost use Rattle.std.specs.List.{IsDistinct};
 ghost use Rattle.git_name.specs.Name.{name_cmp};
+ghost use Rattle.git_name.specs.Same.{Sets, same_name};
 
 use crate::files::{FileFault, LooseFiles};
 use git_name::Name;
 use std::alloc::{AllocError, Global};
-use std::collections::BTreeMap;
+use std::collections::HashMap;
 use std::marker::Model;
 
-/// Files in memory.
+/// Files in memory, hashed by their names.
 #[derive(Debug, Drop)]
 pub struct Memory {
-    files: BTreeMap<Name, Vec<u8>>,
+    files: HashMap<Name, Vec<u8>>,
 }
 
 impl Model for Memory {
@@ -29,28 +31,39 @@ impl Model for Memory {
 }
 
 fn insert_into(
-    files: &mut BTreeMap<Name, Vec<u8>>,
+    files: &mut HashMap<Name, Vec<u8>>,
     name: Name,
     bytes: Vec<u8>,
 ) -> Result<(), AllocError>
-    ensures ok { OnOk result (Updates name_cmp files.old files.new name (Some bytes)) }
-    ensures err { OnErr result (IsUnchanged files.old files.new) }
+    ensures ok { OnOk result (Sets files.old.entries files.new.entries name (Some bytes)) }
+    ensures err { OnErr result (files.new.entries ≡ files.old.entries) }
 {
     files.insert(name, bytes)?;
     Ok(())
 }
 
-fn remove_from(files: &mut BTreeMap<Name, Vec<u8>>, name: Name)
-    ensures { Updates name_cmp files.old files.new name None }
+fn remove_from(files: &mut HashMap<Name, Vec<u8>>, name: Name)
+    ensures { Sets files.old.entries files.new.entries name None }
 {
     files.remove(&name);
 }
 
-fn names_in(alloc: Global, files: &BTreeMap<Name, Vec<u8>>) -> Result<Vec<Name>, AllocError>
-    ensures names { IfOk result (λ names. names.items ≡ keys files.now) }
-    ensures ordered { IfOk result (λ _. IsOrdered name_cmp files.now) }
+// The names of the files, in no order.
+fn listed(alloc: Global, files: &HashMap<Name, Vec<u8>>) -> Result<Vec<Name>, AllocError>
+    ensures names { IfOk result (λ names. names.items ≡ keys_of files.now.entries) }
+    ensures distinct { IsDistinct same_name (keys_of files.now.entries) }
 {
+    let _count = files.len();
     files.keys().copied().collect(alloc)
+}
+
+// The names of the files, ascending.
+fn names_in(alloc: Global, files: &HashMap<Name, Vec<u8>>) -> Result<Vec<Name>, AllocError>
+    ensures { IfOk result (λ names. names.items ≡ map.keys (map.from_entries {R = name_cmp} files.now.entries)) }
+{
+    let mut names = listed(alloc, files)?;
+    names.sort_unstable();
+    Ok(names)
 }
 
 impl Memory {
@@ -59,7 +72,7 @@ impl Memory {
         ensures { result ≡ map.empty }
     {
         Memory {
-            files: BTreeMap::new(alloc),
+            files: HashMap::new(alloc),
         }
     }
 
@@ -69,8 +82,15 @@ impl Memory {
         ensures err { OnErr result (self.new ≡ self.old) }
     {
         let copy = bytes.to_vec(alloc)?;
-        insert_into(&mut self.files, name, copy)?;
-        Ok(())
+        self.keep(name, copy)
+    }
+
+    // The same of bytes that need no copy.
+    fn keep(&mut self, name: Name, bytes: Vec<u8>) -> Result<(), AllocError>
+        ensures ok { OnOk result (self.new ≡ map.insert self.old name bytes.items) }
+        ensures err { OnErr result (self.new ≡ self.old) }
+    {
+        insert_into(&mut self.files, name, bytes)
     }
 }
 
@@ -90,6 +110,10 @@ impl LooseFiles for Memory {
 
     fn put(&mut self, alloc: Global, name: Name, bytes: &[u8]) -> Result<(), FileFault> {
         Ok(self.set(alloc, name, bytes)?)
+    }
+
+    fn put_owned(&mut self, _alloc: Global, name: Name, bytes: Vec<u8>) -> Result<(), FileFault> {
+        Ok(self.keep(name, bytes)?)
     }
 
     fn remove(&mut self, _alloc: Global, name: Name) -> Result<(), FileFault> {

@@ -153,7 +153,7 @@ impl<S: LooseFiles> CachedStore<S> {
         let name = sealed.name();
         self.cache.forget(name);
         self.survey.end();
-        let Err(fault) = self.files.put(alloc, name, file.as_slice()) else {
+        let Err(fault) = self.files.put_owned(alloc, name, file) else {
             return Ok(());
         };
         self.is_sure = false;
@@ -179,7 +179,8 @@ impl<S: LooseFiles> CachedStore<S> {
 
 ghost use Rattle.read_cache.specs.Cached.{AllWhole, AreWhole, IsSure};
 
-// The object of a name, out of the cache or from the store.
+// The object of a name, out of the cache or from the store. A sure store is as near as the cache, and is
+// asked at once.
 fn read_through<S: LooseFiles>(
     alloc: Global,
     files: &mut S,
@@ -196,13 +197,16 @@ fn read_through<S: LooseFiles>(
     ensures honest { S.honest files.new ≡ S.honest files.old }
     ensures cause { CountsRead (S.failures files.old) (S.failures files.new) result }
 {
+    if is_sure {
+        return read_unhashed(alloc, files, name);
+    }
     let Ok(kept) = cache.find(name) else {
         return Err(StoreFault::Memory);
     };
     if let Some(sealed) = kept {
         return Ok(Some(sealed));
     }
-    read_and_keep(alloc, files, cache, is_sure, name)
+    read_and_keep(alloc, files, cache, name)
 }
 
 // The object of a name, from the store, which is kept.
@@ -210,11 +214,9 @@ fn read_and_keep<S: LooseFiles>(
     alloc: Global,
     files: &mut S,
     cache: &mut ReadCache,
-    is_sure: bool,
     name: Name,
 ) -> Result<Option<Sealed>, StoreFault>
-    requires kept { IsTrue (S.honest files.old) → AreWhole cache.old (S.contents files.old) }
-    requires sure { IsSure is_sure (S.honest files.old) (S.contents files.old) }
+    requires { IsTrue (S.honest files.old) → AreWhole cache.old (S.contents files.old) }
     ensures reads { IsTrue (S.honest files.old) → ReadsTo (S.contents files.old) name result }
     ensures kept { IsTrue (S.honest files.old) → S.contents files.new ≡ S.contents files.old }
     ensures whole { IsTrue (S.honest files.old) → AreWhole cache.new (S.contents files.new) }
@@ -222,34 +224,13 @@ fn read_and_keep<S: LooseFiles>(
     ensures honest { S.honest files.new ≡ S.honest files.old }
     ensures cause { CountsRead (S.failures files.old) (S.failures files.new) result }
 {
-    match read_either(alloc, files, is_sure, name) {
+    match read_checked(alloc, files, name) {
         Ok(Some(sealed)) => {
             cache.keep(&sealed);
             Ok(Some(sealed))
         }
         Ok(None) => Ok(None),
         Err(fault) => Err(fault),
-    }
-}
-
-// The object of a name, from the store. Where the store is sure it is not hashed.
-fn read_either<S: LooseFiles>(
-    alloc: Global,
-    files: &mut S,
-    is_sure: bool,
-    name: Name,
-) -> Result<Option<Sealed>, StoreFault>
-    requires { IsSure is_sure (S.honest files.old) (S.contents files.old) }
-    ensures reads { IsTrue (S.honest files.old) → ReadsTo (S.contents files.old) name result }
-    ensures kept { IsTrue (S.honest files.old) → S.contents files.new ≡ S.contents files.old }
-    ensures named { IfOk result (λ found. IfSome found (λ sealed. object_name sealed ≡ name)) }
-    ensures honest { S.honest files.new ≡ S.honest files.old }
-    ensures cause { CountsRead (S.failures files.old) (S.failures files.new) result }
-{
-    if is_sure {
-        read_unhashed(alloc, files, name)
-    } else {
-        read_checked(alloc, files, name)
     }
 }
 

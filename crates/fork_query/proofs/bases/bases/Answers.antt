@@ -21,4 +21,4 @@ returns-in-Ok-write_names-clause-listed g c = λ honest.
     let next = parent_names objects in
     let none = contains name_cmp c.new-none.result in
     let read = c.in-Ok.ensures.found honest ∙ ap (map_values note_of) (kept_alike objects (is_reached next (without objects none) roots) (is_reached next objects roots) (reached_all next objects none roots (empty_lacks c.new-none.result.keys c.new-none.ensures.empty))) in
-    c.in-Ok-write_names.ensures ∙ ap name_lines (best_names objects c.args.a c.args.b c.in-Ok.history read c.in-Ok-best.best c.len-count.ensures.ordered c.in-Ok-best.ensures)
+    c.in-Ok-write_names.ensures ∙ ap name_lines (best_names objects c.args.a c.args.b c.in-Ok.history read c.in-Ok-ascending.listed c.len-count.ensures.ordered (λ name. c.in-Ok-ascending.ensures name ∙ c.in-Ok-best.ensures name))

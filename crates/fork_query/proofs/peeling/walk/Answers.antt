@@ -1,4 +1,4 @@
-use Rattle.std.proofs.Common.{◌≡◌, ◌≢◌, ℕ, List, Option, IsTrue, None, Some, is_some, sym, ap, subst, ◌∙◌, arith, inl, inr}
+use Rattle.std.proofs.Common.{◌≡◌, ◌≢◌, ℕ, List, Option, Bool, true, false, not, IsTrue, None, Some, is_some, refl, sym, ap, subst, ◌∙◌, arith, inl, inr}
 use Rattle.std.specs.Prelude.{IfSome}
 use Rattle.std.specs.FinMap.{get}
 use Rattle.std.specs.BTreeSet.{contains}
@@ -9,11 +9,20 @@ use Rattle.fork_reach.specs.Source.{Objects, kind_in}
 use Rattle.fork_reach.proofs.AlongLemmas.{there_by_kind}
 use Rattle.fork_reach.proofs.AskedLemmas.{asked_again}
 use Rattle.fork_reach.proofs.MeasureLemmas.{measured_there, same_there}
-use Rattle.fork_reach.proofs.SeeingLemmas.{found_inserting, unseen_less, was_new, was_seen}
+use Rattle.fork_reach.proofs.SeeingLemmas.{found_inserting, unseen_less}
 use Rattle.fork_query.specs.Followed.{AreEnds, Ends}
 use Rattle.fork_query.specs.Peel.{peeled, tag_target}
 use Rattle.fork_query.proofs.PeelLemmas.{IsNearer, circle_none, nearer_on, nearer_target, no_target, peeled_here, peeled_on}
 use Rattle.fork_query.proofs.peeling.walk.Goals as goal
+
+-- what an insertion told of whether the name was there
+was_seen : (added before : Bool) → added ≡ not before → added ≡ false → before ≡ true
+was_seen added true is old = refl
+was_seen added false is old = absurd (cc)
+
+was_new : (added before : Bool) → added ≡ not before → added ≡ true → before ≡ false
+was_new added true is new = absurd (cc)
+was_new added false is new = refl
 
 -- what is known of the tag that was met
 known_end : (objects : Objects) (ends : Ends) (tag : List ℕ) (end : Option (List ℕ)) → AreEnds objects ends → get ends tag ≡ Some end → end ≡ peeled objects tag

@@ -27,4 +27,4 @@ returns-in-Ok-lines_of-clause-listed g c = λ honest.
     let past = subst (λ roots. history ≡ map_values note_of (retain_keys mid.objects (is_reached (parent_names mid.objects) (without mid.objects hides) roots))) c.as_slice-2.ensures.value (c.in-Ok-read_history.ensures.found (subst IsTrue (sym first.honest) honest)) in
     let read = subst (λ (all : Objects). history ≡ map_values note_of (retain_keys all (is_reached (parent_names all) (without all hides) wants))) (first.objects honest) past in
     c.in-Ok-lines_of.ensures
-    ∙ ap (λ keys. name_lines (map (λ date. date.name) keys)) (c.in-Ok-dates_of.ensures ∙ ap newest_first (dates_beyond (parent_names old.objects) old.objects hides wants haves history hidden read))
+    ∙ ap (λ keys. name_lines (map (λ date. date.name) keys)) (c.as_slice-3.ensures.value ∙ c.in-Ok-dates_of.ensures ∙ ap newest_first (dates_beyond (parent_names old.objects) old.objects hides wants haves history hidden read))

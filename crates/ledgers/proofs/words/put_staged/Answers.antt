@@ -1,7 +1,11 @@
 use Rattle.std.specs.BTreeSet.{contains}
 use Rattle.git_name.specs.Name.{name_cmp}
 use Rattle.ledgers.proofs.SettleLemmas.{taken_back}
+use Rattle.git_name.proofs.HashMaps.{sets_by_test}
 use Rattle.ledgers.proofs.words.put_staged.Goals as goal
+
+pub returns-clause-ok : goal.returns-clause-ok
+returns-clause-ok c = sets_by_test c.args.words.now.entries c.insert-2.new.self.entries c.args.name _ c.in-Ok-insert.ensures.updates.0
 
 pub returns-in_default-insert-clause-kept : goal.returns-in_default-insert-clause-kept
 returns-in_default-insert-clause-kept c =

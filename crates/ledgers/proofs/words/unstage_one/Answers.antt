@@ -4,6 +4,7 @@ use Rattle.std.specs.Option.{option_map_or}
 use Rattle.ledgers.specs.Due.{leaves_discarded}
 use Rattle.ledgers.specs.Words.{seen_word, unstaged_word}
 use Rattle.ledgers.proofs.SettleLemmas.{settles_alike, settles_none, settles_set, unstaged_seen, unstaged_unseen}
+use Rattle.git_name.proofs.HashMaps.{sets_by_test}
 use Rattle.ledgers.proofs.words.unstage_one.Goals as goal
 
 pub returns-in_default-clause-settles : goal.returns-in_default-clause-settles
@@ -22,7 +23,7 @@ returns-then-is_visible-clause-left c = sym (ap not (sym c.is_visible.ensures âˆ
 
 pub returns-clause-settles : goal.returns-clause-settles
 returns-clause-settles c =
-    settles_set unstaged_word c.args.name c.args.words.now.entries c.remove.new.self.entries None c.remove.ensures.updates.0
+    settles_set unstaged_word c.args.name c.args.words.now.entries c.swap_remove.new.self.entries None (sets_by_test _ _ _ _ c.swap_remove.ensures.updates.0)
     (unstaged_unseen c.in-Some.word _ (sym c.in-Some.ensures) (sym c.is_visible.ensures âˆ™ c.if-is_visible.false))
 
 pub returns-clause-left : goal.returns-clause-left

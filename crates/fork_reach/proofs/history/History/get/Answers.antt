@@ -1,8 +1,7 @@
 use Rattle.std.proofs.Common.{sym, ◌∙◌, ap}
 use Rattle.std.specs.FinMap as map
-use Rattle.git_name.proofs.Names.{name_total}
-use Rattle.git_name.proofs.TreeMaps.{get_of_entries}
+use Rattle.git_name.proofs.HashMaps.{get_of_hashed}
 use Rattle.fork_reach.proofs.history.History.get.Goals as goal
 
 pub returns : goal.returns
-returns c = c.get.ensures.value ∙ sym (get_of_entries name_total c.self.inside.commits.entries c.args.name) ∙ ap (λ m. map.get m c.args.name) c.self.view_is
+returns c = c.get.ensures.value ∙ sym (get_of_hashed c.self.inside.commits.entries c.args.name) ∙ ap (λ m. map.get m c.args.name) c.self.view_is

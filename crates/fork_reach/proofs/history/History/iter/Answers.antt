@@ -1,8 +1,10 @@
-use Rattle.std.proofs.Common.{sym, ◌∙◌, ap}
+use Rattle.std.proofs.Common.{sym, subst}
 use Rattle.std.specs.FinMap as map
-use Rattle.git_name.proofs.Names.{name_total}
-use Rattle.git_name.proofs.TreeMaps.{entries_of_ordered}
+use Rattle.std.specs.List.Sorted.{IsPermutation}
+use Rattle.fork_reach.proofs.KeyLemmas.{entries_reordered}
 use Rattle.fork_reach.proofs.history.History.iter.Goals as goal
 
 pub returns : goal.returns
-returns c = c.iter.ensures.rest ∙ sym (entries_of_ordered name_total c.self.inside.commits.entries c.iter.ensures.ordered) ∙ ap map.entries c.self.view_is
+returns c =
+    let es = c.self.inside.commits.entries in
+    subst (IsPermutation (map.entries c.args.self.now)) (sym c.iter.ensures.rest) (subst (λ all. IsPermutation (map.entries all) es) c.self.view_is (entries_reordered es c.iter.ensures.unique))

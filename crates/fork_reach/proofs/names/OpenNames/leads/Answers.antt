@@ -1,12 +1,15 @@
-use Rattle.std.proofs.Common.{sym, ap, ◌∙◌, is_some}
+use Rattle.std.proofs.Common.{◌≡◌, Bool, true, false, not, refl, sym, ap, ◌∙◌, is_some}
 use Rattle.std.specs.BTreeSet.{contains}
 use Rattle.git_name.specs.Name.{name_cmp}
 use Rattle.fork_reach.specs.Along.{rests_in}
 use Rattle.fork_reach.specs.Objects.{measures_of}
 use Rattle.fork_reach.proofs.AlongLemmas.{rests_by_kind}
 use Rattle.fork_reach.proofs.HiddenLemmas.{hidden_away, kind_shown}
-use Rattle.fork_reach.proofs.SeeingLemmas.{was_seen}
 use Rattle.fork_reach.proofs.names.OpenNames.leads.Goals as goal
+
+was_so : (denied so : Bool) → denied ≡ not so → denied ≡ false → so ≡ true
+was_so denied true is told = refl
+was_so denied false is told = absurd (cc)
 
 pub returns-then-contains-clause-there : goal.returns-then-contains-clause-there
 returns-then-contains-clause-there g c =
@@ -23,4 +26,4 @@ returns-clause-there g c =
 pub returns-clause-ends : goal.returns-clause-ends
 returns-clause-ends g c rests =
     rests_by_kind c.args.self.now.along (g.S.Source.state c.args.self.now.source.now).objects c.args.name c.in-Some.kind c.in-Some.ensures
-    ∙ was_seen c.goes_on_in.result (rests_in c.args.self.now.along c.in-Some.kind) c.goes_on_in.ensures rests
+    ∙ was_so c.goes_on_in.result (rests_in c.args.self.now.along c.in-Some.kind) c.goes_on_in.ensures rests

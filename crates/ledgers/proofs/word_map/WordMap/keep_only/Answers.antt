@@ -2,10 +2,11 @@ use Rattle.std.proofs.Common.{ap, subst, sym, ◌∙◌}
 use Rattle.std.specs.BTreeSet.{contains}
 use Rattle.std.specs.FinMap as map
 use Rattle.git_name.specs.Name.{name_cmp}
-use Rattle.git_name.proofs.Names.{name_total}
+use Rattle.git_name.proofs.HashMaps.{distinct_by_order}
+use Rattle.git_name.proofs.Names.{name_total, name_exact}
 use Rattle.ledgers.specs.Settled.{AreStaged}
 use Rattle.ledgers.specs.Words.{kept_word, kept_words}
-use Rattle.ledgers.proofs.ChosenLemmas.{chosen_of_ordered}
+use Rattle.ledgers.proofs.ChosenLemmas.{chosen_of_distinct}
 use Rattle.ledgers.proofs.SettleLemmas.{kept_staged}
 use Rattle.ledgers.proofs.word_map.WordMap.keep_only.Goals as goal
 
@@ -13,11 +14,11 @@ pub invariant_of-self : goal.invariant_of-self
 invariant_of-self c =
     let es = c.self.inside.words.entries in
     subst (AreStaged c.self.inside.staged.keys)
-    (sym (ap (λ fs. map.from_entries {R = name_cmp} fs) c.keep_among.ensures.entries ∙ chosen_of_ordered name_total (λ name word. kept_word (contains name_cmp c.args.names.now name) word) es c.keep_among.ensures.ordered))
+    (sym (ap (λ fs. map.from_entries {R = name_cmp} fs) c.keep_among.ensures.entries ∙ chosen_of_distinct name_total name_exact (λ name word. kept_word (contains name_cmp c.args.names.now name) word) es (distinct_by_order _ c.keep_among.ensures.distinct)))
     (kept_staged (λ name. contains name_cmp c.args.names.now name) c.self.inside.staged.keys (map.from_entries es) c.self.invariant)
 
 pub returns : goal.returns
 returns c =
     let es = c.self.inside.words.entries in
     ap (λ fs. map.from_entries {R = name_cmp} fs) c.keep_among.ensures.entries
-    ∙ chosen_of_ordered name_total (λ name word. kept_word (contains name_cmp c.args.names.now name) word) es c.keep_among.ensures.ordered ∙ ap (kept_words (λ name. contains name_cmp c.args.names.now name)) c.self.view_is
+    ∙ chosen_of_distinct name_total name_exact (λ name word. kept_word (contains name_cmp c.args.names.now name) word) es (distinct_by_order _ c.keep_among.ensures.distinct) ∙ ap (kept_words (λ name. contains name_cmp c.args.names.now name)) c.self.view_is

@@ -9,10 +9,10 @@ use Rattle.ledgers.proofs.word_map.WordMap.lower_unstaged.Goals as goal
 
 pub lower_unstaged-requires : goal.lower_unstaged-requires
 lower_unstaged-requires c = λ q.
-    let same = due_words (leaves_unstaged (contains name_cmp c.args.names.now)) c.self.inside.words.entries q c.len-count.ensures.ordered ∙ ap (λ (m : Words). due_at (leaves_unstaged (contains name_cmp c.args.names.now)) m q) c.self.view_is in
+    let same = due_words (leaves_unstaged (contains name_cmp c.args.names.now)) c.self.inside.words.entries q c.len-count.ensures.unique ∙ ap (λ (m : Words). due_at (leaves_unstaged (contains name_cmp c.args.names.now)) m q) c.self.view_is in
     subst (λ n. n ≤ count_of c.args.catalogue.now q) (sym same) (c.requires q)
 
 pub returns-clause-counts : goal.returns-clause-counts
 returns-clause-counts c = λ q.
-    let same = due_words (leaves_unstaged (contains name_cmp c.args.names.now)) c.self.inside.words.entries q c.len-count.ensures.ordered ∙ ap (λ (m : Words). due_at (leaves_unstaged (contains name_cmp c.args.names.now)) m q) c.self.view_is in
+    let same = due_words (leaves_unstaged (contains name_cmp c.args.names.now)) c.self.inside.words.entries q c.len-count.ensures.unique ∙ ap (λ (m : Words). due_at (leaves_unstaged (contains name_cmp c.args.names.now)) m q) c.self.view_is in
     ap (λ n. count_of c.lower_unstaged.new.catalogue q + n) (sym same) ∙ c.lower_unstaged.ensures.counts q

@@ -20,10 +20,10 @@ pub invariant_of-self-2 : goal.invariant_of-self-2
 invariant_of-self-2 c =
     staged_more c.self.inside.staged.keys c.put_staged.new.staged.keys (map.from_entries c.self.inside.words.entries) (map.from_entries c.put_staged.new.words.entries) c.args.name c.word_over-word.result c.self.invariant
     (ap is_staged c.word_over-word.ensures ∙ over_staged c.args.kind c.args.length c.get-before.result) c.in-Ok.ensures.noted.0
-    (set_at c.args.name c.self.inside.words.entries c.put_staged.new.words.entries c.word_over-word.result c.in-Ok.ensures.ok.0)
+    (set_at c.args.name c.self.inside.words.entries c.put_staged.new.words.entries c.word_over-word.result c.in-Ok.ensures.ok)
 
 pub returns-clause-ok : goal.returns-clause-ok
 returns-clause-ok c =
-    entries_after_insert name_total name_exact c.self.inside.words.entries c.put_staged.new.words.entries c.args.name c.word_over-word.result c.in-Ok.ensures.ok.0
+    entries_after_insert name_total name_exact c.self.inside.words.entries c.put_staged.new.words.entries c.args.name c.word_over-word.result c.in-Ok.ensures.ok
     ∙ ap (λ m. map.insert m c.args.name c.word_over-word.result) c.self.view_is
     ∙ ap (map.insert c.args.self.now c.args.name) (c.word_over-word.ensures ∙ ap (staged_over c.args.kind c.args.length) c.get-before.ensures)

@@ -2,10 +2,11 @@ use Rattle.std.proofs.Common.{ap, subst, sym, ◌∙◌}
 use Rattle.std.specs.BTreeSet.{contains}
 use Rattle.std.specs.FinMap as map
 use Rattle.git_name.specs.Name.{name_cmp}
-use Rattle.git_name.proofs.Names.{name_total}
+use Rattle.git_name.proofs.HashMaps.{distinct_by_order}
+use Rattle.git_name.proofs.Names.{name_total, name_exact}
 use Rattle.ledgers.specs.Settled.{AreStaged}
 use Rattle.ledgers.specs.Words.{unstaged_if, unstaged_words}
-use Rattle.ledgers.proofs.ChosenLemmas.{chosen_of_ordered}
+use Rattle.ledgers.proofs.ChosenLemmas.{chosen_of_distinct}
 use Rattle.ledgers.proofs.SettleLemmas.{unstaged_staged}
 use Rattle.ledgers.proofs.word_map.WordMap.unstage.Goals as goal
 
@@ -13,11 +14,11 @@ pub invariant_of-self : goal.invariant_of-self
 invariant_of-self c =
     let es = c.self.inside.words.entries in
     subst (AreStaged c.leave_out.new.staged.keys)
-    (sym (ap (λ fs. map.from_entries {R = name_cmp} fs) c.unstage_among.ensures.entries ∙ chosen_of_ordered name_total (λ name word. unstaged_if (contains name_cmp c.args.names.now name) word) es c.unstage_among.ensures.ordered))
+    (sym (ap (λ fs. map.from_entries {R = name_cmp} fs) c.unstage_among.ensures.entries ∙ chosen_of_distinct name_total name_exact (λ name word. unstaged_if (contains name_cmp c.args.names.now name) word) es (distinct_by_order _ c.unstage_among.ensures.distinct)))
     (unstaged_staged (λ name. contains name_cmp c.args.names.now name) c.self.inside.staged.keys c.leave_out.new.staged.keys (map.from_entries es) c.self.invariant c.leave_out.ensures)
 
 pub returns : goal.returns
 returns c =
     let es = c.self.inside.words.entries in
     ap (λ fs. map.from_entries {R = name_cmp} fs) c.unstage_among.ensures.entries
-    ∙ chosen_of_ordered name_total (λ name word. unstaged_if (contains name_cmp c.args.names.now name) word) es c.unstage_among.ensures.ordered ∙ ap (unstaged_words (λ name. contains name_cmp c.args.names.now name)) c.self.view_is
+    ∙ chosen_of_distinct name_total name_exact (λ name word. unstaged_if (contains name_cmp c.args.names.now name) word) es (distinct_by_order _ c.unstage_among.ensures.distinct) ∙ ap (unstaged_words (λ name. contains name_cmp c.args.names.now name)) c.self.view_is

@@ -2,7 +2,7 @@ use Rattle.std.proofs.Common.{◌≡◌, ◌++◌}
 use Rattle.std.specs.Map.{keys_of}
 use Rattle.ledgers.specs.Chosen.{chosen_in}
 use Rattle.ledgers.specs.Words.{is_visible, kept_as}
-use Rattle.ledgers.proofs.words.seen_names.Given as goal
+use Rattle.ledgers.proofs.words.seen_among.Given as goal
 
 -- the names so far, and then those of what is left
 abbrev pub invariant-loop-name : goal.invariant-loop-name

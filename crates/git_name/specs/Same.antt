@@ -1,0 +1,13 @@
+-- Names told apart byte by byte, as `==` tells them, and entries that are set by their names (own).
+use Rattle.std.specs.Prelude.{◌≡◌, ℕ, Bool, cond, List, Option, nat_eq}
+use Rattle.std.specs.BTreeMap.{is_at}
+use Rattle.std.specs.Cmp.Lexicographic.{pointwise}
+use Rattle.std.specs.Map.{lookup}
+use Rattle.git_name.specs.Name.{name_cmp}
+
+abbrev pub same_name : List ℕ → List ℕ → Bool
+same_name = pointwise nat_eq
+
+-- entries that have this at one name, and the same as others at each other name
+abbrev pub Sets : {X : Type 0} → List (List ℕ × X) → List (List ℕ × X) → List ℕ → Option X → Type 0
+Sets old new name value = (q : List ℕ) → lookup (is_at (name_cmp q)) new ≡ cond (is_at (name_cmp name) q) value (lookup (is_at (name_cmp q)) old)

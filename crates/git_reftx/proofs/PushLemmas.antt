@@ -1,17 +1,17 @@
 -- References with one more behind the others.
 use Rattle.std.proofs.Common.{◌≡◌, ◌≢◌, ℕ, ◌+◌, ◌<◌, Bool, true, false, All, List, [], ◌∷◌, ◌++◌, ◌⊎◌, inl, inr, ⊎_elim, Option, None, Some, refl, sym, ap, subst, ◌∙◌, length, take, get_or, map as mapped, length-append, take-append-drop, drop, arith}
-use Rattle.std.specs.Prelude.{T, ◌&&◌, ◌==◌, cond}
+use Rattle.std.specs.Prelude.{◌&&◌, ◌==◌, cond}
 use Rattle.std.proofs.lemmas.Bool.{cases_lt}
 use Rattle.std.proofs.lemmas.Bool.Decides.{nat_tests}
 use Rattle.std.specs.List.{slice_get}
-use Rattle.std.specs.List.{AllByRecursion, find, list_any}
+use Rattle.std.specs.List.{find, list_any}
 use Rattle.std.specs.List.Sorted.{IsStrictlySortedBy}
 use Rattle.std.specs.Ordering.{eq_by_cmp, is_lt, ordering_reverse}
 use Rattle.std.specs.declared.cmp.Ordering.{Ordering}
 use Rattle.std.specs.declared.cmp.Ordering.TheVariants.{Less, Equal, Greater}
 use Rattle.std.specs.FinMap as map
-use Rattle.std.specs.FinMap.{FinMap, contains_key, entries_sorted, is_sorted}
-use Rattle.std.specs.FinMap.Entries.{below_all, put}
+use Rattle.std.specs.FinMap.{FinMap, contains_key}
+use Rattle.std.specs.FinMap.Entries.{put}
 use Rattle.std.proofs.lemmas.Cmp.{eq_by_cmp_equiv}
 use Rattle.std.proofs.lemmas.Map.Views.{All-before_last}
 use Rattle.std.proofs.lemmas.List.Elements.{All-head, All-nil, All-tail, All-weaker}
@@ -19,6 +19,7 @@ use Rattle.std.proofs.lemmas.List.{drop_more, get_or-map, length-map}
 use Rattle.std.proofs.lemmas.Option.{get_or_from_slice_get, slice_get_within}
 use Rattle.git_name.specs.Name.{name_cmp}
 use Rattle.git_name.proofs.Names.{name_total, name_exact}
+use Rattle.git_name.proofs.SortedNames.{sorted_entries}
 use Rattle.git_refname.specs.Rule.{IsRefName}
 use Rattle.git_reftx.specs.Fronts.{Before, In}
 use Rattle.git_reftx.specs.Push.{TellsPush}
@@ -33,31 +34,9 @@ use Rattle.git_reftx.proofs.MapLemmas.{named_insert, same_name}
 use Rattle.git_reftx.proofs.MemberLemmas.{any_in, in_any}
 use Rattle.git_reftx.proofs.OrderLemmas.{never_before_itself, never_both}
 
-front : (a b : Bool) → T (a && b) → T a
-front true b is = tt
-front false b is = is
-
-rest : (a b : Bool) → T (a && b) → T b
-rest true b is = is
-rest false b is = absurd is
-
-is_less : (order : Ordering) → T (is_lt order) → order ≡ Less
-is_less Less is = refl
-is_less Equal is = absurd is
-is_less Greater is = absurd is
-
-below : {X : Type 0} (first : List ℕ) (es : List (List ℕ × X)) → T (below_all name_cmp first es) → AllByRecursion (λ name. name_cmp first name ≡ Less) (mapped (λ e. e.0) es)
-below first [] is = tt
-below first (e ∷ es) is = (is_less (name_cmp first e.0) (front _ _ is), below first es (rest (is_lt (name_cmp first e.0)) _ is))
-
-ascending : {X : Type 0} (es : List (List ℕ × X)) → T (is_sorted name_cmp es) → IsStrictlySortedBy name_cmp (mapped (λ e. e.0) es)
-unfolding IsStrictlySortedBy
-ascending [] is = tt
-ascending (e ∷ es) is = (below e.0 es (front _ _ is), ascending es (rest (below_all name_cmp e.0 es) _ is))
-
 -- the keys of a finite map ascend
 pub keys_ascend : {X : Type 0} (values : FinMap name_cmp X) → IsStrictlySortedBy name_cmp (map.keys values)
-keys_ascend values = ascending (map.entries values) (entries_sorted values)
+keys_ascend values = sorted_entries values
 
 -- one name more, behind the others
 in_cases : (names : List (List ℕ)) (name p : List ℕ) → In p (names ++ name ∷ []) → In p names ⊎ (p ≡ name)

@@ -3,7 +3,7 @@ ghost use Rattle.looks.specs.Places.{is_listed, looked_at, same_name};
 ghost use Rattle.catalogue.specs.Counted.{IsNext, count_of, one_if, places_of};
 
 use crate::holders::{entry_at, insert_into, looked_place, set_count, take_out};
-use git_name::Name;
+use git_name::{Hashing, Name};
 use indexmap::IndexMap;
 use std::alloc::{AllocError, Global};
 use std::marker::Model;
@@ -11,7 +11,7 @@ use std::marker::Model;
 /// Names in places, each with its number of holders, and the place of the next look.
 #[derive(Drop)]
 pub struct Catalogue {
-    holders: IndexMap<Name, usize>,
+    holders: IndexMap<Name, usize, Hashing>,
     place: usize,
 }
 
@@ -29,23 +29,27 @@ impl Model for Catalogue {
 
 impl Catalogue {
     /// No names.
-    pub fn new(alloc: Global) -> Catalogue
+    pub fn new(alloc: Global, hashing: Hashing) -> Catalogue
         ensures entries { result.entries ≡ [] }
         ensures place { result.place ≡ 0 }
     {
         Catalogue {
-            holders: IndexMap::new(alloc),
+            holders: IndexMap::with_hasher(alloc, hashing),
             place: 0,
         }
     }
 
     /// These names in their order, which nobody holds.
-    pub fn of(alloc: Global, names: &[Name]) -> Result<Catalogue, AllocError>
+    pub fn of(
+        alloc: Global,
+        hashing: Hashing,
+        names: &[Name],
+    ) -> Result<Catalogue, AllocError>
         ensures listed { IfOk result (λ c. (q : List ℕ) → is_listed (places_of c).names q ≡ is_listed names.now q) }
         ensures counts { IfOk result (λ c. (q : List ℕ) → count_of c q ≡ 0) }
         ensures place { IfOk result (λ c. c.place ≡ 0) }
     {
-        let mut catalogue = Catalogue::new(alloc);
+        let mut catalogue = Catalogue::new(alloc, hashing);
         for name in names {
             catalogue.enter(*name)?;
         }

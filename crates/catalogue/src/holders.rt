@@ -6,12 +6,12 @@ ghost use Rattle.std.specs.Map.{keys_of, lookup};
 ghost use Rattle.looks.specs.Places.{same_name};
 ghost use Rattle.catalogue.specs.Counted.{count_in};
 
-use git_name::Name;
+use git_name::{Hashing, Name};
 use indexmap::IndexMap;
 use std::alloc::AllocError;
 
 // Puts a new name, which nobody holds, at the last place.
-pub(crate) fn insert_into(holders: &mut IndexMap<Name, usize>, name: Name) -> Result<(), AllocError>
+pub(crate) fn insert_into(holders: &mut IndexMap<Name, usize, Hashing>, name: Name) -> Result<(), AllocError>
     requires { lookup (same_name name) holders.old.entries ≡ None }
     ensures ok { OnOk result (holders.new.entries ≡ holders.old.entries ++ (name, 0) ∷ []) }
     ensures err { OnErr result (holders.new.entries ≡ holders.old.entries) }
@@ -22,7 +22,7 @@ pub(crate) fn insert_into(holders: &mut IndexMap<Name, usize>, name: Name) -> Re
 }
 
 // Gives a name that is there this number. It takes no memory.
-pub(crate) fn set_count(holders: &mut IndexMap<Name, usize>, name: Name, count: usize)
+pub(crate) fn set_count(holders: &mut IndexMap<Name, usize, Hashing>, name: Name, count: usize)
     requires { IsSome (lookup (same_name name) holders.old.entries) }
     ensures keys { keys_of holders.new.entries ≡ keys_of holders.old.entries }
     ensures counts { (q : List ℕ) → count_in holders.new.entries q ≡ (if same_name name q then count else count_in holders.old.entries q) }
@@ -33,7 +33,7 @@ pub(crate) fn set_count(holders: &mut IndexMap<Name, usize>, name: Name, count: 
 }
 
 // The name at a place, and its number.
-pub(crate) fn entry_at(holders: &IndexMap<Name, usize>, at: usize) -> Option<(Name, usize)>
+pub(crate) fn entry_at(holders: &IndexMap<Name, usize, Hashing>, at: usize) -> Option<(Name, usize)>
     ensures { result ≡ slice_get holders.now.entries at }
 {
     match holders.get_index(at) {
@@ -43,7 +43,7 @@ pub(crate) fn entry_at(holders: &IndexMap<Name, usize>, at: usize) -> Option<(Na
 }
 
 // Takes out the name at a place, which the last name takes.
-pub(crate) fn take_out(holders: &mut IndexMap<Name, usize>, at: usize)
+pub(crate) fn take_out(holders: &mut IndexMap<Name, usize, Hashing>, at: usize)
     requires { at < length holders.old.entries }
     ensures entries { (p : List ℕ × ℕ) → slice_get holders.old.entries at ≡ Some p → holders.new.entries ≡ swap_remove holders.old.entries at p }
     ensures updates { (p : List ℕ × ℕ) → slice_get holders.old.entries at ≡ Some p → Updates same_name holders.old holders.new p.0 None }

@@ -3,7 +3,7 @@ use fork_ledger::Vault;
 use fork_push::Sides;
 use fork_reach::{Source, SourceFault};
 use fork_request::TenantName;
-use git_name::{Kind, Name, Sealed};
+use git_name::{Hashing, Kind, Name, Sealed};
 use loose_store::LooseFiles;
 use std::alloc::Global;
 
@@ -35,6 +35,10 @@ impl<S: LooseFiles> Source for Both<'_, S> {
       base = ((both.vault.ghost_name, both.tenant), shape_of both.vault.now.tenants);
       rest = (both.vault.now.tenants, both.vault.now.files);
     } };
+
+    fn hashing(&self) -> Hashing {
+        self.vault.hashing()
+    }
 
     fn kind_of(&self, name: Name) -> Option<Kind> {
         match self.vault.kind_of(self.tenant, name) {

@@ -25,7 +25,7 @@ use fork_ledger::{Held, RecallFault, Vault, VaultFault};
 use fork_push::{Verdict, judge};
 use fork_reach::{SourceFault, reach};
 use fork_request::TenantName;
-use git_name::{Kind, Name, Sealed};
+use git_name::{Hashing, Kind, Name, Sealed};
 use git_reftx::Refs;
 use loose_store::LooseFiles;
 use push_stream::{Brief, StreamFault};
@@ -50,6 +50,11 @@ impl<'a, S: LooseFiles> Own<'a, S> {
     }
 
     ghost use Rattle.fork_host.specs.Handle.{IsSame, both_by, staged_by, visible_by};
+
+    // How names of objects are to be hashed.
+    pub(crate) fn hashing_of_names(&self) -> Hashing {
+        self.vault.hashing()
+    }
 
     // The kind of an object that the tenant sees, without a read.
     pub(crate) fn kind_seen(&self, name: Name) -> Option<Kind>

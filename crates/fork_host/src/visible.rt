@@ -1,7 +1,7 @@
 use crate::own::Own;
 use crate::vault_fault::told;
 use fork_reach::{Source, SourceFault};
-use git_name::{Kind, Name, Sealed};
+use git_name::{Hashing, Kind, Name, Sealed};
 use git_reftx::Known;
 use loose_store::LooseFiles;
 use std::alloc::Global;
@@ -26,6 +26,10 @@ impl<S: LooseFiles> Source for Own<'_, S> {
     ghost Rest = { Rest };
 
     ghost state = { own_state };
+
+    fn hashing(&self) -> Hashing {
+        self.hashing_of_names()
+    }
 
     fn kind_of(&self, name: Name) -> Option<Kind> {
         self.kind_seen(name)

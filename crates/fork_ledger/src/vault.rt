@@ -30,7 +30,7 @@ use crate::staging::{stage_all_whole, stage_whole};
 use crate::sweeping::{collect, sweep};
 use catalogue::Catalogue;
 use fork_request::TenantName;
-use git_name::{Kind, Name, Sealed};
+use git_name::{Hashing, Kind, Name, Sealed};
 use ledgers::Holdings;
 use looks::sharp_collection;
 use loose_store::LooseFiles;
@@ -98,14 +98,15 @@ impl<S: LooseFiles + Drop> Vault<S> {
         ensures cause { IfErr result (λ fault. (fault ≡ VaultFault.Store) ⊎ (fault ≡ VaultFault.Memory)) }
     {
         let mut files = files;
+        let hashing = files.hashing();
         let names = match files.names(alloc) {
             Ok(names) => names,
             Err(fault) => return Err(store_fault(fault)),
         };
-        let Ok(catalogue) = Catalogue::of(alloc, names.as_slice()) else {
+        let Ok(catalogue) = Catalogue::of(alloc, hashing, names.as_slice()) else {
             return Err(VaultFault::Memory);
         };
-        let holdings = Holdings::new(alloc, catalogue);
+        let holdings = Holdings::new(alloc, hashing, catalogue);
         Ok(Vault { files, holdings })
     }
 }
@@ -116,6 +117,11 @@ impl<S: LooseFiles> Vault<S> {
         ensures { IsOver (S.contents result) (S.honest result) (S.failures result) self }
     {
         self.files.close()
+    }
+
+    /// How names of objects are to be hashed.
+    pub fn hashing(&self) -> Hashing {
+        self.files.hashing()
     }
 
     /// Adds a tenant that has no objects, unless it is there.

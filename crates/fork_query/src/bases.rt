@@ -17,27 +17,27 @@ use crate::name_lines::write_names;
 use crate::query_error::QueryError;
 use crate::want::Want;
 use fork_reach::{History, Source, SourceFault, ascending, read_history};
-use git_name::Name;
+use git_name::{Hashing, Name};
 use git_reftx::Refs;
 use std::alloc::{AllocError, Global};
 use std::collections::{BTreeSet, HashSet};
 
 // Keeps the names that the others have too.
-fn keep_both(names: &mut HashSet<Name>, others: &HashSet<Name>)
+fn keep_both(names: &mut HashSet<Name, Hashing>, others: &HashSet<Name, Hashing>)
     ensures { (name : List ℕ) → contains same_name names.new name ≡ (contains same_name others.now name && contains same_name names.old name) }
 {
     names.retain(|name| others.contains(name));
 }
 
 // Takes out the names that the others have.
-fn take_out(names: &mut HashSet<Name>, others: &HashSet<Name>)
+fn take_out(names: &mut HashSet<Name, Hashing>, others: &HashSet<Name, Hashing>)
     ensures { (name : List ℕ) → contains same_name names.new name ≡ (not (contains same_name others.now name) && contains same_name names.old name) }
 {
     names.retain(|name| !others.contains(name));
 }
 
 // The common ancestors of both.
-fn common(alloc: Global, history: &History, a: Name, b: Name) -> Result<HashSet<Name>, AllocError>
+fn common(alloc: Global, history: &History, a: Name, b: Name) -> Result<HashSet<Name, Hashing>, AllocError>
     ensures { IfOk result (λ common. (name : List ℕ) → contains same_name common name ≡ is_common_noted history.now a b name) }
 {
     let mut common = history.ancestors(alloc, &[a])?;
@@ -47,7 +47,7 @@ fn common(alloc: Global, history: &History, a: Name, b: Name) -> Result<HashSet<
 }
 
 // Puts the parents of a commit among the names, but for itself.
-fn put_parents(names: &mut HashSet<Name>, commit: Name, parents: &[Name]) -> Result<(), AllocError>
+fn put_parents(names: &mut HashSet<Name, Hashing>, commit: Name, parents: &[Name]) -> Result<(), AllocError>
     ensures { OnOk result ((name : List ℕ) → contains same_name names.new name ≡ (contains same_name names.old name || (not (bytes_eq commit name) && is_among parents.now name))) }
 {
     for parent in parents {
@@ -65,11 +65,11 @@ fn put_parents(names: &mut HashSet<Name>, commit: Name, parents: &[Name]) -> Res
 fn outdone(
     alloc: Global,
     history: &History,
-    commits: &HashSet<Name>,
-) -> Result<HashSet<Name>, AllocError>
+    commits: &HashSet<Name, Hashing>,
+) -> Result<HashSet<Name, Hashing>, AllocError>
     ensures { IfOk result (λ outdone. (name : List ℕ) → contains same_name outdone name ≡ list_any (is_other_parent history.now name) commits.now.keys) }
 {
-    let mut outdone = HashSet::new(alloc);
+    let mut outdone = HashSet::with_hasher(alloc, history.hashing());
     for commit in commits {
         put_parents(&mut outdone, *commit, history.parents(*commit))?;
     }
@@ -78,7 +78,7 @@ fn outdone(
 
 // The common ancestors that no other one has as a parent. As the parents of common ancestors are common,
 // these are the best ones.
-fn best(alloc: Global, history: &History, a: Name, b: Name) -> Result<HashSet<Name>, AllocError>
+fn best(alloc: Global, history: &History, a: Name, b: Name) -> Result<HashSet<Name, Hashing>, AllocError>
     ensures { IfOk result (λ best. (name : List ℕ) → contains same_name best name ≡ is_best_noted history.now a b name) }
 {
     let mut best = common(alloc, history, a, b)?;

@@ -11,7 +11,7 @@ ghost use Rattle.fork_reach.specs.Reach.{is_reached};
 use crate::names::Names;
 use crate::noted::Noted;
 use crate::noting::note_all;
-use git_name::Name;
+use git_name::{Hashing, Name};
 use std::alloc::{AllocError, Global};
 use std::collections::hash_map::Iter;
 use std::collections::{HashMap, HashSet};
@@ -20,7 +20,7 @@ use std::marker::Model;
 /// Commits in memory, each with its parents and its time. Contracts see a map from names to notes.
 #[derive(Drop)]
 pub struct History {
-    commits: HashMap<Name, Noted>,
+    commits: HashMap<Name, Noted, Hashing>,
 }
 
 impl Model for History {
@@ -57,12 +57,17 @@ impl Names for History {
 
 impl History {
     // No commits.
-    pub(crate) fn new(alloc: Global) -> History
+    pub(crate) fn new(alloc: Global, hashing: Hashing) -> History
         ensures { result ≡ map.empty }
     {
         History {
-            commits: HashMap::new(alloc),
+            commits: HashMap::with_hasher(alloc, hashing),
         }
+    }
+
+    /// How the names of its commits are hashed.
+    pub fn hashing(&self) -> Hashing {
+        *self.commits.hasher()
     }
 
     // Keeps what is noted of a commit.
@@ -107,10 +112,10 @@ impl History {
 
     /// The names of those of these commits that parents lead to from the given ones, and of the given
     /// ones themselves. It reads no object.
-    pub fn ancestors(&self, alloc: Global, commits: &[Name]) -> Result<HashSet<Name>, AllocError>
+    pub fn ancestors(&self, alloc: Global, commits: &[Name]) -> Result<HashSet<Name, Hashing>, AllocError>
         ensures { IfOk result (λ found. (name : List ℕ) → contains same_name found name ≡ is_reached (noted_parents self.now) self.now commits.now name) }
     {
-        let mut seen = HashSet::new(alloc);
+        let mut seen = HashSet::with_hasher(alloc, self.hashing());
         let mut waiting = Vec::new(alloc);
         let Ok(()) = note_all(self, commits, &mut seen, &mut waiting) else {
             return Err(AllocError);
@@ -124,7 +129,7 @@ impl History {
     }
 }
 
-fn put(commits: &mut HashMap<Name, Noted>, name: Name, noted: Noted) -> Result<(), AllocError>
+fn put(commits: &mut HashMap<Name, Noted, Hashing>, name: Name, noted: Noted) -> Result<(), AllocError>
     ensures ok { OnOk result (Updates same_name commits.old commits.new name (Some noted)) }
     ensures err { OnErr result (IsUnchanged commits.old commits.new) }
 {

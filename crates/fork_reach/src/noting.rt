@@ -11,7 +11,7 @@ ghost use Rattle.fork_reach.specs.Seeing.{Sees};
 use crate::along::Along;
 use crate::names::{Names, Open};
 use crate::source::Source;
-use git_name::Name;
+use git_name::{Hashing, Name};
 use std::alloc::AllocError;
 use std::collections::{BTreeSet, HashSet};
 
@@ -20,7 +20,7 @@ use std::collections::{BTreeSet, HashSet};
 fn note<N: Names>(
     there: &N,
     name: Name,
-    seen: &mut HashSet<Name>,
+    seen: &mut HashSet<Name, Hashing>,
     waiting: &mut Vec<Name>,
 ) -> Result<(), AllocError>
     ensures { OnOk result (Sees (N.names there.now) (N.ends there.now) (name ∷ []) (hashed.contains same_name seen.old) waiting.old.items (hashed.contains same_name seen.new) waiting.new.items) }
@@ -45,7 +45,7 @@ fn note<N: Names>(
 pub(crate) fn note_all<N: Names>(
     there: &N,
     names: &[Name],
-    seen: &mut HashSet<Name>,
+    seen: &mut HashSet<Name, Hashing>,
     waiting: &mut Vec<Name>,
 ) -> Result<(), AllocError>
     ensures { OnOk result (Sees (N.names there.now) (N.ends there.now) names.now (hashed.contains same_name seen.old) waiting.old.items (hashed.contains same_name seen.new) waiting.new.items) }
@@ -62,7 +62,7 @@ pub(crate) fn note_open<S: Source>(
     hidden: &BTreeSet<Name>,
     along: Option<Along>,
     names: &[Name],
-    seen: &mut HashSet<Name>,
+    seen: &mut HashSet<Name, Hashing>,
     waiting: &mut Vec<Name>,
 ) -> Result<(), AllocError>
     ensures { OnOk result (Sees (without (measures_of (S.state source.now).objects) (contains name_cmp hidden.now)) (rests_at along (measures_of (S.state source.now).objects)) names.now (hashed.contains same_name seen.old) waiting.old.items (hashed.contains same_name seen.new) waiting.new.items) }

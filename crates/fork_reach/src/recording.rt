@@ -55,8 +55,8 @@ pub fn read_history<S: Source>(
     ensures found { IsTrue (S.state source.old).honest → IfOk result (λ history. history ≡ map_values note_of (map.retain_keys (S.state source.old).objects (is_reached (parent_names (S.state source.old).objects) (without (S.state source.old).objects (contains name_cmp hidden.now)) commits.now))) }
     ensures asked { IsAsked (S.state source.old) (S.state source.new) (fault_in result) }
 {
-    let mut history = History::new(alloc);
-    let mut seen = HashSet::new(alloc);
+    let mut history = History::new(alloc, source.hashing());
+    let mut seen = HashSet::with_hasher(alloc, source.hashing());
     let mut waiting = Vec::new(alloc);
     let Ok(()) = note_open(source, hidden, None, commits, &mut seen, &mut waiting) else {
         return Err(SourceFault::Memory);

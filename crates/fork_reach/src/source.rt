@@ -4,7 +4,7 @@ ghost use Rattle.git_name.specs.Object.{object_name};
 ghost use Rattle.fork_reach.specs.Faults.{IsAsked, fault_in};
 ghost use Rattle.fork_reach.specs.Source.{SourceState, kind_in};
 
-use git_name::{Kind, Name, Sealed};
+use git_name::{Hashing, Kind, Name, Sealed};
 use std::alloc::Global;
 use thiserror::Error;
 
@@ -30,6 +30,11 @@ pub trait Source {
     /// What it shows. Over a store that does not give what it was given, the names, kinds and lengths
     /// of its objects stay the same, and no bytes are given under a false name.
     ghost state: { Self → SourceState Base Rest };
+
+    /// How whoever walks along its names is to hash them.
+    fn hashing(&self) -> Hashing {
+        Hashing::default()
+    }
 
     /// The kind of the object of this name. It reads no bytes of it.
     fn kind_of(&self, name: Name) -> Option<Kind>

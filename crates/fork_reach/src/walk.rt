@@ -31,7 +31,7 @@ pub(crate) fn walk<S: Source>(
     ensures rooted { IfOk result (λ found. (name : List ℕ) → Contains roots.now name → map.contains_key (without (S.state source.old).objects (contains name_cmp hidden.now)) name ≡ true → contains name_cmp found name ≡ true) }
     ensures asked { IsAsked (S.state source.old) (S.state source.new) (fault_in result) }
 {
-    let mut seen = HashSet::new(alloc);
+    let mut seen = HashSet::with_hasher(alloc, source.hashing());
     let mut waiting = Vec::new(alloc);
     let Ok(()) = note_open(source, hidden, Some(along), roots, &mut seen, &mut waiting) else {
         return Err(SourceFault::Memory);

@@ -1,12 +1,12 @@
 -- The host that the given tenants were added to, and what comes of it.
-use Rattle.std.proofs.Common.{◌≡◌, ◌⊎◌, inl, inr, ℕ, Bool, true, false, List, Option, IfErr, OnErr, OnOk, Result, Ok, Err, is_some, refl}
+use Rattle.std.proofs.Common.{◌≡◌, ◌⊎◌, inl, inr, ℕ, Bool, true, false, List, Option, IfErr, OnErr, OnOk, Result, Ok, Err, is_some, refl, ◌∙◌}
 use Rattle.std.proofs.KnownBytes.{Keeps-refl}
 use Rattle.std.specs.FinMap.{empty}
 use Rattle.fork_command.specs.declared.hosting.Hosting.{Hosting}
 use Rattle.fork_host.specs.Shown.{HostState, Trusted, world_of}
 use Rattle.forkhost.specs.Given.{AreGiven, AreUngiven}
 use Rattle.forkhost.specs.Keeping.{IsSaved, IsUntouched}
-use Rattle.forkhost.specs.Running.{IsBegun, IsHostOf, IsUnhosted, Ungiven}
+use Rattle.forkhost.specs.Running.{IsBegun, IsHostOf, IsKeptHostOf, IsUnhosted, Ungiven}
 use Rattle.forkhost.specs.Serving.{AreSomeVisits, Deaf, IsLost, IsUnbound, IsUnlistened, Lost}
 use Rattle.forkhost.specs.declared.fault.Fault.{Fault}
 
@@ -31,6 +31,25 @@ new_host hosting begun first trusted shows given = record { begun = begun; added
 
 pub kept_host : (hosting : Hosting) (begun added first : HostState) → is_some hosting.dir ≡ true → AreGiven hosting.tenants.items begun added → IsSaved added first → IsHostOf hosting first
 kept_host hosting begun added first kept given saved = record { begun = begun; added = added; right = begun_kept hosting begun kept; given = given; unkept = λ none. absurd (some_dir (is_some hosting.dir) kept none); saved = saved }
+
+-- saved twice is saved
+saved_again : (old between new : HostState) → IsSaved old between → IsSaved between new → IsSaved old new
+saved_again old between new first then = record {
+  shape = λ tenant. then.shape tenant ∙ first.shape tenant;
+  trusted = λ trusted. then.trusted (first.trusted trusted);
+  shows = λ trusted. then.shows (first.trusted trusted) ∙ first.shows trusted;
+}
+
+-- and a host that a folder keeps is that host still
+pub saved_host : (hosting : Hosting) (old new : HostState) → IsKeptHostOf hosting old → IsSaved old new → IsHostOf hosting new
+saved_host hosting old new host saved = record {
+  begun = host.of.begun;
+  added = host.of.added;
+  right = host.of.right;
+  given = host.of.given;
+  unkept = λ none. absurd (some_dir (is_some hosting.dir) host.kept none);
+  saved = saved_again host.of.added old new host.of.saved saved;
+}
 
 pub ungiven_new : (hosting : Hosting) (begun : HostState) (fault : Fault) → Trusted begun → world_of begun ≡ empty → AreUngiven (world_of begun) hosting.tenants.items fault → IsUnhosted hosting fault
 ungiven_new hosting begun fault trusted shows why = Ungiven begun (begun_new hosting begun trusted shows) why

@@ -30,6 +30,11 @@ pub record IsHostOf (hosting : Hosting) (host : HostState) : Type 0 where
   pub unkept : is_some hosting.dir ≡ false → host ≡ added
   pub saved : IsSaved added host
 
+-- the same where a folder keeps it
+pub record IsKeptHostOf (hosting : Hosting) (host : HostState) : Type 0 where
+  pub kept : is_some hosting.dir ≡ true
+  pub of : IsHostOf hosting host
+
 -- a session of such a host was served up to this end
 pub record IsRun (hosting : Hosting) (input before after : Option (List ℕ)) (ended : Ended) : Type 0 where
   pub first : HostState

@@ -10,9 +10,10 @@ use std::alloc::Global;
 use std::fs::{File, Files};
 use std::io;
 use std::io::Write;
+use std::random::RandomSource;
 
 // How many requests a start would do again, where all that the folder keeps is right.
-fn replayable<'x, H: Files<File = File> + AllocGlobal>(
+fn replayable<'x, H: Files<File = File> + AllocGlobal + RandomSource>(
     rt: &'x H,
     alloc: Global,
     dir: &str,
@@ -42,7 +43,7 @@ fn tell_sound<W: Write>(count: u64, writer: &mut W) -> io::Result<()>
 
 /// Reads all that a folder keeps, and prints `sound`, and how many requests of the journal a start would
 /// do again. A folder without a state is left as it is, or left out where it is not there.
-pub fn check<H: Files<File = File> + AllocGlobal, W: Write>(
+pub fn check<H: Files<File = File> + AllocGlobal + RandomSource, W: Write>(
     rt: &H,
     alloc: Global,
     dir: &str,

@@ -9,6 +9,7 @@ use git_name::Name;
 use loose_store::{Folder, LooseFiles, journal_name, read_state};
 use std::alloc::Global;
 use std::fs::{File, Files};
+use std::random::RandomSource;
 
 // A host without tenants over a folder.
 fn new_host<S: LooseFiles + Drop>(alloc: Global, files: S) -> Result<Host<S>, Fault>
@@ -67,7 +68,7 @@ pub fn restored_host<H: Files<File = File> + AllocGlobal, S: LooseFiles + Drop>(
 
 /// The host that a folder keeps, and one without tenants where the folder keeps none. The folder is
 /// made where it is not there, and while the host lives no other process can open it.
-pub fn kept_host<'a, H: Files<File = File> + AllocGlobal>(
+pub fn kept_host<'a, H: Files<File = File> + AllocGlobal + RandomSource>(
     rt: &'a H,
     alloc: Global,
     dir: &str,

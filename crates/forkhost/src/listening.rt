@@ -75,20 +75,35 @@ fn private_room<H: Files<File = File>>(rt: &H, room: &str, inside: &str) -> io::
 
 // A socket is made with the mode that the process allows, so it is made where nobody else comes, and
 // has its place once it has its own mode.
-fn bound<H: Files<File = File> + Net>(rt: &H, alloc: Global, path: &str) -> io::Result<Listening> {
-    let room = format!(in alloc; "{path}.lock")?;
-    let inside = format!(in alloc; "{path}.lock/s")?;
-    let folder = private_room(rt, room.as_str(), inside.as_str())?;
+fn bound_at<H: Files + Net>(rt: &H, inside: &str, path: &str) -> io::Result<UnixListener> {
+    let listener = UnixListener::bind(rt, inside)?;
+    fs::set_permissions(rt, inside, Permissions::from_mode(0o600))?;
+    fs::rename(rt, inside, path)?;
+    Ok(listener)
+}
+
+// The same, while this process alone uses the folder in which it is made.
+fn bound_in<H: Files<File = File> + Net>(
+    rt: &H,
+    room: &str,
+    inside: &str,
+    path: &str,
+) -> io::Result<Listening> {
+    let folder = private_room(rt, room, inside)?;
     if !is_free(rt, path)? {
         return Err(io::Error::from(ErrorKind::AddrInUse));
     }
-    let listener = UnixListener::bind(rt, inside.as_str())?;
-    fs::set_permissions(rt, inside.as_str(), Permissions::from_mode(0o600))?;
-    fs::rename(rt, inside.as_str(), path)?;
+    let listener = bound_at(rt, inside, path)?;
     Ok(Listening {
         listener,
         room: folder,
     })
+}
+
+fn bound<H: Files<File = File> + Net>(rt: &H, alloc: Global, path: &str) -> io::Result<Listening> {
+    let room = format!(in alloc; "{path}.lock")?;
+    let inside = format!(in alloc; "{path}.lock/s")?;
+    bound_in(rt, room.as_str(), inside.as_str(), path)
 }
 
 /// How a fault of a socket is told.

@@ -8,6 +8,7 @@ mod content;
 mod ending;
 mod fault;
 mod hash_object;
+mod hosts;
 mod keep;
 mod keeping;
 mod listening;
@@ -24,16 +25,12 @@ use std::fs::{File, Files};
 use std::io::{BufReader, BufWriter, Write};
 use std::net::Net;
 use std::process::ExitCode;
+use std::random::RandomSource;
 use std::rt::Env;
 use std::{env, io};
 
-// Runs the program on what the process was given, and answers its exit status, which stays where
-// nothing can be told.
-fn started<R: Env + AllocGlobal + Input + Print + Eprint + Files<File = File> + Net>(
-    rt: &R,
-) -> io::Result<u8> {
-    let alloc = rt.alloc();
-    let mut texts = Vec::new(alloc);
+// The arguments of the process; none where one of them is no text, which is told.
+fn arguments<R: Env + AllocGlobal + Eprint>(rt: &R) -> io::Result<Option<Vec<String>>> {
     let args = match env::args(rt) {
         Ok(args) => args,
         Err(error) => {
@@ -41,25 +38,49 @@ fn started<R: Env + AllocGlobal + Input + Print + Eprint + Files<File = File> + 
                 return Err(error);
             }
             let _told = rt.eprint("forkhost: an argument is not UTF-8\n");
-            return Ok(2);
+            return Ok(None);
         }
     };
+    let mut texts = Vec::new(rt.alloc());
     for text in args {
         texts.push(text)?;
     }
-    let mut words = Vec::new(alloc);
-    for text in &texts {
-        words.push(text.as_str())?;
-    }
+    Ok(Some(texts))
+}
+
+// Runs the program on these words, and answers its exit status, which stays where nothing can be told.
+fn ended<
+    R: AllocGlobal + Input + Print + Eprint + Files<File = File> + Net + RandomSource,
+>(
+    rt: &R,
+    words: &[&str],
+) -> io::Result<u8> {
+    let alloc = rt.alloc();
     let mut reader = BufReader::new(alloc, rt.reader())?;
     let mut writer = BufWriter::new(alloc, io::writer(rt))?;
     let mut faults = Vec::new(alloc);
-    let status = match program(rt, words.as_slice(), &mut reader, &mut writer, &mut faults) {
+    let status = match program(rt, words, &mut reader, &mut writer, &mut faults) {
         Ok(status) => status,
         Err(Untold { status }) => status,
     };
     let _told = rt.eprint(String::from_utf8_lossy(alloc, faults.as_slice())?);
     Ok(status)
+}
+
+// Runs the program on what the process was given.
+fn started<
+    R: Env + AllocGlobal + Input + Print + Eprint + Files<File = File> + Net + RandomSource,
+>(
+    rt: &R,
+) -> io::Result<u8> {
+    let Some(texts) = arguments(rt)? else {
+        return Ok(2);
+    };
+    let mut words = Vec::new(rt.alloc());
+    for text in &texts {
+        words.push(text.as_str())?;
+    }
+    ended(rt, words.as_slice())
 }
 
 fn main(rt: HostRuntime) -> io::Result<ExitCode> {

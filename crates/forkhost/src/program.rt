@@ -15,6 +15,7 @@ use std::alloc::Global;
 use std::fs::{File, Files};
 use std::io::{Read, Write};
 use std::net::Net;
+use std::random::RandomSource;
 
 /// What belongs on standard error could not be written, or not wholly. The exit status stays what it is.
 #[derive(Clone, Copy, Debug, PartialEq, Eq)]
@@ -23,7 +24,7 @@ pub struct Untold {
 }
 
 // Carries the command out.
-fn carried_out<H: Files<File = File> + Net + AllocGlobal, R: Read, W: Write>(
+fn carried_out<H: Files<File = File> + Net + AllocGlobal + RandomSource, R: Read, W: Write>(
     rt: &H,
     alloc: Global,
     command: Command<'_>,
@@ -59,7 +60,7 @@ fn help<W: Write>(alloc: Global, error: Error, writer: &mut W) -> Result<(), Fau
 }
 
 // Does what the words ask for.
-fn ending<'a, H: Files<File = File> + Net + AllocGlobal, R: Read, W: Write>(
+fn ending<'a, H: Files<File = File> + Net + AllocGlobal + RandomSource, R: Read, W: Write>(
     rt: &H,
     alloc: Global,
     words: &'a [&'a str],
@@ -86,7 +87,7 @@ fn ending<'a, H: Files<File = File> + Net + AllocGlobal, R: Read, W: Write>(
 
 /// Does what the words ask for, of which the first is the program's name, tells on `faults` what
 /// belongs on standard error, and answers the exit status.
-pub fn program<H: Files<File = File> + Net + AllocGlobal, R: Read, W: Write, F: Write>(
+pub fn program<H: Files<File = File> + Net + AllocGlobal + RandomSource, R: Read, W: Write, F: Write>(
     rt: &H,
     words: &[&str],
     reader: &mut R,

@@ -1,19 +1,21 @@
 ghost use Rattle.std.specs.Prelude.{◌≡◌, ◌⊎◌, IfErr, OnErr, OnOk, is_some, true};
+ghost use Rattle.fork_command.specs.declared.hosting.Hosting.{Hosting};
+ghost use Rattle.forkhost.specs.Running.{IsHostOf, IsKeptHostOf};
 ghost use Rattle.forkhost.specs.Serving.{AreSomeVisits, AreVisits, IsListened, IsLost, IsUnbound, IsUnlistened};
 
 use crate::connections::{serve_connections, serve_kept_connections};
 use crate::fault::Fault;
+use crate::hosts::{host_in_folder, host_in_memory};
 use crate::keep::Keep;
-use crate::keeping::kept_host;
 use crate::listening::{Listening, listen};
-use crate::tenants::add_tenants;
 use fork_command::Hosting;
 use fork_host::Host;
-use loose_store::{LooseFiles, Memory};
+use loose_store::LooseFiles;
 use std::alloc::Global;
 use std::fs;
 use std::fs::{File, Files};
 use std::net::Net;
+use std::random::RandomSource;
 
 // Serves so many connections, and then takes the socket away.
 fn serve_at<H: Files, S: LooseFiles>(
@@ -52,8 +54,74 @@ fn serve_kept_at<H: Files<File = File> + AllocGlobal, S: LooseFiles>(
     served
 }
 
+// Listens at a socket, and serves connections to a host in memory.
+fn serve_host<H: Files<File = File> + Net, S: LooseFiles>(
+    rt: &H,
+    alloc: Global,
+    host: &mut Host<S>,
+    socket: &str,
+    connections: u32,
+) -> Result<(), Fault>
+    ensures ok { (hosting : Hosting) → IsHostOf hosting host.old → OnOk result (IsListened hosting connections) }
+    ensures err { (hosting : Hosting) → IsHostOf hosting host.old → IfErr result (IsUnlistened hosting connections) }
+{
+    let listening = match listen(rt, alloc, socket) {
+        Ok(listening) => listening,
+        Err(fault) => return Err(fault),
+    };
+    serve_at(rt, alloc, host, listening, socket, connections)
+}
+
+// Serves connections to a host that a folder keeps, at a socket that is listened on. Its state is saved
+// before the first and behind the last, and each request is kept before its reply goes out.
+fn keep_connections<'x, H: Files<File = File> + AllocGlobal, S: LooseFiles>(
+    rt: &'x H,
+    alloc: Global,
+    dir: &'x str,
+    host: &mut Host<S>,
+    listening: Listening,
+    socket: &str,
+    connections: u32,
+) -> Result<(), Fault>
+    ensures ok { (hosting : Hosting) → IsKeptHostOf hosting host.old → OnOk result (IsListened hosting connections) }
+    ensures err { (hosting : Hosting) → IsKeptHostOf hosting host.old → IfErr result (IsUnlistened hosting connections) }
+{
+    let mut keep = match Keep::begin(rt, alloc, dir, host) {
+        Ok(keep) => keep,
+        Err(fault) => {
+            let _removed = fs::remove_file(rt, socket);
+            return Err(fault);
+        }
+    };
+    let served = serve_kept_at(rt, alloc, host, &mut keep, listening, socket, connections);
+    let saved = keep.save(alloc, host);
+    match served {
+        Ok(()) => saved,
+        Err(fault) => Err(fault),
+    }
+}
+
+// Listens at a socket, and serves connections to a host that a folder keeps.
+fn serve_kept_host<'x, H: Files<File = File> + Net + AllocGlobal, S: LooseFiles>(
+    rt: &'x H,
+    alloc: Global,
+    dir: &'x str,
+    host: &mut Host<S>,
+    socket: &str,
+    connections: u32,
+) -> Result<(), Fault>
+    ensures ok { (hosting : Hosting) → IsKeptHostOf hosting host.old → OnOk result (IsListened hosting connections) }
+    ensures err { (hosting : Hosting) → IsKeptHostOf hosting host.old → IfErr result (IsUnlistened hosting connections) }
+{
+    let listening = match listen(rt, alloc, socket) {
+        Ok(listening) => listening,
+        Err(fault) => return Err(fault),
+    };
+    keep_connections(rt, alloc, dir, host, listening, socket, connections)
+}
+
 // Serves connections to a new host.
-fn serve_in_memory<H: Files<File = File> + Net>(
+fn serve_in_memory<H: Files<File = File> + Net + RandomSource>(
     rt: &H,
     alloc: Global,
     socket: &str,
@@ -63,23 +131,15 @@ fn serve_in_memory<H: Files<File = File> + Net>(
     ensures ok { OnOk result (IsListened hosting.entry connections) }
     ensures err { IfErr result (IsUnlistened hosting.entry connections) }
 {
-    let Ok(mut host) = Host::new(alloc, Memory::new(alloc)) else {
-        return Err(Fault::Memory);
-    };
-    match add_tenants(&mut host, alloc, hosting.tenants) {
-        Ok(()) => {}
-        Err(fault) => return Err(fault),
-    }
-    let listening = match listen(rt, alloc, socket) {
-        Ok(listening) => listening,
+    let mut host = match host_in_memory(rt, alloc, hosting) {
+        Ok(host) => host,
         Err(fault) => return Err(fault),
     };
-    serve_at(rt, alloc, &mut host, listening, socket, connections)
+    serve_host(rt, alloc, &mut host, socket, connections)
 }
 
-// Serves connections to the host that a folder keeps. Its state is saved before the first and behind the
-// last, and each request is kept before its reply goes out.
-fn serve_in_folder<'x, H: Files<File = File> + Net + AllocGlobal>(
+// Serves connections to the host that a folder keeps.
+fn serve_in_folder<'x, H: Files<File = File> + Net + AllocGlobal + RandomSource>(
     rt: &'x H,
     alloc: Global,
     dir: &'x str,
@@ -91,44 +151,16 @@ fn serve_in_folder<'x, H: Files<File = File> + Net + AllocGlobal>(
     ensures ok { OnOk result (IsListened hosting.entry connections) }
     ensures err { IfErr result (IsUnlistened hosting.entry connections) }
 {
-    let mut host = match kept_host(rt, alloc, dir) {
+    let mut host = match host_in_folder(rt, alloc, dir, hosting) {
         Ok(host) => host,
         Err(fault) => return Err(fault),
     };
-    match add_tenants(&mut host, alloc, hosting.tenants) {
-        Ok(()) => {}
-        Err(fault) => return Err(fault),
-    }
-    let listening = match listen(rt, alloc, socket) {
-        Ok(listening) => listening,
-        Err(fault) => return Err(fault),
-    };
-    let mut keep = match Keep::begin(rt, alloc, dir, &mut host) {
-        Ok(keep) => keep,
-        Err(fault) => {
-            let _removed = fs::remove_file(rt, socket);
-            return Err(fault);
-        }
-    };
-    let served = serve_kept_at(
-        rt,
-        alloc,
-        &mut host,
-        &mut keep,
-        listening,
-        socket,
-        connections,
-    );
-    let saved = keep.save(alloc, &mut host);
-    match served {
-        Ok(()) => saved,
-        Err(fault) => Err(fault),
-    }
+    serve_kept_host(rt, alloc, dir, &mut host, socket, connections)
 }
 
 /// Serves so many connections to a socket, each a session of the host that has these tenants too.
 /// What was served is saved where a folder keeps the host.
-pub fn serve<H: Files<File = File> + Net + AllocGlobal>(
+pub fn serve<H: Files<File = File> + Net + AllocGlobal + RandomSource>(
     rt: &H,
     alloc: Global,
     socket: &str,

@@ -1,13 +1,14 @@
--- Bytes are ordered as the numbers are that eight of them at a time write.
-use Rattle.std.proofs.Common.{◌≡◌, ◌≢◌, ℕ, zero, suc, ◌+◌, ◌*◌, ◌<◌, ◌≤◌, Bool, true, false, List, [], ◌∷◌, refl, sym, ap, ap₂, ◌∙◌, Ordering, Less, Equal, Greater, length, length-drop, drop, ◌-◌, subst, arith, nat_lt}
+-- Bytes are ordered, and are the same, as the numbers are that eight of them at a time write.
+use Rattle.std.proofs.Common.{◌≡◌, ◌≢◌, ℕ, zero, suc, ◌+◌, ◌*◌, ◌<◌, ◌≤◌, Bool, true, false, List, [], ◌∷◌, refl, sym, ap, ap₂, ◌∙◌, ◌&&◌, ◌==◌, Ordering, Less, Equal, Greater, length, length-drop, drop, ◌-◌, subst, arith, nat_lt}
 use Rattle.std.proofs.lemmas.Bool.Decides.{nat_tests}
 use Rattle.std.proofs.lemmas.List.{drop-drop, get_or-drop, nil_from_length}
-use Rattle.std.specs.Cmp.{nat_cmp_is}
-use Rattle.std.specs.Cmp.Lexicographic.{slice_cmp}
+use Rattle.std.specs.Cmp.{nat_cmp_is, unsigned_ties}
+use Rattle.std.specs.Cmp.Lexicographic.{slice_cmp, texts_ties}
 use Rattle.std.specs.Int.{from_be_bytes, w64}
-use Rattle.std.specs.Ordering.{nat_cmp, ordering_then}
+use Rattle.std.specs.Ordering.{is_eq, nat_cmp, ordering_then}
 use Rattle.std.specs.FinMap.{nat_cmp-IsAntisymmetric}
 use Rattle.hex.specs.Hex.{IsBytes}
+use Rattle.git_name.specs.Same.{same_name}
 
 -- the number that the first bytes write behind those before
 abbrev value : ℕ → ℕ → List ℕ → ℕ
@@ -138,3 +139,28 @@ pub rest_decides : (xs ys : List ℕ) → IsBytes xs → IsBytes ys → length x
 rest_decides xs ys are too long long_too first second is is_too same =
     sym (by_word xs ys are too (omega arith) (omega arith)
     ∙ ap (λ o. ordering_then o (slice_cmp nat_cmp (drop 8 xs) (drop 8 ys))) (equal_is (from_be_bytes w64 xs) (from_be_bytes w64 ys) (sym is ∙ same ∙ is_too)))
+
+-- whether eight bytes of two texts are one number
+abbrev same_at : ℕ → List ℕ → List ℕ → Bool
+same_at n xs ys = from_be_bytes w64 (drop n xs) == from_be_bytes w64 (drop n ys)
+
+tied_at : (n : ℕ) (xs ys : List ℕ) → same_at n xs ys ≡ is_eq (at_place n xs ys)
+tied_at n xs ys = unsigned_ties (from_be_bytes w64 (drop n xs)) (from_be_bytes w64 (drop n ys))
+
+all_tied : (a b c d : Ordering) → (((is_eq a && is_eq b) && is_eq c) && is_eq d) ≡ is_eq (ordering_then a (ordering_then (ordering_then b c) d))
+all_tied Less b c d = refl
+all_tied Greater b c d = refl
+all_tied Equal Less c d = refl
+all_tied Equal Greater c d = refl
+all_tied Equal Equal Less d = refl
+all_tied Equal Equal Greater d = refl
+all_tied Equal Equal Equal d = refl
+
+-- two names are one where the four numbers are that they write
+pub same_words : (xs ys : List ℕ) → IsBytes xs → IsBytes ys → length xs ≡ 32 → length ys ≡ 32
+    → (((same_at 0 xs ys && same_at 8 xs ys) && same_at 16 xs ys) && same_at 24 xs ys) ≡ same_name xs ys
+same_words xs ys are too long long_too =
+    let whole = by_word xs ys are too (omega arith) (omega arith) ∙ ap (ordering_then (at_place 0 xs ys)) (behind_first xs ys are too long long_too) in
+    (λ i. ((tied_at 0 xs ys i && tied_at 8 xs ys i) && tied_at 16 xs ys i) && tied_at 24 xs ys i)
+    ∙ all_tied (at_place 0 xs ys) (at_place 8 xs ys) (at_place 16 xs ys) (at_place 24 xs ys)
+    ∙ sym (texts_ties xs ys ∙ ap is_eq whole)

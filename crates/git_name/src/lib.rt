@@ -4,6 +4,7 @@
 #![tactic(auto)]
 
 mod digits;
+mod hashing;
 mod kind;
 mod name;
 mod number;
@@ -11,6 +12,7 @@ mod order;
 mod sealed;
 mod text;
 
+pub use crate::hashing::Hashing;
 pub use crate::kind::Kind;
 pub use crate::name::{Name, name_of};
 pub use crate::number::decimal;

@@ -1,21 +1,25 @@
-ghost use Rattle.std.specs.Prelude.{◌≡◌, ◌≢◌, IfSome, IfNone, List, Some, refl, ℕ};
-ghost use Rattle.std.specs.Cmp.Lexicographic.{nat_list_cmp_total, slice_cmp, texts_po, texts_ties};
+ghost use Rattle.std.specs.Prelude.{◌≡◌, ◌≢◌, ◌∷◌, [], IfSome, IfNone, List, Some, refl, take, ℕ};
+ghost use Rattle.std.specs.Cmp.{partial_equiv_from_equiv};
+ghost use Rattle.std.specs.Cmp.Lexicographic.{bytes_decides, nat_list_cmp_total, nat_list_eq_equiv, slice_cmp, texts_po, texts_ties};
+ghost use Rattle.std.specs.Hash.{same_Alike};
 ghost use Rattle.std.specs.Ordering.{nat_cmp};
 ghost use Rattle.hex.specs.Hex.{encode_lower};
 ghost use Rattle.git_name.specs.Name.{IsName, name_in};
 ghost use Rattle.git_name.specs.Object.{object_name};
+ghost use Rattle.git_name.specs.Same.{same_name};
 
 use crate::digits::read_digits;
 use crate::kind::Kind;
-use crate::order::order;
+use crate::order::{order, same};
 use itoa::Buffer;
 use sha2::{Digest, Sha256};
 use std::cmp::Ordering;
+use std::hash::{Hash, Hasher};
 use std::marker::Model;
 
 /// The name of an object: the 32 bytes of a SHA-256. Names are ordered bytewise, which is the
 /// order of their digits.
-#[derive(Clone, Copy, Debug, PartialEq, Eq, Hash)]
+#[derive(Clone, Copy, Debug)]
 pub struct Name {
     bytes: [u8; 32],
 }
@@ -67,6 +71,34 @@ impl Name {
     {
         let written = hex::encode_to_slice(self.bytes, out.as_mut_slice());
         prove!(written.is_ok());
+    }
+}
+
+impl PartialEq for Name {
+    ghost eq = { same_name };
+
+    ghost laws = { partial_equiv_from_equiv nat_list_eq_equiv };
+
+    #[inline]
+    fn eq(&self, other: &Name) -> bool {
+        same(&self.bytes, &other.bytes)
+    }
+}
+
+impl Eq for Name {
+    ghost laws = { nat_list_eq_equiv };
+}
+
+/// Its first eight bytes alone: names are hashes themselves, and whoever looks for many that begin
+/// with the same eight finds none.
+impl Hash for Name {
+    ghost hash_input = { λ name. take 8 name ∷ [] };
+
+    ghost respects_eq = { (same_Alike (λ name. take 8 name ∷ []) bytes_decides).fed };
+
+    #[inline]
+    fn hash<H: Hasher>(&self, state: &mut H) {
+        state.write(&self.bytes[..8]);
     }
 }
 

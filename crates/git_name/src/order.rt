@@ -2,6 +2,7 @@ ghost use Rattle.std.specs.Prelude.{◌≡◌, ◌+◌, ◌≤◌, drop};
 ghost use Rattle.std.specs.Cmp.Lexicographic.{slice_cmp};
 ghost use Rattle.std.specs.Int.{from_be_bytes, w64};
 ghost use Rattle.std.specs.Ordering.{nat_cmp};
+ghost use Rattle.git_name.specs.Same.{same_name};
 
 use std::cmp::Ordering;
 
@@ -16,6 +17,18 @@ pub(crate) fn order(left: &[u8; 32], right: &[u8; 32]) -> Ordering
         return first.cmp(&second);
     }
     order_behind(left, right)
+}
+
+/// Whether two names are one.
+#[inline]
+pub(crate) fn same(left: &[u8; 32], right: &[u8; 32]) -> bool
+    ensures { result ≡ same_name left.now right.now }
+{
+    let first = word(left, 0) == word(right, 0);
+    let second = word(left, 8) == word(right, 8);
+    let third = word(left, 16) == word(right, 16);
+    let fourth = word(left, 24) == word(right, 24);
+    first & second & third & fourth
 }
 
 // The order of what stands behind the first eight bytes.

@@ -7,13 +7,13 @@ ghost use Rattle.ledgers.specs.Due.{due_in, leaves_kept, leaves_unstaged};
 
 use crate::word::{Word, goes, goes_unstaged};
 use catalogue::Catalogue;
-use git_name::Name;
+use git_name::{Hashing, Name};
 use indexmap::IndexMap;
 use std::collections::BTreeSet;
 
 // Lowers the numbers of the names that leave as these alone are kept. It takes no memory.
 pub(crate) fn lower_left(
-    words: &IndexMap<Name, Word>,
+    words: &IndexMap<Name, Word, Hashing>,
     names: &BTreeSet<Name>,
     catalogue: &mut Catalogue,
 )
@@ -30,7 +30,7 @@ pub(crate) fn lower_left(
 
 // Lowers the numbers of the names that leave as what is staged under these goes. It takes no memory.
 pub(crate) fn lower_unstaged(
-    words: &IndexMap<Name, Word>,
+    words: &IndexMap<Name, Word, Hashing>,
     names: &BTreeSet<Name>,
     catalogue: &mut Catalogue,
 )

@@ -14,7 +14,7 @@ use crate::ledgers::Ledgers;
 use crate::word::Word;
 use catalogue::Catalogue;
 use fork_request::TenantName;
-use git_name::{Kind, Name};
+use git_name::{Hashing, Kind, Name};
 use std::alloc::{AllocError, Global};
 use std::collections::BTreeSet;
 use std::marker::Model;
@@ -41,12 +41,12 @@ impl Model for Holdings {
 
 impl Holdings {
     /// No tenants, beside a catalogue of names that nobody holds.
-    pub fn new(alloc: Global, catalogue: Catalogue) -> Holdings
+    pub fn new(alloc: Global, hashing: Hashing, catalogue: Catalogue) -> Holdings
         requires { (q : List ℕ) → count_of catalogue q ≡ 0 }
         ensures ledgers { result.ledgers ≡ map.empty }
         ensures catalogue { result.catalogue ≡ catalogue }
     {
-        let ledgers = Ledgers::new(alloc);
+        let ledgers = Ledgers::new(alloc, hashing);
         Holdings { ledgers, catalogue }
     }
 

@@ -11,7 +11,7 @@ use crate::word::Word;
 use crate::word_map::WordMap;
 use crate::words::size_of;
 use catalogue::Catalogue;
-use git_name::{Kind, Name};
+use git_name::{Hashing, Kind, Name};
 use std::alloc::{AllocError, Global};
 use std::collections::BTreeSet;
 use std::marker::Model;
@@ -40,11 +40,11 @@ impl Model for Ledger {
 
 impl Ledger {
     /// No words.
-    pub fn new(alloc: Global) -> Ledger
+    pub fn new(alloc: Global, hashing: Hashing) -> Ledger
         ensures { result ≡ map.empty }
     {
         Ledger {
-            words: WordMap::new(alloc),
+            words: WordMap::new(alloc, hashing),
             used: 0,
             total: 0,
         }

@@ -11,7 +11,7 @@ ghost use Rattle.ledgers.specs.Words.{Words, discarded_words, kept_words, publis
 use crate::ledger::Ledger;
 use catalogue::Catalogue;
 use fork_request::TenantName;
-use git_name::{Kind, Name};
+use git_name::{Hashing, Kind, Name};
 use std::alloc::{AllocError, Global};
 use std::collections::{BTreeMap, BTreeSet};
 use std::marker::Model;
@@ -20,6 +20,7 @@ use std::marker::Model;
 #[derive(Drop)]
 pub struct Ledgers {
     tenants: BTreeMap<TenantName, Ledger>,
+    hashing: Hashing,
 }
 
 impl Model for Ledgers {
@@ -35,11 +36,12 @@ impl Model for Ledgers {
 
 impl Ledgers {
     /// No tenants.
-    pub fn new(alloc: Global) -> Ledgers
+    pub fn new(alloc: Global, hashing: Hashing) -> Ledgers
         ensures { result ≡ map.empty }
     {
         Ledgers {
             tenants: BTreeMap::new(alloc),
+            hashing,
         }
     }
 
@@ -65,7 +67,7 @@ impl Ledgers {
         if self.tenants.contains_key(&tenant) {
             return Ok(());
         }
-        match self.tenants.insert(tenant, Ledger::new(alloc)) {
+        match self.tenants.insert(tenant, Ledger::new(alloc, self.hashing)) {
             Ok(_) => Ok(()),
             Err(_) => Err(AllocError),
         }

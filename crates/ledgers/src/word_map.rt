@@ -14,7 +14,7 @@ use crate::words::{
     word_at,
 };
 use catalogue::Catalogue;
-use git_name::{Kind, Name};
+use git_name::{Hashing, Kind, Name};
 use indexmap::IndexMap;
 use std::alloc::{AllocError, Global};
 use std::collections::BTreeSet;
@@ -24,7 +24,7 @@ use std::marker::Model;
 /// publish or to discard these walks no others.
 #[derive(Drop)]
 pub(crate) struct WordMap {
-    words: IndexMap<Name, Word>,
+    words: IndexMap<Name, Word, Hashing>,
     staged: BTreeSet<Name>,
 }
 
@@ -44,11 +44,11 @@ impl Model for WordMap {
 
 impl WordMap {
     /// No words.
-    pub fn new(alloc: Global) -> WordMap
+    pub fn new(alloc: Global, hashing: Hashing) -> WordMap
         ensures { result ≡ map.empty }
     {
         WordMap {
-            words: IndexMap::new(alloc),
+            words: IndexMap::with_hasher(alloc, hashing),
             staged: BTreeSet::new(alloc),
         }
     }

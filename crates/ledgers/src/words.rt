@@ -17,13 +17,13 @@ ghost use Rattle.ledgers.specs.Words.{discarded_words, is_visible, kept_as, kept
 use crate::usage::WORD_USE;
 use crate::word::{Word, keep, see, unstage};
 use catalogue::Catalogue;
-use git_name::Name;
+use git_name::{Hashing, Name};
 use indexmap::IndexMap;
 use std::alloc::{AllocError, Global};
 use std::collections::BTreeSet;
 
 // The word of a name.
-pub(crate) fn word_at(words: &IndexMap<Name, Word>, name: Name) -> Option<Word>
+pub(crate) fn word_at(words: &IndexMap<Name, Word, Hashing>, name: Name) -> Option<Word>
     ensures { result ≡ get {R = name_cmp} (from_entries words.now.entries) name }
 {
     words.get(&name).copied()
@@ -31,7 +31,7 @@ pub(crate) fn word_at(words: &IndexMap<Name, Word>, name: Name) -> Option<Word>
 
 // Puts a word that is staged under its name, which is noted first.
 pub(crate) fn put_staged(
-    words: &mut IndexMap<Name, Word>,
+    words: &mut IndexMap<Name, Word, Hashing>,
     staged: &mut BTreeSet<Name>,
     name: Name,
     word: Word,
@@ -53,7 +53,7 @@ pub(crate) fn put_staged(
 }
 
 // What is staged under a name is seen, and no more staged.
-fn see_one(words: &mut IndexMap<Name, Word>, name: Name)
+fn see_one(words: &mut IndexMap<Name, Word, Hashing>, name: Name)
     ensures { Settles (λ word. Some (seen_word word)) name (from_entries words.old.entries) (from_entries words.new.entries) }
 {
     let Some(word) = words.get_mut(&name) else {
@@ -63,7 +63,7 @@ fn see_one(words: &mut IndexMap<Name, Word>, name: Name)
 }
 
 // What is staged under a name is staged no more. Answers whether the word left.
-fn unstage_one(words: &mut IndexMap<Name, Word>, name: Name) -> bool
+fn unstage_one(words: &mut IndexMap<Name, Word, Hashing>, name: Name) -> bool
     ensures settles { Settles unstaged_word name (from_entries words.old.entries) (from_entries words.new.entries) }
     ensures left { result ≡ option_map_or (leaves_discarded name) (get {R = name_cmp} (from_entries words.old.entries) name) false }
 {
@@ -79,7 +79,7 @@ fn unstage_one(words: &mut IndexMap<Name, Word>, name: Name) -> bool
 }
 
 // What is staged, which are the words of these names, is seen, and no more staged. It takes no memory.
-pub(crate) fn see_all(words: &mut IndexMap<Name, Word>, staged: &BTreeSet<Name>)
+pub(crate) fn see_all(words: &mut IndexMap<Name, Word, Hashing>, staged: &BTreeSet<Name>)
     requires { AreStaged staged.now.keys (from_entries words.old.entries) }
     ensures { from_entries words.new.entries ≡ published_words (from_entries words.old.entries) }
 {
@@ -91,7 +91,7 @@ pub(crate) fn see_all(words: &mut IndexMap<Name, Word>, staged: &BTreeSet<Name>)
 // What is staged, which are the words of these names, is staged no more, and the numbers of the names
 // that leave are lowered. It takes no memory.
 pub(crate) fn unstage_all(
-    words: &mut IndexMap<Name, Word>,
+    words: &mut IndexMap<Name, Word, Hashing>,
     staged: &BTreeSet<Name>,
     catalogue: &mut Catalogue,
 )
@@ -109,7 +109,7 @@ pub(crate) fn unstage_all(
 }
 
 // Of what is seen these names alone stay so. It takes no memory.
-pub(crate) fn keep_among(words: &mut IndexMap<Name, Word>, names: &BTreeSet<Name>)
+pub(crate) fn keep_among(words: &mut IndexMap<Name, Word, Hashing>, names: &BTreeSet<Name>)
     ensures entries { words.new.entries ≡ chosen_in (λ name word. kept_word (set.contains name_cmp names.now name) word) words.old.entries }
     ensures distinct { IsDistinct same_name (keys_of words.old.entries) }
 {
@@ -118,7 +118,7 @@ pub(crate) fn keep_among(words: &mut IndexMap<Name, Word>, names: &BTreeSet<Name
 }
 
 // What is staged under these names is so no more. It takes no memory.
-pub(crate) fn unstage_among(words: &mut IndexMap<Name, Word>, names: &BTreeSet<Name>)
+pub(crate) fn unstage_among(words: &mut IndexMap<Name, Word, Hashing>, names: &BTreeSet<Name>)
     ensures entries { words.new.entries ≡ chosen_in (λ name word. unstaged_if (set.contains name_cmp names.now name) word) words.old.entries }
     ensures distinct { IsDistinct same_name (keys_of words.old.entries) }
 {
@@ -134,7 +134,7 @@ pub(crate) fn leave_out(staged: &mut BTreeSet<Name>, names: &BTreeSet<Name>)
 }
 
 // The names of what is seen, in no order.
-fn seen_among(alloc: Global, words: &IndexMap<Name, Word>) -> Result<Vec<Name>, AllocError>
+fn seen_among(alloc: Global, words: &IndexMap<Name, Word, Hashing>) -> Result<Vec<Name>, AllocError>
     ensures names { IfOk result (λ names. names.items ≡ keys_of (chosen_in (λ _ word. kept_as (is_visible word) word) words.now.entries)) }
     ensures distinct { IsDistinct same_name (keys_of words.now.entries) }
 {
@@ -151,7 +151,7 @@ fn seen_among(alloc: Global, words: &IndexMap<Name, Word>) -> Result<Vec<Name>, 
 // The names of what is seen, ascending.
 pub(crate) fn seen_names(
     alloc: Global,
-    words: &IndexMap<Name, Word>,
+    words: &IndexMap<Name, Word, Hashing>,
 ) -> Result<Vec<Name>, AllocError>
     ensures { IfOk result (λ names. names.items ≡ keys (words_that is_visible (from_entries words.now.entries))) }
 {
@@ -161,7 +161,7 @@ pub(crate) fn seen_names(
 }
 
 // What the objects use that are seen, and what all use, in one pass.
-pub(crate) fn uses(words: &IndexMap<Name, Word>) -> (u128, u128)
+pub(crate) fn uses(words: &IndexMap<Name, Word, Hashing>) -> (u128, u128)
     ensures visible { result.0 ≡ capped (sum_by seen_use (values_of words.now.entries)) }
     ensures both { result.1 ≡ capped (sum_by use_of_word (values_of words.now.entries)) }
     ensures distinct { IsDistinct same_name (keys_of words.now.entries) }

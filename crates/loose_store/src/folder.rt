@@ -9,10 +9,11 @@ use crate::journal_file::JOURNALS;
 use crate::listing::list_all;
 use crate::place::{home_of, inside, path_of};
 use crate::swept::{put_all_back, sweep_at};
-use git_name::Name;
+use git_name::{Hashing, Name};
 use std::alloc::Global;
 use std::fs::{File, OpenOptions};
 use std::io::ErrorKind;
+use std::random::RandomSource;
 use std::rt::Files;
 use std::{fs, io};
 
@@ -31,6 +32,7 @@ pub struct Folder<R> {
     rt: R,
     path: String,
     lock: File,
+    hashing: Hashing,
     failures: u64,
 }
 
@@ -83,7 +85,7 @@ fn taken<R: Files<File = File> + AllocGlobal + Clone + Drop>(
     Ok(lock)
 }
 
-impl<R: Files<File = File> + AllocGlobal + Clone + Drop> Folder<R> {
+impl<R: Files<File = File> + AllocGlobal + RandomSource + Clone + Drop> Folder<R> {
     /// Opens the folder of this path, which is made with its parents where it is not there. While it
     /// is open no other process can open it: for that it is a fault of the device. A process that is
     /// killed lets go of it; what it was writing is removed here, and what was swept and not let go is
@@ -91,10 +93,12 @@ impl<R: Files<File = File> + AllocGlobal + Clone + Drop> Folder<R> {
     pub fn open(rt: R, alloc: Global, path: &str) -> Result<Folder<R>, FileFault> {
         let text = String::from_str(alloc, path)?;
         let lock = told(taken(&rt, alloc, path))?;
+        let hashing = Hashing::drawn(&rt);
         Ok(Folder {
             rt,
             path: text,
             lock,
+            hashing,
             failures: 0,
         })
     }
@@ -174,6 +178,10 @@ impl<R: Files + AllocGlobal + Clone + Drop> LooseFiles for Folder<R> {
     fn names(&mut self, alloc: Global) -> Result<Vec<Name>, FileFault> {
         let answer = list_all(&self.rt, alloc, self.path.as_str());
         answered(&mut self.failures, answer)
+    }
+
+    fn hashing(&self) -> Hashing {
+        self.hashing
     }
 
     fn failures(&self) -> u64 {

@@ -6,7 +6,7 @@ ghost use Rattle.git_name.specs.Name.{name_cmp};
 ghost use Rattle.git_name.specs.Same.{Sets, same_name};
 
 use crate::files::{FileFault, LooseFiles};
-use git_name::Name;
+use git_name::{Hashing, Name};
 use std::alloc::{AllocError, Global};
 use std::collections::HashMap;
 use std::marker::Model;
@@ -14,7 +14,7 @@ use std::marker::Model;
 /// Files in memory, hashed by their names.
 #[derive(Debug, Drop)]
 pub struct Memory {
-    files: HashMap<Name, Vec<u8>>,
+    files: HashMap<Name, Vec<u8>, Hashing>,
 }
 
 impl Model for Memory {
@@ -31,7 +31,7 @@ impl Model for Memory {
 }
 
 fn insert_into(
-    files: &mut HashMap<Name, Vec<u8>>,
+    files: &mut HashMap<Name, Vec<u8>, Hashing>,
     name: Name,
     bytes: Vec<u8>,
 ) -> Result<(), AllocError>
@@ -42,14 +42,14 @@ fn insert_into(
     Ok(())
 }
 
-fn remove_from(files: &mut HashMap<Name, Vec<u8>>, name: Name)
+fn remove_from(files: &mut HashMap<Name, Vec<u8>, Hashing>, name: Name)
     ensures { Sets files.old.entries files.new.entries name None }
 {
     files.remove(&name);
 }
 
 // The names of the files, in no order.
-fn listed(alloc: Global, files: &HashMap<Name, Vec<u8>>) -> Result<Vec<Name>, AllocError>
+fn listed(alloc: Global, files: &HashMap<Name, Vec<u8>, Hashing>) -> Result<Vec<Name>, AllocError>
     ensures names { IfOk result (λ names. names.items ≡ keys_of files.now.entries) }
     ensures distinct { IsDistinct same_name (keys_of files.now.entries) }
 {
@@ -58,7 +58,7 @@ fn listed(alloc: Global, files: &HashMap<Name, Vec<u8>>) -> Result<Vec<Name>, Al
 }
 
 // The names of the files, ascending.
-fn names_in(alloc: Global, files: &HashMap<Name, Vec<u8>>) -> Result<Vec<Name>, AllocError>
+fn names_in(alloc: Global, files: &HashMap<Name, Vec<u8>, Hashing>) -> Result<Vec<Name>, AllocError>
     ensures { IfOk result (λ names. names.items ≡ map.keys (map.from_entries {R = name_cmp} files.now.entries)) }
 {
     let mut names = listed(alloc, files)?;
@@ -71,8 +71,15 @@ impl Memory {
     pub fn new(alloc: Global) -> Memory
         ensures { result ≡ map.empty }
     {
+        Memory::with_hashing(alloc, Hashing::default())
+    }
+
+    /// No files, whose names are hashed so.
+    pub fn with_hashing(alloc: Global, hashing: Hashing) -> Memory
+        ensures { result ≡ map.empty }
+    {
         Memory {
-            files: HashMap::new(alloc),
+            files: HashMap::with_hasher(alloc, hashing),
         }
     }
 
@@ -123,6 +130,10 @@ impl LooseFiles for Memory {
 
     fn names(&mut self, alloc: Global) -> Result<Vec<Name>, FileFault> {
         Ok(names_in(alloc, &self.files)?)
+    }
+
+    fn hashing(&self) -> Hashing {
+        *self.files.hasher()
     }
 
     fn is_fresh(&self) -> bool {

@@ -1,4 +1,5 @@
 mod fetches;
+mod hashes;
 mod histories;
 mod kept;
 mod objects;

@@ -9,7 +9,7 @@ ghost use Rattle.read_cache.specs.Stores.{CountsPut, CountsRead};
 
 use crate::read_cache::ReadCache;
 use crate::survey::Survey;
-use git_name::{Kind, Name, Sealed, seal_as};
+use git_name::{Hashing, Kind, Name, Sealed, seal_as};
 use loose_store::{
     FileFault, LooseFiles, StoreFault, content_of, file_of, one_object, read_checked,
 };
@@ -73,6 +73,11 @@ impl<S: LooseFiles> CachedStore<S> {
         ensures failures { S.failures result ≡ self.failures }
     {
         self.files
+    }
+
+    /// How names of its files are to be hashed.
+    pub fn hashing(&self) -> Hashing {
+        self.files.hashing()
     }
 
     /// The object of this name, if a file stands there, and a copy of it where it is kept. What is read

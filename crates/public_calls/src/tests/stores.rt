@@ -1,4 +1,4 @@
-use git_name::{Kind, Name, name_of, seal};
+use git_name::{Hashing, Kind, Name, name_of, seal};
 use loose_store::{Call, Fused, LooseFiles, Memory, StoreFault, file_of, read_checked};
 use std::test::Fail;
 
@@ -13,7 +13,7 @@ fn a_fused_store_fails_when_it_should(rt: HostRuntime) -> Result<(), Fail> {
     let sealed = seal(Kind::Blob, b"hello\n".to_vec(alloc)?);
     let file = file_of(alloc, &sealed)?;
     assert_eq!(rt; file.as_slice(), b"blob 6\0hello\n".as_slice());
-    let mut files = Memory::new(alloc);
+    let mut files = Memory::with_hashing(alloc, Hashing::drawn(&rt));
     files.set(alloc, name, file.as_slice())?;
     match read_checked(alloc, &mut files, name)? {
         Some(read) => assert_eq!(rt; read.bytes(), b"hello\n".as_slice()),

@@ -27,11 +27,11 @@ pub waiting-init : goal.waiting-init
 waiting-init g c =
     let old = g.S.Source.state c.args.source.now in
     let there = without (measures_of old.objects) (contains name_cmp c.args.hidden.now) in
-    let none_seen = empty_holds_none c.new-seen.result.keys c.new-seen.ensures.empty in
+    let none_seen = empty_holds_none c.with_hasher-seen.result.keys c.with_hasher-seen.ensures.empty in
     record {
       asked = not_asked old;
-      walks = walks_begin (parent_names old.objects) there (rests_at None (measures_of old.objects)) c.args.commits.now old.honest (hashed.contains same_name c.new-seen.result) c.new-waiting.result.items (hashed.contains same_name c.note_open.new.seen) c.note_open.new.waiting.items (λ honest from rests. absurd (none_rests (measures_of old.objects) from rests)) none_seen c.new-waiting.ensures.items c.in-Ok.ensures;
-      keeps = keeps_begin there (rests_at None (measures_of old.objects)) old.objects old.honest c.args.commits.now (hashed.contains same_name c.new-seen.result) c.new-waiting.result.items (hashed.contains same_name c.note_open.new.seen) c.note_open.new.waiting.items c.new-history.result (none_rests (measures_of old.objects)) none_seen c.new-history.ensures c.in-Ok.ensures;
+      walks = walks_begin (parent_names old.objects) there (rests_at None (measures_of old.objects)) c.args.commits.now old.honest (hashed.contains same_name c.with_hasher-seen.result) c.new-waiting.result.items (hashed.contains same_name c.note_open.new.seen) c.note_open.new.waiting.items (λ honest from rests. absurd (none_rests (measures_of old.objects) from rests)) none_seen c.new-waiting.ensures.items c.in-Ok.ensures;
+      keeps = keeps_begin there (rests_at None (measures_of old.objects)) old.objects old.honest c.args.commits.now (hashed.contains same_name c.with_hasher-seen.result) c.new-waiting.result.items (hashed.contains same_name c.note_open.new.seen) c.note_open.new.waiting.items c.new-history.result (none_rests (measures_of old.objects)) none_seen c.new-history.ensures c.in-Ok.ensures;
     }
 
 pub waiting-preserved : goal.waiting-preserved

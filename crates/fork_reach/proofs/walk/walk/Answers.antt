@@ -20,8 +20,8 @@ waiting-init g c =
     let old = g.S.Source.state c.args.source.now in
     record {
       asked = not_asked old;
-      walks = walks_begin (names_along c.args.along old.objects) (without (measures_of old.objects) (contains name_cmp c.args.hidden.now)) (rests_at (Some c.args.along) (measures_of old.objects)) c.args.roots.now old.honest (hashed.contains same_name c.new-seen.result) c.new-waiting.result.items (hashed.contains same_name c.note_open.new.seen) c.note_open.new.waiting.items
-          (λ honest from rests. quiet_along c.args.along old.objects from rests) (empty_holds_none c.new-seen.result.keys c.new-seen.ensures.empty) c.new-waiting.ensures.items c.in-Ok.ensures;
+      walks = walks_begin (names_along c.args.along old.objects) (without (measures_of old.objects) (contains name_cmp c.args.hidden.now)) (rests_at (Some c.args.along) (measures_of old.objects)) c.args.roots.now old.honest (hashed.contains same_name c.with_hasher-seen.result) c.new-waiting.result.items (hashed.contains same_name c.note_open.new.seen) c.note_open.new.waiting.items
+          (λ honest from rests. quiet_along c.args.along old.objects from rests) (empty_holds_none c.with_hasher-seen.result.keys c.with_hasher-seen.ensures.empty) c.new-waiting.ensures.items c.in-Ok.ensures;
     }
 
 pub waiting-preserved : goal.waiting-preserved

@@ -1,26 +1,6 @@
-use Rattle.forkhost.specs.Running.{Cut, Unhosted, Unready, Unsaved}
-use Rattle.forkhost.proofs.HostingLemmas.{if_err_more, kept_host, on_ok_always, ungiven_kept, unsaved, untouched}
+use Rattle.forkhost.specs.Running.{Unhosted}
+use Rattle.forkhost.proofs.HostingLemmas.{untouched}
 use Rattle.forkhost.proofs.run.run_in_folder.Goals as goal
 
-pub returns-in-Err-add_tenants-clause-err : goal.returns-in-Err-add_tenants-clause-err
-returns-in-Err-add_tenants-clause-err g c = Unhosted (ungiven_kept _ c.in-Ok.host _ c.requires c.in-Err-add_tenants.ensures.err) (untouched _ _)
-
-pub returns-in-Ok-served-clause-ok : goal.returns-in-Ok-served-clause-ok
-returns-in-Ok-served-clause-ok g c =
-    let host = kept_host c.args.hosting c.in-Ok.host c.add_tenants.new.host c.begin.new.host c.requires c.in-Ok-add_tenants.ensures.ok c.begin.ensures.saved in
-    on_ok_always c.save-saved.result (record { first = c.begin.new.host; last = c.session-served.new.host; host = host; served = c.in-Ok-served.ensures.ok })
-
-pub returns-in-Ok-served-clause-err : goal.returns-in-Ok-served-clause-err
-returns-in-Ok-served-clause-err g c =
-    let host = kept_host c.args.hosting c.in-Ok.host c.add_tenants.new.host c.begin.new.host c.requires c.in-Ok-add_tenants.ensures.ok c.begin.ensures.saved in
-    if_err_more c.save-saved.result (λ fault is. Unsaved c.requires is (record { first = c.begin.new.host; last = c.session-served.new.host; host = host; served = c.in-Ok-served.ensures.ok })) c.save-saved.ensures.cause
-
-pub returns-clause-err : goal.returns-clause-err
-returns-clause-err g c =
-    let host = kept_host c.args.hosting c.in-Ok.host c.add_tenants.new.host c.begin.new.host c.requires c.in-Ok-add_tenants.ensures.ok c.begin.ensures.saved in
-    Cut _ _ host (λ is. c.requires) c.in-Err-served.ensures.err
-
-pub returns-in-Err-begin-clause-err : goal.returns-in-Err-begin-clause-err
-returns-in-Err-begin-clause-err g c =
-    let host = kept_host c.args.hosting c.in-Ok.host c.add_tenants.new.host c.add_tenants.new.host c.requires c.in-Ok-add_tenants.ensures.ok (unsaved _) in
-    Unready c.requires c.in-Err-begin.ensures.cause c.add_tenants.new.host host (untouched _ _)
+pub returns-in-Err-clause-err : goal.returns-in-Err-clause-err
+returns-in-Err-clause-err g c = Unhosted c.in-Err.ensures.err (untouched _ _)

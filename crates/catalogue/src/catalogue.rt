@@ -40,11 +40,7 @@ impl Catalogue {
     }
 
     /// These names in their order, which nobody holds.
-    pub fn of(
-        alloc: Global,
-        hashing: Hashing,
-        names: &[Name],
-    ) -> Result<Catalogue, AllocError>
+    pub fn of(alloc: Global, hashing: Hashing, names: &[Name]) -> Result<Catalogue, AllocError>
         ensures listed { IfOk result (λ c. (q : List ℕ) → is_listed (places_of c).names q ≡ is_listed names.now q) }
         ensures counts { IfOk result (λ c. (q : List ℕ) → count_of c q ≡ 0) }
         ensures place { IfOk result (λ c. c.place ≡ 0) }

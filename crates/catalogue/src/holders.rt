@@ -11,7 +11,10 @@ use indexmap::IndexMap;
 use std::alloc::AllocError;
 
 // Puts a new name, which nobody holds, at the last place.
-pub(crate) fn insert_into(holders: &mut IndexMap<Name, usize, Hashing>, name: Name) -> Result<(), AllocError>
+pub(crate) fn insert_into(
+    holders: &mut IndexMap<Name, usize, Hashing>,
+    name: Name,
+) -> Result<(), AllocError>
     requires { lookup (same_name name) holders.old.entries ≡ None }
     ensures ok { OnOk result (holders.new.entries ≡ holders.old.entries ++ (name, 0) ∷ []) }
     ensures err { OnErr result (holders.new.entries ≡ holders.old.entries) }

@@ -37,7 +37,12 @@ fn take_out(names: &mut HashSet<Name, Hashing>, others: &HashSet<Name, Hashing>)
 }
 
 // The common ancestors of both.
-fn common(alloc: Global, history: &History, a: Name, b: Name) -> Result<HashSet<Name, Hashing>, AllocError>
+fn common(
+    alloc: Global,
+    history: &History,
+    a: Name,
+    b: Name,
+) -> Result<HashSet<Name, Hashing>, AllocError>
     ensures { IfOk result (λ common. (name : List ℕ) → contains same_name common name ≡ is_common_noted history.now a b name) }
 {
     let mut common = history.ancestors(alloc, &[a])?;
@@ -47,7 +52,11 @@ fn common(alloc: Global, history: &History, a: Name, b: Name) -> Result<HashSet<
 }
 
 // Puts the parents of a commit among the names, but for itself.
-fn put_parents(names: &mut HashSet<Name, Hashing>, commit: Name, parents: &[Name]) -> Result<(), AllocError>
+fn put_parents(
+    names: &mut HashSet<Name, Hashing>,
+    commit: Name,
+    parents: &[Name],
+) -> Result<(), AllocError>
     ensures { OnOk result ((name : List ℕ) → contains same_name names.new name ≡ (contains same_name names.old name || (not (bytes_eq commit name) && is_among parents.now name))) }
 {
     for parent in parents {
@@ -78,7 +87,12 @@ fn outdone(
 
 // The common ancestors that no other one has as a parent. As the parents of common ancestors are common,
 // these are the best ones.
-fn best(alloc: Global, history: &History, a: Name, b: Name) -> Result<HashSet<Name, Hashing>, AllocError>
+fn best(
+    alloc: Global,
+    history: &History,
+    a: Name,
+    b: Name,
+) -> Result<HashSet<Name, Hashing>, AllocError>
     ensures { IfOk result (λ best. (name : List ℕ) → contains same_name best name ≡ is_best_noted history.now a b name) }
 {
     let mut best = common(alloc, history, a, b)?;

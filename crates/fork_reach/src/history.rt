@@ -112,7 +112,11 @@ impl History {
 
     /// The names of those of these commits that parents lead to from the given ones, and of the given
     /// ones themselves. It reads no object.
-    pub fn ancestors(&self, alloc: Global, commits: &[Name]) -> Result<HashSet<Name, Hashing>, AllocError>
+    pub fn ancestors(
+        &self,
+        alloc: Global,
+        commits: &[Name],
+    ) -> Result<HashSet<Name, Hashing>, AllocError>
         ensures { IfOk result (λ found. (name : List ℕ) → contains same_name found name ≡ is_reached (noted_parents self.now) self.now commits.now name) }
     {
         let mut seen = HashSet::with_hasher(alloc, self.hashing());
@@ -129,7 +133,11 @@ impl History {
     }
 }
 
-fn put(commits: &mut HashMap<Name, Noted, Hashing>, name: Name, noted: Noted) -> Result<(), AllocError>
+fn put(
+    commits: &mut HashMap<Name, Noted, Hashing>,
+    name: Name,
+    noted: Noted,
+) -> Result<(), AllocError>
     ensures ok { OnOk result (Updates same_name commits.old commits.new name (Some noted)) }
     ensures err { OnErr result (IsUnchanged commits.old commits.new) }
 {

@@ -9,7 +9,10 @@ use std::alloc::{AllocError, Global};
 use std::collections::{BTreeSet, HashSet};
 
 /// The same names, ascending.
-pub fn ascending(alloc: Global, names: &HashSet<Name, Hashing>) -> Result<BTreeSet<Name>, AllocError>
+pub fn ascending(
+    alloc: Global,
+    names: &HashSet<Name, Hashing>,
+) -> Result<BTreeSet<Name>, AllocError>
     ensures { IfOk result (λ set. (name : List ℕ) → contains name_cmp set name ≡ hashed.contains same_name names.now name) }
 {
     let mut set = BTreeSet::new(alloc);

@@ -1,4 +1,4 @@
-ghost use Rattle.std.specs.Prelude.{◌≡◌, IfErr, IfOk, is_some, false, true};
+ghost use Rattle.std.specs.Prelude.{◌≡◌, IfErr, IfOk, is_some, true};
 ghost use Rattle.forkhost.specs.Running.{IsHostOf, IsUnhosted};
 
 use crate::fault::Fault;

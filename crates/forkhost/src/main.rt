@@ -49,9 +49,7 @@ fn arguments<R: Env + AllocGlobal + Eprint>(rt: &R) -> io::Result<Option<Vec<Str
 }
 
 // Runs the program on these words, and answers its exit status, which stays where nothing can be told.
-fn ended<
-    R: AllocGlobal + Input + Print + Eprint + Files<File = File> + Net + RandomSource,
->(
+fn ended<R: AllocGlobal + Input + Print + Eprint + Files<File = File> + Net + RandomSource>(
     rt: &R,
     words: &[&str],
 ) -> io::Result<u8> {
@@ -68,9 +66,7 @@ fn ended<
 }
 
 // Runs the program on what the process was given.
-fn started<
-    R: Env + AllocGlobal + Input + Print + Eprint + Files<File = File> + Net + RandomSource,
->(
+fn started<R: Env + AllocGlobal + Input + Print + Eprint + Files<File = File> + Net + RandomSource>(
     rt: &R,
 ) -> io::Result<u8> {
     let Some(texts) = arguments(rt)? else {

@@ -87,13 +87,12 @@ fn ending<'a, H: Files<File = File> + Net + AllocGlobal + RandomSource, R: Read,
 
 /// Does what the words ask for, of which the first is the program's name, tells on `faults` what
 /// belongs on standard error, and answers the exit status.
-pub fn program<H: Files<File = File> + Net + AllocGlobal + RandomSource, R: Read, W: Write, F: Write>(
-    rt: &H,
-    words: &[&str],
-    reader: &mut R,
-    writer: &mut W,
-    faults: &mut F,
-) -> Result<u8, Untold>
+pub fn program<
+    H: Files<File = File> + Net + AllocGlobal + RandomSource,
+    R: Read,
+    W: Write,
+    F: Write,
+>(rt: &H, words: &[&str], reader: &mut R, writer: &mut W, faults: &mut F) -> Result<u8, Untold>
     ensures ok { IfOk result (IsEndedAndTold (map (λ word. word.now) words.entry.now)
         (R.remaining reader.old) (R.remaining reader.new) (W.contents writer.old) (W.contents writer.new)
         (F.contents faults.old) (F.contents faults.new)) }

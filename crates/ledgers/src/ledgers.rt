@@ -67,7 +67,10 @@ impl Ledgers {
         if self.tenants.contains_key(&tenant) {
             return Ok(());
         }
-        match self.tenants.insert(tenant, Ledger::new(alloc, self.hashing)) {
+        match self
+            .tenants
+            .insert(tenant, Ledger::new(alloc, self.hashing))
+        {
             Ok(_) => Ok(()),
             Err(_) => Err(AllocError),
         }

@@ -2,25 +2,7 @@
 //! standard input to standard output or at a Unix socket, and checks the folder that keeps a host.
 #![tactic(auto)]
 
-mod check;
-mod connections;
-mod content;
-mod ending;
-mod fault;
-mod hash_object;
-mod hosts;
-mod keep;
-mod keeping;
-mod listening;
-mod program;
-mod replaying;
-mod run;
-mod send;
-mod serve;
-mod telling;
-mod tenants;
-
-use program::{Untold, program};
+use fork_program::{Untold, program};
 use std::fs::{File, Files};
 use std::io::{BufReader, BufWriter, Write};
 use std::net::Net;

@@ -1,0 +1,83 @@
+-- The line that tells a fault (own).
+use Rattle.std.specs.Prelude.{ℕ, List, [], ◌∷◌, ◌++◌, codes, decimal}
+use Rattle.hex.specs.Hex.{encode_lower}
+use Rattle.fork_state.specs.declared.fault.LoadFault.{LoadFault}
+use Rattle.fork_state.specs.declared.fault.LoadFault.TheVariants as load
+use Rattle.fork_request.specs.declared.host_fault.HostFault.TheVariants as host
+use Rattle.fork_wire.specs.declared.again.AgainFault.{AgainFault}
+use Rattle.fork_wire.specs.declared.again.AgainFault.TheVariants as again
+use Rattle.fork_wire.specs.declared.fault.SessionFault.{SessionFault}
+use Rattle.fork_wire.specs.declared.fault.SessionFault.TheVariants as session
+use Rattle.loose_store.specs.declared.files.FileFault.{FileFault}
+use Rattle.loose_store.specs.declared.files.FileFault.TheVariants as file
+use Rattle.fork_program.specs.declared.fault.Fault.{Fault}
+use Rattle.fork_program.specs.declared.fault.Fault.TheVariants.{TooLarge, BadObject, BadFrame, Read, Write, Memory, Store, Socket, NoState, Unreadable, Journal, NotKept, NotSaved, Line, Lost, Damaged, Unsound, OverLimit, There, TooManyTenants}
+
+-- what is said of a fault
+abbrev pub words_of : Fault → List ℕ
+words_of TooLarge = codes "too-large"
+words_of BadObject = codes "bad-object"
+words_of BadFrame = codes "bad frame"
+words_of Read = codes "read"
+words_of Write = codes "write"
+words_of Memory = codes "memory"
+words_of Store = codes "store"
+words_of Socket = codes "socket"
+words_of NoState = codes "no state"
+words_of Unreadable = codes "state unreadable"
+words_of Journal = codes "journal unreadable"
+words_of NotKept = codes "journal not written"
+words_of NotSaved = codes "state not saved"
+words_of (Line line) = codes "state line " ++ decimal line
+words_of (Lost name) = codes "lost " ++ encode_lower name
+words_of (Damaged name) = codes "damaged " ++ encode_lower name
+words_of (Unsound name) = codes "unsound " ++ encode_lower name
+words_of (OverLimit tenant) = codes "over limit " ++ tenant
+words_of (There tenant) = codes "tenant " ++ tenant ++ codes " is there already"
+words_of TooManyTenants = codes "too many tenants"
+
+-- the line that says it
+abbrev pub fault_line : Fault → List ℕ
+fault_line fault = codes "forkhost: " ++ words_of fault ++ 10 ∷ []
+
+-- how a session's fault is told
+abbrev pub session_fault : SessionFault → Fault
+session_fault session.Read = Read
+session_fault session.Write = Write
+session_fault session.Memory = Memory
+session_fault session.Journal = NotKept
+
+-- how it is told that a folder could not be opened
+abbrev pub store_fault : FileFault → Fault
+store_fault file.Device = Store
+store_fault file.Memory = Memory
+
+-- how it is told that a state could not be read
+abbrev pub state_fault : FileFault → Fault
+state_fault file.Device = Unreadable
+state_fault file.Memory = Memory
+
+-- how it is told that a journal could not be read
+abbrev pub journal_fault : FileFault → Fault
+journal_fault file.Device = Journal
+journal_fault file.Memory = Memory
+
+-- how it is told that what a journal has could not be done again
+abbrev pub again_fault : AgainFault → Fault
+again_fault again.Read = Journal
+again_fault again.Memory = Memory
+again_fault again.Altered = Journal
+again_fault (again.Host host.Memory) = Memory
+again_fault (again.Host host.Store) = Store
+again_fault (again.Host host.Damaged) = Journal
+again_fault (again.Host host.Collision) = Journal
+
+-- how it is told that no host could be made of a state
+abbrev pub load_fault : LoadFault → Fault
+load_fault (load.Line line) = Line line
+load_fault (load.Lost name) = Lost name
+load_fault (load.Damaged name) = Damaged name
+load_fault (load.Unsound name) = Unsound name
+load_fault (load.OverLimit tenant) = OverLimit tenant
+load_fault load.Store = Store
+load_fault load.Memory = Memory

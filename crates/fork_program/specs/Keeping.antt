@@ -1,0 +1,42 @@
+-- The host that a folder keeps, and what `check` does (own). Of what a device holds nothing is claimed.
+use Rattle.std.specs.Prelude.{◌≡◌, ℕ, ◌==◌, List, [], ◌++◌, codes, decimal, if◌then◌else◌, Option, ⊤}
+use Rattle.std.specs.Io.KnownBytes.{Keeps}
+use Rattle.fork_host.specs.Shape.{SameShape}
+use Rattle.fork_host.specs.Shown.{HostState, Trusted, world_of}
+use Rattle.fork_program.specs.declared.fault.Fault.{Fault}
+use Rattle.fork_program.specs.declared.fault.Fault.TheVariants.{Write, Memory, Store, NoState, Unreadable, Journal, Line, Lost, Damaged, Unsound, OverLimit}
+
+-- nothing was read or written
+pub record IsUntouched (input left before after : Option (List ℕ)) : Type 0 where
+  pub unread : Keeps input left
+  pub unwritten : Keeps before after
+
+-- the faults that a folder may come to where its host is wanted
+abbrev pub IsUnkept : Fault → Type 0
+IsUnkept Memory = ⊤
+IsUnkept Store = ⊤
+IsUnkept Unreadable = ⊤
+IsUnkept Journal = ⊤
+IsUnkept (Line line) = ⊤
+IsUnkept (Lost name) = ⊤
+IsUnkept (Damaged name) = ⊤
+IsUnkept (Unsound name) = ⊤
+IsUnkept (OverLimit tenant) = ⊤
+IsUnkept _ = ⊥
+
+-- saving a host's state leaves what it shows: over any store each view has the shape that it had, and over a trusted one the
+-- world is the same
+pub record IsSaved (old new : HostState) : Type 0 where
+  pub shape : (tenant : List ℕ) → SameShape tenant (world_of old) (world_of new)
+  pub trusted : Trusted old → Trusted new
+  pub shows : Trusted old → world_of new ≡ world_of old
+
+-- what `check` prints: a line, and another where requests of the journal are to be done again, with their number
+abbrev pub sound_lines : ℕ → List ℕ
+sound_lines count = codes "sound\n" ++ (if count == 0 then [] else codes "journal " ++ decimal count ++ codes "\n")
+
+-- why `check` did not print them, or not the whole of them
+abbrev pub IsUnchecked : Option (List ℕ) → Option (List ℕ) → Fault → Type 0
+IsUnchecked before after Write = ⊤
+IsUnchecked before after NoState = Keeps before after
+IsUnchecked before after fault = IsUnkept fault × Keeps before after

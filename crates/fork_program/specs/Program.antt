@@ -1,0 +1,84 @@
+-- How the program ends (own), by what `clap` makes of its words: `kinds` are the errors that it finds in them.
+use Rattle.std.specs.Prelude.{◌≡◌, ℕ, List, [], ◌∷◌, ◌++◌, codes, Option}
+use Rattle.std.specs.Io.KnownBytes.{Appends, Keeps}
+use Rattle.clap.specs.Words.{IsAmong, Kinds, Row, Text, fault_of, subcommand_of}
+use Rattle.clap.specs.declared.error.kind.ErrorKind.TheVariants.{DisplayHelp}
+use Rattle.fork_command.specs.Command.{Asks, IsRefused}
+use Rattle.fork_command.specs.Table.{table_app}
+use Rattle.fork_command.specs.declared.command.Command.{Command}
+use Rattle.fork_command.specs.declared.command.Command.TheVariants.{HashObject, Run, Serve, Check}
+use Rattle.fork_command.specs.declared.error.CommandError.TheVariants as refusal
+use Rattle.fork_frame.specs.declared.ended.Ended.TheVariants.{Clean}
+use Rattle.fork_program.specs.Fault.{fault_line}
+use Rattle.fork_program.specs.Hashing.{IsNamed, IsUnnamed}
+use Rattle.fork_program.specs.Keeping.{IsUnchecked, IsUntouched, sound_lines}
+use Rattle.fork_program.specs.Running.{IsRun, IsUnserved}
+use Rattle.fork_program.specs.Serving.{IsListened, IsUnlistened}
+use Rattle.fork_program.specs.declared.ending.Ending.{Ending}
+use Rattle.fork_program.specs.declared.ending.Ending.TheVariants.{Done, Failed, Misused, BadTenant}
+use Rattle.fork_program.specs.declared.fault.Fault.{Fault}
+use Rattle.fork_program.specs.declared.fault.Fault.TheVariants as fault
+
+-- the exit status
+abbrev pub status_of : Ending → ℕ
+status_of Done = 0
+status_of (Failed fault) = 1
+status_of (Misused error) = 2
+status_of (BadTenant word) = 2
+
+-- what belongs on standard error; of `clap`'s text nothing is said
+abbrev pub IsTold : Ending → Option (List ℕ) → Option (List ℕ) → Type 0
+IsTold Done before after = Keeps before after
+IsTold (Failed fault) before after = Appends before after (fault_line fault)
+IsTold (Misused error) before after = (text : List ℕ) × Appends before after text
+IsTold (BadTenant word) before after = Appends before after (codes "forkhost: bad tenant " ++ word.now ++ 10 ∷ [])
+
+-- the command was done
+abbrev pub IsDone : Command → Option (List ℕ) → Option (List ℕ) → Option (List ℕ) → Type 0
+IsDone (HashObject kind) input before after = IsNamed kind input before after
+IsDone (Run hosting) input before after = IsRun hosting input before after Clean
+IsDone (Serve socket connections hosting) input before after = IsListened hosting connections × Keeps before after
+IsDone (Check dir) input before after = (count : ℕ) × Appends before after (sound_lines count)
+
+-- why it was not
+abbrev pub IsUndone : Command → Option (List ℕ) → Option (List ℕ) → Option (List ℕ) → Option (List ℕ) → Fault → Type 0
+IsUndone (HashObject kind) input left before after fault = IsUnnamed kind input before after fault
+IsUndone (Run hosting) input left before after fault = IsUnserved hosting input left before after fault
+IsUndone (Serve socket connections hosting) input left before after fault = IsUnlistened hosting connections fault × IsUntouched input left before after
+IsUndone (Check dir) input left before after fault = IsUnchecked before after fault × Keeps input left
+
+-- all is well
+pub data IsWell (kinds : Kinds) (met : Option (Text × List Row)) (input left before after : Option (List ℕ)) : Type 0 where
+  -- the words ask for a command, and it was done
+  Did : (command : Command) → kinds ≡ [] → Asks met command → IsDone command input before after → IsWell kinds met input left before after
+  -- they ask for help, and it was given
+  Helped : IsAmong DisplayHelp kinds → Keeps input left → (text : List ℕ) → Appends before after text → IsWell kinds met input left before after
+
+-- how this fault came
+pub data IsFault (kinds : Kinds) (met : Option (Text × List Row)) (input left before after : Option (List ℕ)) (why : Fault) : Type 0 where
+  -- the words ask for a command, and it failed
+  Undone : (command : Command) → kinds ≡ [] → Asks met command → IsUndone command input left before after why → IsFault kinds met input left before after why
+  -- they ask for help, which could not be written
+  Unhelped : IsAmong DisplayHelp kinds → Keeps input left → why ≡ fault.Write → IsFault kinds met input left before after why
+  -- there was no memory to read the words, or for their help
+  Wanting : why ≡ fault.Memory → IsUntouched input left before after → IsFault kinds met input left before after why
+
+-- words that end the program so
+abbrev pub Ends : List Text → Option (List ℕ) → Option (List ℕ) → Option (List ℕ) → Option (List ℕ) → Ending → Type 0
+Ends texts input left before after Done = IsWell (fault_of table_app texts) (subcommand_of table_app texts) input left before after
+Ends texts input left before after (Failed fault) = IsFault (fault_of table_app texts) (subcommand_of table_app texts) input left before after fault
+Ends texts input left before after (Misused error) = IsRefused (fault_of table_app texts) (subcommand_of table_app texts) (refusal.Usage error) × IsUntouched input left before after
+Ends texts input left before after (BadTenant word) = IsRefused (fault_of table_app texts) (subcommand_of table_app texts) (refusal.BadTenant word) × IsUntouched input left before after
+
+-- the status is that of a right ending
+pub record IsEnded (texts : List Text) (input left before after : Option (List ℕ)) (status : ℕ) : Type 0 where
+  pub how : Ending
+  pub right : Ends texts input left before after how
+  pub answered : status ≡ status_of how
+
+-- and what belongs on standard error is there
+pub record IsEndedAndTold (texts : List Text) (input left before after untold told : Option (List ℕ)) (status : ℕ) : Type 0 where
+  pub how : Ending
+  pub right : Ends texts input left before after how
+  pub answered : status ≡ status_of how
+  pub said : IsTold how untold told

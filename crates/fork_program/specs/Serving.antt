@@ -1,0 +1,71 @@
+-- What `serve` does (own): it adds the given tenants to a host, and serves connections to a socket, one after another.
+use Rattle.std.specs.Prelude.{◌≡◌, ◌⊎◌, ◌≤◌, ℕ, true, List, [], ◌∷◌, length, is_some}
+use Rattle.fork_command.specs.declared.hosting.Hosting.{Hosting}
+use Rattle.fork_frame.specs.declared.frame.Frame.{Frame}
+use Rattle.fork_host.specs.Shown.{HostState}
+use Rattle.fork_request.specs.declared.reply.Reply.{Reply}
+use Rattle.fork_wire.specs.Sessions.{IsAnswered}
+use Rattle.fork_program.specs.Keeping.{IsSaved}
+use Rattle.fork_program.specs.Running.{IsHostOf, IsUnhosted}
+use Rattle.fork_program.specs.declared.fault.Fault.{Fault}
+use Rattle.fork_program.specs.declared.fault.Fault.TheVariants.{Memory, NotKept, NotSaved, Socket}
+
+-- what a connection, however it ended, did to the host
+pub data IsVisit (old new : HostState) : Type 0 where
+  -- nothing was asked
+  Idle : new ≡ old → IsVisit old new
+  -- each of these frames was answered
+  Asked : (frames : List Frame) (replies : List Reply) → IsAnswered old new frames replies → IsVisit old new
+
+-- a connection, and behind it the host's state may have been saved
+pub record IsVisitThenSaved (old new : HostState) : Type 0 where
+  pub left : HostState
+  pub visit : IsVisit old left
+  pub saved : IsSaved left new
+
+-- the host came from the one state to the other by way of these, one behind each connection
+abbrev pub Visits : HostState → List HostState → HostState → Type 0
+Visits old [] new = old ≡ new
+Visits old (next ∷ states) new = IsVisitThenSaved old next × Visits next states new
+
+-- so many connections were served
+pub record AreVisits (old new : HostState) (n : ℕ) : Type 0 where
+  pub states : List HostState
+  pub number : length states ≡ n
+  pub chain : Visits old states new
+
+-- so many at the most
+pub record AreSomeVisits (old new : HostState) (n : ℕ) : Type 0 where
+  pub states : List HostState
+  pub number : length states ≤ n
+  pub chain : Visits old states new
+
+-- so many connections to such a host were served
+pub record IsListened (hosting : Hosting) (n : ℕ) : Type 0 where
+  pub first : HostState
+  pub last : HostState
+  pub host : IsHostOf hosting first
+  pub served : AreVisits first last n
+
+-- the faults of a socket
+abbrev pub IsUnbound : Fault → Type 0
+IsUnbound fault = (fault ≡ Socket) ⊎ (fault ≡ Memory)
+
+-- the faults of what keeps a host while it serves
+abbrev pub IsLost : Fault → Type 0
+IsLost fault = (fault ≡ NotKept) ⊎ (fault ≡ NotSaved)
+
+-- why so many were not, or why the host was not kept
+pub data IsUnlistened (hosting : Hosting) (n : ℕ) (fault : Fault) : Type 0 where
+  -- there was no host
+  Unhosted : IsUnhosted hosting fault → IsUnlistened hosting n fault
+  -- the socket could not be bound
+  Unbound : (first : HostState) → IsHostOf hosting first → IsUnbound fault → IsUnlistened hosting n fault
+  -- the state could not be saved before the first connection
+  Unready : is_some hosting.dir ≡ true → fault ≡ NotSaved → (first : HostState) → IsHostOf hosting first → IsUnlistened hosting n fault
+  -- what was served could not be kept any more
+  Lost : is_some hosting.dir ≡ true → (first last : HostState) → IsHostOf hosting first → AreSomeVisits first last n → IsLost fault → IsUnlistened hosting n fault
+  -- it could not be listened on any more
+  Deaf : (first last : HostState) → IsHostOf hosting first → AreSomeVisits first last n → IsUnbound fault → IsUnlistened hosting n fault
+  -- all were served, and then the state could not be saved
+  Unsaved : is_some hosting.dir ≡ true → fault ≡ NotSaved → IsListened hosting n → IsUnlistened hosting n fault

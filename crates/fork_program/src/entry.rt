@@ -1,0 +1,110 @@
+ghost use Rattle.std.specs.Prelude.{◌≡◌, ◌≢◌, ◌≤◌, ℕ, IfErr, IfOk, List, OnOk, map};
+ghost use Rattle.std.specs.Io.KnownBytes.{Appends, Keeps};
+ghost use Rattle.fork_program.specs.Program.{Ends, IsDone, IsEnded, IsEndedAndTold, IsUndone};
+
+use crate::check::check;
+use crate::ending::Ending;
+use crate::fault::Fault;
+use crate::hash_object::hash_object;
+use crate::run::run;
+use crate::send::send;
+use crate::serve::serve;
+use clap::Error;
+use fork_command::{Command, CommandError, command_of};
+use std::alloc::Global;
+use std::fs::{File, Files};
+use std::io::{Read, Write};
+use std::net::Net;
+use std::random::RandomSource;
+
+/// What belongs on standard error could not be written, or not wholly. The exit status stays what it is.
+#[derive(Clone, Copy, Debug, PartialEq, Eq)]
+pub struct Untold {
+    pub status: u8,
+}
+
+// Carries the command out.
+fn carried_out<H: Files<File = File> + Net + AllocGlobal + RandomSource, R: Read, W: Write>(
+    rt: &H,
+    alloc: Global,
+    command: Command<'_>,
+    reader: &mut R,
+    writer: &mut W,
+) -> Result<(), Fault>
+    ensures ok { OnOk result (IsDone command.entry (R.remaining reader.old)
+        (W.contents writer.old) (W.contents writer.new)) }
+    ensures err { IfErr result (IsUndone command.entry (R.remaining reader.old) (R.remaining reader.new)
+        (W.contents writer.old) (W.contents writer.new)) }
+{
+    match command {
+        Command::HashObject { kind } => hash_object(alloc, kind, reader, writer),
+        Command::Run { hosting } => run(rt, alloc, hosting, reader, writer),
+        Command::Serve {
+            socket,
+            connections,
+            hosting,
+        } => serve(rt, alloc, socket, connections, hosting),
+        Command::Check { dir } => check(rt, alloc, dir, writer),
+    }
+}
+
+// Gives help.
+fn help<W: Write>(alloc: Global, error: Error, writer: &mut W) -> Result<(), Fault>
+    ensures ok { OnOk result ((text : List ℕ) × Appends (W.contents writer.old) (W.contents writer.new) text) }
+    ensures kept { IfErr result (λ why. why ≢ Fault.Write → (why ≡ Fault.Memory) × Keeps (W.contents writer.old) (W.contents writer.new)) }
+{
+    let Ok(text) = error.to_string(alloc) else {
+        return Err(Fault::Memory);
+    };
+    send(text.as_bytes(), writer)
+}
+
+// Does what the words ask for.
+fn ending<'a, H: Files<File = File> + Net + AllocGlobal + RandomSource, R: Read, W: Write>(
+    rt: &H,
+    alloc: Global,
+    words: &'a [&'a str],
+    reader: &mut R,
+    writer: &mut W,
+) -> Ending<'a>
+    ensures { Ends (map (λ word. word.now) words.entry.now) (R.remaining reader.old) (R.remaining reader.new)
+        (W.contents writer.old) (W.contents writer.new) result }
+{
+    match command_of(alloc, words) {
+        Ok(command) => match carried_out(rt, alloc, command, reader, writer) {
+            Ok(()) => Ending::Done,
+            Err(fault) => Ending::Failed(fault),
+        },
+        Err(CommandError::Help(error)) => match help(alloc, error, writer) {
+            Ok(()) => Ending::Done,
+            Err(fault) => Ending::Failed(fault),
+        },
+        Err(CommandError::Usage(error)) => Ending::Misused(error),
+        Err(CommandError::BadTenant(word)) => Ending::BadTenant(word),
+        Err(CommandError::Memory) => Ending::Failed(Fault::Memory),
+    }
+}
+
+/// Does what the words ask for, of which the first is the program's name, tells on `faults` what
+/// belongs on standard error, and answers the exit status.
+pub fn program<
+    H: Files<File = File> + Net + AllocGlobal + RandomSource,
+    R: Read,
+    W: Write,
+    F: Write,
+>(rt: &H, words: &[&str], reader: &mut R, writer: &mut W, faults: &mut F) -> Result<u8, Untold>
+    ensures ok { IfOk result (IsEndedAndTold (map (λ word. word.now) words.entry.now)
+        (R.remaining reader.old) (R.remaining reader.new) (W.contents writer.old) (W.contents writer.new)
+        (F.contents faults.old) (F.contents faults.new)) }
+    ensures err { IfErr result (λ untold. IsEnded (map (λ word. word.now) words.entry.now)
+        (R.remaining reader.old) (R.remaining reader.new) (W.contents writer.old) (W.contents writer.new) untold.status) }
+    ensures cause { IfErr result (λ untold. 1 ≤ untold.status) }
+{
+    let alloc = rt.alloc();
+    let how = ending(rt, alloc, words, reader, writer);
+    let status = how.status();
+    match how.tell(alloc, faults) {
+        Ok(()) => Ok(status),
+        Err(_) => Err(Untold { status }),
+    }
+}

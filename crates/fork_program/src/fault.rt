@@ -1,0 +1,124 @@
+ghost use Rattle.std.specs.Prelude.{◌≡◌, ◌++◌, OnOk};
+ghost use Rattle.std.specs.Io.KnownBytes.{Appends};
+ghost use Rattle.fork_program.specs.declared.fault.Fault.TheVariants as fault;
+ghost use Rattle.hex.specs.Hex.{encode_lower};
+ghost use Rattle.fork_program.specs.Fault.{fault_line, words_of};
+
+use fork_request::TenantName;
+use git_name::Name;
+use std::io;
+use std::io::Write;
+
+/// Why the program ends with status 1.
+#[derive(Debug, Drop, PartialEq, Eq)]
+pub enum Fault {
+    /// The content has more than 8,388,608 bytes.
+    TooLarge,
+    /// The content is no object of the kind that was asked for.
+    BadObject,
+    /// What came is no frame.
+    BadFrame,
+    /// The input could not be read.
+    Read,
+    /// The output could not be written.
+    Write,
+    /// There was no memory.
+    Memory,
+    /// The folder could not be opened, another process holds it, or its device failed.
+    Store,
+    /// The socket could not be bound, another process listens on it, or it could not be listened on
+    /// any more.
+    Socket,
+    /// The folder keeps no state.
+    NoState,
+    /// The folder's state could not be read.
+    Unreadable,
+    /// The folder's journal could not be read, or what it has could not be done again.
+    Journal,
+    /// A request could not be written to the journal.
+    NotKept,
+    /// What was served could not be saved.
+    NotSaved,
+    /// This line of the state, counted from 1, is the first at which it is no state.
+    Line(u64),
+    /// The object is in the state, and its file is not there.
+    Lost(Name),
+    /// The object's file is not whole.
+    Damaged(Name),
+    /// The object is not as its tenant's view wants it.
+    Unsound(Name),
+    /// The tenant has objects of more use than its limit.
+    OverLimit(TenantName),
+    /// A tenant is given that is there already.
+    There(TenantName),
+    /// There are more than 64 tenants.
+    TooManyTenants,
+}
+
+impl Fault {
+    /// Writes the one line that tells the fault.
+    pub fn write<W: Write>(&self, writer: &mut W) -> io::Result<()>
+        ensures { OnOk result (Appends (W.contents writer.old) (W.contents writer.new) (fault_line self.now)) }
+    {
+        writer.write_all(b"forkhost: ")?;
+        self.write_words(writer)?;
+        writer.write_all(b"\n")?;
+        Ok(())
+    }
+
+    // Writes what is said of the fault.
+    fn write_words<W: Write>(&self, writer: &mut W) -> io::Result<()>
+        ensures { OnOk result (Appends (W.contents writer.old) (W.contents writer.new) (words_of self.now)) }
+    {
+        match self {
+            Fault::TooLarge => writer.write_all(b"too-large"),
+            Fault::BadObject => writer.write_all(b"bad-object"),
+            Fault::BadFrame => writer.write_all(b"bad frame"),
+            Fault::Read => writer.write_all(b"read"),
+            Fault::Write => writer.write_all(b"write"),
+            Fault::Memory => writer.write_all(b"memory"),
+            Fault::Store => writer.write_all(b"store"),
+            Fault::Socket => writer.write_all(b"socket"),
+            Fault::NoState => writer.write_all(b"no state"),
+            Fault::Unreadable => writer.write_all(b"state unreadable"),
+            Fault::Journal => writer.write_all(b"journal unreadable"),
+            Fault::NotKept => writer.write_all(b"journal not written"),
+            Fault::NotSaved => writer.write_all(b"state not saved"),
+            Fault::Line(line) => write!(writer, "state line {line}"),
+            Fault::Lost(name) => write_name(b"lost ", name, writer),
+            Fault::Damaged(name) => write_name(b"damaged ", name, writer),
+            Fault::Unsound(name) => write_name(b"unsound ", name, writer),
+            Fault::OverLimit(tenant) => write_both(b"over limit ", tenant.as_bytes(), writer),
+            Fault::There(tenant) => write_there(tenant, writer),
+            Fault::TooManyTenants => writer.write_all(b"too many tenants"),
+        }
+    }
+}
+
+// Writes words, and others behind them.
+fn write_both<W: Write>(before: &[u8], behind: &[u8], writer: &mut W) -> io::Result<()>
+    ensures { OnOk result (Appends (W.contents writer.old) (W.contents writer.new) (before.now ++ behind.now)) }
+{
+    writer.write_all(before)?;
+    writer.write_all(behind)?;
+    Ok(())
+}
+
+// Writes words, and the name of an object behind them.
+fn write_name<W: Write>(before: &[u8], name: &Name, writer: &mut W) -> io::Result<()>
+    ensures { OnOk result (Appends (W.contents writer.old) (W.contents writer.new) (before.now ++ encode_lower name.now)) }
+{
+    let mut digits = [0; 64];
+    name.write_hex(&mut digits);
+    write_both(before, digits.as_slice(), writer)
+}
+
+// Writes that this tenant is there already.
+fn write_there<W: Write>(tenant: &TenantName, writer: &mut W) -> io::Result<()>
+    ensures { OnOk result (Appends (W.contents writer.old) (W.contents writer.new) (words_of (fault.There tenant.now))) }
+{
+    writer.write_all(b"tenant ")?;
+    writer.write_all(tenant.as_bytes())?;
+    writer.write_all(b" is there already")?;
+    Ok(())
+}

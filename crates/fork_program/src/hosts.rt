@@ -1,0 +1,53 @@
+ghost use Rattle.std.specs.Prelude.{◌≡◌, IfErr, IfOk, is_some, true};
+ghost use Rattle.fork_program.specs.Running.{IsHostOf, IsUnhosted};
+
+use crate::fault::Fault;
+use crate::keeping::kept_host;
+use crate::tenants::add_tenants;
+use fork_command::Hosting;
+use fork_host::Host;
+use git_name::Hashing;
+use loose_store::{Folder, Memory};
+use std::alloc::Global;
+use std::fs::{File, Files};
+use std::random::RandomSource;
+
+/// A new host in memory that has the given tenants.
+pub fn host_in_memory<H: RandomSource>(
+    rt: &H,
+    alloc: Global,
+    hosting: Hosting<'_>,
+) -> Result<Host<Memory>, Fault>
+    ensures ok { IfOk result (IsHostOf hosting.entry) }
+    ensures err { IfErr result (IsUnhosted hosting.entry) }
+{
+    let files = Memory::with_hashing(alloc, Hashing::drawn(rt));
+    let Ok(mut host) = Host::new(alloc, files) else {
+        return Err(Fault::Memory);
+    };
+    match add_tenants(&mut host, alloc, hosting.tenants) {
+        Ok(()) => Ok(host),
+        Err(fault) => Err(fault),
+    }
+}
+
+/// The host that a folder keeps, with the given tenants too.
+pub fn host_in_folder<'a, H: Files<File = File> + AllocGlobal + RandomSource>(
+    rt: &'a H,
+    alloc: Global,
+    dir: &str,
+    hosting: Hosting<'_>,
+) -> Result<Host<Folder<&'a H>>, Fault>
+    requires { is_some hosting.dir ≡ true }
+    ensures ok { IfOk result (IsHostOf hosting.entry) }
+    ensures err { IfErr result (IsUnhosted hosting.entry) }
+{
+    let mut host = match kept_host(rt, alloc, dir) {
+        Ok(host) => host,
+        Err(fault) => return Err(fault),
+    };
+    match add_tenants(&mut host, alloc, hosting.tenants) {
+        Ok(()) => Ok(host),
+        Err(fault) => Err(fault),
+    }
+}

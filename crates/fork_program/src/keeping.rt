@@ -1,0 +1,86 @@
+ghost use Rattle.std.specs.Prelude.{IfErr};
+ghost use Rattle.fork_program.specs.Keeping.{IsUnkept};
+
+use crate::fault::Fault;
+use crate::replaying::replay;
+use crate::telling::{of_load, of_state, of_store};
+use fork_host::{Host, OpenError};
+use git_name::Name;
+use loose_store::{Folder, LooseFiles, journal_name, read_state};
+use std::alloc::Global;
+use std::fs::{File, Files};
+use std::random::RandomSource;
+
+// A host without tenants over a folder.
+fn new_host<S: LooseFiles + Drop>(alloc: Global, files: S) -> Result<Host<S>, Fault>
+    ensures { IfErr result IsUnkept }
+{
+    match Host::new(alloc, files) {
+        Ok(host) => Ok(host),
+        Err(OpenError::Store) => Err(Fault::Store),
+        Err(OpenError::Memory) => Err(Fault::Memory),
+    }
+}
+
+// The host of a state, over the store that has its objects, and the name of the journal behind it.
+fn saved_host<S: LooseFiles + Drop>(
+    alloc: Global,
+    state: Option<Vec<u8>>,
+    files: S,
+) -> Result<(Host<S>, Name), Fault>
+    ensures { IfErr result IsUnkept }
+{
+    let Some(state) = state else {
+        return match new_host(alloc, files) {
+            Ok(host) => Ok((host, journal_name(b""))),
+            Err(fault) => Err(fault),
+        };
+    };
+    match fork_state::load(alloc, state.as_slice(), files) {
+        Ok(host) => Ok((host, journal_name(state.as_slice()))),
+        Err(fault) => Err(of_load(fault)),
+    }
+}
+
+/// The host that a folder keeps, over this store of its objects, and one without tenants where the
+/// folder keeps none; and how many requests of its journal were done again.
+pub fn restored_host<H: Files<File = File> + AllocGlobal, S: LooseFiles + Drop>(
+    rt: &H,
+    alloc: Global,
+    dir: &str,
+    files: S,
+) -> Result<(Host<S>, u64), Fault>
+    ensures { IfErr result IsUnkept }
+{
+    let state = match read_state(rt, alloc, dir) {
+        Ok(state) => state,
+        Err(fault) => return Err(of_state(fault)),
+    };
+    let (mut host, name) = match saved_host(alloc, state, files) {
+        Ok(saved) => saved,
+        Err(fault) => return Err(fault),
+    };
+    match replay(rt, alloc, dir, name, &mut host) {
+        Ok(count) => Ok((host, count)),
+        Err(fault) => Err(fault),
+    }
+}
+
+/// The host that a folder keeps, and one without tenants where the folder keeps none. The folder is
+/// made where it is not there, and while the host lives no other process can open it.
+pub fn kept_host<'a, H: Files<File = File> + AllocGlobal + RandomSource>(
+    rt: &'a H,
+    alloc: Global,
+    dir: &str,
+) -> Result<Host<Folder<&'a H>>, Fault>
+    ensures { IfErr result IsUnkept }
+{
+    let files = match Folder::open(rt, alloc, dir) {
+        Ok(files) => files,
+        Err(fault) => return Err(of_store(fault)),
+    };
+    match restored_host(rt, alloc, dir, files) {
+        Ok((host, _)) => Ok(host),
+        Err(fault) => Err(fault),
+    }
+}

@@ -1,0 +1,24 @@
+//! What `forkhost` does for the words that it is given, over any reader and writers: it names objects,
+//! serves a session or connections to a socket, and checks the folder that keeps a host.
+//! How each command ends, and what it wrote till then, is said of `program`.
+#![tactic(auto)]
+
+mod check;
+mod connections;
+mod content;
+mod ending;
+mod entry;
+mod fault;
+mod hash_object;
+mod hosts;
+mod keep;
+mod keeping;
+mod listening;
+mod replaying;
+mod run;
+mod send;
+mod serve;
+mod telling;
+mod tenants;
+
+pub use crate::entry::{Untold, program};

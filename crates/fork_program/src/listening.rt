@@ -1,0 +1,132 @@
+ghost use Rattle.std.specs.Prelude.{◌≡◌, IfErr};
+ghost use Rattle.fork_program.specs.Serving.{IsUnbound};
+
+use crate::fault::Fault;
+use std::alloc::Global;
+use std::fs::{DirBuilder, File, Files, Permissions};
+use std::io::ErrorKind;
+use std::net::Net;
+use std::os::unix::fs::{DirBuilderExt, FileTypeExt, PermissionsExt};
+use std::os::unix::net::{UnixListener, UnixStream};
+use std::{fs, io};
+
+/// A socket that this process alone listens on, while this value lives.
+#[derive(Drop)]
+pub struct Listening {
+    listener: UnixListener,
+    // The folder in which the socket was made; its lock keeps other processes away.
+    room: File,
+}
+
+impl Listening {
+    /// What connections are accepted from.
+    pub fn listener(&self) -> &UnixListener {
+        &self.listener
+    }
+}
+
+// Nothing stands at the path, or a socket that nobody listens on.
+fn is_free<H: Files + Net>(rt: &H, path: &str) -> io::Result<bool> {
+    let there = match fs::symlink_metadata(rt, path) {
+        Ok(there) => there,
+        Err(error) => {
+            if error.kind() == ErrorKind::NotFound {
+                return Ok(true);
+            }
+            return Err(error);
+        }
+    };
+    if !there.file_type().is_socket() {
+        return Ok(false);
+    }
+    match UnixStream::connect(rt, path) {
+        Ok(_) => Ok(false),
+        Err(error) => {
+            if error.kind() == ErrorKind::ConnectionRefused {
+                return Ok(true);
+            }
+            Err(error)
+        }
+    }
+}
+
+// The folder that this user alone may enter and this process alone uses; no socket is in it.
+fn private_room<H: Files<File = File>>(rt: &H, room: &str, inside: &str) -> io::Result<File> {
+    if let Err(error) = DirBuilder::new().mode(0o700).create(rt, room) {
+        if error.kind() != ErrorKind::AlreadyExists {
+            return Err(error);
+        }
+    }
+    if !fs::metadata(rt, room)?.is_dir() {
+        return Err(io::Error::from(ErrorKind::AddrInUse));
+    }
+    let folder = File::open(rt, room)?;
+    if folder.try_lock().is_err() {
+        return Err(io::Error::from(ErrorKind::AddrInUse));
+    }
+    folder.set_permissions(Permissions::from_mode(0o700))?;
+    if let Err(error) = fs::remove_file(rt, inside) {
+        if error.kind() != ErrorKind::NotFound {
+            return Err(error);
+        }
+    }
+    Ok(folder)
+}
+
+// A socket is made with the mode that the process allows, so it is made where nobody else comes, and
+// has its place once it has its own mode.
+fn bound_at<H: Files + Net>(rt: &H, inside: &str, path: &str) -> io::Result<UnixListener> {
+    let listener = UnixListener::bind(rt, inside)?;
+    fs::set_permissions(rt, inside, Permissions::from_mode(0o600))?;
+    fs::rename(rt, inside, path)?;
+    Ok(listener)
+}
+
+// The same, while this process alone uses the folder in which it is made.
+fn bound_in<H: Files<File = File> + Net>(
+    rt: &H,
+    room: &str,
+    inside: &str,
+    path: &str,
+) -> io::Result<Listening> {
+    let folder = private_room(rt, room, inside)?;
+    if !is_free(rt, path)? {
+        return Err(io::Error::from(ErrorKind::AddrInUse));
+    }
+    let listener = bound_at(rt, inside, path)?;
+    Ok(Listening {
+        listener,
+        room: folder,
+    })
+}
+
+fn bound<H: Files<File = File> + Net>(rt: &H, alloc: Global, path: &str) -> io::Result<Listening> {
+    let room = format!(in alloc; "{path}.lock")?;
+    let inside = format!(in alloc; "{path}.lock/s")?;
+    bound_in(rt, room.as_str(), inside.as_str(), path)
+}
+
+/// How a fault of a socket is told.
+pub fn of_socket(error: io::Error) -> Fault
+    ensures { IsUnbound result }
+{
+    if error.kind() == ErrorKind::OutOfMemory {
+        return Fault::Memory;
+    }
+    Fault::Socket
+}
+
+/// Listens at the path, for this user alone. A socket that nobody listens on is replaced, and anything
+/// else that stands there is left as it is.
+pub fn listen<H: Files<File = File> + Net>(
+    rt: &H,
+    alloc: Global,
+    path: &str,
+) -> Result<Listening, Fault>
+    ensures { IfErr result IsUnbound }
+{
+    match bound(rt, alloc, path) {
+        Ok(listening) => Ok(listening),
+        Err(error) => Err(of_socket(error)),
+    }
+}

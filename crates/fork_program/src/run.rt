@@ -1,0 +1,129 @@
+ghost use Rattle.std.specs.Prelude.{◌≡◌, IfErr, OnOk, is_some, true};
+ghost use Rattle.fork_command.specs.declared.hosting.Hosting.{Hosting};
+ghost use Rattle.fork_frame.specs.declared.ended.Ended.TheVariants.{Clean};
+ghost use Rattle.fork_wire.specs.Sessions.{IsServed};
+ghost use Rattle.fork_program.specs.Running.{IsCutShort, IsKeptHostOf, IsRun, IsUnserved};
+
+use crate::fault::Fault;
+use crate::hosts::{host_in_folder, host_in_memory};
+use crate::keep::Keep;
+use crate::telling::of_session;
+use fork_command::Hosting;
+use fork_frame::Ended;
+use fork_host::Host;
+use fork_wire::{Journal, NoJournal, serve_kept};
+use loose_store::LooseFiles;
+use std::alloc::Global;
+use std::fs::{File, Files};
+use std::io::{Read, Write};
+use std::random::RandomSource;
+
+// Serves one session.
+fn session<S: LooseFiles, J: Journal, R: Read, W: Write>(
+    host: &mut Host<S>,
+    alloc: Global,
+    journal: &mut J,
+    reader: &mut R,
+    writer: &mut W,
+) -> Result<(), Fault>
+    ensures ok { OnOk result (IsServed host.old host.new (R.remaining reader.old)
+        (W.contents writer.old) (W.contents writer.new) Clean) }
+    ensures err { IfErr result (IsCutShort host.old host.new (R.remaining reader.old)
+        (W.contents writer.old) (W.contents writer.new)) }
+    ensures cause { IfErr result (λ fault. fault ≡ Fault.NotKept → J.can_fail) }
+{
+    match serve_kept(host, alloc, journal, reader, writer) {
+        Ok(Ended::Clean) => Ok(()),
+        Ok(Ended::BadFrame) => Err(Fault::BadFrame),
+        Err(fault) => Err(of_session(fault)),
+    }
+}
+
+// Serves one session of a host that a folder keeps. Its state is saved before and behind it, however the
+// session ended, and each request is kept before its reply goes out.
+fn keep_session<'x, H: Files<File = File> + AllocGlobal, S: LooseFiles, R: Read, W: Write>(
+    rt: &'x H,
+    alloc: Global,
+    dir: &'x str,
+    host: &mut Host<S>,
+    reader: &mut R,
+    writer: &mut W,
+) -> Result<(), Fault>
+    ensures ok { (hosting : Hosting) → IsKeptHostOf hosting host.old → OnOk result (IsRun hosting (R.remaining reader.old)
+        (W.contents writer.old) (W.contents writer.new) Clean) }
+    ensures err { (hosting : Hosting) → IsKeptHostOf hosting host.old → IfErr result (IsUnserved hosting (R.remaining reader.old)
+        (R.remaining reader.new) (W.contents writer.old) (W.contents writer.new)) }
+{
+    let mut keep = match Keep::begin(rt, alloc, dir, host) {
+        Ok(keep) => keep,
+        Err(fault) => return Err(fault),
+    };
+    let served = session(host, alloc, &mut keep.journal, reader, writer);
+    let saved = keep.save(alloc, host);
+    match served {
+        Ok(()) => saved,
+        Err(fault) => Err(fault),
+    }
+}
+
+// Serves one session of a new host.
+fn run_in_memory<H: RandomSource, R: Read, W: Write>(
+    rt: &H,
+    alloc: Global,
+    hosting: Hosting<'_>,
+    reader: &mut R,
+    writer: &mut W,
+) -> Result<(), Fault>
+    ensures ok { OnOk result (IsRun hosting.entry (R.remaining reader.old)
+        (W.contents writer.old) (W.contents writer.new) Clean) }
+    ensures err { IfErr result (IsUnserved hosting.entry (R.remaining reader.old) (R.remaining reader.new)
+        (W.contents writer.old) (W.contents writer.new)) }
+{
+    let mut host = match host_in_memory(rt, alloc, hosting) {
+        Ok(host) => host,
+        Err(fault) => return Err(fault),
+    };
+    session(&mut host, alloc, &mut NoJournal, reader, writer)
+}
+
+// Serves one session of the host that a folder keeps.
+fn run_in_folder<'x, H: Files<File = File> + AllocGlobal + RandomSource, R: Read, W: Write>(
+    rt: &'x H,
+    alloc: Global,
+    dir: &'x str,
+    hosting: Hosting<'_>,
+    reader: &mut R,
+    writer: &mut W,
+) -> Result<(), Fault>
+    requires { is_some hosting.dir ≡ true }
+    ensures ok { OnOk result (IsRun hosting.entry (R.remaining reader.old)
+        (W.contents writer.old) (W.contents writer.new) Clean) }
+    ensures err { IfErr result (IsUnserved hosting.entry (R.remaining reader.old) (R.remaining reader.new)
+        (W.contents writer.old) (W.contents writer.new)) }
+{
+    let mut host = match host_in_folder(rt, alloc, dir, hosting) {
+        Ok(host) => host,
+        Err(fault) => return Err(fault),
+    };
+    keep_session(rt, alloc, dir, &mut host, reader, writer)
+}
+
+/// Serves one session of the host that has these tenants too. What was served is saved where a folder
+/// keeps the host, also after a fault of the session.
+pub fn run<H: Files<File = File> + AllocGlobal + RandomSource, R: Read, W: Write>(
+    rt: &H,
+    alloc: Global,
+    hosting: Hosting<'_>,
+    reader: &mut R,
+    writer: &mut W,
+) -> Result<(), Fault>
+    ensures ok { OnOk result (IsRun hosting.entry (R.remaining reader.old)
+        (W.contents writer.old) (W.contents writer.new) Clean) }
+    ensures err { IfErr result (IsUnserved hosting.entry (R.remaining reader.old) (R.remaining reader.new)
+        (W.contents writer.old) (W.contents writer.new)) }
+{
+    match hosting.dir {
+        Some(dir) => run_in_folder(rt, alloc, dir, hosting, reader, writer),
+        None => run_in_memory(rt, alloc, hosting, reader, writer),
+    }
+}

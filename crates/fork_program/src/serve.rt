@@ -1,0 +1,177 @@
+ghost use Rattle.std.specs.Prelude.{◌≡◌, ◌⊎◌, IfErr, OnErr, OnOk, is_some, true};
+ghost use Rattle.fork_command.specs.declared.hosting.Hosting.{Hosting};
+ghost use Rattle.fork_program.specs.Running.{IsHostOf, IsKeptHostOf};
+ghost use Rattle.fork_program.specs.Serving.{AreSomeVisits, AreVisits, IsListened, IsLost, IsUnbound, IsUnlistened};
+
+use crate::connections::{serve_connections, serve_kept_connections};
+use crate::fault::Fault;
+use crate::hosts::{host_in_folder, host_in_memory};
+use crate::keep::Keep;
+use crate::listening::{Listening, listen};
+use fork_command::Hosting;
+use fork_host::Host;
+use loose_store::LooseFiles;
+use std::alloc::Global;
+use std::fs;
+use std::fs::{File, Files};
+use std::net::Net;
+use std::random::RandomSource;
+
+// Serves so many connections, and then takes the socket away.
+fn serve_at<H: Files, S: LooseFiles>(
+    rt: &H,
+    alloc: Global,
+    host: &mut Host<S>,
+    listening: Listening,
+    socket: &str,
+    connections: u32,
+) -> Result<(), Fault>
+    ensures ok { OnOk result (AreVisits host.old host.new connections) }
+    ensures err { OnErr result (AreSomeVisits host.old host.new connections) }
+    ensures cause { IfErr result IsUnbound }
+{
+    let served = serve_connections(host, alloc, listening.listener(), connections);
+    let _removed = fs::remove_file(rt, socket);
+    served
+}
+
+// Serves so many connections, keeps what they do, and then takes the socket away.
+fn serve_kept_at<H: Files<File = File> + AllocGlobal, S: LooseFiles>(
+    rt: &H,
+    alloc: Global,
+    host: &mut Host<S>,
+    keep: &mut Keep<'_, H>,
+    listening: Listening,
+    socket: &str,
+    connections: u32,
+) -> Result<(), Fault>
+    ensures ok { OnOk result (AreVisits host.old host.new connections) }
+    ensures err { OnErr result (AreSomeVisits host.old host.new connections) }
+    ensures cause { IfErr result (λ fault. IsUnbound fault ⊎ IsLost fault) }
+{
+    let served = serve_kept_connections(host, alloc, keep, listening.listener(), connections);
+    let _removed = fs::remove_file(rt, socket);
+    served
+}
+
+// Listens at a socket, and serves connections to a host in memory.
+fn serve_host<H: Files<File = File> + Net, S: LooseFiles>(
+    rt: &H,
+    alloc: Global,
+    host: &mut Host<S>,
+    socket: &str,
+    connections: u32,
+) -> Result<(), Fault>
+    ensures ok { (hosting : Hosting) → IsHostOf hosting host.old → OnOk result (IsListened hosting connections) }
+    ensures err { (hosting : Hosting) → IsHostOf hosting host.old → IfErr result (IsUnlistened hosting connections) }
+{
+    let listening = match listen(rt, alloc, socket) {
+        Ok(listening) => listening,
+        Err(fault) => return Err(fault),
+    };
+    serve_at(rt, alloc, host, listening, socket, connections)
+}
+
+// Serves connections to a host that a folder keeps, at a socket that is listened on. Its state is saved
+// before the first and behind the last, and each request is kept before its reply goes out.
+fn keep_connections<'x, H: Files<File = File> + AllocGlobal, S: LooseFiles>(
+    rt: &'x H,
+    alloc: Global,
+    dir: &'x str,
+    host: &mut Host<S>,
+    listening: Listening,
+    socket: &str,
+    connections: u32,
+) -> Result<(), Fault>
+    ensures ok { (hosting : Hosting) → IsKeptHostOf hosting host.old → OnOk result (IsListened hosting connections) }
+    ensures err { (hosting : Hosting) → IsKeptHostOf hosting host.old → IfErr result (IsUnlistened hosting connections) }
+{
+    let mut keep = match Keep::begin(rt, alloc, dir, host) {
+        Ok(keep) => keep,
+        Err(fault) => {
+            let _removed = fs::remove_file(rt, socket);
+            return Err(fault);
+        }
+    };
+    let served = serve_kept_at(rt, alloc, host, &mut keep, listening, socket, connections);
+    let saved = keep.save(alloc, host);
+    match served {
+        Ok(()) => saved,
+        Err(fault) => Err(fault),
+    }
+}
+
+// Listens at a socket, and serves connections to a host that a folder keeps.
+fn serve_kept_host<'x, H: Files<File = File> + Net + AllocGlobal, S: LooseFiles>(
+    rt: &'x H,
+    alloc: Global,
+    dir: &'x str,
+    host: &mut Host<S>,
+    socket: &str,
+    connections: u32,
+) -> Result<(), Fault>
+    ensures ok { (hosting : Hosting) → IsKeptHostOf hosting host.old → OnOk result (IsListened hosting connections) }
+    ensures err { (hosting : Hosting) → IsKeptHostOf hosting host.old → IfErr result (IsUnlistened hosting connections) }
+{
+    let listening = match listen(rt, alloc, socket) {
+        Ok(listening) => listening,
+        Err(fault) => return Err(fault),
+    };
+    keep_connections(rt, alloc, dir, host, listening, socket, connections)
+}
+
+// Serves connections to a new host.
+fn serve_in_memory<H: Files<File = File> + Net + RandomSource>(
+    rt: &H,
+    alloc: Global,
+    socket: &str,
+    connections: u32,
+    hosting: Hosting<'_>,
+) -> Result<(), Fault>
+    ensures ok { OnOk result (IsListened hosting.entry connections) }
+    ensures err { IfErr result (IsUnlistened hosting.entry connections) }
+{
+    let mut host = match host_in_memory(rt, alloc, hosting) {
+        Ok(host) => host,
+        Err(fault) => return Err(fault),
+    };
+    serve_host(rt, alloc, &mut host, socket, connections)
+}
+
+// Serves connections to the host that a folder keeps.
+fn serve_in_folder<'x, H: Files<File = File> + Net + AllocGlobal + RandomSource>(
+    rt: &'x H,
+    alloc: Global,
+    dir: &'x str,
+    socket: &str,
+    connections: u32,
+    hosting: Hosting<'_>,
+) -> Result<(), Fault>
+    requires { is_some hosting.dir ≡ true }
+    ensures ok { OnOk result (IsListened hosting.entry connections) }
+    ensures err { IfErr result (IsUnlistened hosting.entry connections) }
+{
+    let mut host = match host_in_folder(rt, alloc, dir, hosting) {
+        Ok(host) => host,
+        Err(fault) => return Err(fault),
+    };
+    serve_kept_host(rt, alloc, dir, &mut host, socket, connections)
+}
+
+/// Serves so many connections to a socket, each a session of the host that has these tenants too.
+/// What was served is saved where a folder keeps the host.
+pub fn serve<H: Files<File = File> + Net + AllocGlobal + RandomSource>(
+    rt: &H,
+    alloc: Global,
+    socket: &str,
+    connections: u32,
+    hosting: Hosting<'_>,
+) -> Result<(), Fault>
+    ensures ok { OnOk result (IsListened hosting.entry connections) }
+    ensures err { IfErr result (IsUnlistened hosting.entry connections) }
+{
+    match hosting.dir {
+        Some(dir) => serve_in_folder(rt, alloc, dir, socket, connections, hosting),
+        None => serve_in_memory(rt, alloc, socket, connections, hosting),
+    }
+}

@@ -1,6 +1,0 @@
-use Rattle.std.proofs.Common.{refl}
-use Rattle.forkhost.proofs.HostingLemmas.{ungiven_new}
-use Rattle.forkhost.proofs.hosts.host_in_memory.Goals as goal
-
-pub returns-in-Err-clause-err : goal.returns-in-Err-clause-err
-returns-in-Err-clause-err g c = ungiven_new _ c.in-Ok.host _ (c.in-Ok.ensures.trusted refl) c.in-Ok.ensures.empty c.in-Err.ensures.err

@@ -1,5 +1,0 @@
-use Rattle.forkhost.proofs.HostingLemmas.{if_err_more, untouched}
-use Rattle.forkhost.proofs.program.carried_out.Goals as goal
-
-pub returns-in-Serve-clause-err : goal.returns-in-Serve-clause-err
-returns-in-Serve-clause-err g c = rw c.in-Serve.is (if_err_more c.serve.result (λ fault why. (why, untouched _ _)) c.serve.ensures.err)

@@ -1,5 +1,0 @@
-use Rattle.forkhost.specs.Serving.{Unhosted}
-use Rattle.forkhost.proofs.serve.serve_in_memory.Goals as goal
-
-pub returns-in-Err-clause-err : goal.returns-in-Err-clause-err
-returns-in-Err-clause-err g c = Unhosted c.in-Err.ensures.err

@@ -13,7 +13,7 @@ use std::fs::{File, Files};
 use std::random::RandomSource;
 
 /// A new host in memory that has the given tenants.
-pub fn host_in_memory<H: RandomSource>(
+pub(crate) fn host_in_memory<H: RandomSource>(
     rt: &H,
     alloc: Global,
     hosting: Hosting<'_>,
@@ -32,7 +32,7 @@ pub fn host_in_memory<H: RandomSource>(
 }
 
 /// The host that a folder keeps, with the given tenants too.
-pub fn host_in_folder<'a, H: Files<File = File> + AllocGlobal + RandomSource>(
+pub(crate) fn host_in_folder<'a, H: Files<File = File> + AllocGlobal + RandomSource>(
     rt: &'a H,
     alloc: Global,
     dir: &str,

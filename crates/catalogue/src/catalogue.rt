@@ -2,7 +2,7 @@ ghost use Rattle.std.specs.Prelude.{◌≡◌, ◌≤◌, ◌<◌, ◌+◌, ◌^
 ghost use Rattle.looks.specs.Places.{is_listed, looked_at, same_name};
 ghost use Rattle.catalogue.specs.Counted.{IsNext, count_of, one_if, places_of};
 
-use crate::holders::{entry_at, insert_into, looked_place, set_count, take_out};
+use crate::holders::{count_down, count_up, entry_at, insert_into, looked_place, take_out};
 use git_name::{Hashing, Name};
 use indexmap::IndexMap;
 use std::alloc::{AllocError, Global};
@@ -89,8 +89,7 @@ impl Catalogue {
         ensures places { places_of self.new ≡ places_of self.old }
         ensures counts { (q : List ℕ) → count_of self.new q ≡ count_of self.old q + one_if (same_name name q) }
     {
-        let count = self.count(name) + 1;
-        set_count(&mut self.holders, name, count);
+        count_up(&mut self.holders, name);
     }
 
     /// One holder less of a name that has one. It takes no memory.
@@ -99,8 +98,7 @@ impl Catalogue {
         ensures places { places_of self.new ≡ places_of self.old }
         ensures counts { (q : List ℕ) → count_of self.new q + one_if (same_name name q) ≡ count_of self.old q }
     {
-        let count = self.count(name) - 1;
-        set_count(&mut self.holders, name, count);
+        count_down(&mut self.holders, name);
     }
 
     /// The name that the next look falls at, if nobody holds it.

@@ -1,10 +1,10 @@
 // Numbers of holders by names, each name at a place.
-ghost use Rattle.std.specs.Prelude.{◌≡◌, ◌<◌, ◌++◌, ◌∷◌, [], ℕ, List, None, Some, OnErr, OnOk, IsSome, length, nat_lt, slice_get, swap_remove, if◌then◌else◌};
+ghost use Rattle.std.specs.Prelude.{◌≡◌, ◌<◌, ◌+◌, ◌^◌, ◌++◌, ◌∷◌, [], ℕ, List, None, Some, OnErr, OnOk, IsSome, length, nat_lt, slice_get, swap_remove, if◌then◌else◌};
 ghost use Rattle.std.specs.HashMap.{Updates};
 ghost use Rattle.std.specs.List.{IsDistinct};
 ghost use Rattle.std.specs.Map.{keys_of, lookup};
 ghost use Rattle.looks.specs.Places.{same_name};
-ghost use Rattle.catalogue.specs.Counted.{count_in};
+ghost use Rattle.catalogue.specs.Counted.{count_in, one_if};
 
 use git_name::{Hashing, Name};
 use indexmap::IndexMap;
@@ -24,15 +24,31 @@ pub(crate) fn insert_into(
     Ok(())
 }
 
-// Gives a name that is there this number. It takes no memory.
-pub(crate) fn set_count(holders: &mut IndexMap<Name, usize, Hashing>, name: Name, count: usize)
-    requires { IsSome (lookup (same_name name) holders.old.entries) }
+// One holder more of a name that is there. It takes no memory.
+pub(crate) fn count_up(holders: &mut IndexMap<Name, usize, Hashing>, name: Name)
+    requires there { IsSome (lookup (same_name name) holders.old.entries) }
+    requires fits { count_in holders.old.entries name + 1 < 2 ^ 64 }
     ensures keys { keys_of holders.new.entries ≡ keys_of holders.old.entries }
-    ensures counts { (q : List ℕ) → count_in holders.new.entries q ≡ (if same_name name q then count else count_in holders.old.entries q) }
+    ensures counts { (q : List ℕ) → count_in holders.new.entries q ≡ count_in holders.old.entries q + one_if (same_name name q) }
     ensures distinct { IsDistinct same_name (keys_of holders.new.entries) }
 {
-    let set = holders.insert(name, count);
-    prove!(set.is_ok());
+    let Some(count) = holders.get_mut(&name) else {
+        unreachable!();
+    };
+    *count += 1;
+}
+
+// One holder less of a name that has one. It takes no memory.
+pub(crate) fn count_down(holders: &mut IndexMap<Name, usize, Hashing>, name: Name)
+    requires { 0 < count_in holders.old.entries name }
+    ensures keys { keys_of holders.new.entries ≡ keys_of holders.old.entries }
+    ensures counts { (q : List ℕ) → count_in holders.new.entries q + one_if (same_name name q) ≡ count_in holders.old.entries q }
+    ensures distinct { IsDistinct same_name (keys_of holders.new.entries) }
+{
+    let Some(count) = holders.get_mut(&name) else {
+        unreachable!();
+    };
+    *count -= 1;
 }
 
 // The name at a place, and its number.

@@ -1,13 +1,15 @@
-ghost use Rattle.std.specs.Prelude.{◌≡◌, ◌++◌, ◌<◌, ◌↔◌, IsTrue, length, IfSome, IfNone, IfOk, IfErr};
+ghost use Rattle.std.specs.Prelude.{◌≡◌, ◌∷◌, ◌++◌, ◌<◌, ◌↔◌, IsTrue, length, IfSome, IfNone, IfOk, IfErr};
 ghost use Rattle.git_name.specs.Name.{IsName};
 ghost use Rattle.git_tree.specs.Entry.{Lacks, IsFileName, IsEntry, spelled, entry_of};
 ghost use Rattle.git_tree.specs.Fault.{IsFormFault};
+ghost use Rattle.git_tree.specs.declared.mode.Mode.{Mode};
+ghost use Rattle.git_tree.specs.Mode.{digits};
 
 use crate::entry::TreeEntry;
 use crate::fault::TreeFault;
 use crate::mode::Mode;
 use git_name::{Name, split_once};
-use memchr::memchr;
+use memchr::{memchr, memchr2};
 
 // Whether an entry may have the file name, in which no zero stands.
 pub(crate) fn is_file_name(bytes: &[u8]) -> bool
@@ -32,6 +34,70 @@ fn take_name(bytes: &[u8]) -> Option<(Name, &[u8])>
     Some((Name::new(*front), rest))
 }
 
+// The mode at the front and what stands behind its space, where one look shows both.
+fn plain_mode(bytes: &[u8]) -> Option<(Mode, &[u8])>
+    ensures { IfSome result (λ p. bytes.now ≡ digits p.0 ++ 32 ∷ p.1.now) }
+{
+    match bytes {
+        [b'1', b'0', b'0', b'6', b'4', b'4', b' ', rest @ ..] => Some((Mode::File, rest)),
+        [b'4', b'0', b'0', b'0', b'0', b' ', rest @ ..] => Some((Mode::Tree, rest)),
+        [b'1', b'0', b'0', b'7', b'5', b'5', b' ', rest @ ..] => Some((Mode::Executable, rest)),
+        _ => None,
+    }
+}
+
+// The mode at the front and what stands behind its space.
+fn take_mode(bytes: &[u8]) -> Result<(Mode, &[u8]), TreeFault>
+    ensures whole { IfOk result (λ p. bytes.now ≡ digits p.0 ++ 32 ∷ p.1.now) }
+    ensures fault { IfErr result (λ fault. IsFormFault fault bytes.now) }
+{
+    if let Some(taken) = plain_mode(bytes) {
+        return Ok(taken);
+    }
+    let Some((digits, rest)) = split_once(bytes, b' ') else {
+        return Err(TreeFault::Truncated);
+    };
+    match Mode::from_digits(digits) {
+        Some(mode) => Ok((mode, rest)),
+        None => Err(TreeFault::Mode),
+    }
+}
+
+// The file name at the front and what stands behind its zero, where one look shows that it is right.
+fn plain_file_name(bytes: &[u8]) -> Option<(&[u8], &[u8])>
+    ensures whole { IfSome result (λ p. bytes.now ≡ p.0.now ++ 0 ∷ p.1.now) }
+    ensures right { IfSome result (λ p. IsFileName p.0.now) }
+{
+    let Some(end) = memchr2(0, b'/', bytes) else {
+        return None;
+    };
+    if bytes[end] != 0 {
+        return None;
+    }
+    match &bytes[..end] {
+        [] | b"." | b".." | b".git" => None,
+        file_name => Some((file_name, &bytes[end + 1..])),
+    }
+}
+
+// The file name at the front and what stands behind its zero.
+fn take_file_name(bytes: &[u8]) -> Result<(&[u8], &[u8]), TreeFault>
+    ensures whole { IfOk result (λ p. bytes.now ≡ p.0.now ++ 0 ∷ p.1.now) }
+    ensures right { IfOk result (λ p. IsFileName p.0.now) }
+    ensures fault { IfErr result (λ fault. (mode : Mode) → IsFormFault fault (digits mode ++ 32 ∷ bytes.now)) }
+{
+    if let Some(taken) = plain_file_name(bytes) {
+        return Ok(taken);
+    }
+    let Some((file_name, rest)) = split_once(bytes, 0) else {
+        return Err(TreeFault::Truncated);
+    };
+    if !is_file_name(file_name) {
+        return Err(TreeFault::Name);
+    }
+    Ok((file_name, rest))
+}
+
 // The entry at the front, and the bytes behind it.
 pub(crate) fn take_entry(bytes: &[u8]) -> Result<(TreeEntry<'_>, &[u8]), TreeFault>
     requires { 0 < length bytes.now }
@@ -39,18 +105,14 @@ pub(crate) fn take_entry(bytes: &[u8]) -> Result<(TreeEntry<'_>, &[u8]), TreeFau
     ensures parts { IfOk result (λ x. bytes.now ≡ spelled (entry_of x.0) ++ x.1.now) }
     ensures fault { IfErr result (λ fault. IsFormFault fault bytes.now) }
 {
-    let Some((digits, rest)) = split_once(bytes, b' ') else {
-        return Err(TreeFault::Truncated);
+    let (mode, rest) = match take_mode(bytes) {
+        Ok(taken) => taken,
+        Err(fault) => return Err(fault),
     };
-    let Some(mode) = Mode::from_digits(digits) else {
-        return Err(TreeFault::Mode);
+    let (file_name, rest) = match take_file_name(rest) {
+        Ok(taken) => taken,
+        Err(fault) => return Err(fault),
     };
-    let Some((file_name, rest)) = split_once(rest, 0) else {
-        return Err(TreeFault::Truncated);
-    };
-    if !is_file_name(file_name) {
-        return Err(TreeFault::Name);
-    }
     let Some((name, rest)) = take_name(rest) else {
         return Err(TreeFault::Truncated);
     };

@@ -1,9 +1,10 @@
 -- Words that are staged, settled one after another.
-use Rattle.std.proofs.Common.{◌≡◌, ℕ, ◌+◌, List, [], ◌∷◌, Bool, true, false, cond, ◌&&◌, ◌||◌, not, Option, Some, None, refl, sym, ap, ◌∙◌, arith}
+use Rattle.std.proofs.Common.{◌≡◌, ℕ, ◌+◌, List, [], ◌∷◌, ◌++◌, Bool, true, false, cond, ◌&&◌, ◌||◌, not, Option, Some, None, refl, sym, ap, ◌∙◌, arith}
 use Rattle.std.specs.BTreeMap.{is_at}
 use Rattle.std.specs.FinMap.{empty, from_entries, get, get-empty, insert, same_map}
 use Rattle.std.specs.List.{filter}
 use Rattle.std.specs.Map.{lookup}
+use Rattle.std.proofs.lemmas.List.Folds.{list_any-append}
 use Rattle.std.proofs.lemmas.Map.Views.{any-filter_same}
 use Rattle.std.specs.Option.{option_and_then, option_map, option_map_or}
 use Rattle.std.specs.Cmp.{eq_by_cmp_equiv}
@@ -204,6 +205,20 @@ pub staged_more : (before names : List (List ℕ)) (words after : Words) (name :
 staged_more before names words after name word was is noted set q =
     noted q ∙ ap (cond (is_at (name_cmp name) q) true) (was q) ∙ set_staged (is_at (name_cmp name) q) word (get words q) is ∙ sym (ap (λ o. option_map_or is_staged o false) (set q))
 
+-- a name more at the end of a list
+pub among_last : (before : List (List ℕ)) (name q : List ℕ) → is_among (before ++ name ∷ []) q ≡ cond (is_at (name_cmp name) q) true (is_among before q)
+among_last before name q = list_any-append (is_at (name_cmp q)) before (name ∷ []) ∙ ap (λ b. is_among before q || b) (last (is_at (name_cmp q) name)) ∙ ap (λ b. is_among before q || b) ((eq_by_cmp_equiv name_total).symm q name) ∙ either (is_among before q) (is_at (name_cmp name) q)
+  where
+    last : (b : Bool) → (b || false) ≡ b
+    last true = refl
+    last false = refl
+
+    either : (was is : Bool) → (was || is) ≡ cond is true was
+    either true true = refl
+    either true false = refl
+    either false true = refl
+    either false false = refl
+
 none_seen : (o : Option Word) → option_map_or is_staged (option_and_then (λ word. Some (seen_word word)) o) false ≡ false
 none_seen None = refl
 none_seen (Some word) = refl
@@ -284,10 +299,3 @@ over_staged kind length (Some word) = by word.standing
 pub set_at : (name : List ℕ) (es fs : List (List ℕ × Word)) (word : Word) → ((q : List ℕ) → lookup (is_at (name_cmp q)) fs ≡ cond (is_at (name_cmp name) q) (Some word) (lookup (is_at (name_cmp q)) es))
     → (q : List ℕ) → get {R = name_cmp} (from_entries fs) q ≡ cond (is_at (name_cmp name) q) (Some word) (get {R = name_cmp} (from_entries es) q)
 set_at name es fs word set q = get_of_entries name_total fs q ∙ set q ∙ ap (cond (is_at (name_cmp name) q) (Some word)) (sym (get_of_entries name_total es q))
-
--- a name that is noted and taken out again
-pub taken_back : (before mid after : List ℕ → Bool) (name : List ℕ) → before name ≡ false → ((q : List ℕ) → mid q ≡ cond (is_at (name_cmp name) q) true (before q))
-    → ((q : List ℕ) → after q ≡ cond (is_at (name_cmp name) q) false (mid q)) → (q : List ℕ) → after q ≡ before q
-taken_back before mid after name fresh noted gone q = by_test _ (is_at (name_cmp name) q)
-    (λ here. gone q ∙ ap (λ b. cond b false (mid q)) here ∙ sym fresh ∙ ap before (one_key {R = name_cmp} name_exact name q here))
-    (λ apart. gone q ∙ ap (λ b. cond b false (mid q)) apart ∙ noted q ∙ ap (λ b. cond b true (before q)) apart)

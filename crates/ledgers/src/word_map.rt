@@ -10,8 +10,8 @@ ghost use Rattle.ledgers.specs.Words.{discarded_words, is_visible, kept_words, p
 use crate::counting::{lower_left, lower_unstaged};
 use crate::word::{Word, is_staged, word_over};
 use crate::words::{
-    keep_among, leave_out, put_staged, see_all, seen_names, unstage_all, unstage_among, uses,
-    word_at,
+    empty, keep_among, leave_out, put_staged, see_all, seen_names, unstage_all, unstage_among,
+    uses, word_at,
 };
 use catalogue::Catalogue;
 use git_name::{Hashing, Kind, Name};
@@ -25,7 +25,7 @@ use std::marker::Model;
 #[derive(Drop)]
 pub(crate) struct WordMap {
     words: IndexMap<Name, Word, Hashing>,
-    staged: BTreeSet<Name>,
+    staged: Vec<Name>,
 }
 
 impl Model for WordMap {
@@ -39,7 +39,7 @@ impl Model for WordMap {
 
     ghost view = { λ a. from_entries a.words.entries };
 
-    ghost invariant = { λ a. AreStaged a.staged.keys (from_entries a.words.entries) };
+    ghost invariant = { λ a. AreStaged a.staged.items (from_entries a.words.entries) };
 }
 
 impl WordMap {
@@ -49,7 +49,7 @@ impl WordMap {
     {
         WordMap {
             words: IndexMap::with_hasher(alloc, hashing),
-            staged: BTreeSet::new(alloc),
+            staged: Vec::new(alloc),
         }
     }
 
@@ -97,8 +97,8 @@ impl WordMap {
     pub fn publish(&mut self)
         ensures { self.new ≡ published_words self.old }
     {
-        see_all(&mut self.words, &self.staged);
-        self.staged.clear();
+        see_all(&mut self.words, self.staged.as_slice());
+        empty(&mut self.staged);
     }
 
     /// What is staged goes, and the numbers of the names that leave are lowered. It takes no memory,
@@ -109,8 +109,8 @@ impl WordMap {
         ensures places { places_of catalogue.new ≡ places_of catalogue.old }
         ensures counts { (q : List ℕ) → count_of catalogue.new q + due_at leaves_discarded self.old q ≡ count_of catalogue.old q }
     {
-        unstage_all(&mut self.words, &self.staged, catalogue);
-        self.staged.clear();
+        unstage_all(&mut self.words, self.staged.as_slice(), catalogue);
+        empty(&mut self.staged);
     }
 
     /// Of what is visible keeps these names alone. It takes no memory.

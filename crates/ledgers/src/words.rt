@@ -1,5 +1,5 @@
 // Words by the names of their objects, hashed.
-ghost use Rattle.std.specs.Prelude.{◌≡◌, ◌≤◌, ◌+◌, List, ℕ, OnOk, OnErr, IfOk, Some, None, true, false, not, ◌&&◌, sum_by};
+ghost use Rattle.std.specs.Prelude.{◌≡◌, ◌≤◌, ◌+◌, ◌++◌, ◌∷◌, [], List, ℕ, OnOk, OnErr, IfOk, Some, false, not, ◌&&◌, sum_by};
 ghost use Rattle.std.specs.BTreeSet as set;
 ghost use Rattle.std.specs.FinMap.{from_entries, get, keys};
 ghost use Rattle.std.specs.List.{IsDistinct};
@@ -32,21 +32,18 @@ pub(crate) fn word_at(words: &IndexMap<Name, Word, Hashing>, name: Name) -> Opti
 // Puts a word that is staged under its name, which is noted first.
 pub(crate) fn put_staged(
     words: &mut IndexMap<Name, Word, Hashing>,
-    staged: &mut BTreeSet<Name>,
+    staged: &mut Vec<Name>,
     name: Name,
     word: Word,
 ) -> Result<(), AllocError>
-    requires fresh { set.contains name_cmp staged.old name ≡ false }
     ensures ok { OnOk result (Sets words.old.entries words.new.entries name (Some word)) }
-    ensures noted { OnOk result (set.Updates name_cmp staged.old staged.new name true) }
+    ensures noted { OnOk result (staged.new.items ≡ staged.old.items ++ name ∷ []) }
     ensures err { OnErr result (words.new.entries ≡ words.old.entries) }
-    ensures kept { OnErr result ((q : List ℕ) → set.contains name_cmp staged.new q ≡ set.contains name_cmp staged.old q) }
+    ensures kept { OnErr result (staged.new.items ≡ staged.old.items) }
 {
-    let Ok(_) = staged.insert(name) else {
-        return Err(AllocError);
-    };
+    staged.push(name)?;
     let Ok(_) = words.insert(name, word) else {
-        staged.remove(&name);
+        staged.pop();
         return Err(AllocError);
     };
     Ok(())
@@ -78,9 +75,22 @@ fn unstage_one(words: &mut IndexMap<Name, Word, Hashing>, name: Name) -> bool
     true
 }
 
+// What is staged under a name is staged no more, and its number is lowered where its word leaves.
+fn take_back(words: &mut IndexMap<Name, Word, Hashing>, name: Name, catalogue: &mut Catalogue)
+    requires { due_at leaves_discarded (from_entries words.old.entries) name ≤ count_of catalogue.old name }
+    ensures settles { Settles unstaged_word name (from_entries words.old.entries) (from_entries words.new.entries) }
+    ensures places { places_of catalogue.new ≡ places_of catalogue.old }
+    ensures counts { (q : List ℕ) → count_of catalogue.new q + due_at leaves_discarded (from_entries words.old.entries) q ≡ count_of catalogue.old q + due_at leaves_discarded (from_entries words.new.entries) q }
+{
+    if !unstage_one(words, name) {
+        return;
+    }
+    catalogue.lower(name);
+}
+
 // What is staged, which are the words of these names, is seen, and no more staged. It takes no memory.
-pub(crate) fn see_all(words: &mut IndexMap<Name, Word, Hashing>, staged: &BTreeSet<Name>)
-    requires { AreStaged staged.now.keys (from_entries words.old.entries) }
+pub(crate) fn see_all(words: &mut IndexMap<Name, Word, Hashing>, staged: &[Name])
+    requires { AreStaged staged.now (from_entries words.old.entries) }
     ensures { from_entries words.new.entries ≡ published_words (from_entries words.old.entries) }
 {
     for name in staged {
@@ -92,19 +102,17 @@ pub(crate) fn see_all(words: &mut IndexMap<Name, Word, Hashing>, staged: &BTreeS
 // that leave are lowered. It takes no memory.
 pub(crate) fn unstage_all(
     words: &mut IndexMap<Name, Word, Hashing>,
-    staged: &BTreeSet<Name>,
+    staged: &[Name],
     catalogue: &mut Catalogue,
 )
-    requires staged { AreStaged staged.now.keys (from_entries words.old.entries) }
+    requires staged { AreStaged staged.now (from_entries words.old.entries) }
     requires held { (q : List ℕ) → due_at leaves_discarded (from_entries words.old.entries) q ≤ count_of catalogue.old q }
     ensures words { from_entries words.new.entries ≡ discarded_words (from_entries words.old.entries) }
     ensures places { places_of catalogue.new ≡ places_of catalogue.old }
     ensures counts { (q : List ℕ) → count_of catalogue.new q + due_at leaves_discarded (from_entries words.old.entries) q ≡ count_of catalogue.old q }
 {
     for name in staged {
-        if unstage_one(words, *name) {
-            catalogue.lower(*name);
-        }
+        take_back(words, *name, catalogue);
     }
 }
 
@@ -126,9 +134,17 @@ pub(crate) fn unstage_among(words: &mut IndexMap<Name, Word, Hashing>, names: &B
     words.retain(|name, word| unstage(word, names.contains(name)));
 }
 
-// These names leave a set. It takes no memory.
-pub(crate) fn leave_out(staged: &mut BTreeSet<Name>, names: &BTreeSet<Name>)
-    ensures { (q : List ℕ) → is_among staged.new.keys q ≡ (not (set.contains name_cmp names.now q) && is_among staged.old.keys q) }
+// All names leave a list, which gives back its room.
+pub(crate) fn empty(staged: &mut Vec<Name>)
+    ensures { staged.new.items ≡ [] }
+{
+    staged.clear();
+    staged.shrink_to_fit();
+}
+
+// These names leave a list. It takes no memory.
+pub(crate) fn leave_out(staged: &mut Vec<Name>, names: &BTreeSet<Name>)
+    ensures { (q : List ℕ) → is_among staged.new.items q ≡ (not (set.contains name_cmp names.now q) && is_among staged.old.items q) }
 {
     staged.retain(|name| !names.contains(name));
 }

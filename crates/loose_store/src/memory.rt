@@ -115,6 +115,13 @@ impl LooseFiles for Memory {
         Ok(Some(bytes.to_vec(alloc)?))
     }
 
+    fn lend(&self, name: Name) -> Option<&[u8]> {
+        match self.files.get(&name) {
+            Some(bytes) => Some(bytes.as_slice()),
+            None => None,
+        }
+    }
+
     fn put(&mut self, alloc: Global, name: Name, bytes: &[u8]) -> Result<(), FileFault> {
         Ok(self.set(alloc, name, bytes)?)
     }

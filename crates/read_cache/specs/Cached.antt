@@ -1,8 +1,8 @@
 -- What a cache of objects has (own).
-use Rattle.std.specs.Prelude.{◌≡◌, ℕ, Bool, true, IsTrue, List, Some, Contains}
+use Rattle.std.specs.Prelude.{◌≡◌, ℕ, Bool, true, IsTrue, List, Option, None, Some, Contains}
 use Rattle.std.specs.Coded.{Coded, coded×, coded_list, coded_ℕ}
 use Rattle.std.specs.FinMap.{get}
-use Rattle.git_name.specs.Object.{Object, object_name}
+use Rattle.git_name.specs.Object.{Object, object_name, typed_bytes}
 use Rattle.git_name.specs.contracts.sealed.Sealed as sealed
 use Rattle.loose_store.specs.Files.{Files}
 use Rattle.loose_store.specs.Stored.{Whole}
@@ -30,3 +30,12 @@ AllWhole files = (name bytes : List ℕ) → get files name ≡ Some bytes → (
 -- where a store is sure, it is honest, and each of its files is whole
 abbrev pub IsSure : Bool → Bool → Files → Type 0
 IsSure sure honest files = sure ≡ true → IsTrue honest × AllWhole files
+
+-- a file is that of some object of this name
+abbrev pub IsFileOf : List ℕ → List ℕ → Type 0
+IsFileOf file name = (object : Object) × (file ≡ typed_bytes object) × (object_name object ≡ name)
+
+-- an object of this name is found, and the file is its own
+abbrev pub Opens : List ℕ → List ℕ → Option Object → Type 0
+Opens file name None = ⊥
+Opens file name (Some object) = (file ≡ typed_bytes object) × (object_name object ≡ name)

@@ -1,4 +1,4 @@
-ghost use Rattle.std.specs.Prelude.{◌≡◌, IsTrue, IfOk, IfSome, OnOk, Some, true};
+ghost use Rattle.std.specs.Prelude.{◌≡◌, IsTrue, IfErr, IfOk, IfSome, OnOk, Some, true};
 ghost use Rattle.std.specs.FinMap as map;
 ghost use Rattle.git_name.specs.Object.{object_name, typed_bytes};
 ghost use Rattle.loose_store.specs.Files.{SameBut};
@@ -182,7 +182,7 @@ impl<S: LooseFiles> CachedStore<S> {
     }
 }
 
-ghost use Rattle.read_cache.specs.Cached.{AllWhole, AreWhole, IsSure};
+ghost use Rattle.read_cache.specs.Cached.{AllWhole, AreWhole, IsFileOf, IsSure, Opens};
 
 // The object of a name, out of the cache or from the store. A sure store is as near as the cache, and is
 // asked at once.
@@ -253,7 +253,9 @@ fn read_unhashed<S: LooseFiles>(
     ensures honest { S.honest files.new ≡ S.honest files.old }
     ensures cause { CountsRead (S.failures files.old) (S.failures files.new) result }
 {
-    one_object();
+    if let Some(file) = files.lend(name) {
+        return opened(alloc, file, name);
+    }
     let found = match files.get(alloc, name) {
         Ok(found) => found,
         Err(FileFault::Device) => return Err(StoreFault::Device),
@@ -262,7 +264,17 @@ fn read_unhashed<S: LooseFiles>(
     let Some(file) = found else {
         return Ok(None);
     };
-    let Some((kind, content)) = content_of(file.as_slice()) else {
+    opened(alloc, file.as_slice(), name)
+}
+
+// The object of this name whose file this is.
+fn opened(alloc: Global, file: &[u8], name: Name) -> Result<Option<Sealed>, StoreFault>
+    requires { IsFileOf file.now name }
+    ensures opened { IfOk result (Opens file.now name) }
+    ensures cause { IfErr result (λ fault. fault ≡ StoreFault.Memory) }
+{
+    one_object();
+    let Some((kind, content)) = content_of(file) else {
         unreachable!();
     };
     let Ok(content) = content.to_vec(alloc) else {

@@ -9,4 +9,4 @@ use Rattle.ledgers.proofs.words.leave_out.Goals as goal
 pub returns : goal.returns
 returns c = λ q.
     ap (λ names. is_among names q) (filter_same _ (λ name. not (contains name_cmp c.args.names.now name)) _ (λ x b f' t. search rules) _ _ c.retain.ensures.filtered)
-    ∙ left_among (contains name_cmp c.args.names.now) c.args.staged.now.keys q
+    ∙ left_among (contains name_cmp c.args.names.now) c.args.staged.now.items q

@@ -1,4 +1,4 @@
-use Rattle.std.proofs.Common.{Some}
+use Rattle.std.proofs.Common.{Some, drop}
 use Rattle.std.specs.FinMap.{from_entries}
 use Rattle.ledgers.specs.Words.{seen_word}
 use Rattle.ledgers.proofs.SettleLemmas.{IsSettling}
@@ -6,4 +6,4 @@ use Rattle.ledgers.proofs.words.see_all.Given as goal
 
 -- the words of the names that are left are still to be settled
 abbrev pub invariant-loop-name : goal.invariant-loop-name
-invariant-loop-name l = IsSettling (λ word. Some (seen_word word)) l.name-iterator (from_entries l.fn.words.entries) (from_entries l.words.entries)
+invariant-loop-name l = IsSettling (λ word. Some (seen_word word)) (drop l.name-index l.staged) (from_entries l.fn.words.entries) (from_entries l.words.entries)

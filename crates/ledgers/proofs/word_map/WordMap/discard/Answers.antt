@@ -5,4 +5,4 @@ use Rattle.ledgers.proofs.SettleLemmas.{discarded_staged}
 use Rattle.ledgers.proofs.word_map.WordMap.discard.Goals as goal
 
 pub invariant_of-self : goal.invariant_of-self
-invariant_of-self c = λ q. ap (λ ks. is_among ks q) c.clear.ensures.empty ∙ subst (AreStaged []) (sym c.unstage_all.ensures.words) (discarded_staged (map.from_entries c.self.inside.words.entries)) q
+invariant_of-self c = λ q. ap (λ ks. is_among ks q) c.empty.ensures ∙ subst (AreStaged []) (sym c.unstage_all.ensures.words) (discarded_staged (map.from_entries c.self.inside.words.entries)) q

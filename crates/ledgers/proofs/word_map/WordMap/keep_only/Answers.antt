@@ -13,9 +13,9 @@ use Rattle.ledgers.proofs.word_map.WordMap.keep_only.Goals as goal
 pub invariant_of-self : goal.invariant_of-self
 invariant_of-self c =
     let es = c.self.inside.words.entries in
-    subst (AreStaged c.self.inside.staged.keys)
+    subst (AreStaged c.self.inside.staged.items)
     (sym (ap (λ fs. map.from_entries {R = name_cmp} fs) c.keep_among.ensures.entries ∙ chosen_of_distinct name_total name_exact (λ name word. kept_word (contains name_cmp c.args.names.now name) word) es (distinct_by_order _ c.keep_among.ensures.distinct)))
-    (kept_staged (λ name. contains name_cmp c.args.names.now name) c.self.inside.staged.keys (map.from_entries es) c.self.invariant)
+    (kept_staged (λ name. contains name_cmp c.args.names.now name) c.self.inside.staged.items (map.from_entries es) c.self.invariant)
 
 pub returns : goal.returns
 returns c =

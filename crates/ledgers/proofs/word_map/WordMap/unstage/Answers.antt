@@ -13,9 +13,9 @@ use Rattle.ledgers.proofs.word_map.WordMap.unstage.Goals as goal
 pub invariant_of-self : goal.invariant_of-self
 invariant_of-self c =
     let es = c.self.inside.words.entries in
-    subst (AreStaged c.leave_out.new.staged.keys)
+    subst (AreStaged c.leave_out.new.staged.items)
     (sym (ap (λ fs. map.from_entries {R = name_cmp} fs) c.unstage_among.ensures.entries ∙ chosen_of_distinct name_total name_exact (λ name word. unstaged_if (contains name_cmp c.args.names.now name) word) es (distinct_by_order _ c.unstage_among.ensures.distinct)))
-    (unstaged_staged (λ name. contains name_cmp c.args.names.now name) c.self.inside.staged.keys c.leave_out.new.staged.keys (map.from_entries es) c.self.invariant c.leave_out.ensures)
+    (unstaged_staged (λ name. contains name_cmp c.args.names.now name) c.self.inside.staged.items c.leave_out.new.staged.items (map.from_entries es) c.self.invariant c.leave_out.ensures)
 
 pub returns : goal.returns
 returns c =

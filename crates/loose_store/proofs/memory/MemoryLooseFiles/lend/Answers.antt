@@ -1,0 +1,14 @@
+use Rattle.std.proofs.Common.{Some, ap, sym, ◌∙◌}
+use Rattle.std.specs.Option.{option_map}
+use Rattle.std.specs.FinMap as map
+use Rattle.git_name.proofs.MapLemmas.{get_map_values}
+use Rattle.git_name.proofs.Names.{name_total}
+use Rattle.git_name.proofs.HashMaps.{get_of_hashed}
+use Rattle.loose_store.proofs.memory.MemoryLooseFiles.lend.Goals as goal
+
+pub returns-in-Some : goal.returns-in-Some
+returns-in-Some c _ =
+    ap (λ files. map.get files c.args.name) (sym c.self.view_is)
+    ∙ get_map_values name_total (λ bytes. bytes.items) (map.from_entries c.self.inside.files.entries) c.args.name
+    ∙ ap (option_map (λ bytes. bytes.items)) (get_of_hashed c.self.inside.files.entries c.args.name ∙ sym c.in-Some.ensures.value)
+    ∙ ap Some (sym c.as_slice.ensures.value)

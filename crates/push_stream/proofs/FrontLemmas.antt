@@ -1,5 +1,5 @@
 -- What stands at the front of a text, before what is left of it.
-use Rattle.std.proofs.Common.{◌≡◌, ℕ, suc, ◌+◌, ◌-◌, ◌<◌, Bool, true, false, List, [], ◌∷◌, ◌++◌, Result, Ok, Err, refl, sym, ap, ap₂, subst, ◌∙◌, length, length-append, append_assoc, append-nil, arith, take}
+use Rattle.std.proofs.Common.{◌≡◌, ℕ, suc, ◌+◌, ◌-◌, ◌<◌, ◌≤◌, Bool, true, false, List, [], ◌∷◌, ◌++◌, Result, Ok, Err, refl, sym, ap, ap₂, subst, ◌∙◌, length, length-append, append_assoc, append-nil, arith, take}
 use Rattle.std.specs.Prelude.{IfOk}
 use Rattle.std.proofs.Math.Seq.{take-append_seam}
 use Rattle.std.proofs.lemmas.List.{append_cancel_right}
@@ -11,11 +11,13 @@ use Rattle.git_reftx.specs.Reading.{command_at}
 use Rattle.git_reftx.specs.declared.reading.TheConstants.{MAX_COMMANDS}
 use Rattle.push_stream.specs.declared.fault.BodyError.{BodyError}
 use Rattle.push_stream.specs.declared.gaining.Added.{Added}
-use Rattle.push_stream.specs.Gaining.{EndsIn, HasFront}
+use Rattle.push_stream.specs.declared.record.TheConstants.{MAX_REST}
+use Rattle.push_stream.specs.Adding.{IsAdded}
+use Rattle.push_stream.specs.Gaining.{Awaits, EndsIn, HasFront}
 use Rattle.push_stream.specs.Reading.{added_in}
 use Rattle.push_stream.specs.Record.{Taken, record_at, record_of}
 use Rattle.push_stream.specs.Spelling.{records_of}
-use Rattle.push_stream.specs.Stream.{Flows, after_command, behind, header_in}
+use Rattle.push_stream.specs.Stream.{Flows, after_command, behind, header_in, records_in}
 use Rattle.push_stream.proofs.HeaderLemmas.{step_end, step_line}
 use Rattle.push_stream.proofs.LineLemmas.{command_is, no_line_end}
 use Rattle.push_stream.proofs.PieceLemmas.{continued_in, header_grows}
@@ -91,3 +93,28 @@ pub headed_front : (r : Result Added BodyError) (headed : Bool) (had : ℕ) (hea
     → added_in headed had header ≡ Flows commands [] true [] → IfOk r (λ a. added_in headed had a.header.items ≡ Flows a.commands.items [] a.headed [])
 headed_front (Ok added) headed had header commands same asked met is = ap (added_in headed had) same ∙ is ∙ ap₂ (λ (cs : List Command) (h : Bool). Flows cs [] h []) (sym asked) (sym met)
 headed_front (Err error) headed had header commands same asked met is = tt
+
+-- what two texts spell, of which the first ends where a record ends
+pub spelled_join : (first second left rest : List ℕ) (objects more all : List Object) → first ≡ records_of objects ++ left → length left ≡ 0 → second ≡ records_of more ++ rest → all ≡ objects ++ more → first ++ second ≡ records_of all ++ rest
+spelled_join first second [] rest objects more all is none later grown =
+    ap₂ (λ (xs ys : List ℕ). xs ++ ys) (is ∙ append-nil (records_of objects)) later
+    ∙ sym (append_assoc (records_of objects) (records_of more) rest)
+    ∙ ap (λ (l : List ℕ). l ++ rest) (sym (flat_map-append record_of objects more))
+    ∙ ap (λ (os : List Object). records_of os ++ rest) (sym grown)
+spelled_join first second (b ∷ bs) rest objects more all is none later grown = absurd (omega arith)
+
+-- records alone, behind the empty line
+pub records_added : (headed : Bool) (had : ℕ) (text left : List ℕ) (added : Added) → headed ≡ true → had ≤ MAX_COMMANDS → added.header.items ≡ [] → added.commands.items ≡ [] → added.headed ≡ true → added.rest.items ≡ left
+    → records_in (length text) text ≡ Flows [] added.objects.items true left → text ≡ records_of added.objects.items ++ left → length left ≤ MAX_REST → Awaits left added.wanted → IsAdded headed had text added
+records_added false had text left added met fits no_header no_commands later copied found spelled short waits = (let differs : ⊥ = cc in absurd differs)
+records_added true had text left added met fits no_header no_commands later copied found spelled short waits =
+    let none : length added.commands.items ≡ 0 = ap (λ (l : List Command). length l) no_commands in
+    record {
+      found = found ∙ ap₂ (λ (cs : List Command) (l : List ℕ). Flows cs added.objects.items true l) (sym no_commands) (sym copied) ∙ ap (λ (h : Bool). Flows added.commands.items added.objects.items h added.rest.items) (sym later);
+      few = omega arith;
+      short = subst (λ (l : List ℕ). length l ≤ MAX_REST) (sym copied) short;
+      waits = subst (λ (l : List ℕ). Awaits l added.wanted) (sym copied) waits;
+      header = ap (added_in true had) no_header ∙ ap₂ (λ (cs : List Command) (h : Bool). Flows cs [] h []) (sym no_commands) (sym later);
+      spelled = spelled ∙ ap₂ (λ (h l : List ℕ). h ++ (records_of added.objects.items ++ l)) (sym no_header) (sym copied);
+      bare = λ plain. (let differs : ⊥ = cc in absurd differs);
+    }

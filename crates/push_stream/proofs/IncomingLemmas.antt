@@ -1,18 +1,21 @@
 -- What a draft stands for as a piece is looked at, and what of it is kept.
-use Rattle.std.proofs.Common.{◌≡◌, ℕ, ◌+◌, ◌<◌, ◌≤◌, Bool, true, false, List, [], ◌++◌, Option, None, Some, refl, sym, ap, ap₂, subst, ◌∙◌, is_some, option_map, length, length-append, take, append_assoc, append-nil, arith}
+use Rattle.std.proofs.Common.{◌≡◌, ℕ, ◌+◌, ◌<◌, ◌≤◌, Bool, true, false, List, [], ◌++◌, Option, None, Some, Result, Ok, Err, OnOk, refl, sym, ap, ap₂, subst, ◌∙◌, is_some, option_map, length, length-append, take, append_assoc, append-nil, arith}
 use Rattle.std.proofs.Math.Seq.{take-length}
 use Rattle.std.proofs.lemmas.List.{length-take-le, take-append-le}
 use Rattle.git_name.specs.Object.{Object}
 use Rattle.git_reftx.specs.declared.command.Command.{Command}
+use Rattle.git_reftx.specs.declared.reading.TheConstants.{MAX_COMMANDS}
 use Rattle.push_stream.specs.declared.draft.Draft.{Draft}
 use Rattle.push_stream.specs.declared.draft.Mark.{Mark}
 use Rattle.push_stream.specs.declared.fault.StreamFault.{StreamFault}
+use Rattle.push_stream.specs.declared.gaining.Added.{Added}
 use Rattle.push_stream.specs.declared.incoming.Kept.{Kept}
+use Rattle.push_stream.specs.declared.record.TheConstants.{MAX_REST}
 use Rattle.push_stream.specs.declared.sent.Sent.{Sent}
 use Rattle.push_stream.specs.declared.upload.TheConstants.{MAX_UPLOAD}
 use Rattle.push_stream.specs.Again.{Opens}
 use Rattle.push_stream.specs.Gaining.{Awaits}
-use Rattle.push_stream.specs.Incoming.{Begins, Grows, HasKept, IsHeld, IsStanding, RollsBack, flow_from, opening_at, opening_kept, reading_at, reading_from, reading_kept, rest_of}
+use Rattle.push_stream.specs.Incoming.{Begins, Grows, HasKept, IsHeld, IsStanding, RollsBack, flow_from, opening_at, opening_kept, reading_at, reading_from, reading_kept, reading_with, rest_of}
 use Rattle.push_stream.specs.Reading.{Flow, Going, Reading, added_in, flow_of, gained, noted, read_on}
 use Rattle.push_stream.specs.Record.{Open, record_at}
 use Rattle.push_stream.specs.Stream.{Stream, Flows, records_in, sent_in}
@@ -78,6 +81,24 @@ short_stands count commands sent headed bytes piece new None None wanted whole r
       let joined : new ++ more ≡ bytes ++ (piece ++ more) = ap (λ (l : List ℕ). l ++ more) is ∙ append_assoc bytes piece more in
       ap record_at joined ∙ stands.waits (piece ++ more) (subst (λ (l : List ℕ). length l < wanted) joined low);
 }
+
+-- two facts of what was done give a third
+pub both_ok : {T E P Q R : Type 0} (r : Result T E) → (P → Q → R) → OnOk r P → OnOk r Q → OnOk r R
+both_ok (Ok value) more first second = more first second
+both_ok (Err error) more first second = tt
+
+-- what was added leaves a stream within its limits
+pub added_stands : (reading : Reading) (wanted count : ℕ) (commands : List Command) (sent : List Sent) (added : Added) → count ≤ MAX_UPLOAD → length commands + length added.commands.items ≤ MAX_COMMANDS → length added.rest.items ≤ MAX_REST → Awaits added.rest.items added.wanted
+    → reading ≡ reading_with count commands sent added → wanted ≡ added.wanted → IsStanding reading wanted
+added_stands reading wanted count commands sent added fits few short waits is same =
+    let joined : length (commands ++ added.commands.items) ≡ length commands + length added.commands.items = length-append commands added.commands.items in
+    let stands : IsStanding (reading_with count commands sent added) added.wanted = record {
+      few = fits;
+      short = short;
+      room = omega arith;
+      waits = waits;
+    } in
+    subst (λ n. IsStanding reading n) (sym same) (subst (λ r. IsStanding r added.wanted) (sym is) stands)
 
 -- ---- what is kept
 -- the front of a list that was cut to it and then grew

@@ -88,6 +88,16 @@ records_grow room (suc most) text piece = by_record (record_at text) refl (λ re
         let later : record_at (text ++ piece) ≡ Wrong fault = record_grows text piece ∙ ap (λ at. record_longer piece at (record_at (text ++ piece))) is in
         sym (records_step (text ++ piece) (Wrong fault) later)
 
+-- two texts of records, of which the first ends where a record ends
+pub records_join : (first second left rest : List ℕ) (objects more all : List Object) → records_in (length first) first ≡ Flows [] objects true left → length left ≡ 0 → records_in (length second) second ≡ Flows [] more true rest → all ≡ objects ++ more
+    → records_in (length (first ++ second)) (first ++ second) ≡ Flows [] all true rest
+records_join first second [] rest objects more all is none later grown =
+    sym (records_grow 0 (length first) first second)
+    ∙ ap (λ s. continued_in 0 s second) is
+    ∙ ap (behind [] objects) later
+    ∙ ap (λ (os : List Object). Flows [] os true rest) (sym grown)
+records_join first second (b ∷ bs) rest objects more all is none later grown = absurd (omega arith)
+
 -- a command at the front, where it is decided, and the whole where it isn't
 line_by : (room : ℕ) (text piece : List ℕ) (at later : LineAt) → ((command : Command) (rest : List ℕ) → continued_in room (behind (command ∷ []) [] (others_in room rest)) piece ≡ behind (command ∷ []) [] (others_in room (rest ++ piece)))
     → header_in room (text ++ piece) ≡ after_command (text ++ piece) (others_in room) (command_of_line (line_longer piece at later))

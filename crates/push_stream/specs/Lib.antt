@@ -1,3 +1,4 @@
+pub mod Adding
 pub mod Again
 pub mod Brief
 pub mod Gaining

@@ -1,12 +1,12 @@
 // An upload with the piece that is looked at, which may not be taken.
-ghost use Rattle.std.specs.Prelude.{◌≡◌, ◌≤◌, ◌<◌, ◌+◌, ◌++◌, None, true, false, IfOk, IsTrue, OnOk, OnErr, length, map};
+ghost use Rattle.std.specs.Prelude.{◌≡◌, ◌≤◌, ◌<◌, ◌+◌, ◌++◌, None, true, false, [], IfOk, IsTrue, OnOk, OnErr, length, map};
 ghost use Rattle.push_stream.specs.declared.upload.TheConstants.{MAX_UPLOAD};
 ghost use Rattle.push_stream.specs.Again.{Opens};
 ghost use Rattle.push_stream.specs.Incoming.{Begins, Grows, IsStanding, is_broken, opening_at, opening_with, reading_at, reading_with};
 ghost use Rattle.push_stream.specs.Reading.{gained, read_on, sent_of};
 
 use crate::fault::{BodyError, StreamFault};
-use crate::gaining::{Added, add};
+use crate::gaining::{Added, add, add_in_turn};
 use crate::sent::{Sent, sent_of};
 use crate::step::Step;
 use git_name::Sealed;
@@ -47,7 +47,7 @@ pub(crate) struct Draft {
     pub(crate) header: Vec<u8>,
     pub(crate) commands: Vec<Command>,
     pub(crate) sent: Vec<Sent>,
-    // What was not finished and what came behind it; where the stream broke, what broke it.
+    // What was not finished and what was copied behind it; where the stream broke, what broke it.
     pub(crate) bytes: Vec<u8>,
     // The unfinished rest, where it is not all bytes.
     pub(crate) rest: Option<Vec<u8>>,
@@ -70,27 +70,24 @@ pub(crate) fn read_piece(alloc: Global, draft: &mut Draft, piece: &[u8]) -> Resu
     let count = draft.mark.count + piece.len() as u64;
     if draft.mark.fault.is_some() {
         draft.mark.count = count;
-        return Ok(Step {
-            objects: Vec::new(alloc),
-            is_fault: true,
-        });
+        return Ok(no_objects(alloc, true));
     }
-    let Ok(()) = draft.bytes.extend_from_slice(piece) else {
+    let Ok(left) = complete(&mut draft.bytes, draft.mark.wanted, piece) else {
+        return Err(AllocError);
+    };
+    let headed = draft.mark.headed;
+    let had = draft.commands.len();
+    if let Some(added) = add_in_turn(alloc, headed, had, draft.bytes.as_slice(), left) {
+        return note(alloc, draft, added, count);
+    }
+    let Ok(()) = draft.bytes.extend_from_slice(left) else {
         return Err(AllocError);
     };
     if is_short(draft.mark, draft.bytes.len()) {
         draft.mark.count = count;
-        return Ok(Step {
-            objects: Vec::new(alloc),
-            is_fault: false,
-        });
+        return Ok(no_objects(alloc, false));
     }
-    match add(
-        alloc,
-        draft.mark.headed,
-        draft.commands.len(),
-        draft.bytes.as_slice(),
-    ) {
+    match add(alloc, headed, had, draft.bytes.as_slice()) {
         Ok(added) => note(alloc, draft, added, count),
         Err(BodyError::Fault(fault)) => {
             draft.mark = Mark {
@@ -99,12 +96,47 @@ pub(crate) fn read_piece(alloc: Global, draft: &mut Draft, piece: &[u8]) -> Resu
                 wanted: 0,
                 fault: Some(fault),
             };
-            Ok(Step {
-                objects: Vec::new(alloc),
-                is_fault: true,
-            })
+            Ok(no_objects(alloc, true))
         }
         Err(BodyError::Memory) => Err(AllocError),
+    }
+}
+
+// Copies of a piece, behind the unfinished rest, what the rest's record wants, and gives what is left
+// of the piece.
+fn complete<'x>(bytes: &mut Vec<u8>, wanted: usize, piece: &'x [u8]) -> Result<&'x [u8], AllocError>
+    ensures begins { Begins bytes.old.items bytes.new.items }
+    ensures parted { IfOk result (λ left. bytes.old.items ++ piece.now ≡ bytes.new.items ++ left.now) }
+{
+    let (front, left) = piece.split_at(lacking(wanted, bytes.len(), piece.len()));
+    let Ok(()) = bytes.extend_from_slice(front) else {
+        return Err(AllocError);
+    };
+    Ok(left)
+}
+
+// How many of the bytes that come complete the record of a rest of so many bytes, of which so many are
+// wanted: none where there is no rest, and all where its record's length is not known.
+fn lacking(wanted: usize, rest: usize, come: usize) -> usize
+    ensures { result ≤ come }
+{
+    if rest == 0 {
+        return 0;
+    }
+    if wanted <= rest {
+        return come;
+    }
+    come.min(wanted - rest)
+}
+
+// A step that brings nothing.
+fn no_objects(alloc: Global, is_fault: bool) -> Step
+    ensures objects { result.objects.items ≡ [] }
+    ensures fault { result.is_fault ≡ is_fault }
+{
+    Step {
+        objects: Vec::new(alloc),
+        is_fault,
     }
 }
 

@@ -4,6 +4,7 @@ ghost use Rattle.git_reftx.specs.declared.fault.CommandFault.TheVariants.{Trunca
 ghost use Rattle.git_reftx.specs.declared.reading.TheConstants.{MAX_COMMANDS};
 ghost use Rattle.git_reftx.specs.Reading.{command_at};
 ghost use Rattle.push_stream.specs.declared.record.TheConstants.{MAX_REST};
+ghost use Rattle.push_stream.specs.Adding.{IsAdded};
 ghost use Rattle.push_stream.specs.Gaining.{Awaits, EndsIn, HasFront, TellsBreak, TellsWrong, headed_by, is_cut, is_truncated};
 ghost use Rattle.push_stream.specs.Reading.{added_in};
 ghost use Rattle.push_stream.specs.Record.{Open, Taken, record_at};
@@ -65,6 +66,50 @@ pub(crate) fn add(alloc: Global, headed: bool, had: usize, text: &[u8]) -> Resul
         headed: false,
         rest,
         wanted: 0,
+    })
+}
+
+// What two texts add behind the empty line, of which the first ends where a record ends. Each is read
+// where it stands. It gives nothing where the second is empty, and where the two do not read so, or
+// memory is wanting: read as one text they tell why.
+pub(crate) fn add_in_turn(
+    alloc: Global,
+    headed: bool,
+    had: usize,
+    first: &[u8],
+    second: &[u8],
+) -> Option<Added>
+    requires { had ≤ MAX_COMMANDS }
+    ensures { IfSome result (λ added. IsAdded headed had (first.now ++ second.now) added) }
+{
+    if !headed {
+        return None;
+    }
+    if second.is_empty() {
+        return None;
+    }
+    let Ok((mut objects, left)) = whole_records(alloc, first) else {
+        return None;
+    };
+    if !left.is_empty() {
+        return None;
+    }
+    let Ok((mut more, left)) = whole_records(alloc, second) else {
+        return None;
+    };
+    let Ok(()) = objects.append(&mut more) else {
+        return None;
+    };
+    let Ok(rest) = left.to_vec(alloc) else {
+        return None;
+    };
+    Some(Added {
+        header: Vec::new(alloc),
+        commands: Vec::new(alloc),
+        objects,
+        headed: true,
+        rest,
+        wanted: awaited(left),
     })
 }
 

@@ -47,6 +47,10 @@ impl<S: LooseFiles> Source for Both<'_, S> {
         }
     }
 
+    fn lend(&self, name: Name) -> Option<(Kind, &[u8])> {
+        self.vault.lend_held(self.tenant, name)
+    }
+
     fn read(&mut self, alloc: Global, name: Name) -> Result<Option<Sealed>, SourceFault> {
         let Some(held) = self.vault.kind_of(self.tenant, name) else {
             return Ok(None);

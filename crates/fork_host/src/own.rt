@@ -1,8 +1,8 @@
 ghost use Rattle.std.specs.Prelude.{◌≡◌, ◌≢◌, IsTrue, OnOk, OnErr, IfOk, IfErr, IfSome, is_some, nat_le};
 ghost use Rattle.std.specs.FinMap as map;
-ghost use Rattle.std.specs.BTreeSet.{contains};
-ghost use Rattle.git_name.specs.Name.{name_cmp};
+ghost use Rattle.std.specs.HashSet.{contains};
 ghost use Rattle.git_name.specs.Object.{object_name};
+ghost use Rattle.git_name.specs.Same.{same_name};
 ghost use Rattle.git_reftx.specs.Transaction.{References};
 ghost use Rattle.push_stream.specs.Brief.{brief_shown};
 ghost use Rattle.fork_reach.specs.Faults.{fault_in as source_fault_in};
@@ -30,7 +30,7 @@ use git_reftx::Refs;
 use loose_store::LooseFiles;
 use push_stream::{Brief, StreamFault};
 use std::alloc::{AllocError, Global};
-use std::collections::BTreeSet;
+use std::collections::HashSet;
 
 // One tenant's own part of the vault. It is made once for a request, from the vault and the tenant that
 // asks, and is all of the vault that a row of the answer is given.
@@ -76,6 +76,13 @@ impl<'a, S: LooseFiles> Own<'a, S> {
         ensures same { IsSame self.old self.new }
     {
         self.vault.get(alloc, self.tenant, name)
+    }
+
+    // The object that the tenant sees under this name, lent where it need not be read.
+    pub(crate) fn lend_seen(&self, name: Name) -> Option<(Kind, &[u8])>
+        ensures { IfSome result (λ lent. IsTrue self.now.vault.now.honest × (map.get (visible_by self.now) name ≡ Some (record { kind = lent.0; bytes = lent.1.now }))) }
+    {
+        self.vault.lend(self.tenant, name)
     }
 
     // The object that the tenant has staged under this name.
@@ -150,8 +157,8 @@ impl<'a, S: LooseFiles> Own<'a, S> {
     }
 
     // Of what the tenant sees, the objects of these names stay.
-    pub(crate) fn keep_only(&mut self, names: &BTreeSet<Name>)
-        ensures tenants { self.new.vault.now.tenants ≡ at_tenant self.old.vault.now.tenants self.old.tenant.now (with_kept (λ name. contains name_cmp names.now name)) }
+    pub(crate) fn keep_only(&mut self, names: &HashSet<Name, Hashing>)
+        ensures tenants { self.new.vault.now.tenants ≡ at_tenant self.old.vault.now.tenants self.old.tenant.now (with_kept (λ name. contains same_name names.now name)) }
         ensures store { LeavesStore self.old.vault.now self.new.vault.now }
         ensures same { IsSame self.old self.new }
     {
@@ -177,12 +184,12 @@ impl<'a, S: LooseFiles> Own<'a, S> {
         &mut self,
         alloc: Global,
         roots: &[Name],
-    ) -> Result<BTreeSet<Name>, SourceFault>
-        ensures found { IsTrue self.old.vault.now.honest → IfOk result (λ found. (name : List ℕ) → contains name_cmp found name ≡ is_reached (linked_names (visible_by self.old)) (visible_by self.old) roots.now name) }
+    ) -> Result<HashSet<Name, Hashing>, SourceFault>
+        ensures found { IsTrue self.old.vault.now.honest → IfOk result (λ found. (name : List ℕ) → contains same_name found name ≡ is_reached (linked_names (visible_by self.old)) (visible_by self.old) roots.now name) }
         ensures kept { IsTrue self.old.vault.now.honest → self.new.vault.now.tenants ≡ self.old.vault.now.tenants }
 
         // Over any store.
-        ensures rooted { IfOk result (λ found. (name : List ℕ) → Contains roots.now name → map.contains_key (visible_by self.old) name ≡ true → contains name_cmp found name ≡ true) }
+        ensures rooted { IfOk result (λ found. (name : List ℕ) → Contains roots.now name → map.contains_key (visible_by self.old) name ≡ true → contains same_name found name ≡ true) }
         ensures shape { shape_of self.new.vault.now.tenants ≡ shape_of self.old.vault.now.tenants }
         ensures read { IsRead self.old.vault.now self.new.vault.now (source_fault_in result) }
         ensures same { IsSame self.old self.new }

@@ -23,7 +23,7 @@ use git_name::Name;
 use git_reftx::Refs;
 use loose_store::LooseFiles;
 use std::alloc::{AllocError, Global};
-use std::collections::BTreeSet;
+use std::collections::{BTreeSet, HashSet};
 
 // What stands against what a tenant saw.
 #[derive(Drop)]
@@ -69,7 +69,8 @@ pub(crate) fn see_again<S: LooseFiles>(
     match judge_seen(own, readings, &names, repositories, limit) {
         Ok(()) => Ok(()),
         Err(against) => {
-            own.keep_only(&BTreeSet::new(alloc));
+            let none = HashSet::with_hasher(alloc, own.hashing_of_names());
+            own.keep_only(&none);
             Err(against)
         }
     }

@@ -35,6 +35,10 @@ impl<S: LooseFiles> Source for Own<'_, S> {
         self.kind_seen(name)
     }
 
+    fn lend(&self, name: Name) -> Option<(Kind, &[u8])> {
+        self.lend_seen(name)
+    }
+
     fn read(&mut self, alloc: Global, name: Name) -> Result<Option<Sealed>, SourceFault> {
         told(self.get(alloc, name))
     }

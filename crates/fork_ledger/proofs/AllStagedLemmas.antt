@@ -1,5 +1,5 @@
 -- Objects that are staged one after another.
-use Rattle.std.proofs.Common.{◌≡◌, ◌≢◌, ℕ, List, [], ◌∷◌, ◌++◌, true, None, Result, Ok, Err, length, refl, sym, ap, subst, ◌∙◌}
+use Rattle.std.proofs.Common.{◌≡◌, ◌≢◌, ℕ, List, [], ◌∷◌, ◌++◌, true, None, Result, Ok, Err, length, map, refl, sym, ap, subst, ◌∙◌}
 use Rattle.std.specs.Prelude.{IfErr}
 use Rattle.std.proofs.lemmas.List.Elements.{All-head, All-tail}
 use Rattle.git_name.specs.Object.{Object, object_name}
@@ -7,6 +7,7 @@ use Rattle.fork_reach.specs.Objects.{measure_of, with_objects}
 use Rattle.ledgers.specs.AllStaged.{all_staged_words}
 use Rattle.ledgers.specs.Holders.{is_held_in}
 use Rattle.ledgers.specs.Ledgers.{AllWords, at_ledger}
+use Rattle.ledgers.specs.Told.{entry_of}
 use Rattle.ledgers.specs.Words.{Words, staged_over, staged_words}
 use Rattle.loose_store.specs.Files.{Files}
 use Rattle.loose_store.specs.Stored.{Whole}
@@ -37,18 +38,18 @@ keeps_whole m old new stored stays = λ q held.
     let has = held_whole (tenants_of old m) old q taker.0 stored taker.1 in
     (stays q has.0 has.1).file ∙ sym has.1.file
 
-own_all : (files : Files) (objects : List Object) (words : Words) → AllWhole files objects → own_of files (all_staged_words objects words) ≡ with_all_staged objects (own_of files words)
+own_all : (files : Files) (objects : List Object) (words : Words) → AllWhole files objects → own_of files (all_staged_words (map entry_of objects) words) ≡ with_all_staged objects (own_of files words)
 own_all files [] words whole = refl
 own_all files (object ∷ objects) words whole =
     own_all files objects (staged_words (object_name object) object.kind (length object.bytes) words) (All-tail (λ o. Whole files (object_name o) o) object objects whole)
     ∙ ap (with_all_staged objects) (staged_whole files words object (All-head (λ o. Whole files (object_name o) o) object objects whole))
 
-all_here : (files : Files) (m : AllWords) (t : List ℕ) (objects : List Object) → AllWhole files objects → tenants_of files (at_ledger m t (all_staged_words objects)) ≡ at_tenant (tenants_of files m) t (with_all_staged objects)
-all_here files m t objects whole = changed_shown files m t (all_staged_words objects) (with_all_staged objects) (λ words. own_all files objects words whole)
+all_here : (files : Files) (m : AllWords) (t : List ℕ) (objects : List Object) → AllWhole files objects → tenants_of files (at_ledger m t (all_staged_words (map entry_of objects))) ≡ at_tenant (tenants_of files m) t (with_all_staged objects)
+all_here files m t objects whole = changed_shown files m t (all_staged_words (map entry_of objects)) (with_all_staged objects) (λ words. own_all files objects words whole)
 
 -- the private maps afterwards
 pub all_staged_tenants : (old new : Files) (m : AllWords) (t : List ℕ) (objects : List Object) → KeepsHeld m old new → AllWhole new objects
-    → tenants_of new (at_ledger m t (all_staged_words objects)) ≡ at_tenant (tenants_of old m) t (with_all_staged objects)
+    → tenants_of new (at_ledger m t (all_staged_words (map entry_of objects))) ≡ at_tenant (tenants_of old m) t (with_all_staged objects)
 all_staged_tenants old new m t objects keeps whole = all_here new m t objects whole ∙ ap (λ tenants. at_tenant tenants t (with_all_staged objects)) (tenants_keep m old new keeps)
 
 stored_all : (tenants : Tenants) (t : List ℕ) (files : Files) (objects : List Object) → AllWhole files objects → IsStored tenants files → IsStored (at_tenant tenants t (with_all_staged objects)) files
@@ -60,7 +61,7 @@ stored_all tenants t files (object ∷ objects) whole stored =
 
 -- and what stands on the store of them
 pub all_staged_stored : (old new : Files) (m : AllWords) (t : List ℕ) (objects : List Object) → KeepsHeld m old new → AllWhole new objects → IsStored (tenants_of old m) old
-    → IsStored (tenants_of new (at_ledger m t (all_staged_words objects))) new
+    → IsStored (tenants_of new (at_ledger m t (all_staged_words (map entry_of objects)))) new
 all_staged_stored old new m t objects keeps whole stored =
     subst (λ tenants. IsStored tenants new) (sym (all_here new m t objects whole)) (stored_all (tenants_of new m) t new objects whole (stored_keeps m old new keeps stored))
 
@@ -76,7 +77,7 @@ abbrev pub all_at : Files → List Object → Private → Private
 all_at files [] own = own
 all_at files (object ∷ objects) own = all_at files objects (staged_with (object_name object) (object_at files (object_name object) (staged_over object.kind (length object.bytes) None)) own)
 
-own_any : (files : Files) (objects : List Object) (words : Words) → own_of files (all_staged_words objects words) ≡ all_at files objects (own_of files words)
+own_any : (files : Files) (objects : List Object) (words : Words) → own_of files (all_staged_words (map entry_of objects) words) ≡ all_at files objects (own_of files words)
 own_any files [] words = refl
 own_any files (object ∷ objects) words =
     own_any files objects (staged_words (object_name object) object.kind (length object.bytes) words)
@@ -92,9 +93,9 @@ measures_all files (object ∷ objects) a b same =
     (staged_alike object (object_at files (object_name object) (staged_over object.kind (length object.bytes) None)) a (measured files object) ∙ respects_staged object a b same)
 
 -- the shape is that of the objects' staging
-pub all_staged_shape : (old new : Files) (m : AllWords) (t : List ℕ) (objects : List Object) → shape_of (tenants_of new (at_ledger m t (all_staged_words objects))) ≡ shape_of (at_tenant (tenants_of old m) t (with_all_staged objects))
+pub all_staged_shape : (old new : Files) (m : AllWords) (t : List ℕ) (objects : List Object) → shape_of (tenants_of new (at_ledger m t (all_staged_words (map entry_of objects)))) ≡ shape_of (at_tenant (tenants_of old m) t (with_all_staged objects))
 all_staged_shape old new m t objects =
-    shape_any old new (at_ledger m t (all_staged_words objects)) ∙ ap shape_of (changed_shown old m t (all_staged_words objects) (all_at old objects) (λ words. own_any old objects words))
+    shape_any old new (at_ledger m t (all_staged_words (map entry_of objects))) ∙ ap shape_of (changed_shown old m t (all_staged_words (map entry_of objects)) (all_at old objects) (λ words. own_any old objects words))
     ∙ shape_alike (tenants_of old m) t (all_at old objects) (with_all_staged objects) (λ own. measures_all old objects own own refl)
 
 -- objects are staged

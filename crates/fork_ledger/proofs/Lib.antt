@@ -6,6 +6,7 @@ pub mod CoverLemmas
 pub mod HarmLemmas
 pub mod HeldLemmas
 pub mod KeepingLemmas
+mod LentLemmas
 pub mod LookLemmas
 pub mod OwnLemmas
 pub mod RecallLemmas

@@ -1,12 +1,13 @@
 -- Objects that are received one after another.
-use Rattle.std.proofs.Common.{◌≡◌, ◌⊎◌, inl, inr, ℕ, ◌+◌, ◌<◌, List, [], ◌∷◌, ◌++◌, ◌||◌, Bool, true, false, None, drop, length, refl, sym, ap, subst, take, ◌∙◌, arith}
+use Rattle.std.proofs.Common.{◌≡◌, ◌⊎◌, inl, inr, ℕ, List, [], ◌∷◌, ◌++◌, ◌||◌, Bool, true, false, None, map, refl, sym, ap, subst, ◌∙◌, arith}
 use Rattle.std.specs.Prelude.{Contains, slice_index_or}
-use Rattle.std.proofs.lemmas.List.{take-append-drop, take_more}
 use Rattle.std.proofs.lemmas.List.Elements.{All-nil, All-push, Contains-append_left, Contains-append_right}
 use Rattle.std.specs.FinMap.{get}
 use Rattle.git_name.specs.Object.{Object, object_name}
 use Rattle.looks.specs.Places.{Places, is_listed, same_name}
 use Rattle.ledgers.specs.AllStaged.{AreListed}
+use Rattle.ledgers.specs.Told.{entry_of}
+use Rattle.ledgers.specs.declared.entry.Entry.{Entry}
 use Rattle.catalogue.proofs.PlaceLemmas.{own_name}
 use Rattle.loose_store.specs.Files.{Files, SameBut}
 use Rattle.loose_store.specs.Stored.{Whole}
@@ -63,35 +64,33 @@ receives_more objects object a b c p q r before whole stays alone covers exact =
     came name other (inl is) = stood name other (before.among name other is)
     came name other (inr same) = inr (subst (Contains (objects ++ object ∷ [])) (sym same) (Contains-append_right objects (object ∷ []) object (sole object)))
 
--- one more of a list
-pub front_more : (objects : List Object) (i : ℕ) (object : Object) → i < length objects → object ≡ slice_index_or objects i object → take (i + 1) objects ≡ take i objects ++ object ∷ []
-front_more objects i object inside is = take_more objects i object inside ∙ ap (λ o. take i objects ++ o ∷ []) (sym is)
-
 -- ---- the catalogue
 or_true : (b : Bool) → (b || true) ≡ true
 or_true true = refl
 or_true false = refl
 
-pub listed_more : (objects : List Object) (object : Object) (old new : Places) → ((q : List ℕ) → is_listed new.names q ≡ (same_name (object_name object) q || is_listed old.names q)) → AreListed old objects → AreListed new (objects ++ object ∷ [])
-listed_more objects object old new listed before = All-push (λ x. is_listed new.names (object_name x) ≡ true) objects object
-    (λ k d inside. listed (object_name (slice_index_or objects k d)) ∙ ap (λ b. same_name (object_name object) (object_name (slice_index_or objects k d)) || b) (before k d inside) ∙ or_true (same_name (object_name object) (object_name (slice_index_or objects k d))))
-    (listed (object_name object) ∙ ap (λ b. b || is_listed old.names (object_name object)) (own_name (object_name object)))
+pub listed_more : (entries : List Entry) (entry : Entry) (old new : Places) → ((q : List ℕ) → is_listed new.names q ≡ (same_name entry.name q || is_listed old.names q)) → AreListed old entries → AreListed new (entries ++ entry ∷ [])
+listed_more entries entry old new listed before = All-push (λ x. is_listed new.names x.name ≡ true) entries entry
+    (λ k d inside. listed (slice_index_or entries k d).name ∙ ap (λ b. same_name entry.name (slice_index_or entries k d).name || b) (before k d inside) ∙ or_true (same_name entry.name (slice_index_or entries k d).name))
+    (listed entry.name ∙ ap (λ b. b || is_listed old.names entry.name) (own_name entry.name))
+
+-- ---- objects that are left
+-- one more of the front, and one less of what is left
+pub regroup : (xs : List Object) (x : Object) (ys : List Object) → (xs ++ x ∷ []) ++ ys ≡ xs ++ x ∷ ys
+regroup [] x ys = refl
+regroup (z ∷ xs) x ys = ap (λ zs. z ∷ zs) (regroup xs x ys)
+
+pub told_more : (xs : List Object) (x : Object) → map entry_of (xs ++ x ∷ []) ≡ map entry_of xs ++ entry_of x ∷ []
+told_more [] x = refl
+told_more (z ∷ xs) x = ap (λ zs. entry_of z ∷ zs) (told_more xs x)
 
 -- ---- a collision
--- a list parted at a place
-pub parted : (objects : List Object) (i : ℕ) (object : Object) → i < length objects → object ≡ slice_index_or objects i object → objects ≡ take i objects ++ object ∷ drop (i + 1) objects
-parted objects i object inside is = sym (take-append-drop (i + 1) objects) ∙ ap (λ xs. xs ++ drop (i + 1) objects) (front_more objects i object inside is) ∙ regroup (take i objects) object (drop (i + 1) objects)
-  where
-    regroup : (xs : List Object) (x : Object) (ys : List Object) → (xs ++ x ∷ []) ++ ys ≡ xs ++ x ∷ ys
-    regroup [] x ys = refl
-    regroup (z ∷ xs) x ys = ap (λ zs. z ∷ zs) (regroup xs x ys)
-
-pub meets_among : (objects : List Object) (i : ℕ) (object : Object) (first now : Files) → i < length objects → object ≡ slice_index_or objects i object → StoresAmong (take i objects) first now → Meets object now → MeetsAmong objects first
-meets_among objects i object first now inside is among met = record {
-  front = take i objects;
+pub meets_among : (objects front : List Object) (object : Object) (back : List Object) (first now : Files) → objects ≡ front ++ object ∷ back → StoresAmong front first now → Meets object now → MeetsAmong objects first
+meets_among objects front object back first now order among met = record {
+  front = front;
   object = object;
-  back = drop (i + 1) objects;
-  order = parted objects i object inside is;
+  back = back;
+  order = order;
   other = met.0;
   met = among (object_name object) met.0 met.1;
   named = met.1.named;
@@ -99,12 +98,12 @@ meets_among objects i object first now inside is among met = record {
 }
 
 -- the first of some objects are among them
-pub among_front : (objects : List Object) (i : ℕ) (old new : Files) → StoresAmong (take i objects) old new → StoresAmong objects old new
-among_front objects i old new among name other whole = by (among name other whole)
+pub among_front : (objects front back : List Object) (old new : Files) → objects ≡ front ++ back → StoresAmong front old new → StoresAmong objects old new
+among_front objects front back old new order among name other whole = by (among name other whole)
   where
-    by : Whole old name other ⊎ Contains (take i objects) other → Whole old name other ⊎ Contains objects other
+    by : Whole old name other ⊎ Contains front other → Whole old name other ⊎ Contains objects other
     by (inl stood) = inl stood
-    by (inr came) = inr (subst (λ xs. Contains xs other) (take-append-drop i objects) (Contains-append_left (take i objects) (drop i objects) other came))
+    by (inr came) = inr (subst (λ xs. Contains xs other) (sym order) (Contains-append_left front back other came))
 
 -- ---- for callers
 -- both objects that met, as a list and the store have them

@@ -31,15 +31,15 @@ pub(crate) fn arrive<S: LooseFiles>(
     alloc: Global,
     files: &mut CachedStore<S>,
     is_held: bool,
-    sealed: &Sealed,
+    sealed: Sealed,
 ) -> Result<(), VaultFault>
-    ensures whole { IsTrue files.old.honest → OnOk result (Whole files.new.contents (object_name sealed.now) sealed.now) }
-    ensures others { IsTrue files.old.honest → SameBut (object_name sealed.now) files.old.contents files.new.contents }
+    ensures whole { IsTrue files.old.honest → OnOk result (Whole files.new.contents (object_name sealed) sealed) }
+    ensures others { IsTrue files.old.honest → SameBut (object_name sealed) files.old.contents files.new.contents }
     ensures stands { IsTrue files.old.honest → StaysWhole files.old.contents files.new.contents }
-    ensures held { IsTrue files.old.honest → is_held ≡ true → contains_key files.old.contents (object_name sealed.now) ≡ true → files.new.contents ≡ files.old.contents }
+    ensures held { IsTrue files.old.honest → is_held ≡ true → contains_key files.old.contents (object_name sealed) ≡ true → files.new.contents ≡ files.old.contents }
     ensures damaged { IsTrue files.old.honest → IfErr result (λ fault. fault ≡ VaultFault.Damaged
-        → (is_held ≡ true) × ((object : Object) → Whole files.old.contents (object_name sealed.now) object → ⊥)) }
-    ensures collision { IsTrue files.old.honest → IfErr result (λ fault. fault ≡ VaultFault.Collision → Meets sealed.now files.old.contents) }
+        → (is_held ≡ true) × ((object : Object) → Whole files.old.contents (object_name sealed) object → ⊥)) }
+    ensures collision { IsTrue files.old.honest → IfErr result (λ fault. fault ≡ VaultFault.Collision → Meets sealed files.old.contents) }
     ensures still { IsTrue files.old.honest → IfErr result (λ fault. fault ≡ VaultFault.Collision → files.new.contents ≡ files.old.contents) }
     ensures honest { files.new.honest ≡ files.old.honest }
     ensures cause { CountsFault files.old.failures files.new.failures (fault_in result) }
@@ -47,7 +47,7 @@ pub(crate) fn arrive<S: LooseFiles>(
     let name = sealed.name();
     match files.read_past(alloc, name) {
         Ok(Some(found)) => {
-            if is_same(&found, sealed) {
+            if is_same(&found, &sealed) {
                 Ok(())
             } else {
                 Err(VaultFault::Collision)
@@ -77,10 +77,10 @@ fn is_same(found: &Sealed, sealed: &Sealed) -> bool
 fn put_whole<S: LooseFiles>(
     alloc: Global,
     files: &mut CachedStore<S>,
-    sealed: &Sealed,
+    sealed: Sealed,
 ) -> Result<(), VaultFault>
-    ensures whole { IsTrue files.old.honest → OnOk result (Whole files.new.contents (object_name sealed.now) sealed.now) }
-    ensures others { IsTrue files.old.honest → SameBut (object_name sealed.now) files.old.contents files.new.contents }
+    ensures whole { IsTrue files.old.honest → OnOk result (Whole files.new.contents (object_name sealed) sealed) }
+    ensures others { IsTrue files.old.honest → SameBut (object_name sealed) files.old.contents files.new.contents }
     ensures honest { files.new.honest ≡ files.old.honest }
     ensures cause { CountsFault files.old.failures files.new.failures (fault_in result) }
     ensures undamaged { IfErr result (λ fault. fault ≢ VaultFault.Damaged) }

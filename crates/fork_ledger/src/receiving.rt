@@ -1,10 +1,11 @@
 // Objects that are received: their names in the catalogue, and their files on the store.
-ghost use Rattle.std.specs.Prelude.{◌≡◌, ◌||◌, true, List, ℕ, IsTrue, IfErr, OnOk};
+ghost use Rattle.std.specs.Prelude.{◌≡◌, ◌||◌, true, List, ℕ, IsTrue, IfErr, IfOk, OnOk, map as map_list};
 ghost use Rattle.git_name.specs.Object.{Object, object_name};
 ghost use Rattle.looks.specs.Places.{is_listed, same_name};
 ghost use Rattle.catalogue.specs.Counted.{places_of};
 ghost use Rattle.ledgers.specs.AllStaged.{AreListed};
 ghost use Rattle.ledgers.specs.Holders.{is_held_in};
+ghost use Rattle.ledgers.specs.Told.{entry_of};
 ghost use Rattle.loose_store.specs.Stored.{Whole};
 ghost use Rattle.fork_ledger.specs.AllStaged.{MeetsAmong, Receives, StaysWhole, StoresAmong};
 ghost use Rattle.fork_ledger.specs.Kept.{Covers, HasFiles, IsExact, KeepsHeld};
@@ -13,10 +14,10 @@ ghost use Rattle.fork_ledger.specs.Store.{CountsFault, Meets, StoresAlone, fault
 use crate::arrival::arrive;
 use crate::fault::VaultFault;
 use git_name::Sealed;
-use ledgers::Holdings;
+use ledgers::{Entry, Holdings};
 use loose_store::LooseFiles;
 use read_cache::CachedStore;
-use std::alloc::Global;
+use std::alloc::{AllocError, Global};
 
 // Catalogues an object's name, and sees to it that its file is whole.
 #[tactic(auto, using(crate::proofs::StoredLemmas::stores_alone))]
@@ -24,19 +25,19 @@ pub(crate) fn receive<S: LooseFiles>(
     alloc: Global,
     files: &mut CachedStore<S>,
     holdings: &mut Holdings,
-    sealed: &Sealed,
+    sealed: Sealed,
 ) -> Result<(), VaultFault>
     ensures ledgers { holdings.new.ledgers ≡ holdings.old.ledgers }
-    ensures listed { OnOk result ((q : List ℕ) → is_listed (places_of holdings.new.catalogue).names q ≡ (same_name (object_name sealed.now) q || is_listed (places_of holdings.old.catalogue).names q)) }
-    ensures whole { IsTrue files.old.honest → OnOk result (Whole files.new.contents (object_name sealed.now) sealed.now) }
+    ensures listed { OnOk result ((q : List ℕ) → is_listed (places_of holdings.new.catalogue).names q ≡ (same_name (object_name sealed) q || is_listed (places_of holdings.old.catalogue).names q)) }
+    ensures whole { IsTrue files.old.honest → OnOk result (Whole files.new.contents (object_name sealed) sealed) }
     ensures stands { IsTrue files.old.honest → StaysWhole files.old.contents files.new.contents }
     ensures keeps { IsTrue files.old.honest → HasFiles holdings.old.ledgers files.old.contents → KeepsHeld holdings.old.ledgers files.old.contents files.new.contents }
     ensures covers { IsTrue files.old.honest → Covers files.old.contents (places_of holdings.old.catalogue) → Covers files.new.contents (places_of holdings.new.catalogue) }
     ensures exact { IsTrue files.old.honest → OnOk result (IsExact files.old.contents (places_of holdings.old.catalogue) → IsExact files.new.contents (places_of holdings.new.catalogue)) }
-    ensures alone { IsTrue files.old.honest → OnOk result (StoresAlone sealed.now files.old.contents files.new.contents) }
+    ensures alone { IsTrue files.old.honest → OnOk result (StoresAlone sealed files.old.contents files.new.contents) }
     ensures damaged { IsTrue files.old.honest → IfErr result (λ fault. fault ≡ VaultFault.Damaged
-        → (is_held_in holdings.old.ledgers (object_name sealed.now) ≡ true) × ((object : Object) → Whole files.old.contents (object_name sealed.now) object → ⊥)) }
-    ensures collision { IsTrue files.old.honest → IfErr result (λ fault. fault ≡ VaultFault.Collision → Meets sealed.now files.old.contents) }
+        → (is_held_in holdings.old.ledgers (object_name sealed) ≡ true) × ((object : Object) → Whole files.old.contents (object_name sealed) object → ⊥)) }
+    ensures collision { IsTrue files.old.honest → IfErr result (λ fault. fault ≡ VaultFault.Collision → Meets sealed files.old.contents) }
     ensures still { IsTrue files.old.honest → IfErr result (λ fault. fault ≡ VaultFault.Collision → files.new.contents ≡ files.old.contents) }
     ensures honest { files.new.honest ≡ files.old.honest }
     ensures cause { CountsFault files.old.failures files.new.failures (fault_in result) }
@@ -52,22 +53,33 @@ pub(crate) fn receive<S: LooseFiles>(
     Ok(())
 }
 
-// The same of objects, in order. A fault leaves those before it received.
+// What a ledger is told of these objects, in their order.
+pub(crate) fn entries_of(alloc: Global, objects: &[Sealed]) -> Result<Vec<Entry>, AllocError>
+    ensures { IfOk result (λ entries. entries.items ≡ map_list entry_of objects.now) }
+{
+    let mut entries = Vec::new(alloc);
+    for sealed in objects {
+        entries.push(Entry::of(sealed))?;
+    }
+    Ok(entries)
+}
+
+// Receives objects, in order. A fault leaves those before it received.
 pub(crate) fn receive_all<S: LooseFiles>(
     alloc: Global,
     files: &mut CachedStore<S>,
     holdings: &mut Holdings,
-    objects: &[Sealed],
+    objects: Vec<Sealed>,
 ) -> Result<(), VaultFault>
     ensures ledgers { holdings.new.ledgers ≡ holdings.old.ledgers }
-    ensures listed { OnOk result (AreListed (places_of holdings.new.catalogue) objects.now) }
-    ensures receives { IsTrue files.old.honest → OnOk result (Receives objects.now files.old.contents files.new.contents (places_of holdings.old.catalogue) (places_of holdings.new.catalogue)) }
+    ensures listed { OnOk result (AreListed (places_of holdings.new.catalogue) (map_list entry_of objects.items)) }
+    ensures receives { IsTrue files.old.honest → OnOk result (Receives objects.items files.old.contents files.new.contents (places_of holdings.old.catalogue) (places_of holdings.new.catalogue)) }
     ensures stands { IsTrue files.old.honest → StaysWhole files.old.contents files.new.contents }
     ensures covers { IsTrue files.old.honest → Covers files.old.contents (places_of holdings.old.catalogue) → Covers files.new.contents (places_of holdings.new.catalogue) }
     ensures damaged { IsTrue files.old.honest → IfErr result (λ fault. fault ≡ VaultFault.Damaged
         → (name : List ℕ) × (is_held_in holdings.old.ledgers name ≡ true) × ((object : Object) → Whole files.old.contents name object → ⊥)) }
-    ensures collision { IsTrue files.old.honest → IfErr result (λ fault. fault ≡ VaultFault.Collision → MeetsAmong objects.now files.old.contents) }
-    ensures still { IsTrue files.old.honest → IfErr result (λ fault. fault ≡ VaultFault.Collision → StoresAmong objects.now files.old.contents files.new.contents) }
+    ensures collision { IsTrue files.old.honest → IfErr result (λ fault. fault ≡ VaultFault.Collision → MeetsAmong objects.items files.old.contents) }
+    ensures still { IsTrue files.old.honest → IfErr result (λ fault. fault ≡ VaultFault.Collision → StoresAmong objects.items files.old.contents files.new.contents) }
     ensures honest { files.new.honest ≡ files.old.honest }
     ensures cause { CountsFault files.old.failures files.new.failures (fault_in result) }
 {

@@ -1,10 +1,11 @@
 // Objects that a tenant stages: their names in the catalogue, their files on the store, and their words in one ledger.
-ghost use Rattle.std.specs.Prelude.{◌≡◌, true, List, ℕ, IsTrue, IfErr, OnErr, OnOk, length};
+ghost use Rattle.std.specs.Prelude.{◌≡◌, true, List, ℕ, IsTrue, IfErr, OnErr, OnOk, length, map as map_list};
 ghost use Rattle.git_name.specs.Object.{Object, object_name};
 ghost use Rattle.catalogue.specs.Counted.{places_of};
 ghost use Rattle.ledgers.specs.AllStaged.{all_staged_words};
 ghost use Rattle.ledgers.specs.Holders.{is_held_in};
 ghost use Rattle.ledgers.specs.Ledgers.{at_ledger};
+ghost use Rattle.ledgers.specs.Told.{entry_of};
 ghost use Rattle.ledgers.specs.Words.{staged_words};
 ghost use Rattle.loose_store.specs.Stored.{Whole};
 ghost use Rattle.fork_ledger.specs.AllStaged.{MeetsAmong, Receives, StaysWhole, StoresAmong};
@@ -12,10 +13,10 @@ ghost use Rattle.fork_ledger.specs.Kept.{Covers, HasFiles, IsExact, KeepsHeld};
 ghost use Rattle.fork_ledger.specs.Store.{CountsFault, Meets, StoresAlone, fault_in};
 
 use crate::fault::VaultFault;
-use crate::receiving::{receive, receive_all};
+use crate::receiving::{entries_of, receive, receive_all};
 use fork_request::TenantName;
 use git_name::Sealed;
-use ledgers::{Holdings, stage_all};
+use ledgers::{Entry, Holdings, stage_all};
 use loose_store::LooseFiles;
 use read_cache::CachedStore;
 use std::alloc::Global;
@@ -42,14 +43,10 @@ pub(crate) fn stage_whole<S: LooseFiles>(
     ensures honest { files.new.honest ≡ files.old.honest }
     ensures cause { CountsFault files.old.failures files.new.failures (fault_in result) }
 {
-    match receive(alloc, files, holdings, &sealed) {
+    let entry = Entry::of(&sealed);
+    match receive(alloc, files, holdings, sealed) {
         Ok(()) => {
-            match holdings.stage(
-                tenant,
-                sealed.name(),
-                sealed.kind(),
-                sealed.bytes().len() as u64,
-            ) {
+            match holdings.stage(tenant, entry.name, entry.kind, entry.length) {
                 Ok(()) => Ok(()),
                 Err(_) => Err(VaultFault::Memory),
             }
@@ -64,24 +61,27 @@ pub(crate) fn stage_all_whole<S: LooseFiles>(
     files: &mut CachedStore<S>,
     holdings: &mut Holdings,
     tenant: &TenantName,
-    objects: &[Sealed],
+    objects: Vec<Sealed>,
 ) -> Result<(), VaultFault>
-    ensures ok { OnOk result (holdings.new.ledgers ≡ at_ledger holdings.old.ledgers tenant.now (all_staged_words objects.now)) }
+    ensures ok { OnOk result (holdings.new.ledgers ≡ at_ledger holdings.old.ledgers tenant.now (all_staged_words (map_list entry_of objects.items))) }
     ensures err { OnErr result (holdings.new.ledgers ≡ holdings.old.ledgers) }
-    ensures receives { IsTrue files.old.honest → OnOk result (Receives objects.now files.old.contents files.new.contents (places_of holdings.old.catalogue) (places_of holdings.new.catalogue)) }
+    ensures receives { IsTrue files.old.honest → OnOk result (Receives objects.items files.old.contents files.new.contents (places_of holdings.old.catalogue) (places_of holdings.new.catalogue)) }
     ensures stands { IsTrue files.old.honest → StaysWhole files.old.contents files.new.contents }
     ensures covers { IsTrue files.old.honest → Covers files.old.contents (places_of holdings.old.catalogue) → Covers files.new.contents (places_of holdings.new.catalogue) }
     ensures damaged { IsTrue files.old.honest → IfErr result (λ fault. fault ≡ VaultFault.Damaged
         → (name : List ℕ) × (is_held_in holdings.old.ledgers name ≡ true) × ((object : Object) → Whole files.old.contents name object → ⊥)) }
-    ensures collision { IsTrue files.old.honest → IfErr result (λ fault. fault ≡ VaultFault.Collision → MeetsAmong objects.now files.old.contents) }
-    ensures still { IsTrue files.old.honest → IfErr result (λ fault. fault ≡ VaultFault.Collision → StoresAmong objects.now files.old.contents files.new.contents) }
+    ensures collision { IsTrue files.old.honest → IfErr result (λ fault. fault ≡ VaultFault.Collision → MeetsAmong objects.items files.old.contents) }
+    ensures still { IsTrue files.old.honest → IfErr result (λ fault. fault ≡ VaultFault.Collision → StoresAmong objects.items files.old.contents files.new.contents) }
     ensures honest { files.new.honest ≡ files.old.honest }
     ensures cause { CountsFault files.old.failures files.new.failures (fault_in result) }
 {
+    let Ok(entries) = entries_of(alloc, objects.as_slice()) else {
+        return Err(VaultFault::Memory);
+    };
     if let Err(fault) = receive_all(alloc, files, holdings, objects) {
         return Err(fault);
     }
-    let Ok(()) = stage_all(alloc, holdings, tenant, objects) else {
+    let Ok(()) = stage_all(alloc, holdings, tenant, entries.as_slice()) else {
         return Err(VaultFault::Memory);
     };
     Ok(())

@@ -1,8 +1,6 @@
 ghost use Rattle.std.specs.Prelude.{◌≡◌, ◌≢◌, ◌⊎◌, ◌≤◌, ◌<◌, ◌+◌, ℕ, List, [], true, length, IsTrue, OnOk, OnErr, IfOk, IfErr, IfSome, Some, is_some, nat_le};
 ghost use Rattle.std.specs.FinMap as map;
-ghost use Rattle.std.specs.BTreeSet.{contains};
 ghost use Rattle.std.specs.List.{AllByRecursion};
-ghost use Rattle.git_name.specs.Name.{name_cmp};
 ghost use Rattle.git_name.specs.Object.{object_name};
 ghost use Rattle.fork_reach.specs.Objects.{use_of};
 ghost use Rattle.looks.specs.Looks.{Looks, Walks};
@@ -31,12 +29,11 @@ use crate::sweeping::{collect, sweep};
 use catalogue::Catalogue;
 use fork_request::TenantName;
 use git_name::{Hashing, Kind, Name, Sealed};
-use ledgers::Holdings;
+use ledgers::{Holdings, NameSet};
 use looks::sharp_collection;
 use loose_store::LooseFiles;
 use read_cache::CachedStore;
 use std::alloc::{AllocError, Global};
-use std::collections::BTreeSet;
 use std::marker::Model;
 
 /// The objects of many tenants, each tenant's its own, over one store that keeps each of them once. What
@@ -190,6 +187,27 @@ impl<S: LooseFiles> Vault<S> {
         read_held(alloc, &mut self.files, name)
     }
 
+    /// The object that a tenant sees under this name, its kind and its bytes, lent where its file lies in
+    /// memory and need not be hashed; nothing where it has to be read.
+    pub fn lend(&self, tenant: &TenantName, name: Name) -> Option<(Kind, &[u8])>
+        ensures { IfSome result (λ lent. IsTrue self.now.honest × (map.get (private_of self.now.tenants tenant.now).visible name ≡ Some (record { kind = lent.0; bytes = lent.1.now }))) }
+    {
+        if self.holdings.sees(tenant, name) {
+            return self.files.lend(name);
+        }
+        None
+    }
+
+    /// The same of an object that a tenant sees or has staged.
+    pub fn lend_held(&self, tenant: &TenantName, name: Name) -> Option<(Kind, &[u8])>
+        ensures { IfSome result (λ lent. IsTrue self.now.honest × (map.get (both_of (private_of self.now.tenants tenant.now)) name ≡ Some (record { kind = lent.0; bytes = lent.1.now }))) }
+    {
+        let Some(_) = self.holdings.word(tenant, name) else {
+            return None;
+        };
+        self.files.lend(name)
+    }
+
     /// What is known of the object that a tenant sees or has staged under this name. It asks no store.
     pub fn kind_of(&self, tenant: &TenantName, name: Name) -> Option<Held>
         ensures { result ≡ held_in (private_of self.now.tenants tenant.now) name }
@@ -244,13 +262,7 @@ impl<S: LooseFiles> Vault<S> {
         ensures kept { OnErr result (shape_of self.new.tenants ≡ shape_of self.old.tenants) }
         ensures store { AsksStore self.old self.new (fault_in result) }
     {
-        stage_all_whole(
-            alloc,
-            &mut self.files,
-            &mut self.holdings,
-            tenant,
-            objects.as_slice(),
-        )
+        stage_all_whole(alloc, &mut self.files, &mut self.holdings, tenant, objects)
     }
 
     /// Stages the object of this name for a tenant that saw it before, where a survey of the store found
@@ -304,8 +316,8 @@ impl<S: LooseFiles> Vault<S> {
 
     /// Of what a tenant sees, keeps the objects of these names alone. It takes no memory, and asks no
     /// store.
-    pub fn keep_only(&mut self, tenant: &TenantName, names: &BTreeSet<Name>)
-        ensures tenants { self.new.tenants ≡ at_tenant self.old.tenants tenant.now (with_kept (λ name. contains name_cmp names.now name)) }
+    pub fn keep_only<N: NameSet>(&mut self, tenant: &TenantName, names: &N)
+        ensures tenants { self.new.tenants ≡ at_tenant self.old.tenants tenant.now (with_kept (N.names names.now)) }
         ensures store { LeavesStore self.old self.new }
     {
         self.holdings.keep_only(tenant, names);

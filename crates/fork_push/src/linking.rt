@@ -5,20 +5,21 @@ ghost use Rattle.git_object.specs.ObjectIn.{links_in};
 ghost use Rattle.fork_push.specs.Push.{is_missing, is_wrong};
 
 use fork_reach::Source;
-use git_name::Sealed;
+use git_name::Kind;
 use git_object::{Link, Object, links};
 
-// The first link of the object whose object is not there. Where there is none, the first link to
-// another kind is noted, unless one was before.
+// The first link of an object of this kind and these bytes whose object is not there. Where there is
+// none, the first link to another kind is noted, unless one was before.
 pub(crate) fn judge_links<S: Source>(
     source: &S,
-    sealed: &Sealed,
+    kind: Kind,
+    bytes: &[u8],
     wrong: &mut Option<Link>,
 ) -> Option<Link>
-    ensures missing { result ≡ find (is_missing (S.state source.now).objects) (links_in sealed.now.kind sealed.now.bytes) }
-    ensures wrong { IfNone result (wrong.new ≡ option_or wrong.old (find (is_wrong (S.state source.now).objects) (links_in sealed.now.kind sealed.now.bytes))) }
+    ensures missing { result ≡ find (is_missing (S.state source.now).objects) (links_in kind bytes.now) }
+    ensures wrong { IfNone result (wrong.new ≡ option_or wrong.old (find (is_wrong (S.state source.now).objects) (links_in kind bytes.now))) }
 {
-    let Ok(object) = Object::read(sealed.kind(), sealed.bytes()) else {
+    let Ok(object) = Object::read(kind, bytes) else {
         return None;
     };
     for link in links(&object) {

@@ -64,8 +64,11 @@ fn judge_object<S: Source>(
     if is_blob(source, name) {
         return Ok(None);
     }
+    if let Some((kind, bytes)) = source.lend(name) {
+        return Ok(judge_links(source, kind, bytes, wrong));
+    }
     match source.read(alloc, name) {
-        Ok(Some(sealed)) => Ok(judge_links(source, &sealed, wrong)),
+        Ok(Some(sealed)) => Ok(judge_links(source, sealed.kind(), sealed.bytes(), wrong)),
         Ok(None) => Ok(None),
         Err(fault) => Err(fault),
     }

@@ -1,7 +1,7 @@
 -- The best common ancestors: one step along parents tells what all ancestors tell.
 use Rattle.std.proofs.Common.{◌≡◌, ◌≢◌, ℕ, ◌&&◌, not, cond, Bool, true, false, List, [], ◌∷◌, Option, None, Some, is_some, refl, sym, ap, subst, ◌∙◌, arith}
 use Rattle.std.specs.List.{Contains, list_any}
-use Rattle.std.specs.BTreeSet.{BTreeSet, IsOrdered, contains}
+use Rattle.std.specs.List.Sorted.{IsStrictlySortedBy}
 use Rattle.std.specs.FinMap.{FinMap, contains_key, get, keys, retain_keys}
 use Rattle.std.specs.Option.{option_map}
 use Rattle.std.specs.Str.{bytes_eq}
@@ -14,7 +14,7 @@ use Rattle.git_name.specs.Object.{Object}
 use Rattle.git_name.proofs.MapLemmas.{get_map_values}
 use Rattle.git_name.proofs.Names.{name_total}
 use Rattle.fork_reach.specs.History.{Notes, note_of, noted_parents, parents_of_noted}
-use Rattle.fork_reach.specs.Reach.{IsReached, Root, Next, is_reached, parent_names, parents_of_found}
+use Rattle.fork_reach.specs.Reach.{IsReached, Root, Next, is_among, is_reached, parent_names, parents_of_found}
 use Rattle.fork_reach.specs.Source.{Objects}
 use Rattle.fork_reach.proofs.HiddenLemmas.{get_kept}
 use Rattle.fork_reach.proofs.NameLemmas.{Contains-keys, among-Contains, among-from_Contains, any_passes, same_tests}
@@ -23,7 +23,7 @@ use Rattle.fork_reach.proofs.SeeingLemmas.{sole, sole_there}
 use Rattle.fork_query.specs.MergeBase.{is_ancestor, is_common, is_outdone}
 use Rattle.fork_query.specs.NotedBases.{is_ancestor_noted, is_best_noted, is_common_noted, is_other_parent}
 use Rattle.fork_query.proofs.BeyondLemmas.{there_passes}
-use Rattle.fork_query.proofs.KeyLemmas.{keys_of_set}
+use Rattle.fork_query.proofs.KeyLemmas.{keys_of_names}
 use Rattle.fork_query.proofs.ParentLemmas.{unequal}
 
 -- what is reached is there
@@ -180,5 +180,5 @@ module _ (objects : Objects) (a b : List ℕ) (notes : Notes) (read : IsRead obj
       let both = and_parts (is_common objects a b name) _ is in
       and_from _ _ (ap not (same_tests _ _ (one_step name both.0) (all_steps name)) ∙ both.1) (common_noted name ∙ both.0))
 
-  pub best_names : (best : BTreeSet (List ℕ)) → IsOrdered name_cmp best → ((name : List ℕ) → contains name_cmp best name ≡ is_best_noted notes a b name) → best.keys ≡ keys (retain_keys objects (λ name. is_common objects a b name && not (is_outdone objects a b name)))
-  best_names best ordered found = keys_of_set best _ ordered (λ name. found name ∙ best_noted name ∙ sym (there_passes objects (λ n. is_common objects a b n && not (is_outdone objects a b n)) (λ n is. common_there n (and_parts (is_common objects a b n) _ is).0) name))
+  pub best_names : (best : List (List ℕ)) → IsStrictlySortedBy name_cmp best → ((name : List ℕ) → is_among best name ≡ is_best_noted notes a b name) → best ≡ keys (retain_keys objects (λ name. is_common objects a b name && not (is_outdone objects a b name)))
+  best_names best ordered found = keys_of_names best _ ordered (λ name. found name ∙ best_noted name ∙ sym (there_passes objects (λ n. is_common objects a b n && not (is_outdone objects a b n)) (λ n is. common_there n (and_parts (is_common objects a b n) _ is).0) name))

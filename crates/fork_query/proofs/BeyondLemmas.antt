@@ -1,7 +1,7 @@
 -- What is reached from one side and not from the other.
 use Rattle.std.proofs.Common.{◌≡◌, ℕ, ◌&&◌, not, cond, Bool, true, false, List, [], ◌∷◌, None, map, refl, sym, ap, ◌∙◌}
-use Rattle.std.specs.BTreeSet.{BTreeSet, IsOrdered, contains}
 use Rattle.std.specs.FinMap.{FinMap, contains_key, entries, get, keys, retain_keys, same_map}
+use Rattle.std.specs.List.Sorted.{IsStrictlySortedBy}
 use Rattle.std.proofs.lemmas.Bool.{and_parts}
 use Rattle.git_name.specs.Maps.{map_values, mapped}
 use Rattle.git_name.specs.Name.{name_cmp}
@@ -10,13 +10,13 @@ use Rattle.git_name.proofs.MapLemmas.{entries_map_values}
 use Rattle.git_name.proofs.Names.{name_total, name_exact}
 use Rattle.fork_reach.specs.Hidden.{without}
 use Rattle.fork_reach.specs.History.{Notes, note_of}
-use Rattle.fork_reach.specs.Reach.{is_reached}
+use Rattle.fork_reach.specs.Reach.{is_among, is_reached}
 use Rattle.fork_reach.specs.Source.{Objects}
 use Rattle.fork_reach.proofs.HiddenLemmas.{get_kept, reached_beyond, there_kept}
 use Rattle.fork_reach.proofs.ReachLemmas.{reached_there}
 use Rattle.fork_query.specs.Dates.{dated, noted_date}
 use Rattle.fork_query.specs.Reached.{beyond}
-use Rattle.fork_query.proofs.KeyLemmas.{keys_of_set}
+use Rattle.fork_query.proofs.KeyLemmas.{keys_of_names}
 
 and_known : (there passes : Bool) → (passes ≡ true → there ≡ true) → (there && passes) ≡ passes
 and_known true passes known = refl
@@ -32,10 +32,10 @@ there_beyond next objects wants haves name =
     there_passes objects (λ n. is_reached next objects wants n && not (is_reached next objects haves n)) (λ n is. reached_there next objects wants n (and_parts (is_reached next objects wants n) _ is).0) name
 
 -- a walk that stops at what the other side reaches
-pub names_beyond : {X : Type 0} (next : List ℕ → List (List ℕ)) (objects : FinMap name_cmp X) (hidden : List ℕ → Bool) (wants haves : List (List ℕ)) (names : BTreeSet (List ℕ)) → IsOrdered name_cmp names
-    → ((name : List ℕ) → hidden name ≡ is_reached next objects haves name) → ((name : List ℕ) → contains name_cmp names name ≡ is_reached next (without objects hidden) wants name) → names.keys ≡ keys (beyond next objects wants haves)
+pub names_beyond : {X : Type 0} (next : List ℕ → List (List ℕ)) (objects : FinMap name_cmp X) (hidden : List ℕ → Bool) (wants haves : List (List ℕ)) (names : List (List ℕ)) → IsStrictlySortedBy name_cmp names
+    → ((name : List ℕ) → hidden name ≡ is_reached next objects haves name) → ((name : List ℕ) → is_among names name ≡ is_reached next (without objects hidden) wants name) → names ≡ keys (beyond next objects wants haves)
 names_beyond next objects hidden wants haves names ordered hides found =
-    keys_of_set names (beyond next objects wants haves) ordered (λ name. found name ∙ reached_beyond next objects hidden wants haves hides name ∙ sym (there_beyond next objects wants haves name))
+    keys_of_names names (beyond next objects wants haves) ordered (λ name. found name ∙ reached_beyond next objects hidden wants haves hides name ∙ sym (there_beyond next objects wants haves name))
 
 -- tests that pass the same keep the same
 pub kept_alike : {X : Type 0} (objects : FinMap name_cmp X) (passes others : List ℕ → Bool) → ((name : List ℕ) → passes name ≡ others name) → retain_keys objects passes ≡ retain_keys objects others

@@ -20,7 +20,7 @@ use fork_reach::{History, Source, SourceFault, ascending, read_history};
 use git_name::{Hashing, Name};
 use git_reftx::Refs;
 use std::alloc::{AllocError, Global};
-use std::collections::{BTreeSet, HashSet};
+use std::collections::HashSet;
 
 // Keeps the names that the others have too.
 fn keep_both(names: &mut HashSet<Name, Hashing>, others: &HashSet<Name, Hashing>)
@@ -107,7 +107,7 @@ fn bases<S: Source>(alloc: Global, source: &mut S, a: Name, b: Name) -> Result<V
     ensures listed { IsTrue (S.state source.old).honest → IfOk result (λ text. text.items ≡ name_lines (merge_bases (S.state source.old).objects a b)) }
     ensures asked { IsAsked (S.state source.old) (S.state source.new) (fault_in result) }
 {
-    let none = BTreeSet::new(alloc);
+    let none = HashSet::with_hasher(alloc, source.hashing());
     let history = match read_history(alloc, source, &[a, b], &none) {
         Ok(history) => history,
         Err(fault) => return Err(fault),
@@ -118,8 +118,7 @@ fn bases<S: Source>(alloc: Global, source: &mut S, a: Name, b: Name) -> Result<V
     let Ok(listed) = ascending(alloc, &best) else {
         return Err(SourceFault::Memory);
     };
-    let _count = listed.len();
-    match write_names(alloc, &listed) {
+    match write_names(alloc, listed.as_slice()) {
         Ok(text) => Ok(text),
         Err(_) => Err(SourceFault::Memory),
     }

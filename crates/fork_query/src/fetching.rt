@@ -9,12 +9,11 @@ ghost use Rattle.fork_query.specs.Told.{Tells, fault_told};
 use crate::query_error::QueryError;
 use crate::sides::{Sides, select};
 use crate::want::Want;
-use fork_reach::{Source, SourceFault, reach, reach_past};
+use fork_reach::{Source, SourceFault, ascending, reach, reach_past};
 use git_name::Name;
 use git_reftx::Refs;
 use push_stream::write_record;
 use std::alloc::Global;
-use std::collections::BTreeSet;
 
 // Adds the record of the object of this name, which is read once.
 fn send<S: Source>(
@@ -45,15 +44,15 @@ fn send<S: Source>(
 fn send_all<S: Source>(
     alloc: Global,
     source: &mut S,
-    names: &BTreeSet<Name>,
+    names: Vec<Name>,
 ) -> Result<Vec<u8>, SourceFault>
-    ensures sent { IsTrue (S.state source.old).honest → IfOk result (λ text. text.items ≡ flat_map (record_at (S.state source.old).objects) names.now.keys) }
+    ensures sent { IsTrue (S.state source.old).honest → IfOk result (λ text. text.items ≡ flat_map (record_at (S.state source.old).objects) names.items) }
     ensures named { IfOk result (λ text. AreRecords text.items) }
     ensures asked { IsAsked (S.state source.old) (S.state source.new) (fault_in result) }
 {
     let mut text = Vec::new(alloc);
     for name in names {
-        match send(alloc, source, *name, &mut text) {
+        match send(alloc, source, name, &mut text) {
             Ok(()) => {}
             Err(fault) => return Err(fault),
         }
@@ -77,8 +76,10 @@ fn records<S: Source>(alloc: Global, source: &mut S, sides: &Sides) -> Result<Ve
         Ok(names) => names,
         Err(fault) => return Err(fault),
     };
-    let _count = names.len();
-    send_all(alloc, source, &names)
+    let Ok(names) = ascending(alloc, &names) else {
+        return Err(SourceFault::Memory);
+    };
+    send_all(alloc, source, names)
 }
 
 #[tactic(auto, unfolding(crate::specs::Fetch::fetch_told))]

@@ -3,7 +3,6 @@ ghost use Rattle.fork_query.specs.Objects.{name_line, name_lines};
 
 use git_name::Name;
 use std::alloc::{AllocError, Global};
-use std::collections::BTreeSet;
 
 // Adds the name in digits, and LF.
 pub(crate) fn write_name(text: &mut Vec<u8>, name: Name) -> Result<(), AllocError>
@@ -17,8 +16,8 @@ pub(crate) fn write_name(text: &mut Vec<u8>, name: Name) -> Result<(), AllocErro
 }
 
 // The names, one a line.
-pub(crate) fn write_names(alloc: Global, names: &BTreeSet<Name>) -> Result<Vec<u8>, AllocError>
-    ensures { IfOk result (λ text. text.items ≡ name_lines names.now.keys) }
+pub(crate) fn write_names(alloc: Global, names: &[Name]) -> Result<Vec<u8>, AllocError>
+    ensures { IfOk result (λ text. text.items ≡ name_lines names.now) }
 {
     let mut text = Vec::new(alloc);
     for name in names {

@@ -34,6 +34,9 @@ empty_holds_none keys empty name among = (let no : false ≡ true = subst (λ ks
 pub empty_lacks : (keys : List (List ℕ)) → keys ≡ [] → (name : List ℕ) → list_any (eq_by_cmp name_cmp name) keys ≡ false
 empty_lacks keys empty name = subst (λ ks. list_any (eq_by_cmp name_cmp name) ks ≡ false) (sym empty) refl
 
+pub hashes_none : (keys : List (List ℕ)) → keys ≡ [] → (name : List ℕ) → list_any (same_name name) keys ≡ false
+hashes_none keys empty name = subst (λ ks. list_any (same_name name) ks ≡ false) (sym empty) refl
+
 -- there are as many keys as values
 pub len_keys : {X : Type 0} (values : FinMap name_cmp X) → length (keys values) ≡ len values
 len_keys values = length-map (entries values) (λ e. e.0) ∙ sym (len-entries values)

@@ -7,7 +7,7 @@ ghost use Rattle.fork_reach.specs.Reach.{parents_in};
 
 use crate::source::{Source, SourceFault};
 use git_commit::Commit;
-use git_name::{Kind, Name, Sealed};
+use git_name::{Kind, Name};
 use git_object::{Object, links};
 use std::alloc::{AllocError, Global};
 
@@ -43,11 +43,11 @@ pub(crate) fn goes_on_in(along: Option<Along>, kind: Kind) -> bool
 }
 
 // The names of the object's links, in their order.
-fn link_names(alloc: Global, sealed: &Sealed) -> Result<Vec<Name>, AllocError>
-    ensures { IfOk result (λ names. names.items ≡ map (λ link. link.name) (links_in sealed.now.kind sealed.now.bytes)) }
+fn link_names(alloc: Global, kind: Kind, bytes: &[u8]) -> Result<Vec<Name>, AllocError>
+    ensures { IfOk result (λ names. names.items ≡ map (λ link. link.name) (links_in kind bytes.now)) }
 {
     let mut names = Vec::new(alloc);
-    let Ok(object) = Object::read(sealed.kind(), sealed.bytes()) else {
+    let Ok(object) = Object::read(kind, bytes) else {
         return Ok(names);
     };
     for link in links(&object) {
@@ -71,29 +71,29 @@ pub(crate) fn parents_of(alloc: Global, commit: &Commit<'_>) -> Result<Vec<Name>
 }
 
 // The same of the commit that the object is; any other object has none.
-fn parent_names(alloc: Global, sealed: &Sealed) -> Result<Vec<Name>, AllocError>
-    ensures { IfOk result (λ names. names.items ≡ parents_in sealed.now.kind sealed.now.bytes) }
+fn parent_names(alloc: Global, kind: Kind, bytes: &[u8]) -> Result<Vec<Name>, AllocError>
+    ensures { IfOk result (λ names. names.items ≡ parents_in kind bytes.now) }
 {
-    if !matches!(sealed.kind(), Kind::Commit) {
+    if !matches!(kind, Kind::Commit) {
         return Ok(Vec::new(alloc));
     }
-    let Ok(commit) = Commit::read(sealed.bytes()) else {
+    let Ok(commit) = Commit::read(bytes) else {
         return Ok(Vec::new(alloc));
     };
     parents_of(alloc, &commit)
 }
 
 // The names that the object goes on to.
-fn names_of(alloc: Global, along: Along, sealed: &Sealed) -> Result<Vec<Name>, AllocError>
-    ensures { IfOk result (λ names. names.items ≡ names_in along sealed.now.kind sealed.now.bytes) }
+fn names_of(alloc: Global, along: Along, kind: Kind, bytes: &[u8]) -> Result<Vec<Name>, AllocError>
+    ensures { IfOk result (λ names. names.items ≡ names_in along kind bytes.now) }
 {
     match along {
-        Along::Links => link_names(alloc, sealed),
-        Along::Parents => parent_names(alloc, sealed),
+        Along::Links => link_names(alloc, kind, bytes),
+        Along::Parents => parent_names(alloc, kind, bytes),
     }
 }
 
-// The names that the object of this name goes on to. It is read once.
+// The names that the object of this name goes on to. It is lent, or read once.
 pub(crate) fn next_names<S: Source>(
     alloc: Global,
     source: &mut S,
@@ -103,8 +103,13 @@ pub(crate) fn next_names<S: Source>(
     ensures next { IsTrue (S.state source.old).honest → IfOk result (λ names. names.items ≡ names_along along (S.state source.old).objects name) }
     ensures asked { IsAsked (S.state source.old) (S.state source.new) (fault_in result) }
 {
+    if let Some((kind, bytes)) = source.lend(name) {
+        return names_of(alloc, along, kind, bytes).map_err(|_| SourceFault::Memory);
+    }
     match source.read(alloc, name) {
-        Ok(Some(sealed)) => names_of(alloc, along, &sealed).map_err(|_| SourceFault::Memory),
+        Ok(Some(sealed)) => names_of(alloc, along, sealed.kind(), sealed.bytes()).map_err(
+            |_| SourceFault::Memory,
+        ),
         Ok(None) => Ok(Vec::new(alloc)),
         Err(fault) => Err(fault),
     }

@@ -1,15 +1,16 @@
 ghost use Rattle.std.specs.Prelude.{◌≡◌, ℕ, Bool, true, false, List, IfSome, is_some};
-ghost use Rattle.std.specs.BTreeSet.{contains};
+ghost use Rattle.std.specs.HashSet.{contains};
 ghost use Rattle.std.specs.FinMap as map;
 ghost use Rattle.git_name.specs.Name.{name_cmp};
+ghost use Rattle.git_name.specs.Same.{same_name};
 ghost use Rattle.fork_reach.specs.Along.{rests_at};
 ghost use Rattle.fork_reach.specs.Hidden.{without};
 ghost use Rattle.fork_reach.specs.Objects.{Measures, measures_of};
 
 use crate::along::{Along, goes_on_in};
 use crate::source::Source;
-use git_name::Name;
-use std::collections::BTreeSet;
+use git_name::{Hashing, Name};
+use std::collections::HashSet;
 
 // Names to which a walk may go.
 pub(crate) trait Names {
@@ -33,8 +34,15 @@ pub(crate) trait Names {
 #[derive(Drop)]
 pub(crate) struct Open<'a, S> {
     pub(crate) source: &'a S,
-    pub(crate) hidden: &'a BTreeSet<Name>,
+    pub(crate) hidden: &'a HashSet<Name, Hashing>,
     pub(crate) along: Option<Along>,
+}
+
+// Whether the name is hidden. Where none is, no name is hashed.
+fn is_hidden(hidden: &HashSet<Name, Hashing>, name: Name) -> bool
+    ensures { result ≡ contains same_name hidden.now name }
+{
+    !hidden.is_empty() && hidden.contains(&name)
 }
 
 impl<'a, S: Source> Names for Open<'a, S> {
@@ -43,12 +51,12 @@ impl<'a, S: Source> Names for Open<'a, S> {
 
     ghost Of = { Kind × ℕ };
 
-    ghost names = { λ shown. without (measures_of (S.state shown.source.now).objects) (contains name_cmp shown.hidden.now) };
+    ghost names = { λ shown. without (measures_of (S.state shown.source.now).objects) (contains same_name shown.hidden.now) };
 
     ghost ends = { λ shown. rests_at shown.along (measures_of (S.state shown.source.now).objects) };
 
     fn leads(&self, name: Name) -> Option<bool> {
-        if self.hidden.contains(&name) {
+        if is_hidden(self.hidden, name) {
             return None;
         }
         let Some(kind) = self.source.kind_of(name) else {

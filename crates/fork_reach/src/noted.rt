@@ -4,7 +4,7 @@ ghost use Rattle.fork_reach.specs.History.{note_of};
 
 use crate::along::parents_of;
 use git_commit::Commit;
-use git_name::{Kind, Name, Sealed};
+use git_name::{Kind, Name};
 use std::alloc::{AllocError, Global};
 use std::marker::Model;
 
@@ -46,14 +46,14 @@ impl Noted {
         })
     }
 
-    // Of an object, read once.
-    pub(crate) fn of(alloc: Global, sealed: &Sealed) -> Result<Noted, AllocError>
-        ensures { IfOk result (λ noted. noted ≡ note_of sealed.now) }
+    // Of an object of this kind and these bytes.
+    pub(crate) fn of(alloc: Global, kind: Kind, bytes: &[u8]) -> Result<Noted, AllocError>
+        ensures { IfOk result (λ noted. noted ≡ note_of (record { kind = kind; bytes = bytes.now })) }
     {
-        if !matches!(sealed.kind(), Kind::Commit) {
+        if !matches!(kind, Kind::Commit) {
             return Ok(Noted::none(alloc));
         }
-        match Commit::read(sealed.bytes()) {
+        match Commit::read(bytes) {
             Ok(commit) => Noted::of_commit(alloc, &commit),
             Err(_) => Ok(Noted::none(alloc)),
         }

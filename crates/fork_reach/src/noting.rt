@@ -1,7 +1,5 @@
 ghost use Rattle.std.specs.Prelude.{[], ◌∷◌, OnOk};
-ghost use Rattle.std.specs.BTreeSet.{contains};
-ghost use Rattle.std.specs.HashSet as hashed;
-ghost use Rattle.git_name.specs.Name.{name_cmp};
+ghost use Rattle.std.specs.HashSet.{contains};
 ghost use Rattle.git_name.specs.Same.{same_name};
 ghost use Rattle.fork_reach.specs.Along.{rests_at};
 ghost use Rattle.fork_reach.specs.Hidden.{without};
@@ -13,7 +11,7 @@ use crate::names::{Names, Open};
 use crate::source::Source;
 use git_name::{Hashing, Name};
 use std::alloc::AllocError;
-use std::collections::{BTreeSet, HashSet};
+use std::collections::HashSet;
 
 // Notes the name as seen, and as one that waits where a walk goes on from it, where it is there and was
 // not seen yet.
@@ -23,7 +21,7 @@ fn note<N: Names>(
     seen: &mut HashSet<Name, Hashing>,
     waiting: &mut Vec<Name>,
 ) -> Result<(), AllocError>
-    ensures { OnOk result (Sees (N.names there.now) (N.ends there.now) (name ∷ []) (hashed.contains same_name seen.old) waiting.old.items (hashed.contains same_name seen.new) waiting.new.items) }
+    ensures { OnOk result (Sees (N.names there.now) (N.ends there.now) (name ∷ []) (contains same_name seen.old) waiting.old.items (contains same_name seen.new) waiting.new.items) }
 {
     if seen.contains(&name) {
         return Ok(());
@@ -48,7 +46,7 @@ pub(crate) fn note_all<N: Names>(
     seen: &mut HashSet<Name, Hashing>,
     waiting: &mut Vec<Name>,
 ) -> Result<(), AllocError>
-    ensures { OnOk result (Sees (N.names there.now) (N.ends there.now) names.now (hashed.contains same_name seen.old) waiting.old.items (hashed.contains same_name seen.new) waiting.new.items) }
+    ensures { OnOk result (Sees (N.names there.now) (N.ends there.now) names.now (contains same_name seen.old) waiting.old.items (contains same_name seen.new) waiting.new.items) }
 {
     for name in names {
         note(there, *name, seen, waiting)?;
@@ -59,13 +57,13 @@ pub(crate) fn note_all<N: Names>(
 // The same over the objects of a source of which some are hidden.
 pub(crate) fn note_open<S: Source>(
     source: &S,
-    hidden: &BTreeSet<Name>,
+    hidden: &HashSet<Name, Hashing>,
     along: Option<Along>,
     names: &[Name],
     seen: &mut HashSet<Name, Hashing>,
     waiting: &mut Vec<Name>,
 ) -> Result<(), AllocError>
-    ensures { OnOk result (Sees (without (measures_of (S.state source.now).objects) (contains name_cmp hidden.now)) (rests_at along (measures_of (S.state source.now).objects)) names.now (hashed.contains same_name seen.old) waiting.old.items (hashed.contains same_name seen.new) waiting.new.items) }
+    ensures { OnOk result (Sees (without (measures_of (S.state source.now).objects) (contains same_name hidden.now)) (rests_at along (measures_of (S.state source.now).objects)) names.now (contains same_name seen.old) waiting.old.items (contains same_name seen.new) waiting.new.items) }
 {
     let open = Open {
         source,

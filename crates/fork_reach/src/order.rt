@@ -1,25 +1,30 @@
 ghost use Rattle.std.specs.Prelude.{◌≡◌, List, ℕ, IfOk};
-ghost use Rattle.std.specs.BTreeSet.{contains};
-ghost use Rattle.std.specs.HashSet as hashed;
+ghost use Rattle.std.specs.HashSet.{contains};
+ghost use Rattle.std.specs.List.{IsDistinct};
+ghost use Rattle.std.specs.List.Sorted.{IsStrictlySortedBy};
 ghost use Rattle.git_name.specs.Name.{name_cmp};
 ghost use Rattle.git_name.specs.Same.{same_name};
+ghost use Rattle.fork_reach.specs.Reach.{is_among};
 
 use git_name::{Hashing, Name};
 use std::alloc::{AllocError, Global};
-use std::collections::{BTreeSet, HashSet};
+use std::collections::HashSet;
 
-/// The same names, ascending.
-pub fn ascending(
-    alloc: Global,
-    names: &HashSet<Name, Hashing>,
-) -> Result<BTreeSet<Name>, AllocError>
-    ensures { IfOk result (λ set. (name : List ℕ) → contains name_cmp set name ≡ hashed.contains same_name names.now name) }
+// The names of a set, in no order.
+fn listed(alloc: Global, names: &HashSet<Name, Hashing>) -> Result<Vec<Name>, AllocError>
+    ensures names { IfOk result (λ list. list.items ≡ names.now.keys) }
+    ensures distinct { IsDistinct same_name names.now.keys }
 {
-    let mut set = BTreeSet::new(alloc);
-    for name in names {
-        let Ok(_) = set.insert(*name) else {
-            return Err(AllocError);
-        };
-    }
-    Ok(set)
+    let _count = names.len();
+    names.iter().copied().collect(alloc)
+}
+
+/// The names of a set, ascending.
+pub fn ascending(alloc: Global, names: &HashSet<Name, Hashing>) -> Result<Vec<Name>, AllocError>
+    ensures order { IfOk result (λ list. IsStrictlySortedBy name_cmp list.items) }
+    ensures same { IfOk result (λ list. (name : List ℕ) → is_among list.items name ≡ contains same_name names.now name) }
+{
+    let mut list = listed(alloc, names)?;
+    list.sort_unstable();
+    Ok(list)
 }

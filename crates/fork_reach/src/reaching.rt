@@ -1,8 +1,8 @@
 ghost use Rattle.std.specs.Prelude.{◌≡◌, true, List, ℕ, IsTrue, IfOk};
 ghost use Rattle.std.specs.List.{Contains};
-ghost use Rattle.std.specs.BTreeSet.{contains};
+ghost use Rattle.std.specs.HashSet.{contains};
 ghost use Rattle.std.specs.FinMap as map;
-ghost use Rattle.git_name.specs.Name.{name_cmp};
+ghost use Rattle.git_name.specs.Same.{same_name};
 ghost use Rattle.fork_reach.specs.Faults.{IsAsked, fault_in};
 ghost use Rattle.fork_reach.specs.Hidden.{without};
 ghost use Rattle.fork_reach.specs.Reach.{is_reached, linked_names, parent_names};
@@ -10,9 +10,9 @@ ghost use Rattle.fork_reach.specs.Reach.{is_reached, linked_names, parent_names}
 use crate::along::Along;
 use crate::source::{Source, SourceFault};
 use crate::walk::walk;
-use git_name::Name;
+use git_name::{Hashing, Name};
 use std::alloc::Global;
-use std::collections::BTreeSet;
+use std::collections::HashSet;
 
 /// The names of the source's objects that links lead to from these roots, and of the roots that it
 /// finds. Roots that it does not find are passed over. Each tree, commit and tag is read once, a blob
@@ -21,14 +21,15 @@ pub fn reach<S: Source>(
     alloc: Global,
     source: &mut S,
     roots: &[Name],
-) -> Result<BTreeSet<Name>, SourceFault>
-    ensures found { IsTrue (S.state source.old).honest → IfOk result (λ found. (name : List ℕ) → contains name_cmp found name ≡ is_reached (linked_names (S.state source.old).objects) (S.state source.old).objects roots.now name) }
+) -> Result<HashSet<Name, Hashing>, SourceFault>
+    ensures found { IsTrue (S.state source.old).honest → IfOk result (λ found. (name : List ℕ) → contains same_name found name ≡ is_reached (linked_names (S.state source.old).objects) (S.state source.old).objects roots.now name) }
     // Over any source.
-    ensures there { IfOk result (λ found. (name : List ℕ) → contains name_cmp found name ≡ true → map.contains_key (S.state source.old).objects name ≡ true) }
-    ensures rooted { IfOk result (λ found. (name : List ℕ) → Contains roots.now name → map.contains_key (S.state source.old).objects name ≡ true → contains name_cmp found name ≡ true) }
+    ensures there { IfOk result (λ found. (name : List ℕ) → contains same_name found name ≡ true → map.contains_key (S.state source.old).objects name ≡ true) }
+    ensures rooted { IfOk result (λ found. (name : List ℕ) → Contains roots.now name → map.contains_key (S.state source.old).objects name ≡ true → contains same_name found name ≡ true) }
     ensures asked { IsAsked (S.state source.old) (S.state source.new) (fault_in result) }
 {
-    walk(alloc, source, Along::Links, roots, &BTreeSet::new(alloc))
+    let none = HashSet::with_hasher(alloc, source.hashing());
+    walk(alloc, source, Along::Links, roots, &none)
 }
 
 /// The same, past none of the hidden names: neither they nor what they alone lead to. Where all is
@@ -37,9 +38,9 @@ pub fn reach_past<S: Source>(
     alloc: Global,
     source: &mut S,
     roots: &[Name],
-    hidden: &BTreeSet<Name>,
-) -> Result<BTreeSet<Name>, SourceFault>
-    ensures found { IsTrue (S.state source.old).honest → IfOk result (λ found. (name : List ℕ) → contains name_cmp found name ≡ is_reached (linked_names (S.state source.old).objects) (without (S.state source.old).objects (contains name_cmp hidden.now)) roots.now name) }
+    hidden: &HashSet<Name, Hashing>,
+) -> Result<HashSet<Name, Hashing>, SourceFault>
+    ensures found { IsTrue (S.state source.old).honest → IfOk result (λ found. (name : List ℕ) → contains same_name found name ≡ is_reached (linked_names (S.state source.old).objects) (without (S.state source.old).objects (contains same_name hidden.now)) roots.now name) }
     ensures asked { IsAsked (S.state source.old) (S.state source.new) (fault_in result) }
 {
     walk(alloc, source, Along::Links, roots, hidden)
@@ -51,18 +52,13 @@ pub fn ancestors<S: Source>(
     alloc: Global,
     source: &mut S,
     commits: &[Name],
-) -> Result<BTreeSet<Name>, SourceFault>
-    ensures found { IsTrue (S.state source.old).honest → IfOk result (λ found. (name : List ℕ) → contains name_cmp found name ≡ is_reached (parent_names (S.state source.old).objects) (S.state source.old).objects commits.now name) }
+) -> Result<HashSet<Name, Hashing>, SourceFault>
+    ensures found { IsTrue (S.state source.old).honest → IfOk result (λ found. (name : List ℕ) → contains same_name found name ≡ is_reached (parent_names (S.state source.old).objects) (S.state source.old).objects commits.now name) }
     // Over any source.
-    ensures there { IfOk result (λ found. (name : List ℕ) → contains name_cmp found name ≡ true → map.contains_key (S.state source.old).objects name ≡ true) }
-    ensures rooted { IfOk result (λ found. (name : List ℕ) → Contains commits.now name → map.contains_key (S.state source.old).objects name ≡ true → contains name_cmp found name ≡ true) }
+    ensures there { IfOk result (λ found. (name : List ℕ) → contains same_name found name ≡ true → map.contains_key (S.state source.old).objects name ≡ true) }
+    ensures rooted { IfOk result (λ found. (name : List ℕ) → Contains commits.now name → map.contains_key (S.state source.old).objects name ≡ true → contains same_name found name ≡ true) }
     ensures asked { IsAsked (S.state source.old) (S.state source.new) (fault_in result) }
 {
-    walk(
-        alloc,
-        source,
-        Along::Parents,
-        commits,
-        &BTreeSet::new(alloc),
-    )
+    let none = HashSet::with_hasher(alloc, source.hashing());
+    walk(alloc, source, Along::Parents, commits, &none)
 }

@@ -1,9 +1,9 @@
 ghost use Rattle.std.specs.Prelude.{◌≡◌, ◌≢◌, Some, IsTrue, IfOk};
 ghost use Rattle.std.specs.Bool.{OnFalse};
-ghost use Rattle.std.specs.BTreeSet.{contains};
+ghost use Rattle.std.specs.HashSet.{contains};
 ghost use Rattle.std.specs.FinMap as map;
 ghost use Rattle.git_name.specs.Maps.{map_values};
-ghost use Rattle.git_name.specs.Name.{name_cmp};
+ghost use Rattle.git_name.specs.Same.{same_name};
 ghost use Rattle.fork_reach.specs.Faults.{IsAsked, fault_in};
 ghost use Rattle.fork_reach.specs.Hidden.{without};
 ghost use Rattle.fork_reach.specs.History.{note_at, note_of};
@@ -14,9 +14,9 @@ use crate::history::History;
 use crate::noted::Noted;
 use crate::noting::note_open;
 use crate::source::{Source, SourceFault};
-use git_name::{Kind, Name};
+use git_name::{Hashing, Kind, Name};
 use std::alloc::Global;
-use std::collections::{BTreeSet, HashSet};
+use std::collections::HashSet;
 
 // Whether the object of this name is a commit. It reads no bytes of it.
 fn is_commit<S: Source>(source: &S, name: Name) -> bool
@@ -28,17 +28,22 @@ fn is_commit<S: Source>(source: &S, name: Name) -> bool
     }
 }
 
-// What is noted of the object of this name. It is read at the most once, and not at all where it is no
-// commit.
+// What is noted of the object of this name. It is lent, or read at the most once, and not at all where it is
+// no commit.
 fn noted<S: Source>(alloc: Global, source: &mut S, name: Name) -> Result<Noted, SourceFault>
     ensures noted { IsTrue (S.state source.old).honest → IfOk result (λ noted. noted ≡ note_at (S.state source.old).objects name) }
     ensures asked { IsAsked (S.state source.old) (S.state source.new) (fault_in result) }
 {
+    if let Some((kind, bytes)) = source.lend(name) {
+        return Noted::of(alloc, kind, bytes).map_err(|_| SourceFault::Memory);
+    }
     if !is_commit(source, name) {
         return Ok(Noted::none(alloc));
     }
     match source.read(alloc, name) {
-        Ok(Some(sealed)) => Noted::of(alloc, &sealed).map_err(|_| SourceFault::Memory),
+        Ok(Some(sealed)) => Noted::of(alloc, sealed.kind(), sealed.bytes()).map_err(
+            |_| SourceFault::Memory,
+        ),
         Ok(None) => Ok(Noted::none(alloc)),
         Err(fault) => Err(fault),
     }
@@ -50,9 +55,9 @@ pub fn read_history<S: Source>(
     alloc: Global,
     source: &mut S,
     commits: &[Name],
-    hidden: &BTreeSet<Name>,
+    hidden: &HashSet<Name, Hashing>,
 ) -> Result<History, SourceFault>
-    ensures found { IsTrue (S.state source.old).honest → IfOk result (λ history. history ≡ map_values note_of (map.retain_keys (S.state source.old).objects (is_reached (parent_names (S.state source.old).objects) (without (S.state source.old).objects (contains name_cmp hidden.now)) commits.now))) }
+    ensures found { IsTrue (S.state source.old).honest → IfOk result (λ history. history ≡ map_values note_of (map.retain_keys (S.state source.old).objects (is_reached (parent_names (S.state source.old).objects) (without (S.state source.old).objects (contains same_name hidden.now)) commits.now))) }
     ensures asked { IsAsked (S.state source.old) (S.state source.new) (fault_in result) }
 {
     let mut history = History::new(alloc, source.hashing());

@@ -1,4 +1,4 @@
-ghost use Rattle.std.specs.Prelude.{◌≡◌, IsTrue, IfOk, IfSome, is_some};
+ghost use Rattle.std.specs.Prelude.{◌≡◌, IsTrue, IfOk, IfSome, Some, is_some};
 ghost use Rattle.std.specs.FinMap as map;
 ghost use Rattle.git_name.specs.Object.{object_name};
 ghost use Rattle.fork_reach.specs.Faults.{IsAsked, fault_in};
@@ -39,6 +39,15 @@ pub trait Source {
     /// The kind of the object of this name. It reads no bytes of it.
     fn kind_of(&self, name: Name) -> Option<Kind>
         ensures { result ≡ kind_in (state self.now).objects name };
+
+    /// The object of this name, its kind and its bytes, lent where it lies. What is not lent has to be
+    /// read.
+    fn lend(&self, name: Name) -> Option<(Kind, &[u8])>
+        ensures { IfSome result (λ lent. IsTrue (state self.now).honest × (map.get (state self.now).objects name ≡ Some (record { kind = lent.0; bytes = lent.1.now }))) }
+    {
+        let _name = name;
+        None
+    }
 
     /// The object of this name, read whole.
     fn read(&mut self, alloc: Global, name: Name) -> Result<Option<Sealed>, SourceFault>

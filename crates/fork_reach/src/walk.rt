@@ -1,8 +1,8 @@
 ghost use Rattle.std.specs.Prelude.{◌≡◌, true, List, ℕ, IsTrue, IfOk};
 ghost use Rattle.std.specs.List.{Contains};
-ghost use Rattle.std.specs.BTreeSet.{contains};
+ghost use Rattle.std.specs.HashSet.{contains};
 ghost use Rattle.std.specs.FinMap as map;
-ghost use Rattle.git_name.specs.Name.{name_cmp};
+ghost use Rattle.git_name.specs.Same.{same_name};
 ghost use Rattle.fork_reach.specs.Along.{names_along};
 ghost use Rattle.fork_reach.specs.Faults.{IsAsked, fault_in};
 ghost use Rattle.fork_reach.specs.Hidden.{without};
@@ -10,11 +10,10 @@ ghost use Rattle.fork_reach.specs.Reach.{is_reached};
 
 use crate::along::{Along, next_names};
 use crate::noting::note_open;
-use crate::order::ascending;
 use crate::source::{Source, SourceFault};
-use git_name::Name;
+use git_name::{Hashing, Name};
 use std::alloc::Global;
-use std::collections::{BTreeSet, HashSet};
+use std::collections::HashSet;
 
 // The names that are reached from the roots, past none that is hidden. A name is seen when it is put on
 // the list of those that wait to be followed, so that each is followed once; one whose kind goes on to
@@ -24,11 +23,11 @@ pub(crate) fn walk<S: Source>(
     source: &mut S,
     along: Along,
     roots: &[Name],
-    hidden: &BTreeSet<Name>,
-) -> Result<BTreeSet<Name>, SourceFault>
-    ensures found { IsTrue (S.state source.old).honest → IfOk result (λ found. (name : List ℕ) → contains name_cmp found name ≡ is_reached (names_along along (S.state source.old).objects) (without (S.state source.old).objects (contains name_cmp hidden.now)) roots.now name) }
-    ensures there { IfOk result (λ found. (name : List ℕ) → contains name_cmp found name ≡ true → map.contains_key (without (S.state source.old).objects (contains name_cmp hidden.now)) name ≡ true) }
-    ensures rooted { IfOk result (λ found. (name : List ℕ) → Contains roots.now name → map.contains_key (without (S.state source.old).objects (contains name_cmp hidden.now)) name ≡ true → contains name_cmp found name ≡ true) }
+    hidden: &HashSet<Name, Hashing>,
+) -> Result<HashSet<Name, Hashing>, SourceFault>
+    ensures found { IsTrue (S.state source.old).honest → IfOk result (λ found. (name : List ℕ) → contains same_name found name ≡ is_reached (names_along along (S.state source.old).objects) (without (S.state source.old).objects (contains same_name hidden.now)) roots.now name) }
+    ensures there { IfOk result (λ found. (name : List ℕ) → contains same_name found name ≡ true → map.contains_key (without (S.state source.old).objects (contains same_name hidden.now)) name ≡ true) }
+    ensures rooted { IfOk result (λ found. (name : List ℕ) → Contains roots.now name → map.contains_key (without (S.state source.old).objects (contains same_name hidden.now)) name ≡ true → contains same_name found name ≡ true) }
     ensures asked { IsAsked (S.state source.old) (S.state source.new) (fault_in result) }
 {
     let mut seen = HashSet::with_hasher(alloc, source.hashing());
@@ -52,8 +51,5 @@ pub(crate) fn walk<S: Source>(
             return Err(SourceFault::Memory);
         };
     }
-    let Ok(found) = ascending(alloc, &seen) else {
-        return Err(SourceFault::Memory);
-    };
-    Ok(found)
+    Ok(seen)
 }

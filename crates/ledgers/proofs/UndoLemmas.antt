@@ -1,5 +1,5 @@
 -- What is staged and noted, unstaged again.
-use Rattle.std.proofs.Common.{◌≡◌, ℕ, List, [], ◌∷◌, ◌++◌, Bool, true, false, cond, Option, Some, None, length, refl, sym, ap, ◌∙◌}
+use Rattle.std.proofs.Common.{◌≡◌, ℕ, List, [], ◌∷◌, ◌++◌, Bool, true, false, cond, Option, Some, None, refl, sym, ap, ◌∙◌}
 use Rattle.std.specs.Prelude.{OnErr, OnOk, Result, Ok, Err}
 use Rattle.std.specs.BTreeMap.{is_at}
 use Rattle.std.specs.Cmp.{eq_by_cmp_equiv}
@@ -8,9 +8,9 @@ use Rattle.std.specs.Ordering.{eq_by_cmp}
 use Rattle.std.specs.FinMap.{empty, get, get-insert, insert, same_map}
 use Rattle.git_name.specs.declared.kind.Kind.{Kind}
 use Rattle.git_name.specs.Name.{name_cmp}
-use Rattle.git_name.specs.Object.{Object, object_name}
 use Rattle.git_name.proofs.Names.{name_total, name_exact}
 use Rattle.ledgers.specs.AllStaged.{all_staged_words}
+use Rattle.ledgers.specs.declared.entry.Entry.{Entry}
 use Rattle.ledgers.specs.Ledgers.{AllWords, at_ledger, ledger_at}
 use Rattle.ledgers.specs.Words.{Words, is_staged, is_visible, kept_as, seen_word, staged_over, staged_too, staged_words, unstaged_if, unstaged_word, unstaged_words, waits, with_standing}
 use Rattle.ledgers.specs.declared.word.Standing.{Standing}
@@ -157,18 +157,18 @@ pub undone_either : {A E : Type 0} (r : Result A E) (m n : AllWords) (t : List �
 undone_either (Ok a) m n t old new name kind size fresh notes ok err = ap (λ x. at_ledger x t (unstaged_words new)) ok ∙ undone_staged m t old new name kind size fresh notes
 undone_either (Err e) m n t old new name kind size fresh notes ok err = ap (λ x. at_ledger x t (unstaged_words new)) err ∙ undone_noted m t old new name fresh notes
 
--- one more object
-pub all_staged_more : (objects : List Object) (object : Object) (words : Words)
-    → all_staged_words (objects ++ object ∷ []) words ≡ staged_words (object_name object) object.kind (length object.bytes) (all_staged_words objects words)
-all_staged_more [] object words = refl
-all_staged_more (first ∷ objects) object words = all_staged_more objects object (staged_words (object_name first) first.kind (length first.bytes) words)
+-- one more entry
+pub all_staged_more : (entries : List Entry) (entry : Entry) (words : Words)
+    → all_staged_words (entries ++ entry ∷ []) words ≡ staged_words entry.name entry.kind entry.length (all_staged_words entries words)
+all_staged_more [] entry words = refl
+all_staged_more (first ∷ entries) entry words = all_staged_more entries entry (staged_words first.name first.kind first.length words)
 
-pub ledger_more : (m : AllWords) (t : List ℕ) (objects : List Object) (object : Object)
-    → at_ledger (at_ledger m t (all_staged_words objects)) t (staged_words (object_name object) object.kind (length object.bytes)) ≡ at_ledger m t (all_staged_words (objects ++ object ∷ []))
-ledger_more m t objects object =
-    ledger_twice m t (all_staged_words objects) (staged_words (object_name object) object.kind (length object.bytes))
-    ∙ ledger_alike m t (λ words. staged_words (object_name object) object.kind (length object.bytes) (all_staged_words objects words)) (all_staged_words (objects ++ object ∷ [])) (sym (all_staged_more objects object (ledger_at m t)))
+pub ledger_more : (m : AllWords) (t : List ℕ) (entries : List Entry) (entry : Entry)
+    → at_ledger (at_ledger m t (all_staged_words entries)) t (staged_words entry.name entry.kind entry.length) ≡ at_ledger m t (all_staged_words (entries ++ entry ∷ []))
+ledger_more m t entries entry =
+    ledger_twice m t (all_staged_words entries) (staged_words entry.name entry.kind entry.length)
+    ∙ ledger_alike m t (λ words. staged_words entry.name entry.kind entry.length (all_staged_words entries words)) (all_staged_words (entries ++ entry ∷ [])) (sym (all_staged_more entries entry (ledger_at m t)))
 
-pub one_more : (m n : AllWords) (t : List ℕ) (objects : List Object) (object : Object) → n ≡ at_ledger m t (all_staged_words objects)
-    → at_ledger n t (staged_words (object_name object) object.kind (length object.bytes)) ≡ at_ledger m t (all_staged_words (objects ++ object ∷ []))
-one_more m n t objects object is = ap (λ x. at_ledger x t (staged_words (object_name object) object.kind (length object.bytes))) is ∙ ledger_more m t objects object
+pub one_more : (m n : AllWords) (t : List ℕ) (entries : List Entry) (entry : Entry) → n ≡ at_ledger m t (all_staged_words entries)
+    → at_ledger n t (staged_words entry.name entry.kind entry.length) ≡ at_ledger m t (all_staged_words (entries ++ entry ∷ []))
+one_more m n t entries entry is = ap (λ x. at_ledger x t (staged_words entry.name entry.kind entry.length)) is ∙ ledger_more m t entries entry

@@ -4,5 +4,6 @@ pub mod Due
 pub mod Holders
 pub mod Ledgers
 pub mod Settled
+pub mod Told
 pub mod Totals
 pub mod Words

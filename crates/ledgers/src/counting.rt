@@ -5,6 +5,7 @@ ghost use Rattle.git_name.specs.Name.{name_cmp};
 ghost use Rattle.catalogue.specs.Counted.{count_of, places_of};
 ghost use Rattle.ledgers.specs.Due.{due_in, leaves_kept, leaves_unstaged};
 
+use crate::name_set::NameSet;
 use crate::word::{Word, goes, goes_unstaged};
 use catalogue::Catalogue;
 use git_name::{Hashing, Name};
@@ -12,17 +13,17 @@ use indexmap::IndexMap;
 use std::collections::BTreeSet;
 
 // Lowers the numbers of the names that leave as these alone are kept. It takes no memory.
-pub(crate) fn lower_left(
+pub(crate) fn lower_left<N: NameSet>(
     words: &IndexMap<Name, Word, Hashing>,
-    names: &BTreeSet<Name>,
+    names: &N,
     catalogue: &mut Catalogue,
 )
-    requires { (q : List ℕ) → due_in (leaves_kept (contains name_cmp names.now)) words.now.entries q ≤ count_of catalogue.old q }
+    requires { (q : List ℕ) → due_in (leaves_kept (N.names names.now)) words.now.entries q ≤ count_of catalogue.old q }
     ensures places { places_of catalogue.new ≡ places_of catalogue.old }
-    ensures counts { (q : List ℕ) → count_of catalogue.new q + due_in (leaves_kept (contains name_cmp names.now)) words.now.entries q ≡ count_of catalogue.old q }
+    ensures counts { (q : List ℕ) → count_of catalogue.new q + due_in (leaves_kept (N.names names.now)) words.now.entries q ≡ count_of catalogue.old q }
 {
     for (name, word) in words.iter() {
-        if goes(word, names.contains(name)) {
+        if goes(word, names.has(*name)) {
             catalogue.lower(*name);
         }
     }

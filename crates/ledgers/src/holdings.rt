@@ -11,6 +11,7 @@ ghost use Rattle.ledgers.specs.Totals.{capped, total_of, used_by};
 ghost use Rattle.ledgers.specs.Words.{discarded_words, is_staged, is_visible, kept_words, published_words, staged_words, unstaged_words, words_that};
 
 use crate::ledgers::Ledgers;
+use crate::name_set::NameSet;
 use crate::word::Word;
 use catalogue::Catalogue;
 use fork_request::TenantName;
@@ -161,8 +162,8 @@ impl Holdings {
     }
 
     /// Of what a tenant sees, keeps these names alone. It takes no memory.
-    pub fn keep_only(&mut self, tenant: &TenantName, names: &BTreeSet<Name>)
-        ensures ledgers { self.new.ledgers ≡ at_ledger self.old.ledgers tenant.now (kept_words (λ name. contains name_cmp names.now name)) }
+    pub fn keep_only<N: NameSet>(&mut self, tenant: &TenantName, names: &N)
+        ensures ledgers { self.new.ledgers ≡ at_ledger self.old.ledgers tenant.now (kept_words (N.names names.now)) }
         ensures places { places_of self.new.catalogue ≡ places_of self.old.catalogue }
     {
         keep_counted(&mut self.ledgers, &mut self.catalogue, tenant, names);
@@ -336,15 +337,15 @@ fn discard_counted(ledgers: &mut Ledgers, catalogue: &mut Catalogue, tenant: &Te
 }
 
 // Of what is visible these names stay alone, and what leaves the ledger is counted no more.
-fn keep_counted(
+fn keep_counted<N: NameSet>(
     ledgers: &mut Ledgers,
     catalogue: &mut Catalogue,
     tenant: &TenantName,
-    names: &BTreeSet<Name>,
+    names: &N,
 )
     requires counting { IsCounting ledgers.old catalogue.old }
     ensures counting { IsCounting ledgers.new catalogue.new }
-    ensures ledgers { ledgers.new ≡ at_ledger ledgers.old tenant.now (kept_words (λ name. contains name_cmp names.now name)) }
+    ensures ledgers { ledgers.new ≡ at_ledger ledgers.old tenant.now (kept_words (N.names names.now)) }
     ensures places { places_of catalogue.new ≡ places_of catalogue.old }
 {
     let Some(own) = ledgers.get(tenant) else {

@@ -7,6 +7,7 @@ ghost use Rattle.ledgers.specs.Due.{due_at, leaves_discarded, leaves_kept, leave
 ghost use Rattle.ledgers.specs.Totals.{capped, total_of, used_by};
 ghost use Rattle.ledgers.specs.Words.{discarded_words, is_visible, kept_words, published_words, staged_words, unstaged_words, words_that};
 
+use crate::name_set::NameSet;
 use crate::word::Word;
 use crate::word_map::WordMap;
 use crate::words::size_of;
@@ -115,8 +116,8 @@ impl Ledger {
     }
 
     /// Of what is visible keeps these names alone. It takes no memory.
-    pub fn keep_only(&mut self, names: &BTreeSet<Name>)
-        ensures { self.new ≡ kept_words (λ name. contains name_cmp names.now name) self.old }
+    pub fn keep_only<N: NameSet>(&mut self, names: &N)
+        ensures { self.new ≡ kept_words (N.names names.now) self.old }
     {
         self.words.keep_only(names);
         let (used, total) = self.words.uses();
@@ -144,10 +145,10 @@ impl Ledger {
     }
 
     /// Lowers the numbers of the names that leave by `keep_only`. It takes no memory.
-    pub fn lower_others(&self, names: &BTreeSet<Name>, catalogue: &mut Catalogue)
-        requires { (q : List ℕ) → due_at (leaves_kept (contains name_cmp names.now)) self.now q ≤ count_of catalogue.old q }
+    pub fn lower_others<N: NameSet>(&self, names: &N, catalogue: &mut Catalogue)
+        requires { (q : List ℕ) → due_at (leaves_kept (N.names names.now)) self.now q ≤ count_of catalogue.old q }
         ensures places { places_of catalogue.new ≡ places_of catalogue.old }
-        ensures counts { (q : List ℕ) → count_of catalogue.new q + due_at (leaves_kept (contains name_cmp names.now)) self.now q ≡ count_of catalogue.old q }
+        ensures counts { (q : List ℕ) → count_of catalogue.new q + due_at (leaves_kept (N.names names.now)) self.now q ≡ count_of catalogue.old q }
     {
         self.words.lower_others(names, catalogue);
     }

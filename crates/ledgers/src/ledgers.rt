@@ -9,6 +9,7 @@ ghost use Rattle.ledgers.specs.Ledgers.{at_ledger, ledger_at, with_ledger};
 ghost use Rattle.ledgers.specs.Words.{Words, discarded_words, kept_words, published_words, staged_words, unstaged_words};
 
 use crate::ledger::Ledger;
+use crate::name_set::NameSet;
 use catalogue::Catalogue;
 use fork_request::TenantName;
 use git_name::{Hashing, Kind, Name};
@@ -124,8 +125,8 @@ impl Ledgers {
     }
 
     /// Of what a tenant sees, keeps these names alone. It takes no memory.
-    pub fn keep_only(&mut self, tenant: &TenantName, names: &BTreeSet<Name>)
-        ensures { self.new ≡ at_ledger self.old tenant.now (kept_words (λ name. contains name_cmp names.now name)) }
+    pub fn keep_only<N: NameSet>(&mut self, tenant: &TenantName, names: &N)
+        ensures { self.new ≡ at_ledger self.old tenant.now (kept_words (N.names names.now)) }
     {
         let Some(own) = self.tenants.get_mut(tenant) else {
             return;

@@ -5,18 +5,22 @@
 #![tactic(auto)]
 
 mod counting;
+mod entry;
 mod holdings;
 mod ledger;
 mod ledgers;
+mod name_set;
 mod staging;
 mod usage;
 mod word;
 mod word_map;
 mod words;
 
+pub use crate::entry::Entry;
 pub use crate::holdings::Holdings;
 pub use crate::ledger::Ledger;
 pub use crate::ledgers::Ledgers;
+pub use crate::name_set::NameSet;
 pub use crate::staging::stage_all;
 pub use crate::usage::WORD_USE;
 pub use crate::word::{Standing, Word};

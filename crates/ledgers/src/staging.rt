@@ -1,35 +1,35 @@
 // Objects that are staged in one call, all or none.
-ghost use Rattle.std.specs.Prelude.{◌≡◌, true, length, OnErr, OnOk};
+ghost use Rattle.std.specs.Prelude.{◌≡◌, true, OnErr, OnOk};
 ghost use Rattle.std.specs.BTreeSet.{contains};
 ghost use Rattle.git_name.specs.Name.{name_cmp};
-ghost use Rattle.git_name.specs.Object.{object_name};
 ghost use Rattle.looks.specs.Places.{is_listed};
 ghost use Rattle.catalogue.specs.Counted.{places_of};
 ghost use Rattle.ledgers.specs.AllStaged.{AreListed, all_staged_words};
 ghost use Rattle.ledgers.specs.Ledgers.{at_ledger};
 ghost use Rattle.ledgers.specs.Words.{staged_words, unstaged_words};
 
+use crate::entry::Entry;
 use crate::holdings::Holdings;
 use fork_request::TenantName;
-use git_name::{Name, Sealed};
+use git_name::Name;
 use std::alloc::{AllocError, Global};
 use std::collections::BTreeSet;
 
-/// Stages objects for a tenant, in order, all or none. Their names are catalogued.
+/// Stages the objects of these entries for a tenant, in order, all or none. Their names are catalogued.
 pub fn stage_all(
     alloc: Global,
     holdings: &mut Holdings,
     tenant: &TenantName,
-    objects: &[Sealed],
+    entries: &[Entry],
 ) -> Result<(), AllocError>
-    requires listed { AreListed (places_of holdings.old.catalogue) objects.now }
-    ensures ok { OnOk result (holdings.new.ledgers ≡ at_ledger holdings.old.ledgers tenant.now (all_staged_words objects.now)) }
+    requires listed { AreListed (places_of holdings.old.catalogue) entries.now }
+    ensures ok { OnOk result (holdings.new.ledgers ≡ at_ledger holdings.old.ledgers tenant.now (all_staged_words entries.now)) }
     ensures err { OnErr result (holdings.new.ledgers ≡ holdings.old.ledgers) }
     ensures places { places_of holdings.new.catalogue ≡ places_of holdings.old.catalogue }
 {
     let mut noted = BTreeSet::new(alloc);
-    for sealed in objects {
-        let Ok(()) = stage_noted(holdings, tenant, sealed, &mut noted) else {
+    for entry in entries {
+        let Ok(()) = stage_noted(holdings, tenant, *entry, &mut noted) else {
             holdings.unstage(tenant, &noted);
             return Err(AllocError);
         };
@@ -42,20 +42,19 @@ pub fn stage_all(
 fn stage_noted(
     holdings: &mut Holdings,
     tenant: &TenantName,
-    sealed: &Sealed,
+    entry: Entry,
     noted: &mut BTreeSet<Name>,
 ) -> Result<(), AllocError>
-    requires listed { is_listed (places_of holdings.old.catalogue).names (object_name sealed.now) ≡ true }
-    ensures ok { OnOk result (holdings.new.ledgers ≡ at_ledger holdings.old.ledgers tenant.now (staged_words (object_name sealed.now) sealed.now.kind (length sealed.now.bytes))) }
+    requires listed { is_listed (places_of holdings.old.catalogue).names entry.name ≡ true }
+    ensures ok { OnOk result (holdings.new.ledgers ≡ at_ledger holdings.old.ledgers tenant.now (staged_words entry.name entry.kind entry.length)) }
     ensures undone { at_ledger holdings.new.ledgers tenant.now (unstaged_words (contains name_cmp noted.new)) ≡ at_ledger holdings.old.ledgers tenant.now (unstaged_words (contains name_cmp noted.old)) }
     ensures places { places_of holdings.new.catalogue ≡ places_of holdings.old.catalogue }
 {
-    let name = sealed.name();
-    if holdings.has_staged(tenant, name) {
+    if holdings.has_staged(tenant, entry.name) {
         return Ok(());
     }
-    let Ok(_) = noted.insert(name) else {
+    let Ok(_) = noted.insert(entry.name) else {
         return Err(AllocError);
     };
-    holdings.stage(tenant, name, sealed.kind(), sealed.bytes().len() as u64)
+    holdings.stage(tenant, entry.name, entry.kind, entry.length)
 }

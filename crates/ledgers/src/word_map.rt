@@ -8,6 +8,7 @@ ghost use Rattle.ledgers.specs.Totals.{capped, total_of, used_by};
 ghost use Rattle.ledgers.specs.Words.{discarded_words, is_visible, kept_words, published_words, staged_words, unstaged_words, words_that};
 
 use crate::counting::{lower_left, lower_unstaged};
+use crate::name_set::NameSet;
 use crate::word::{Word, is_staged, word_over};
 use crate::words::{
     empty, keep_among, leave_out, put_staged, see_all, seen_names, unstage_all, unstage_among,
@@ -114,8 +115,8 @@ impl WordMap {
     }
 
     /// Of what is visible keeps these names alone. It takes no memory.
-    pub fn keep_only(&mut self, names: &BTreeSet<Name>)
-        ensures { self.new ≡ kept_words (λ name. contains name_cmp names.now name) self.old }
+    pub fn keep_only<N: NameSet>(&mut self, names: &N)
+        ensures { self.new ≡ kept_words (N.names names.now) self.old }
     {
         keep_among(&mut self.words, names);
     }
@@ -139,10 +140,10 @@ impl WordMap {
     }
 
     /// Lowers the numbers of the names that leave by `keep_only`. It takes no memory.
-    pub fn lower_others(&self, names: &BTreeSet<Name>, catalogue: &mut Catalogue)
-        requires { (q : List ℕ) → due_at (leaves_kept (contains name_cmp names.now)) self.now q ≤ count_of catalogue.old q }
+    pub fn lower_others<N: NameSet>(&self, names: &N, catalogue: &mut Catalogue)
+        requires { (q : List ℕ) → due_at (leaves_kept (N.names names.now)) self.now q ≤ count_of catalogue.old q }
         ensures places { places_of catalogue.new ≡ places_of catalogue.old }
-        ensures counts { (q : List ℕ) → count_of catalogue.new q + due_at (leaves_kept (contains name_cmp names.now)) self.now q ≡ count_of catalogue.old q }
+        ensures counts { (q : List ℕ) → count_of catalogue.new q + due_at (leaves_kept (N.names names.now)) self.now q ≡ count_of catalogue.old q }
     {
         let _count = self.words.len();
         lower_left(&self.words, names, catalogue);

@@ -14,6 +14,7 @@ ghost use Rattle.ledgers.specs.Settled.{AreStaged, Settles, is_among};
 ghost use Rattle.ledgers.specs.Totals.{capped, seen_use, use_of_word};
 ghost use Rattle.ledgers.specs.Words.{discarded_words, is_visible, kept_as, kept_word, published_words, seen_word, unstaged_if, unstaged_word, words_that};
 
+use crate::name_set::NameSet;
 use crate::usage::WORD_USE;
 use crate::word::{Word, keep, see, unstage};
 use catalogue::Catalogue;
@@ -117,12 +118,12 @@ pub(crate) fn unstage_all(
 }
 
 // Of what is seen these names alone stay so. It takes no memory.
-pub(crate) fn keep_among(words: &mut IndexMap<Name, Word, Hashing>, names: &BTreeSet<Name>)
-    ensures entries { words.new.entries ≡ chosen_in (λ name word. kept_word (set.contains name_cmp names.now name) word) words.old.entries }
+pub(crate) fn keep_among<N: NameSet>(words: &mut IndexMap<Name, Word, Hashing>, names: &N)
+    ensures entries { words.new.entries ≡ chosen_in (λ name word. kept_word (N.names names.now name) word) words.old.entries }
     ensures distinct { IsDistinct same_name (keys_of words.old.entries) }
 {
     let _count = words.len();
-    words.retain(|name, word| keep(word, names.contains(name)));
+    words.retain(|name, word| keep(word, names.has(*name)));
 }
 
 // What is staged under these names is so no more. It takes no memory.

@@ -1,5 +1,6 @@
 pub mod Failures
 pub mod Files
 pub mod Fuse
+pub mod MemoryFile
 pub mod Place
 pub mod Stored

@@ -13,6 +13,7 @@ mod journal_file;
 mod laws;
 mod listing;
 mod memory;
+mod memory_file;
 mod place;
 mod state_file;
 mod stored;

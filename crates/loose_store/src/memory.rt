@@ -6,50 +6,56 @@ ghost use Rattle.git_name.specs.Name.{name_cmp};
 ghost use Rattle.git_name.specs.Same.{Sets, same_name};
 
 use crate::files::{FileFault, LooseFiles};
-use git_name::{Hashing, Name};
+use crate::memory_file::MemoryFile;
+use git_name::{Hashing, Kind, Name, Sealed};
 use std::alloc::{AllocError, Global};
 use std::collections::HashMap;
 use std::marker::Model;
 
-/// Files in memory, hashed by their names.
+/// Files in memory, hashed by their names. An object that was put stays as it came, and its file is
+/// spelled where it is read.
 #[derive(Debug, Drop)]
 pub struct Memory {
-    files: HashMap<Name, Vec<u8>, Hashing>,
+    files: HashMap<Name, MemoryFile, Hashing>,
 }
 
 impl Model for Memory {
     ghost use Rattle.std.specs.Coded.{coded_list, coded_ℕ};
     ghost use Rattle.std.specs.FinMap as map;
     ghost use Rattle.loose_store.specs.Files.{Files};
+    ghost use Rattle.loose_store.specs.MemoryFile.{bytes_of};
     ghost use Rattle.git_name.specs.Maps.{map_values};
 
     ghost Value = { Files };
 
     ghost coded = { map.code (coded_list coded_ℕ) (coded_list coded_ℕ) };
 
-    ghost view = { λ a. map_values (λ bytes. bytes.items) (map.from_entries a.files.entries) };
+    ghost view = { λ a. map_values bytes_of (map.from_entries a.files.entries) };
 }
 
 fn insert_into(
-    files: &mut HashMap<Name, Vec<u8>, Hashing>,
+    files: &mut HashMap<Name, MemoryFile, Hashing>,
     name: Name,
-    bytes: Vec<u8>,
+    file: MemoryFile,
 ) -> Result<(), AllocError>
-    ensures ok { OnOk result (Sets files.old.entries files.new.entries name (Some bytes)) }
+    ensures ok { OnOk result (Sets files.old.entries files.new.entries name (Some file)) }
     ensures err { OnErr result (files.new.entries ≡ files.old.entries) }
 {
-    files.insert(name, bytes)?;
+    files.insert(name, file)?;
     Ok(())
 }
 
-fn remove_from(files: &mut HashMap<Name, Vec<u8>, Hashing>, name: Name)
+fn remove_from(files: &mut HashMap<Name, MemoryFile, Hashing>, name: Name)
     ensures { Sets files.old.entries files.new.entries name None }
 {
     files.remove(&name);
 }
 
 // The names of the files, in no order.
-fn listed(alloc: Global, files: &HashMap<Name, Vec<u8>, Hashing>) -> Result<Vec<Name>, AllocError>
+fn listed(
+    alloc: Global,
+    files: &HashMap<Name, MemoryFile, Hashing>,
+) -> Result<Vec<Name>, AllocError>
     ensures names { IfOk result (λ names. names.items ≡ keys_of files.now.entries) }
     ensures distinct { IsDistinct same_name (keys_of files.now.entries) }
 {
@@ -58,7 +64,10 @@ fn listed(alloc: Global, files: &HashMap<Name, Vec<u8>, Hashing>) -> Result<Vec<
 }
 
 // The names of the files, ascending.
-fn names_in(alloc: Global, files: &HashMap<Name, Vec<u8>, Hashing>) -> Result<Vec<Name>, AllocError>
+fn names_in(
+    alloc: Global,
+    files: &HashMap<Name, MemoryFile, Hashing>,
+) -> Result<Vec<Name>, AllocError>
     ensures { IfOk result (λ names. names.items ≡ map.keys (map.from_entries {R = name_cmp} files.now.entries)) }
 {
     let mut names = listed(alloc, files)?;
@@ -67,6 +76,8 @@ fn names_in(alloc: Global, files: &HashMap<Name, Vec<u8>, Hashing>) -> Result<Ve
 }
 
 impl Memory {
+    ghost use Rattle.loose_store.specs.MemoryFile.{bytes_of};
+
     /// No files.
     pub fn new(alloc: Global) -> Memory
         ensures { result ≡ map.empty }
@@ -89,15 +100,15 @@ impl Memory {
         ensures err { OnErr result (self.new ≡ self.old) }
     {
         let copy = bytes.to_vec(alloc)?;
-        self.keep(name, copy)
+        self.keep(name, MemoryFile::Bytes(copy))
     }
 
-    // The same of bytes that need no copy.
-    fn keep(&mut self, name: Name, bytes: Vec<u8>) -> Result<(), AllocError>
-        ensures ok { OnOk result (self.new ≡ map.insert self.old name bytes.items) }
+    // Puts a file under a name.
+    fn keep(&mut self, name: Name, file: MemoryFile) -> Result<(), AllocError>
+        ensures ok { OnOk result (self.new ≡ map.insert self.old name (bytes_of file)) }
         ensures err { OnErr result (self.new ≡ self.old) }
     {
-        insert_into(&mut self.files, name, bytes)
+        insert_into(&mut self.files, name, file)
     }
 }
 
@@ -109,15 +120,15 @@ impl LooseFiles for Memory {
     ghost failures = { λ _. 0 };
 
     fn get(&mut self, alloc: Global, name: Name) -> Result<Option<Vec<u8>>, FileFault> {
-        let Some(bytes) = self.files.get(&name) else {
+        let Some(file) = self.files.get(&name) else {
             return Ok(None);
         };
-        Ok(Some(bytes.to_vec(alloc)?))
+        Ok(Some(file.to_bytes(alloc)?))
     }
 
-    fn lend(&self, name: Name) -> Option<&[u8]> {
+    fn lend(&self, name: Name) -> Option<(Kind, &[u8])> {
         match self.files.get(&name) {
-            Some(bytes) => Some(bytes.as_slice()),
+            Some(file) => file.object(),
             None => None,
         }
     }
@@ -126,8 +137,10 @@ impl LooseFiles for Memory {
         Ok(self.set(alloc, name, bytes)?)
     }
 
-    fn put_owned(&mut self, _alloc: Global, name: Name, bytes: Vec<u8>) -> Result<(), FileFault> {
-        Ok(self.keep(name, bytes)?)
+    fn put_object(&mut self, _alloc: Global, sealed: Sealed) -> Result<(), FileFault> {
+        let name = sealed.name();
+        let (kind, content) = sealed.into_parts();
+        Ok(self.keep(name, MemoryFile::Object(kind, content))?)
     }
 
     fn remove(&mut self, _alloc: Global, name: Name) -> Result<(), FileFault> {

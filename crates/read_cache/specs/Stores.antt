@@ -3,9 +3,7 @@ use Rattle.std.specs.Prelude.{◌≡◌, ℕ, Bool, Result, Ok, Err, refl}
 use Rattle.std.specs.Coded.{Coded, code_by, coded×, coded_bool, coded_list, coded_ℕ}
 use Rattle.std.specs.FinMap as map
 use Rattle.loose_store.specs.Files.{Files}
-use Rattle.loose_store.specs.Failures.{Rises, Stays}
-use Rattle.loose_store.specs.declared.files.FileFault as file
-use Rattle.loose_store.specs.declared.files.FileFault.TheVariants as fault
+use Rattle.loose_store.specs.Failures.{Rises}
 use Rattle.loose_store.specs.declared.checked.StoreFault.{StoreFault}
 use Rattle.loose_store.specs.declared.checked.StoreFault.TheVariants.{Device, Damaged, Memory}
 
@@ -26,9 +24,3 @@ CountsRead before now (Ok answer) = now ≡ before
 CountsRead before now (Err Device) = Rises before now
 CountsRead before now (Err Damaged) = now ≡ before
 CountsRead before now (Err Memory) = now ≡ before
-
--- the same where a file is written; without memory for its bytes the store need not have been asked
-abbrev pub CountsPut : {A : Type 0} → ℕ → ℕ → Result A file.FileFault → Type 0
-CountsPut before now (Ok answer) = Stays before now
-CountsPut before now (Err fault.Device) = Rises before now
-CountsPut before now (Err fault.Memory) = now ≡ before

@@ -2,17 +2,15 @@ ghost use Rattle.std.specs.Prelude.{◌≡◌, IsTrue, IfErr, IfOk, IfSome, OnOk
 ghost use Rattle.std.specs.FinMap as map;
 ghost use Rattle.git_name.specs.Object.{object_name, typed_bytes};
 ghost use Rattle.loose_store.specs.Files.{SameBut};
-ghost use Rattle.loose_store.specs.Failures.{Counts};
-ghost use Rattle.loose_store.specs.Stored.{ReadsTo, CountsRead as CountsAsked};
+ghost use Rattle.loose_store.specs.Failures.{Counts, CountsPut};
+ghost use Rattle.loose_store.specs.Stored.{ReadsTo, Whole, CountsRead as CountsAsked};
 ghost use Rattle.read_cache.specs.Known.{AreKnown, IsKnown};
-ghost use Rattle.read_cache.specs.Stores.{CountsPut, CountsRead};
+ghost use Rattle.read_cache.specs.Stores.{CountsRead};
 
 use crate::read_cache::ReadCache;
 use crate::survey::Survey;
 use git_name::{Hashing, Kind, Name, Sealed, seal_as};
-use loose_store::{
-    FileFault, LooseFiles, StoreFault, content_of, file_of, one_object, read_checked,
-};
+use loose_store::{FileFault, LooseFiles, StoreFault, content_of, one_object, read_checked};
 use std::alloc::{AllocError, Global};
 use std::marker::Model;
 
@@ -93,7 +91,18 @@ impl<S: LooseFiles> CachedStore<S> {
         read_through(alloc, &mut self.files, &mut self.cache, self.is_sure, name)
     }
 
-    /// The same, asked of the store alone. Nothing is kept.
+    /// The object of this name, its kind and its bytes, lent where its file lies in memory and need not be
+    /// hashed; nothing where it has to be read.
+    pub fn lend(&self, name: Name) -> Option<(Kind, &[u8])>
+        ensures { IfSome result (λ lent. IsTrue self.now.honest × Whole self.now.contents name (record { kind = lent.0; bytes = lent.1.now })) }
+    {
+        if !self.is_sure {
+            return None;
+        }
+        lent(&self.files, name)
+    }
+
+    /// The same as `read`, asked of the store alone. Nothing is kept.
     pub fn read_past(&mut self, alloc: Global, name: Name) -> Result<Option<Sealed>, StoreFault>
         ensures reads { IsTrue self.old.honest → ReadsTo self.old.contents name result }
         ensures kept { IsTrue self.old.honest → self.new.contents ≡ self.old.contents }
@@ -146,19 +155,15 @@ impl<S: LooseFiles> CachedStore<S> {
     }
 
     /// Writes the file of an object, in the place of one that is there.
-    pub fn put(&mut self, alloc: Global, sealed: &Sealed) -> Result<(), FileFault>
-        ensures ok { IsTrue self.old.honest → OnOk result (self.new.contents ≡ map.insert self.old.contents (object_name sealed.now) (typed_bytes sealed.now)) }
-        ensures others { IsTrue self.old.honest → SameBut (object_name sealed.now) self.old.contents self.new.contents }
+    pub fn put(&mut self, alloc: Global, sealed: Sealed) -> Result<(), FileFault>
+        ensures ok { IsTrue self.old.honest → OnOk result (self.new.contents ≡ map.insert self.old.contents (object_name sealed) (typed_bytes sealed)) }
+        ensures others { IsTrue self.old.honest → SameBut (object_name sealed) self.old.contents self.new.contents }
         ensures honest { self.new.honest ≡ self.old.honest }
         ensures cause { CountsPut self.old.failures self.new.failures result }
     {
-        let Ok(file) = file_of(alloc, sealed) else {
-            return Err(FileFault::Memory);
-        };
-        let name = sealed.name();
-        self.cache.forget(name);
+        self.cache.forget(sealed.name());
         self.survey.end();
-        let Err(fault) = self.files.put_owned(alloc, name, file) else {
+        let Err(fault) = self.files.put_object(alloc, sealed) else {
             return Ok(());
         };
         self.is_sure = false;
@@ -239,6 +244,16 @@ fn read_and_keep<S: LooseFiles>(
     }
 }
 
+// The object of a name, lent by a store of which each file is whole.
+fn lent<S: LooseFiles>(files: &S, name: Name) -> Option<(Kind, &[u8])>
+    requires honest { IsTrue (S.honest files.now) }
+    requires whole { AllWhole (S.contents files.now) }
+    ensures { IfSome result (λ lent. Whole (S.contents files.now) name (record { kind = lent.0; bytes = lent.1.now })) }
+{
+    one_object();
+    files.lend(name)
+}
+
 // The object of a name, from a store of which each file is whole.
 fn read_unhashed<S: LooseFiles>(
     alloc: Global,
@@ -253,8 +268,8 @@ fn read_unhashed<S: LooseFiles>(
     ensures honest { S.honest files.new ≡ S.honest files.old }
     ensures cause { CountsRead (S.failures files.old) (S.failures files.new) result }
 {
-    if let Some(file) = files.lend(name) {
-        return opened(alloc, file, name);
+    if let Some((kind, content)) = lent(files, name) {
+        return copied(alloc, kind, content, name);
     }
     let found = match files.get(alloc, name) {
         Ok(found) => found,
@@ -265,6 +280,23 @@ fn read_unhashed<S: LooseFiles>(
         return Ok(None);
     };
     opened(alloc, file.as_slice(), name)
+}
+
+// The object of this kind and content, whose name this is, as a copy.
+fn copied(
+    alloc: Global,
+    kind: Kind,
+    content: &[u8],
+    name: Name,
+) -> Result<Option<Sealed>, StoreFault>
+    requires { object_name (record { kind = kind; bytes = content.now }) ≡ name }
+    ensures copied { IfOk result (λ found. found ≡ Some (record { kind = kind; bytes = content.now })) }
+    ensures cause { IfErr result (λ fault. fault ≡ StoreFault.Memory) }
+{
+    let Ok(content) = content.to_vec(alloc) else {
+        return Err(StoreFault::Memory);
+    };
+    Ok(Some(seal_as(kind, content, name)))
 }
 
 // The object of this name whose file this is.

@@ -2,9 +2,10 @@ use super::kept::Kept;
 use super::objects::{Names, absent, all_named, filled, items, named, put_line};
 use fork_query::{QueryError, merge_base, rev_list};
 use fork_reach::read_history;
+use git_name::Hashing;
 use git_reftx::Refs;
 use std::alloc::{AllocError, Global};
-use std::collections::BTreeSet;
+use std::collections::HashSet;
 use std::test::Fail;
 
 #[test]
@@ -12,7 +13,7 @@ fn a_history_keeps_parents_and_times(rt: HostRuntime) -> Result<(), Fail> {
     let alloc = rt.alloc();
     let mut kept = Kept::new(alloc);
     let names = filled(alloc, &mut kept)?;
-    let none = BTreeSet::new(alloc);
+    let none = HashSet::with_hasher(alloc, Hashing::default());
     let (left, first, tree) = (
         named(&names, b'l'),
         named(&names, b'f'),

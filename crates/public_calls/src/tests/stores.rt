@@ -15,6 +15,12 @@ fn a_fused_store_fails_when_it_should(rt: HostRuntime) -> Result<(), Fail> {
     assert_eq!(rt; file.as_slice(), b"blob 6\0hello\n".as_slice());
     let mut files = Memory::with_hashing(alloc, Hashing::drawn(&rt));
     files.set(alloc, name, file.as_slice())?;
+    assert!(rt; files.lend(name).is_none());
+    files.put_object(alloc, sealed)?;
+    match files.lend(name) {
+        Some((kind, bytes)) => assert!(rt; kind == Kind::Blob && bytes == b"hello\n".as_slice()),
+        None => assert!(rt; false),
+    }
     match read_checked(alloc, &mut files, name)? {
         Some(read) => assert_eq!(rt; read.bytes(), b"hello\n".as_slice()),
         None => assert!(rt; false),

@@ -3,6 +3,7 @@ use fork_request::TenantName;
 use git_name::{Kind, Sealed, name_of, seal};
 use loose_store::Memory;
 use std::alloc::{AllocError, Global};
+use std::collections::BTreeSet;
 use std::test::Fail;
 
 // Blobs of these contents.
@@ -12,6 +13,14 @@ fn blobs(alloc: Global, contents: &[&[u8]]) -> Result<Vec<Sealed>, AllocError> {
         blobs.push(seal(Kind::Blob, content.to_vec(alloc)?))?;
     }
     Ok(blobs)
+}
+
+// Whether a blob of this content is lent.
+fn is_lent(lent: Option<(Kind, &[u8])>, content: &[u8]) -> bool {
+    match lent {
+        Some((kind, bytes)) => kind == Kind::Blob && bytes == content,
+        None => false,
+    }
 }
 
 #[test]
@@ -32,9 +41,15 @@ fn objects_are_staged_in_one_call(rt: HostRuntime) -> Result<(), Fail> {
         Some(sealed) => assert_eq!(rt; sealed.bytes(), b"one".as_slice()),
         None => assert!(rt; false),
     }
+    assert!(rt; vault.lend(&alice, name).is_none());
+    assert!(rt; is_lent(vault.lend_held(&alice, name), b"one"));
     vault.publish(&alice);
+    assert!(rt; is_lent(vault.lend(&alice, name), b"one"));
     assert_eq!(rt; vault.used(&alice), 134);
     assert!(rt; vault.get(alloc, &alice, name).or(Err("get"))?.is_some());
     assert_eq!(rt; vault.collect(alloc).or(Err("collect"))?, 0);
+    vault.keep_only(&alice, &BTreeSet::new(alloc));
+    assert!(rt; vault.lend_held(&alice, name).is_none());
+    assert_eq!(rt; vault.collect(alloc).or(Err("collect"))?, 2);
     Ok(())
 }

@@ -1,7 +1,7 @@
 use Rattle.std.proofs.Common.{[], inl, ap, subst, sym, ◌∙◌}
-use Rattle.std.specs.BTreeSet.{contains}
+use Rattle.std.specs.HashSet.{contains}
 use Rattle.std.specs.FinMap.{retain_keys}
-use Rattle.git_name.specs.Name.{name_cmp}
+use Rattle.git_name.specs.Same.{same_name}
 use Rattle.fork_reach.specs.Objects.{Measures}
 use Rattle.fork_request.specs.Told.{is_host_fault}
 use Rattle.fork_request.specs.declared.reply.Reply.TheVariants.{Failed}
@@ -22,7 +22,7 @@ returns-in-Ok-clause-kept g c honest =
     let first = c.args.own.now in
     let mid = c.reached.new.self in
     let new = c.keep_only.new.self in
-    let names = contains name_cmp c.in-Ok.names in
+    let names = contains same_name c.in-Ok.names in
     let told = c.in-Ok.ensures in
     let set = c.keep_only.ensures.tenants ∙ ap (λ r. at_tenant mid.vault.now.tenants r.now (with_kept names)) told.same.tenant in
     let changes = kept first.vault.now mid.vault.now new.vault.now first.tenant.now names c.requires.there told.shape told.kept told.read.honest set c.keep_only.ensures.store.honest in
@@ -34,7 +34,7 @@ returns-in-Ok-clause-pruned g c =
     let first = c.args.own.now in
     let mid = c.reached.new.self in
     let new = c.keep_only.new.self in
-    let names = contains name_cmp c.in-Ok.names in
+    let names = contains same_name c.in-Ok.names in
     let told = c.in-Ok.ensures in
     let set = c.keep_only.ensures.tenants ∙ ap (λ r. at_tenant mid.vault.now.tenants r.now (with_kept names)) told.same.tenant in
     let changes = kept first.vault.now mid.vault.now new.vault.now first.tenant.now names c.requires.there told.shape told.kept told.read.honest set c.keep_only.ensures.store.honest in
@@ -45,7 +45,7 @@ returns-in-Ok-clause-own g c =
     let first = c.args.own.now in
     let mid = c.reached.new.self in
     let new = c.keep_only.new.self in
-    let names = contains name_cmp c.in-Ok.names in
+    let names = contains same_name c.in-Ok.names in
     let told = c.in-Ok.ensures in
     let set = c.keep_only.ensures.tenants ∙ ap (λ r. at_tenant mid.vault.now.tenants r.now (with_kept names)) told.same.tenant in
     let changes = kept first.vault.now mid.vault.now new.vault.now first.tenant.now names c.requires.there told.shape told.kept told.read.honest set c.keep_only.ensures.store.honest in

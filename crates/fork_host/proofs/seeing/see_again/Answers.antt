@@ -1,9 +1,10 @@
 use Rattle.std.proofs.Common.{◌≡◌, ◌≤◌, ℕ, IsTrue, refl, ap, subst, sym, ◌∙◌, List}
-use Rattle.std.specs.BTreeMap.{is_at}
 use Rattle.std.specs.BTreeSet.{BTreeSet, contains}
+use Rattle.std.specs.HashSet as hashed
 use Rattle.std.specs.List.{list_any}
 use Rattle.std.specs.FinMap as map
 use Rattle.git_name.specs.Name.{name_cmp}
+use Rattle.git_name.specs.Same.{same_name}
 use Rattle.fork_reach.specs.Objects.{use_of, with_objects}
 use Rattle.fork_ledger.specs.Private.{both_of, nothing, with_kept}
 use Rattle.fork_ledger.specs.Tenants.{at_tenant, private_of}
@@ -97,6 +98,6 @@ returns-clause-err g c =
     let mid = c.recall_all.new.own in
     let t = first.tenant.now in
     let told = c.in-Ok-recall_all.ensures.ok in
-    let names = contains name_cmp c.new.result in
-    emptied first.vault.now mid.vault.now c.keep_only.new.self.vault.now t (with_objects (both_in first.vault.now t) told.came) names c.requires.there (λ name. ap (list_any (is_at (name_cmp name))) c.new.ensures.empty)
+    let names = hashed.contains same_name c.with_hasher-none.result in
+    emptied first.vault.now mid.vault.now c.keep_only.new.self.vault.now t (with_objects (both_in first.vault.now t) told.came) names c.requires.there (λ name. ap (list_any (same_name name)) c.with_hasher-none.ensures.empty)
     (c.keep_only.ensures.tenants ∙ ap (λ r. at_tenant mid.vault.now.tenants r.now (with_kept names)) c.recall_all.ensures.same.tenant) c.keep_only.ensures.store.honest told.changes

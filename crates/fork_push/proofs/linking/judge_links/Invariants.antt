@@ -10,6 +10,6 @@ use Rattle.fork_push.proofs.linking.judge_links.Given as goal
 abbrev pub invariant-loop-link : goal.invariant-loop-link
 invariant-loop-link g l =
     let both = (g.S.Source.state l.fn.source).objects in
-    let all = links_in l.fn.sealed.kind l.fn.sealed.bytes in
+    let all = links_in l.fn.kind l.fn.bytes in
     (find (is_missing both) (links_left l.link-iterator) ≡ find (is_missing both) all)
     × (option_or l.wrong (find (is_wrong both) (links_left l.link-iterator)) ≡ option_or l.fn.wrong (find (is_wrong both) all))

@@ -1,12 +1,12 @@
 use Rattle.std.proofs.Common.{[], ◌∷◌, ap, ◌∙◌}
-use Rattle.std.specs.BTreeSet.{contains}
+use Rattle.std.specs.HashSet.{contains}
 use Rattle.git_name.specs.Maps.{map_values}
-use Rattle.git_name.specs.Name.{name_cmp}
+use Rattle.git_name.specs.Same.{same_name}
 use Rattle.fork_reach.specs.Hidden.{without}
 use Rattle.fork_reach.specs.History.{note_of}
 use Rattle.fork_reach.specs.Reach.{is_reached, parent_names}
 use Rattle.fork_reach.proofs.HiddenLemmas.{reached_all}
-use Rattle.fork_reach.proofs.NameLemmas.{empty_lacks}
+use Rattle.fork_reach.proofs.NameLemmas.{hashes_none}
 use Rattle.fork_query.specs.MergeBase.{merge_bases}
 use Rattle.fork_query.specs.Objects.{name_lines}
 use Rattle.fork_query.proofs.BaseLemmas.{best_names}
@@ -19,6 +19,6 @@ returns-in-Ok-write_names-clause-listed g c = λ honest.
     let objects = (g.S.Source.state c.args.source.now).objects in
     let roots = c.args.a ∷ c.args.b ∷ [] in
     let next = parent_names objects in
-    let none = contains name_cmp c.new-none.result in
-    let read = c.in-Ok.ensures.found honest ∙ ap (map_values note_of) (kept_alike objects (is_reached next (without objects none) roots) (is_reached next objects roots) (reached_all next objects none roots (empty_lacks c.new-none.result.keys c.new-none.ensures.empty))) in
-    c.in-Ok-write_names.ensures ∙ ap name_lines (best_names objects c.args.a c.args.b c.in-Ok.history read c.in-Ok-ascending.listed c.len-count.ensures.ordered (λ name. c.in-Ok-ascending.ensures name ∙ c.in-Ok-best.ensures name))
+    let none = contains same_name c.with_hasher-none.result in
+    let read = c.in-Ok.ensures.found honest ∙ ap (map_values note_of) (kept_alike objects (is_reached next (without objects none) roots) (is_reached next objects roots) (reached_all next objects none roots (hashes_none c.with_hasher-none.result.keys c.with_hasher-none.ensures.empty))) in
+    c.in-Ok-write_names.ensures ∙ ap name_lines (c.as_slice.ensures.value ∙ best_names objects c.args.a c.args.b c.in-Ok.history read c.in-Ok-ascending.listed.items c.in-Ok-ascending.ensures.order (λ name. c.in-Ok-ascending.ensures.same name ∙ c.in-Ok-best.ensures name))

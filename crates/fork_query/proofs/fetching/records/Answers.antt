@@ -1,8 +1,8 @@
 use Rattle.std.proofs.Common.{◌≡◌, ℕ, List, IsTrue, None, sym, ap, subst, ◌∙◌}
 use Rattle.std.specs.List.{flat_map}
-use Rattle.std.specs.BTreeSet.{contains}
+use Rattle.std.specs.HashSet.{contains}
 use Rattle.std.proofs.lemmas.Result.{IfOk-weaker}
-use Rattle.git_name.specs.Name.{name_cmp}
+use Rattle.git_name.specs.Same.{same_name}
 use Rattle.fork_reach.specs.Hidden.{without}
 use Rattle.fork_reach.specs.Reach.{is_reached, linked_names}
 use Rattle.fork_reach.specs.Source.{Objects}
@@ -19,13 +19,15 @@ returns-clause-sent g c = λ honest.
     let late = g.S.Source.state c.reach_past.new.source in
     let first = c.in-Ok.ensures.asked in
     let both = asked_again old mid late None first c.in-Ok-reach_past.ensures.asked in
-    let names = c.in-Ok-reach_past.names in
-    let hides = contains name_cmp c.in-Ok.hidden in
+    let walked = c.in-Ok-reach_past.names in
+    let names = c.in-Ok-ascending.names.items in
+    let hides = contains same_name c.in-Ok.hidden in
     let wants = c.args.sides.now.wanted.items in
     let haves = c.args.sides.now.excluded.items in
     let hidden = subst (λ roots. (name : List ℕ) → hides name ≡ is_reached (linked_names old.objects) old.objects roots name) c.as_slice.ensures.value (c.in-Ok.ensures.found honest) in
-    let past = subst (λ roots. (name : List ℕ) → contains name_cmp names name ≡ is_reached (linked_names mid.objects) (without mid.objects hides) roots name) c.as_slice-2.ensures.value (c.in-Ok-reach_past.ensures.found (subst IsTrue (sym first.honest) honest)) in
-    let found = subst (λ (all : Objects). (name : List ℕ) → contains name_cmp names name ≡ is_reached (linked_names all) (without all hides) wants name) (first.objects honest) past in
-    let keys = names_beyond (linked_names old.objects) old.objects hides wants haves names c.len-count.ensures.ordered hidden found in
-    IfOk-weaker c.send_all.result _ _ (λ text sent. sent ∙ ap (λ all. flat_map (record_at all) names.keys) (both.objects honest) ∙ ap (flat_map (record_at old.objects)) keys)
+    let past = subst (λ roots. (name : List ℕ) → contains same_name walked name ≡ is_reached (linked_names mid.objects) (without mid.objects hides) roots name) c.as_slice-2.ensures.value (c.in-Ok-reach_past.ensures.found (subst IsTrue (sym first.honest) honest)) in
+    let found = subst (λ (all : Objects). (name : List ℕ) → contains same_name walked name ≡ is_reached (linked_names all) (without all hides) wants name) (first.objects honest) past in
+    let sorted = c.in-Ok-ascending.ensures in
+    let keys = names_beyond (linked_names old.objects) old.objects hides wants haves names sorted.order hidden (λ name. sorted.same name ∙ found name) in
+    IfOk-weaker c.send_all.result _ _ (λ text sent. sent ∙ ap (λ all. flat_map (record_at all) names) (both.objects honest) ∙ ap (flat_map (record_at old.objects)) keys)
     (c.send_all.ensures.sent (subst IsTrue (sym both.honest) honest))

@@ -12,5 +12,5 @@ invariant-loop-name g l =
     record {
       asked : IsAsked old (g.S.Source.state l.source) None;
       named : AreRecords l.text.items;
-      sent : IsTrue old.honest → l.text.items ++ flat_map (record_at old.objects) l.name-iterator ≡ flat_map (record_at old.objects) l.fn.names.keys;
+      sent : IsTrue old.honest → l.text.items ++ flat_map (record_at old.objects) l.name-iterator.rest.items ≡ flat_map (record_at old.objects) l.fn.names.items;
     }

@@ -1,8 +1,8 @@
 use Rattle.std.proofs.Common.{◌≡◌, ℕ, List, IsTrue, sym, ap, subst, ◌∙◌, map}
-use Rattle.std.specs.BTreeSet.{contains}
+use Rattle.std.specs.HashSet.{contains}
 use Rattle.std.specs.FinMap.{retain_keys}
 use Rattle.git_name.specs.Maps.{map_values}
-use Rattle.git_name.specs.Name.{name_cmp}
+use Rattle.git_name.specs.Same.{same_name}
 use Rattle.fork_reach.specs.Hidden.{without}
 use Rattle.fork_reach.specs.History.{note_of}
 use Rattle.fork_reach.specs.Reach.{is_reached, parent_names}
@@ -19,7 +19,7 @@ returns-in-Ok-lines_of-clause-listed g c = λ honest.
     let old = g.S.Source.state c.args.source.now in
     let mid = g.S.Source.state c.ancestors.new.source in
     let first = c.in-Ok.ensures.asked in
-    let hides = contains name_cmp c.in-Ok.hidden in
+    let hides = contains same_name c.in-Ok.hidden in
     let wants = c.args.sides.now.wanted.items in
     let haves = c.args.sides.now.excluded.items in
     let history = c.in-Ok-read_history.history in

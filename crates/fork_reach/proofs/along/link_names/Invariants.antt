@@ -5,4 +5,4 @@ use Rattle.fork_reach.proofs.along.link_names.Given as goal
 
 -- the names so far, and then those of the links that are left
 abbrev pub invariant-loop-link : goal.invariant-loop-link
-invariant-loop-link l = l.names.items ++ map (λ link. link.name) (links_left l.link-iterator) ≡ map (λ link. link.name) (links_in l.fn.sealed.kind l.fn.sealed.bytes)
+invariant-loop-link l = l.names.items ++ map (λ link. link.name) (links_left l.link-iterator) ≡ map (λ link. link.name) (links_in l.fn.kind l.fn.bytes)

@@ -1,23 +1,22 @@
-use Rattle.std.proofs.Common.{◌≡◌, ◌||◌, ◌∷◌, Bool, true, false, cond, refl, sym, ap, ◌∙◌, rules}
-use Rattle.std.specs.BTreeSet.{contains}
-use Rattle.std.specs.List.{list_any}
+use Rattle.std.proofs.Common.{subst, sym}
+use Rattle.std.specs.List.Sorted.{IsPermutation}
 use Rattle.std.proofs.lemmas.Cmp.{nat_list_eq_equiv}
-use Rattle.git_name.specs.Name.{name_cmp}
+use Rattle.std.proofs.lemmas.List.Sorted.{list_any-IsPermutation}
+use Rattle.std.proofs.lemmas.Map.Keys.{IsDistinct-IsPermutation}
 use Rattle.git_name.specs.Same.{same_name}
-use Rattle.git_name.proofs.HashMaps.{one_test}
+use Rattle.git_name.proofs.SortedNames.{strictly_sorted}
 use Rattle.fork_reach.proofs.order.ascending.Goals as goal
 
-moved : (here old rest : Bool) → (cond here true old || rest) ≡ (old || (here || rest))
-moved true true rest = refl
-moved true false rest = refl
-moved false old rest = refl
+pub returns-clause-order : goal.returns-clause-order
+returns-clause-order c =
+    let keys = c.args.names.now.keys in
+    let list = c.sort_unstable.new.self.items in
+    let moved = subst (λ ns. IsPermutation ns list) c.in_ok-list.ensures.names c.sort_unstable.ensures.permutation in
+    strictly_sorted list c.sort_unstable.ensures.sorted (IsDistinct-IsPermutation same_name nat_list_eq_equiv.symm keys list moved c.listed.ensures.distinct)
 
-pub loop-name-preserved : goal.loop-name-preserved
-loop-name-preserved c = λ name.
-    let first = c.in-Some.name.now in
-    let rest = c.next.new.self in
-    let old = contains name_cmp c.loop-name.set name in
-    let left = list_any (same_name name) rest in
-    let next : c.loop-name.name-iterator ≡ first ∷ rest = search rules in
-    ap (λ b. b || left) (c.in-Ok.ensures.updates.0 name ∙ ap (λ b. cond b true old) (sym (one_test first name) ∙ nat_list_eq_equiv.symm first name))
-    ∙ moved (same_name name first) old left ∙ ap (λ names. old || list_any (same_name name) names) (sym next) ∙ c.loop-name.invariant name
+pub returns-clause-same : goal.returns-clause-same
+returns-clause-same c = λ name.
+    let keys = c.args.names.now.keys in
+    let list = c.sort_unstable.new.self.items in
+    let moved = subst (λ ns. IsPermutation ns list) c.in_ok-list.ensures.names c.sort_unstable.ensures.permutation in
+    sym (list_any-IsPermutation (same_name name) keys list moved)

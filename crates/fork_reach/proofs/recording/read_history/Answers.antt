@@ -1,11 +1,9 @@
 use Rattle.std.proofs.Common.{IsTrue, None, vec_len, subst, sym, ◌∙◌, ap}
-use Rattle.std.specs.BTreeSet.{contains}
-use Rattle.std.specs.HashSet as hashed
+use Rattle.std.specs.HashSet.{contains}
 use Rattle.std.specs.FinMap.{contains_key}
 use Rattle.std.proofs.lemmas.Bool.{and_parts}
 use Rattle.std.proofs.lemmas.List.Elements.{Contains-append_right}
 use Rattle.std.specs.List.{Contains}
-use Rattle.git_name.specs.Name.{name_cmp}
 use Rattle.git_name.specs.Same.{same_name}
 use Rattle.fork_reach.specs.Along.{rests_at}
 use Rattle.fork_reach.specs.Hidden.{without}
@@ -26,30 +24,30 @@ use Rattle.fork_reach.proofs.recording.read_history.Goals as goal
 pub waiting-init : goal.waiting-init
 waiting-init g c =
     let old = g.S.Source.state c.args.source.now in
-    let there = without (measures_of old.objects) (contains name_cmp c.args.hidden.now) in
+    let there = without (measures_of old.objects) (contains same_name c.args.hidden.now) in
     let none_seen = empty_holds_none c.with_hasher-seen.result.keys c.with_hasher-seen.ensures.empty in
     record {
       asked = not_asked old;
-      walks = walks_begin (parent_names old.objects) there (rests_at None (measures_of old.objects)) c.args.commits.now old.honest (hashed.contains same_name c.with_hasher-seen.result) c.new-waiting.result.items (hashed.contains same_name c.note_open.new.seen) c.note_open.new.waiting.items (λ honest from rests. absurd (none_rests (measures_of old.objects) from rests)) none_seen c.new-waiting.ensures.items c.in-Ok.ensures;
-      keeps = keeps_begin there (rests_at None (measures_of old.objects)) old.objects old.honest c.args.commits.now (hashed.contains same_name c.with_hasher-seen.result) c.new-waiting.result.items (hashed.contains same_name c.note_open.new.seen) c.note_open.new.waiting.items c.new-history.result (none_rests (measures_of old.objects)) none_seen c.new-history.ensures c.in-Ok.ensures;
+      walks = walks_begin (parent_names old.objects) there (rests_at None (measures_of old.objects)) c.args.commits.now old.honest (contains same_name c.with_hasher-seen.result) c.new-waiting.result.items (contains same_name c.note_open.new.seen) c.note_open.new.waiting.items (λ honest from rests. absurd (none_rests (measures_of old.objects) from rests)) none_seen c.new-waiting.ensures.items c.in-Ok.ensures;
+      keeps = keeps_begin there (rests_at None (measures_of old.objects)) old.objects old.honest c.args.commits.now (contains same_name c.with_hasher-seen.result) c.new-waiting.result.items (contains same_name c.note_open.new.seen) c.note_open.new.waiting.items c.new-history.result (none_rests (measures_of old.objects)) none_seen c.new-history.ensures c.in-Ok.ensures;
     }
 
 pub waiting-preserved : goal.waiting-preserved
 waiting-preserved g c =
     let old = g.S.Source.state c.args.source.now in
     let mid = g.S.Source.state c.waiting.source in
-    let hides = contains name_cmp c.args.hidden.now in
+    let hides = contains same_name c.args.hidden.now in
     let there = without (measures_of old.objects) hides in
     let before = c.waiting.invariant in
     let told = c.in-Ok-noted.ensures in
     let asked = asked_again old mid (g.S.Source.state c.noted.new.source) None before.asked told.asked in
-    let seen = hashed.contains same_name c.waiting.seen in
+    let seen = contains same_name c.waiting.seen in
     let waits = c.waiting.waiting.items in
     let rest = c.pop.new.self.items in
     let name = c.in-Some.name in
     let note = c.in-Ok-noted.noted in
     let names = c.parents.result.now in
-    let now_seen = hashed.contains same_name c.note_open-in-Some.new.seen in
+    let now_seen = contains same_name c.note_open-in-Some.new.seen in
     let now_waits = c.note_open-in-Some.new.waiting.items in
     let sees = subst (λ measures. Sees (without measures hides) (rests_at None measures) names seen rest now_seen now_waits) asked.measures c.in-Ok-note_open.ensures in
     let right = (λ (honest : IsTrue old.honest). told.noted (subst IsTrue (sym before.asked.honest) honest) ∙ ap (λ all. note_at all name) (before.asked.objects honest)) in
@@ -66,9 +64,9 @@ pub returns-clause-found : goal.returns-clause-found
 returns-clause-found g c = λ honest.
     let old = g.S.Source.state c.args.source.now in
     let next = parent_names old.objects in
-    let hides = contains name_cmp c.args.hidden.now in
+    let hides = contains same_name c.args.hidden.now in
     let there = without (measures_of old.objects) hides in
-    let seen = hashed.contains same_name c.waiting.seen in
+    let seen = contains same_name c.waiting.seen in
     let waits = c.waiting.waiting.items in
     let told = c.in_default-pop.ensures in
     let none = none_waits waits c.pop.new.self.items (vec_len c.waiting.waiting) told.items told.rest told.cases.0 in

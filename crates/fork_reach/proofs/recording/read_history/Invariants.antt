@@ -1,7 +1,5 @@
 use Rattle.std.proofs.Common.{◌+◌, None, length}
-use Rattle.std.specs.BTreeSet.{contains}
-use Rattle.std.specs.HashSet as hashed
-use Rattle.git_name.specs.Name.{name_cmp}
+use Rattle.std.specs.HashSet.{contains}
 use Rattle.git_name.specs.Same.{same_name}
 use Rattle.fork_reach.specs.Faults.{IsAsked}
 use Rattle.fork_reach.specs.Hidden.{without}
@@ -18,10 +16,10 @@ invariant-waiting g l =
     let old = g.S.Source.state l.fn.source in
     record {
       asked : IsAsked old (g.S.Source.state l.source) None;
-      walks : Walks (parent_names old.objects) (without (measures_of old.objects) (contains name_cmp l.hidden)) l.commits old.honest (hashed.contains same_name l.seen) l.waiting.items;
-      keeps : Keeps old.objects old.honest (hashed.contains same_name l.seen) l.waiting.items l.history;
+      walks : Walks (parent_names old.objects) (without (measures_of old.objects) (contains same_name l.hidden)) l.commits old.honest (contains same_name l.seen) l.waiting.items;
+      keeps : Keeps old.objects old.honest (contains same_name l.seen) l.waiting.items l.history;
     }
 
 -- the objects that are not seen, and the names that wait
 abbrev pub decreases-waiting : goal.decreases-waiting
-decreases-waiting g l = unseen (without (measures_of (g.S.Source.state l.fn.source).objects) (contains name_cmp l.hidden)) (hashed.contains same_name l.seen) + length l.waiting.items
+decreases-waiting g l = unseen (without (measures_of (g.S.Source.state l.fn.source).objects) (contains same_name l.hidden)) (contains same_name l.seen) + length l.waiting.items

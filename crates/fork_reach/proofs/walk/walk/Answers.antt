@@ -1,7 +1,5 @@
 use Rattle.std.proofs.Common.{IsTrue, None, Some, vec_len, subst, sym, ◌∙◌, ap}
-use Rattle.std.specs.BTreeSet.{contains}
-use Rattle.std.specs.HashSet as hashed
-use Rattle.git_name.specs.Name.{name_cmp}
+use Rattle.std.specs.HashSet.{contains}
 use Rattle.git_name.specs.Same.{same_name}
 use Rattle.fork_reach.specs.Along.{names_along, rests_at}
 use Rattle.fork_reach.specs.Hidden.{without}
@@ -20,7 +18,7 @@ waiting-init g c =
     let old = g.S.Source.state c.args.source.now in
     record {
       asked = not_asked old;
-      walks = walks_begin (names_along c.args.along old.objects) (without (measures_of old.objects) (contains name_cmp c.args.hidden.now)) (rests_at (Some c.args.along) (measures_of old.objects)) c.args.roots.now old.honest (hashed.contains same_name c.with_hasher-seen.result) c.new-waiting.result.items (hashed.contains same_name c.note_open.new.seen) c.note_open.new.waiting.items
+      walks = walks_begin (names_along c.args.along old.objects) (without (measures_of old.objects) (contains same_name c.args.hidden.now)) (rests_at (Some c.args.along) (measures_of old.objects)) c.args.roots.now old.honest (contains same_name c.with_hasher-seen.result) c.new-waiting.result.items (contains same_name c.note_open.new.seen) c.note_open.new.waiting.items
           (λ honest from rests. quiet_along c.args.along old.objects from rests) (empty_holds_none c.with_hasher-seen.result.keys c.with_hasher-seen.ensures.empty) c.new-waiting.ensures.items c.in-Ok.ensures;
     }
 
@@ -29,15 +27,15 @@ waiting-preserved g c =
     let old = g.S.Source.state c.args.source.now in
     let mid = g.S.Source.state c.waiting.source in
     let next = names_along c.args.along old.objects in
-    let hides = contains name_cmp c.args.hidden.now in
+    let hides = contains same_name c.args.hidden.now in
     let before = c.waiting.invariant in
     let told = c.in-Ok-next_names.ensures in
     let asked = asked_again old mid (g.S.Source.state c.next_names.new.source) None before.asked told.asked in
-    let seen = hashed.contains same_name c.waiting.seen in
+    let seen = contains same_name c.waiting.seen in
     let rest = c.pop.new.self.items in
     let name = c.in-Some.name in
     let names = c.as_slice.result.now in
-    let now_seen = hashed.contains same_name c.note_open-in-Some.new.seen in
+    let now_seen = contains same_name c.note_open-in-Some.new.seen in
     let now_waits = c.note_open-in-Some.new.waiting.items in
     record {
       asked = asked;
@@ -50,19 +48,17 @@ pub returns-clause-found : goal.returns-clause-found
 returns-clause-found g c = λ honest name.
     let old = g.S.Source.state c.args.source.now in
     let next = names_along c.args.along old.objects in
-    let hides = contains name_cmp c.args.hidden.now in
+    let hides = contains same_name c.args.hidden.now in
     let waits = c.waiting.waiting.items in
     let told = c.in_default-pop.ensures in
     let none = none_waits waits c.pop.new.self.items (vec_len c.waiting.waiting) told.items told.rest told.cases.0 in
-    c.in-Ok-ascending.ensures name
-    ∙ walks_end next (without (measures_of old.objects) hides) c.args.roots.now old.honest (hashed.contains same_name c.waiting.seen) waits none c.waiting.invariant.walks honest name
+    walks_end next (without (measures_of old.objects) hides) c.args.roots.now old.honest (contains same_name c.waiting.seen) waits none c.waiting.invariant.walks honest name
     ∙ reached_alike next (without (measures_of old.objects) hides) (without old.objects hides) c.args.roots.now (measured_without old.objects hides) name
 
 pub returns-clause-there : goal.returns-clause-there
 returns-clause-there g c = λ name is.
-    sym (measured_without (g.S.Source.state c.args.source.now).objects (contains name_cmp c.args.hidden.now) name) ∙ c.waiting.invariant.walks.there name (sym (c.in-Ok-ascending.ensures name) ∙ is)
+    sym (measured_without (g.S.Source.state c.args.source.now).objects (contains same_name c.args.hidden.now) name) ∙ c.waiting.invariant.walks.there name is
 
 pub returns-clause-rooted : goal.returns-clause-rooted
 returns-clause-rooted g c = λ name root there.
-    c.in-Ok-ascending.ensures name
-    ∙ c.waiting.invariant.walks.begun name root (measured_without (g.S.Source.state c.args.source.now).objects (contains name_cmp c.args.hidden.now) name ∙ there)
+    c.waiting.invariant.walks.begun name root (measured_without (g.S.Source.state c.args.source.now).objects (contains same_name c.args.hidden.now) name ∙ there)

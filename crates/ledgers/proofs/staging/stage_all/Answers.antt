@@ -10,8 +10,8 @@ use Rattle.ledgers.specs.Words.{unstaged_words}
 use Rattle.ledgers.proofs.UndoLemmas.{ledger_same, one_more, unstaged_none}
 use Rattle.ledgers.proofs.staging.stage_all.Goals as goal
 
-pub loop-sealed-init : goal.loop-sealed-init
-loop-sealed-init c =
+pub loop-entry-init : goal.loop-entry-init
+loop-entry-init c =
     let m = c.args.holdings.now.ledgers in
     let t = c.args.tenant.now in
     let noted = contains name_cmp c.new-noted.result in
@@ -21,16 +21,16 @@ loop-sealed-init c =
       places = refl;
     }
 
-pub loop-sealed-preserved : goal.loop-sealed-preserved
-loop-sealed-preserved c =
+pub loop-entry-preserved : goal.loop-entry-preserved
+loop-entry-preserved c =
     let m = c.args.holdings.now.ledgers in
     let t = c.args.tenant.now in
-    let objects = c.args.objects.now in
-    let i = c.loop-sealed.sealed-index in
-    let object = c.sealed-item.result in
-    let more : take (i + 1) objects ≡ take i objects ++ object ∷ [] = take_more objects i object (omega arith) ∙ ap (λ o. take i objects ++ o ∷ []) (sym c.sealed-item.is) in
+    let entries = c.args.entries.now in
+    let i = c.loop-entry.entry-index in
+    let entry = c.entry-item.result in
+    let more : take (i + 1) entries ≡ take i entries ++ entry ∷ [] = take_more entries i entry (omega arith) ∙ ap (λ o. take i entries ++ o ∷ []) (sym c.entry-item.is) in
     record {
-      so_far = c.in-Ok.ensures.ok ∙ one_more m c.loop-sealed.holdings.ledgers t (take i objects) object c.loop-sealed.invariant.so_far ∙ ap (λ xs. at_ledger m t (all_staged_words xs)) (sym more);
-      undone = c.in-Ok.ensures.undone ∙ c.loop-sealed.invariant.undone;
-      places = c.in-Ok.ensures.places ∙ c.loop-sealed.invariant.places;
+      so_far = c.in-Ok.ensures.ok ∙ one_more m c.loop-entry.holdings.ledgers t (take i entries) entry c.loop-entry.invariant.so_far ∙ ap (λ xs. at_ledger m t (all_staged_words xs)) (sym more);
+      undone = c.in-Ok.ensures.undone ∙ c.loop-entry.invariant.undone;
+      places = c.in-Ok.ensures.places ∙ c.loop-entry.invariant.places;
     }

@@ -7,10 +7,10 @@ use Rattle.ledgers.specs.Ledgers.{at_ledger}
 use Rattle.ledgers.specs.Words.{unstaged_words}
 use Rattle.ledgers.proofs.staging.stage_all.Given as goal
 
--- the objects so far are staged, and without what is noted the ledgers are as at first
-abbrev pub invariant-loop-sealed : goal.invariant-loop-sealed
-invariant-loop-sealed l = record {
-  so_far : l.holdings.ledgers ≡ at_ledger l.fn.holdings.ledgers l.tenant (all_staged_words (take l.sealed-index l.objects));
+-- the objects of the entries so far are staged, and without what is noted the ledgers are as at first
+abbrev pub invariant-loop-entry : goal.invariant-loop-entry
+invariant-loop-entry l = record {
+  so_far : l.holdings.ledgers ≡ at_ledger l.fn.holdings.ledgers l.tenant (all_staged_words (take l.entry-index l.entries));
   undone : at_ledger l.holdings.ledgers l.tenant (unstaged_words (contains name_cmp l.noted)) ≡ l.fn.holdings.ledgers;
   places : places_of l.holdings.catalogue ≡ places_of l.fn.holdings.catalogue;
 }

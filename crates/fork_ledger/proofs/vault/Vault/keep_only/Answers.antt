@@ -1,6 +1,4 @@
 use Rattle.std.proofs.Common.{ap, sym, subst, ◌∙◌}
-use Rattle.std.specs.BTreeSet.{contains}
-use Rattle.git_name.specs.Name.{name_cmp}
 use Rattle.ledgers.specs.Words.{kept_words}
 use Rattle.fork_ledger.specs.Kept.{Covers}
 use Rattle.fork_ledger.specs.Private.{with_kept}
@@ -16,14 +14,14 @@ pub invariant_of-self : goal.invariant_of-self
 invariant_of-self g c = λ h.
     let files = c.self.inside.files.contents in
     let kept = c.self.invariant h in
-    let is = ap (tenants_of files) c.keep_only.ensures.ledgers ∙ changed_shown files c.self.inside.holdings.ledgers c.args.tenant.now (kept_words (λ name. contains name_cmp c.args.names.now name)) (with_kept (λ name. contains name_cmp c.args.names.now name)) (kept_own (λ name. contains name_cmp c.args.names.now name) files) in
+    let is = ap (tenants_of files) c.keep_only.ensures.ledgers ∙ changed_shown files c.self.inside.holdings.ledgers c.args.tenant.now (kept_words (g.N.NameSet.names c.args.names.now)) (with_kept (g.N.NameSet.names c.args.names.now)) (kept_own (g.N.NameSet.names c.args.names.now) files) in
     record {
-      stored = subst (λ m. IsStored m files) (sym is) (stored_at (tenants_of files c.self.inside.holdings.ledgers) c.args.tenant.now files (with_kept (λ name. contains name_cmp c.args.names.now name)) (brings_kept (λ name. contains name_cmp c.args.names.now name)) kept.stored);
+      stored = subst (λ m. IsStored m files) (sym is) (stored_at (tenants_of files c.self.inside.holdings.ledgers) c.args.tenant.now files (with_kept (g.N.NameSet.names c.args.names.now)) (brings_kept (g.N.NameSet.names c.args.names.now)) kept.stored);
       covers = subst (λ p. Covers files p) (sym c.keep_only.ensures.places) kept.covers;
     }
 
 pub returns-clause-tenants : goal.returns-clause-tenants
 returns-clause-tenants g c =
     let files = c.self.inside.files.contents in
-    ap (tenants_of files) c.keep_only.ensures.ledgers ∙ changed_shown files c.self.inside.holdings.ledgers c.args.tenant.now (kept_words (λ name. contains name_cmp c.args.names.now name)) (with_kept (λ name. contains name_cmp c.args.names.now name)) (kept_own (λ name. contains name_cmp c.args.names.now name) files)
-    ∙ ap (λ s. at_tenant s.tenants c.args.tenant.now (with_kept (λ name. contains name_cmp c.args.names.now name))) c.self.view_is
+    ap (tenants_of files) c.keep_only.ensures.ledgers ∙ changed_shown files c.self.inside.holdings.ledgers c.args.tenant.now (kept_words (g.N.NameSet.names c.args.names.now)) (with_kept (g.N.NameSet.names c.args.names.now)) (kept_own (g.N.NameSet.names c.args.names.now) files)
+    ∙ ap (λ s. at_tenant s.tenants c.args.tenant.now (with_kept (g.N.NameSet.names c.args.names.now))) c.self.view_is

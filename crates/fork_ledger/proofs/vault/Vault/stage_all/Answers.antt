@@ -1,15 +1,14 @@
-use Rattle.std.proofs.Common.{◌≡◌, Some, ap, sym, subst, ◌∙◌}
-use Rattle.std.specs.List.{AllByRecursion}
-use Rattle.std.specs.FinMap.{contains_key, get}
+use Rattle.std.proofs.Common.{ap, map, sym, subst, ◌∙◌}
+use Rattle.std.specs.FinMap.{contains_key}
 use Rattle.std.proofs.lemmas.Result.{on_err_weaker, on_ok_weaker}
-use Rattle.git_name.specs.Object.{object_name}
 use Rattle.ledgers.specs.AllStaged.{all_staged_words}
 use Rattle.ledgers.specs.Ledgers.{at_ledger}
+use Rattle.ledgers.specs.Told.{entry_of}
 use Rattle.fork_ledger.specs.AllStaged.{with_all_staged}
 use Rattle.fork_ledger.specs.Kept.{IsExact}
 use Rattle.fork_ledger.specs.Shown.{tenants_of}
 use Rattle.fork_ledger.specs.Store.{CountsFault, IsStored, fault_in}
-use Rattle.fork_ledger.specs.Tenants.{VaultState, at_tenant, private_of, shape_of}
+use Rattle.fork_ledger.specs.Tenants.{VaultState, at_tenant, shape_of}
 use Rattle.fork_ledger.proofs.AllStagedLemmas.{all_staged_shape, all_staged_stored, all_staged_tenants, keeps_whole, none_damaged}
 use Rattle.fork_ledger.proofs.CameLemmas.{all_came}
 use Rattle.fork_ledger.proofs.KeepingLemmas.{stored_keeps, tenants_keep}
@@ -26,12 +25,12 @@ invariant_of-self g c = λ h.
     let m = c.self.inside.holdings.ledgers in
     let old = c.self.inside.files.contents in
     let new = c.stage_all_whole.new.files.contents in
-    let objects = c.as_slice.result.now in
+    let objects = c.args.objects.items in
     let kept = c.self.invariant was in
     let keeps = keeps_whole m old new kept.stored (told.stands was) in
     record {
       stored = whichever (IsStored (tenants_of new c.stage_all_whole.new.holdings.ledgers) new) c.stage_all_whole.result (ok_both _ _ c.stage_all_whole.result (told.receives was) told.ok) told.err
-          (λ both. subst (λ x. IsStored (tenants_of new x) new) (sym {b = at_ledger m c.args.tenant.now (all_staged_words objects)} both.1) (all_staged_stored old new m c.args.tenant.now objects keeps both.0.whole kept.stored))
+          (λ both. subst (λ x. IsStored (tenants_of new x) new) (sym {b = at_ledger m c.args.tenant.now (all_staged_words (map entry_of objects))} both.1) (all_staged_stored old new m c.args.tenant.now objects keeps both.0.whole kept.stored))
           (λ same. subst (λ x. IsStored (tenants_of new x) new) (sym {b = m} same) (stored_keeps m old new keeps kept.stored));
       covers = told.covers was kept.covers;
     }
@@ -43,10 +42,10 @@ returns-clause-ok g c = λ h.
     let m = c.self.inside.holdings.ledgers in
     let old = c.self.inside.files.contents in
     let new = c.stage_all_whole.new.files.contents in
-    let objects = c.as_slice.result.now in
+    let objects = c.args.objects.items in
     on_ok_weaker c.stage_all_whole.result (λ both.
     ap (tenants_of new) both.1 ∙ all_staged_tenants old new m c.args.tenant.now objects (keeps_whole m old new (c.self.invariant was).stored (told.stands was)) both.0.whole
-    ∙ (λ i. at_tenant (c.self.view_is i).tenants c.args.tenant.now (with_all_staged (c.as_slice.ensures.value i))))
+    ∙ (λ i. at_tenant (c.self.view_is i).tenants c.args.tenant.now (with_all_staged c.args.objects.items)))
     (ok_both _ _ c.stage_all_whole.result (told.receives was) told.ok)
 
 pub returns-clause-err : goal.returns-clause-err
@@ -66,15 +65,14 @@ returns-clause-came g c = λ h there.
     let m = c.self.inside.holdings.ledgers in
     let old = c.self.inside.files.contents in
     let new = c.stage_all_whole.new.files.contents in
-    let objects = c.as_slice.result.now in
+    let objects = c.args.objects.items in
     let t = c.args.tenant.now in
     let m2 = c.stage_all_whole.new.holdings.ledgers in
     let here = ap (λ s. contains_key s.tenants t) c.self.view_is ∙ there in
     let stored = (invariant_of-self g c (told.honest ∙ was)).stored in
     on_ok_weaker c.stage_all_whole.result (λ both.
     let is = ap (tenants_of new) both.1 ∙ all_staged_tenants old new m t objects (keeps_whole m old new (c.self.invariant was).stored (told.stands was)) both.0.whole in
-    subst (λ sent. AllByRecursion (λ object. get (private_of (tenants_of new m2) t).staged (object_name object) ≡ Some object) sent) c.as_slice.ensures.value
-    (all_came new (tenants_of old m) (tenants_of new m2) t objects here is stored both.0.whole))
+    all_came new (tenants_of old m) (tenants_of new m2) t objects here is stored both.0.whole)
     (ok_both _ _ c.stage_all_whole.result (told.receives was) told.ok)
 
 pub returns-clause-exact : goal.returns-clause-exact
@@ -88,8 +86,8 @@ returns-clause-shape g c =
     let old = c.self.inside.files.contents in
     let new = c.stage_all_whole.new.files.contents in
     on_ok_weaker c.stage_all_whole.result (λ is.
-    ap (λ x. shape_of (tenants_of new x)) is ∙ all_staged_shape old new m c.args.tenant.now c.as_slice.result.now
-    ∙ (λ i. shape_of (at_tenant (c.self.view_is i).tenants c.args.tenant.now (with_all_staged (c.as_slice.ensures.value i))))) c.stage_all_whole.ensures.ok
+    ap (λ x. shape_of (tenants_of new x)) is ∙ all_staged_shape old new m c.args.tenant.now c.args.objects.items
+    ∙ (λ i. shape_of (at_tenant (c.self.view_is i).tenants c.args.tenant.now (with_all_staged c.args.objects.items)))) c.stage_all_whole.ensures.ok
 
 pub returns-clause-kept : goal.returns-clause-kept
 returns-clause-kept g c =

@@ -1,5 +1,4 @@
 use Rattle.std.proofs.Common.{ap, subst, sym, ◌∙◌}
-use Rattle.std.specs.BTreeSet.{contains}
 use Rattle.std.specs.FinMap as map
 use Rattle.git_name.specs.Name.{name_cmp}
 use Rattle.git_name.proofs.HashMaps.{distinct_by_order}
@@ -11,14 +10,14 @@ use Rattle.ledgers.proofs.SettleLemmas.{kept_staged}
 use Rattle.ledgers.proofs.word_map.WordMap.keep_only.Goals as goal
 
 pub invariant_of-self : goal.invariant_of-self
-invariant_of-self c =
+invariant_of-self g c =
     let es = c.self.inside.words.entries in
     subst (AreStaged c.self.inside.staged.items)
-    (sym (ap (λ fs. map.from_entries {R = name_cmp} fs) c.keep_among.ensures.entries ∙ chosen_of_distinct name_total name_exact (λ name word. kept_word (contains name_cmp c.args.names.now name) word) es (distinct_by_order _ c.keep_among.ensures.distinct)))
-    (kept_staged (λ name. contains name_cmp c.args.names.now name) c.self.inside.staged.items (map.from_entries es) c.self.invariant)
+    (sym (ap (λ fs. map.from_entries {R = name_cmp} fs) c.keep_among.ensures.entries ∙ chosen_of_distinct name_total name_exact (λ name word. kept_word (g.N.NameSet.names c.args.names.now name) word) es (distinct_by_order _ c.keep_among.ensures.distinct)))
+    (kept_staged (g.N.NameSet.names c.args.names.now) c.self.inside.staged.items (map.from_entries es) c.self.invariant)
 
 pub returns : goal.returns
-returns c =
+returns g c =
     let es = c.self.inside.words.entries in
     ap (λ fs. map.from_entries {R = name_cmp} fs) c.keep_among.ensures.entries
-    ∙ chosen_of_distinct name_total name_exact (λ name word. kept_word (contains name_cmp c.args.names.now name) word) es (distinct_by_order _ c.keep_among.ensures.distinct) ∙ ap (kept_words (λ name. contains name_cmp c.args.names.now name)) c.self.view_is
+    ∙ chosen_of_distinct name_total name_exact (λ name word. kept_word (g.N.NameSet.names c.args.names.now name) word) es (distinct_by_order _ c.keep_among.ensures.distinct) ∙ ap (kept_words (g.N.NameSet.names c.args.names.now)) c.self.view_is

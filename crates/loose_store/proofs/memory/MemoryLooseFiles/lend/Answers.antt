@@ -1,14 +1,16 @@
 use Rattle.std.proofs.Common.{Some, ap, sym, ◌∙◌}
 use Rattle.std.specs.Option.{option_map}
 use Rattle.std.specs.FinMap as map
+use Rattle.std.proofs.lemmas.Option.{IfSome_then}
 use Rattle.git_name.proofs.MapLemmas.{get_map_values}
 use Rattle.git_name.proofs.Names.{name_total}
 use Rattle.git_name.proofs.HashMaps.{get_of_hashed}
+use Rattle.loose_store.specs.MemoryFile.{bytes_of}
 use Rattle.loose_store.proofs.memory.MemoryLooseFiles.lend.Goals as goal
 
 pub returns-in-Some : goal.returns-in-Some
-returns-in-Some c _ =
+returns-in-Some c _ = IfSome_then c.object.result c.object.ensures (λ lent is.
     ap (λ files. map.get files c.args.name) (sym c.self.view_is)
-    ∙ get_map_values name_total (λ bytes. bytes.items) (map.from_entries c.self.inside.files.entries) c.args.name
-    ∙ ap (option_map (λ bytes. bytes.items)) (get_of_hashed c.self.inside.files.entries c.args.name ∙ sym c.in-Some.ensures.value)
-    ∙ ap Some (sym c.as_slice.ensures.value)
+    ∙ get_map_values name_total bytes_of (map.from_entries c.self.inside.files.entries) c.args.name
+    ∙ ap (option_map bytes_of) (get_of_hashed c.self.inside.files.entries c.args.name ∙ sym c.in-Some.ensures.value)
+    ∙ ap Some is)

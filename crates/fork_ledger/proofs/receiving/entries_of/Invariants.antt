@@ -1,0 +1,7 @@
+use Rattle.std.proofs.Common.{◌≡◌, map, take}
+use Rattle.ledgers.specs.Told.{entry_of}
+use Rattle.fork_ledger.proofs.receiving.entries_of.Given as goal
+
+-- what is told of the objects so far
+abbrev pub invariant-loop-sealed : goal.invariant-loop-sealed
+invariant-loop-sealed l = l.entries.items ≡ map entry_of (take l.sealed-index l.objects)

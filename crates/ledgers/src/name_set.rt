@@ -1,0 +1,36 @@
+ghost use Rattle.std.specs.Prelude.{◌≡◌, Bool, List, ℕ};
+
+use git_name::{Hashing, Name};
+use std::collections::{BTreeSet, HashSet};
+
+/// A set of names, in order or hashed.
+pub trait NameSet {
+    /// Which names are in it.
+    ghost names: { Self → List ℕ → Bool };
+
+    /// Whether this name is in it.
+    fn has(&self, name: Name) -> bool
+        ensures { result ≡ names self.now name };
+}
+
+impl NameSet for BTreeSet<Name> {
+    ghost use Rattle.std.specs.BTreeSet.{contains};
+    ghost use Rattle.git_name.specs.Name.{name_cmp};
+
+    ghost names = { λ set. contains name_cmp set };
+
+    fn has(&self, name: Name) -> bool {
+        self.contains(&name)
+    }
+}
+
+impl NameSet for HashSet<Name, Hashing> {
+    ghost use Rattle.std.specs.HashSet.{contains};
+    ghost use Rattle.git_name.specs.Same.{same_name};
+
+    ghost names = { λ set. contains same_name set };
+
+    fn has(&self, name: Name) -> bool {
+        self.contains(&name)
+    }
+}

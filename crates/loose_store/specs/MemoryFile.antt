@@ -1,0 +1,10 @@
+-- A file in memory (own): which bytes it has.
+use Rattle.std.specs.Prelude.{ℕ, List}
+use Rattle.git_name.specs.Object.{typed_bytes}
+use Rattle.loose_store.specs.declared.memory_file.MemoryFile.{MemoryFile}
+use Rattle.loose_store.specs.declared.memory_file.MemoryFile.TheVariants.{Bytes, Object}
+
+-- those that were put, or those of the object's file
+abbrev pub bytes_of : MemoryFile → List ℕ
+bytes_of (Bytes bytes) = bytes.items
+bytes_of (Object kind content) = typed_bytes (record { kind = kind; bytes = content.items })

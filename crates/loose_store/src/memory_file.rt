@@ -1,0 +1,37 @@
+ghost use Rattle.std.specs.Prelude.{◌≡◌, IfOk, IfSome};
+ghost use Rattle.git_name.specs.Object.{typed_bytes};
+
+use crate::stored::typed;
+use git_name::Kind;
+use std::alloc::{AllocError, Global};
+
+// A file in memory: bytes as they were put, or the kind and the content of the object whose file it is.
+#[derive(Debug, Drop)]
+pub(crate) enum MemoryFile {
+    Bytes(Vec<u8>),
+    Object(Kind, Vec<u8>),
+}
+
+impl MemoryFile {
+    ghost use Rattle.loose_store.specs.MemoryFile.{bytes_of};
+
+    // A copy of its bytes.
+    pub(crate) fn to_bytes(&self, alloc: Global) -> Result<Vec<u8>, AllocError>
+        ensures { IfOk result (λ bytes. bytes.items ≡ bytes_of self.now) }
+    {
+        match self {
+            MemoryFile::Bytes(bytes) => bytes.to_vec(alloc),
+            MemoryFile::Object(kind, content) => typed(alloc, *kind, content.as_slice()),
+        }
+    }
+
+    // The object that was put, its kind and its bytes.
+    pub(crate) fn object(&self) -> Option<(Kind, &[u8])>
+        ensures { IfSome result (λ lent. bytes_of self.now ≡ typed_bytes (record { kind = lent.0; bytes = lent.1.now })) }
+    {
+        match self {
+            MemoryFile::Bytes(_) => None,
+            MemoryFile::Object(kind, content) => Some((*kind, content.as_slice())),
+        }
+    }
+}

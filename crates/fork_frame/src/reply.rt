@@ -1,4 +1,4 @@
-ghost use Rattle.std.specs.Prelude.{◌≡◌, IfErr, OnOk};
+ghost use Rattle.std.specs.Prelude.{◌≡◌, ◌++◌, IfErr, OnOk, codes};
 ghost use Rattle.std.specs.Io.KnownBytes.{Appends, Keeps};
 ghost use Rattle.fork_request.specs.Told.{bytes_of};
 ghost use Rattle.fork_frame.specs.Reply.{last_line, reply_frame};
@@ -34,11 +34,31 @@ pub fn send_bytes<W: Write>(writer: &mut W, bytes: &[u8]) -> Result<(), ReplyFau
     send(writer, bytes)
 }
 
-/// Sends the frame of a reply, and flushes. Memory is taken for the reply's bytes.
+// What stands before the data of a reply that has some.
+const OK: &[u8] = b"ok\n";
+
+// Sends the frame of a reply whose data this is, written from where it lies, and flushes.
+fn send_data<W: Write>(writer: &mut W, text: &[u8]) -> Result<(), ReplyFault>
+    ensures ok { OnOk result (Appends (W.contents writer.old) (W.contents writer.new) (reply_frame (codes "ok\n" ++ text.now))) }
+    ensures cause { IfErr result (λ fault. fault ≡ ReplyFault.Write) }
+{
+    let Ok(()) = writeln!(writer, "{}", OK.len() + text.len()) else {
+        return Err(ReplyFault::Write);
+    };
+    let Ok(()) = writer.write_all(OK) else {
+        return Err(ReplyFault::Write);
+    };
+    send(writer, text)
+}
+
+/// Sends the frame of a reply, and flushes. Memory is taken for the bytes of a reply that has no data.
 pub fn send_reply<W: Write>(alloc: Global, writer: &mut W, reply: Reply) -> Result<(), ReplyFault>
     ensures ok { OnOk result (Appends (W.contents writer.old) (W.contents writer.new) (reply_frame (bytes_of reply))) }
     ensures kept { IfErr result (λ fault. fault ≡ ReplyFault.Memory → Keeps (W.contents writer.old) (W.contents writer.new)) }
 {
+    if let Reply::Done(data) = &reply {
+        return send_data(writer, data.as_bytes());
+    }
     let Ok(bytes) = reply.bytes(alloc) else {
         return Err(ReplyFault::Memory);
     };

@@ -78,7 +78,7 @@ fn outdone(
 ) -> Result<HashSet<Name, Hashing>, AllocError>
     ensures { IfOk result (λ outdone. (name : List ℕ) → contains same_name outdone name ≡ list_any (is_other_parent history.now name) commits.now.keys) }
 {
-    let mut outdone = HashSet::with_hasher(alloc, history.hashing());
+    let mut outdone = HashSet::with_capacity_and_hasher(alloc, commits.len(), history.hashing())?;
     for commit in commits {
         put_parents(&mut outdone, *commit, history.parents(*commit))?;
     }

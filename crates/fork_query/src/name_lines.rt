@@ -4,6 +4,9 @@ ghost use Rattle.fork_query.specs.Objects.{name_line, name_lines};
 use git_name::Name;
 use std::alloc::{AllocError, Global};
 
+// How many bytes such a line has.
+pub(crate) const NAME_LINE: usize = 65;
+
 // Adds the name in digits, and LF.
 pub(crate) fn write_name(text: &mut Vec<u8>, name: Name) -> Result<(), AllocError>
     ensures { OnOk result (text.new.items ≡ text.old.items ++ name_line name) }
@@ -19,7 +22,7 @@ pub(crate) fn write_name(text: &mut Vec<u8>, name: Name) -> Result<(), AllocErro
 pub(crate) fn write_names(alloc: Global, names: &[Name]) -> Result<Vec<u8>, AllocError>
     ensures { IfOk result (λ text. text.items ≡ name_lines names.now) }
 {
-    let mut text = Vec::new(alloc);
+    let mut text = Vec::with_capacity(alloc, names.len().saturating_mul(NAME_LINE))?;
     for name in names {
         write_name(&mut text, *name)?;
     }

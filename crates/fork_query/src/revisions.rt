@@ -8,7 +8,7 @@ ghost use Rattle.fork_query.specs.RevList.{revision_list, revisions_told};
 ghost use Rattle.fork_query.specs.Told.{Tells, fault_told};
 
 use crate::dated::Dated;
-use crate::name_lines::write_name;
+use crate::name_lines::{NAME_LINE, write_name};
 use crate::query_error::QueryError;
 use crate::sides::{Sides, select};
 use crate::want::Want;
@@ -21,11 +21,12 @@ use std::cmp::Reverse;
 fn dates_of(alloc: Global, history: &History) -> Result<Vec<Dated>, AllocError>
     ensures { IfOk result (λ dates. dates.items ≡ newest_first (mapped noted_date (map.entries history.now))) }
 {
-    let mut dates = Vec::new(alloc);
-    for (name, noted) in history.iter() {
+    let (names, notes) = history.commits();
+    let mut dates = Vec::with_capacity(alloc, names.len())?;
+    for at in 0..names.len() {
         dates.push(Dated {
-            seconds: Reverse(noted.seconds()),
-            name: *name,
+            seconds: Reverse(notes[at].seconds()),
+            name: names[at],
         })?;
     }
     dates.sort_unstable();
@@ -36,7 +37,7 @@ fn dates_of(alloc: Global, history: &History) -> Result<Vec<Dated>, AllocError>
 fn lines_of(alloc: Global, dates: &[Dated]) -> Result<Vec<u8>, AllocError>
     ensures { IfOk result (λ text. text.items ≡ name_lines (mapped (λ date. date.name) dates.now)) }
 {
-    let mut text = Vec::new(alloc);
+    let mut text = Vec::with_capacity(alloc, dates.len().saturating_mul(NAME_LINE))?;
     for date in dates {
         write_name(&mut text, date.name)?;
     }

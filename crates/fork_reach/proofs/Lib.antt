@@ -7,6 +7,8 @@ pub mod KeptObjects
 pub mod KeyLemmas
 pub mod MeasureLemmas
 pub mod NameLemmas
+pub mod NoteLemmas
+pub mod QueueLemmas
 pub mod ReachLemmas
 pub mod RisingLemmas
 pub mod SeeingLemmas

@@ -1,5 +1,5 @@
 -- Names that are seen to one by one, and list by list.
-use Rattle.std.proofs.Common.{◌≡◌, ℕ, zero, suc, ◌+◌, ◌<◌, ◌≤◌, Bool, true, false, cond, List, [], ◌∷◌, ◌++◌, refl, sym, ap, subst, ◌∙◌, arith, inl, inr, ◌⊎◌, length, length-append}
+use Rattle.std.proofs.Common.{◌≡◌, ℕ, zero, suc, ◌+◌, ◌<◌, ◌≤◌, Bool, true, false, not, cond, List, [], ◌∷◌, ◌++◌, refl, sym, ap, subst, ◌∙◌, arith, inl, inr, ◌⊎◌, length, length-append}
 use Rattle.std.specs.List.{Contains, slice_index_or}
 use Rattle.std.specs.FinMap.{FinMap, contains_key, keys}
 use Rattle.std.specs.Ordering.{is_eq}
@@ -88,7 +88,7 @@ sees_absent objects ends first seen waits absent = record {
 }
 
 -- what is seen behind an insertion: the name, or what was seen before
-abbrev Inserts : List ℕ → (List ℕ → Bool) → (List ℕ → Bool) → Type 0
+abbrev pub Inserts : List ℕ → (List ℕ → Bool) → (List ℕ → Bool) → Type 0
 Inserts first seen now_seen = (name : List ℕ) → now_seen name ≡ cond (is_eq (name_cmp first name)) true (seen name)
 
 -- the same where names are told apart byte by byte
@@ -154,6 +154,47 @@ sees_last objects ends first seen waits now_seen inserts seen_now new there = re
       (let fewer = unseen_less objects first seen now_seen inserts seen_now new there in
       let longer : length (waits ++ first ∷ []) ≡ length waits + 1 = length-append waits (first ∷ []) in
       omega arith);
+}
+
+-- whether a name was seen, by what its insertion answers
+pub was_old : {answer : Bool} (seen : Bool) → answer ≡ not seen → answer ≡ false → seen ≡ true
+was_old true told is = refl
+was_old false told is = (let no : true ≡ false = sym told ∙ is in absurd (cc))
+
+pub was_new : {answer : Bool} (seen : Bool) → answer ≡ not seen → answer ≡ true → seen ≡ false
+was_new true told is = (let no : false ≡ true = sym told ∙ is in absurd (cc))
+was_new false told is = refl
+
+-- a name that is inserted where it was seen changes nothing
+pub was_there : (first : List ℕ) (seen now_seen : List ℕ → Bool) → Inserts first seen now_seen → seen first ≡ true → (name : List ℕ) → seen name ≡ now_seen name
+was_there first seen now_seen inserts known name = by (is_eq (name_cmp first name)) refl ∙ sym (inserts name)
+  where
+    by : (b : Bool) → is_eq (name_cmp first name) ≡ b → seen name ≡ cond b true (seen name)
+    by true tied = ap seen (sym (tied_names first name tied)) ∙ known
+    by false other = refl
+
+-- and one that is taken out again is as if it had not been inserted
+pub taken_out : (first : List ℕ) (seen with_it now_seen : List ℕ → Bool) → Inserts first seen with_it → ((name : List ℕ) → now_seen name ≡ cond (same_name first name) false (with_it name)) → seen first ≡ false → (name : List ℕ) → seen name ≡ now_seen name
+taken_out first seen with_it now_seen inserts removed new name = by (is_eq (name_cmp first name)) refl ∙ sym (removed name ∙ ap (λ b. cond b false (with_it name)) (one_test first name) ∙ ap (λ b. cond (is_eq (name_cmp first name)) false b) (inserts name))
+  where
+    by : (b : Bool) → is_eq (name_cmp first name) ≡ b → seen name ≡ cond b false (cond b true (seen name))
+    by true tied = ap seen (sym (tied_names first name tied)) ∙ new
+    by false other = refl
+
+-- names that are the same but for their order are seen to alike
+pub sees_moved : {X : Type 0} (objects : FinMap name_cmp X) (ends : List ℕ → Bool) (xs ys : Names) (seen : List ℕ → Bool) (waits : Names) (now_seen : List ℕ → Bool) (now_waits : Names) → ((name : List ℕ) → Contains ys name → Contains xs name) → ((name : List ℕ) → Contains xs name → Contains ys name)
+    → Sees objects ends xs seen waits now_seen now_waits → Sees objects ends ys seen waits now_seen now_waits
+sees_moved objects ends xs ys seen waits now_seen now_waits back there sees = record {
+  kept = sees.kept;
+  stays = sees.stays;
+  all = λ name among. sees.all name (back name among);
+  only = λ name is. elim (sees.only name is) [
+    | inl before ↦ inl before
+    | inr found ↦ inr (there name found.0, found.1)
+  ];
+  new = sees.new;
+  noted = sees.noted;
+  less = sees.less;
 }
 
 -- a name that is new, and whose object is there

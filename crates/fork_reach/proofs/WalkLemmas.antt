@@ -81,6 +81,37 @@ pub walks_on : {X : Type 0} (next : List ℕ → List (List ℕ)) (objects : Fin
 walks_on next objects ends roots honest seen waits rest last names now_seen now_waits quiet popped walks right sees =
     walks_past next objects ends roots honest seen rest last names now_seen now_waits quiet (subst (λ w. Walks next objects roots honest seen w) popped walks) right sees
 
+walks_moved : {X : Type 0} (next : List ℕ → List (List ℕ)) (objects : FinMap name_cmp X) (roots : List (List ℕ)) (honest : Bool) (seen : List ℕ → Bool) (xs ys : List (List ℕ)) → ((name : List ℕ) → Contains ys name → Contains xs name) → ((name : List ℕ) → Contains xs name → Contains ys name)
+    → Walks next objects roots honest seen xs → Walks next objects roots honest seen ys
+walks_moved next objects roots honest seen xs ys back there walks = record {
+  begun = walks.begun;
+  noted = λ name is. walks.noted name (back name is);
+  there = walks.there;
+  reached = walks.reached;
+  closed = λ honest_is from is. elim (walks.closed honest_is from is) [
+    | inl waiting ↦ inl (there from waiting)
+    | inr done ↦ inr done
+  ];
+}
+
+-- the first of those that wait was followed
+pub walks_first : {X : Type 0} (next : List ℕ → List (List ℕ)) (objects : FinMap name_cmp X) (ends : List ℕ → Bool) (roots : List (List ℕ)) (honest : Bool) (seen : List ℕ → Bool) (first : List ℕ) (rest names : List (List ℕ)) (now_seen : List ℕ → Bool) (now_waits : List (List ℕ))
+    → (IsTrue honest → (from : List ℕ) → ends from ≡ true → next from ≡ []) → Walks next objects roots honest seen (first ∷ rest) → (IsTrue honest → names ≡ next first) → Sees objects ends names seen rest now_seen now_waits → Walks next objects roots honest now_seen now_waits
+walks_first next objects ends roots honest seen first rest names now_seen now_waits quiet walks right sees =
+    walks_past next objects ends roots honest seen rest first names now_seen now_waits quiet (walks_moved next objects roots honest seen (first ∷ rest) (rest ++ first ∷ []) back there walks) right sees
+  where
+    back : (name : List ℕ) → Contains (rest ++ first ∷ []) name → Contains (first ∷ rest) name
+    back name is = elim (Contains-append_cases rest (first ∷ []) name is) [
+      | inl behind ↦ Contains-append_right (first ∷ []) rest name behind
+      | inr front ↦ Contains-append_left (first ∷ []) rest name front
+    ]
+
+    there : (name : List ℕ) → Contains (first ∷ rest) name → Contains (rest ++ first ∷ []) name
+    there name is = elim (Contains-append_cases (first ∷ []) rest name is) [
+      | inl front ↦ Contains-append_right rest (first ∷ []) name front
+      | inr behind ↦ Contains-append_left rest (first ∷ []) name behind
+    ]
+
 -- where nothing waits, what is reached is seen
 all_seen : {X : Type 0} (next : List ℕ → List (List ℕ)) (objects : FinMap name_cmp X) (roots : List (List ℕ)) (honest : Bool) (seen : List ℕ → Bool) → Walks next objects roots honest seen [] → IsTrue honest → (name : List ℕ) → IsReached next objects roots name → seen name ≡ true
 all_seen next objects roots honest seen walks honest_is _ (Root name root there) = walks.begun name root there

@@ -1,6 +1,7 @@
 -- The history of commits: of each commit its parents, and when it was committed (own).
 use Rattle.std.specs.Prelude.{ℕ, List, [], Option, None, Some}
-use Rattle.std.specs.FinMap.{FinMap, get}
+use Rattle.std.specs.List.{zip}
+use Rattle.std.specs.FinMap.{FinMap, from_entries, get}
 use Rattle.git_name.specs.Name.{name_cmp}
 use Rattle.git_name.specs.declared.kind.Kind.{Kind}
 use Rattle.git_name.specs.declared.kind.Kind.TheVariants.{Blob, Tree, Commit, Tag}
@@ -42,6 +43,10 @@ note_at objects name = note_of_found (get objects name)
 -- the notes of objects under their names
 abbrev pub Notes : Type 0
 Notes = FinMap name_cmp Note
+
+-- those of names and of what is noted of each, at the same places
+abbrev pub notes_under : List (List ℕ) → List Note → Notes
+notes_under names notes = from_entries (zip names notes)
 
 -- the parents that are noted under a name
 abbrev pub parents_of_noted : Option Note → List (List ℕ)

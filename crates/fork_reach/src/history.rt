@@ -1,39 +1,44 @@
-ghost use Rattle.std.specs.Prelude.{◌≡◌, Some, List, ℕ, IfOk, OnOk, OnErr};
+ghost use Rattle.std.specs.Prelude.{◌≡◌, List, ℕ, IfOk, length};
 ghost use Rattle.std.specs.Option.{option_copied};
-ghost use Rattle.std.specs.HashMap.{IsUnchanged, Updates};
 ghost use Rattle.std.specs.HashSet.{contains};
+ghost use Rattle.std.specs.List.{zip};
 ghost use Rattle.std.specs.List.Sorted.{IsPermutation};
 ghost use Rattle.std.specs.FinMap as map;
 ghost use Rattle.git_name.specs.Same.{same_name};
-ghost use Rattle.fork_reach.specs.History.{noted_parents};
+ghost use Rattle.fork_reach.specs.History.{noted_parents, notes_under};
 ghost use Rattle.fork_reach.specs.Reach.{is_reached};
 
 use crate::names::Names;
 use crate::noted::Noted;
 use crate::noting::note_all;
 use git_name::{Hashing, Name};
+use indexmap::IndexSet;
 use std::alloc::{AllocError, Global};
-use std::collections::hash_map::Iter;
-use std::collections::{HashMap, HashSet};
+use std::collections::HashSet;
 use std::marker::Model;
 
-/// Commits in memory, each with its parents and its time. Contracts see a map from names to notes.
+/// Commits in memory, each with its parents and its time: at the place of a name stands what is noted of
+/// its commit. Contracts see a map from names to notes.
 #[derive(Drop)]
 pub struct History {
-    commits: HashMap<Name, Noted, Hashing>,
+    names: IndexSet<Name, Hashing>,
+    notes: Vec<Noted>,
 }
 
 impl Model for History {
+    ghost use Rattle.std.specs.Prelude.{◌≡◌, length};
     ghost use Rattle.std.specs.FinMap as finite;
     ghost use Rattle.std.specs.Coded.{coded_list, coded_ℕ};
     ghost use Rattle.fork_reach.specs.contracts.noted.Noted as noted;
-    ghost use Rattle.fork_reach.specs.History.{Notes};
+    ghost use Rattle.fork_reach.specs.History.{Notes, notes_under};
 
     ghost Value = { Notes };
 
     ghost coded = { finite.code (coded_list coded_ℕ) noted.the_row.coded };
 
-    ghost view = { λ a. finite.from_entries a.commits.entries };
+    ghost view = { λ a. notes_under a.names.keys a.notes.items };
+
+    ghost invariant = { λ a. length a.notes.items ≡ length a.names.keys };
 }
 
 impl Names for History {
@@ -56,40 +61,34 @@ impl Names for History {
 }
 
 impl History {
-    // No commits.
-    pub(crate) fn new(alloc: Global, hashing: Hashing) -> History
-        ensures { result ≡ map.empty }
+    // The commits of these names, each with what is noted of it at the same place.
+    pub(crate) fn of(names: IndexSet<Name, Hashing>, notes: Vec<Noted>) -> History
+        requires { length notes.items ≡ length names.keys }
+        ensures { result ≡ notes_under names.keys notes.items }
     {
-        History {
-            commits: HashMap::with_hasher(alloc, hashing),
-        }
+        History { names, notes }
     }
 
     /// How the names of its commits are hashed.
     pub fn hashing(&self) -> Hashing {
-        *self.commits.hasher()
-    }
-
-    // Keeps what is noted of a commit.
-    pub(crate) fn insert(&mut self, name: Name, noted: Noted) -> Result<(), AllocError>
-        ensures ok { OnOk result (self.new ≡ map.insert self.old name noted) }
-        ensures err { OnErr result (self.new ≡ self.old) }
-    {
-        put(&mut self.commits, name, noted)
+        *self.names.hasher()
     }
 
     /// Whether the commit of this name is one of them.
     pub fn contains(&self, name: Name) -> bool
         ensures { result ≡ map.contains_key self.now name }
     {
-        self.commits.contains_key(&name)
+        self.names.contains(&name)
     }
 
     // What is kept of the commit of this name.
     fn get(&self, name: Name) -> Option<&Noted>
         ensures { option_copied result ≡ map.get self.now name }
     {
-        self.commits.get(&name)
+        match self.names.get_index_of(&name) {
+            Some(at) => Some(&self.notes[at]),
+            None => None,
+        }
     }
 
     /// The names of the parents of the commit of this name, in their order; none where it is none of
@@ -103,11 +102,12 @@ impl History {
         }
     }
 
-    /// The commits, in no special order.
-    pub fn iter(&self) -> Iter<'_, Name, Noted>
-        ensures { IsPermutation (map.entries self.now) result }
+    /// The names of the commits, in no special order, and what is noted of each, at the same place.
+    pub fn commits(&self) -> (&[Name], &[Noted])
+        ensures entries { IsPermutation (map.entries self.now) (zip result.0.now result.1.now) }
+        ensures each { length result.1.now ≡ length result.0.now }
     {
-        self.commits.iter()
+        (self.names.as_slice(), self.notes.as_slice())
     }
 
     /// The names of those of these commits that parents lead to from the given ones, and of the given
@@ -119,7 +119,7 @@ impl History {
     ) -> Result<HashSet<Name, Hashing>, AllocError>
         ensures { IfOk result (λ found. (name : List ℕ) → contains same_name found name ≡ is_reached (noted_parents self.now) self.now commits.now name) }
     {
-        let mut seen = HashSet::with_hasher(alloc, self.hashing());
+        let mut seen = HashSet::with_capacity_and_hasher(alloc, self.names.len(), self.hashing())?;
         let mut waiting = Vec::new(alloc);
         let Ok(()) = note_all(self, commits, &mut seen, &mut waiting) else {
             return Err(AllocError);
@@ -131,16 +131,4 @@ impl History {
         }
         Ok(seen)
     }
-}
-
-fn put(
-    commits: &mut HashMap<Name, Noted, Hashing>,
-    name: Name,
-    noted: Noted,
-) -> Result<(), AllocError>
-    ensures ok { OnOk result (Updates same_name commits.old commits.new name (Some noted)) }
-    ensures err { OnErr result (IsUnchanged commits.old commits.new) }
-{
-    commits.insert(name, noted)?;
-    Ok(())
 }

@@ -14,7 +14,8 @@ use std::alloc::AllocError;
 use std::collections::HashSet;
 
 // Notes the name as seen, and as one that waits where a walk goes on from it, where it is there and was
-// not seen yet.
+// not seen yet. It is noted first and taken out again where it is not there, since that is rare and each
+// look-up hashes the name anew.
 fn note<N: Names>(
     there: &N,
     name: Name,
@@ -23,14 +24,15 @@ fn note<N: Names>(
 ) -> Result<(), AllocError>
     ensures { OnOk result (Sees (N.names there.now) (N.ends there.now) (name ∷ []) (contains same_name seen.old) waiting.old.items (contains same_name seen.new) waiting.new.items) }
 {
-    if seen.contains(&name) {
+    let Ok(is_new) = seen.insert(name) else {
+        return Err(AllocError);
+    };
+    if !is_new {
         return Ok(());
     }
     let Some(leads) = there.leads(name) else {
+        seen.remove(&name);
         return Ok(());
-    };
-    let Ok(_) = seen.insert(name) else {
-        return Err(AllocError);
     };
     if !leads {
         return Ok(());

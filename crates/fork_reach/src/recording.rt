@@ -12,9 +12,10 @@ ghost use Rattle.fork_reach.specs.Source.{kind_in};
 
 use crate::history::History;
 use crate::noted::Noted;
-use crate::noting::note_open;
+use crate::queuing::queue_open;
 use crate::source::{Source, SourceFault};
 use git_name::{Hashing, Kind, Name};
+use indexmap::IndexSet;
 use std::alloc::Global;
 use std::collections::HashSet;
 
@@ -50,7 +51,8 @@ fn noted<S: Source>(alloc: Global, source: &mut S, name: Name) -> Result<Noted, 
 }
 
 /// The commits that parents lead to from these, past none of the hidden names, and those of these that
-/// the source finds. Each is read once, its time taken with its parents.
+/// the source finds. Each is read once, its time taken with its parents. They are read in the order in
+/// which they are found, so that the names of the history are themselves the queue of those to read.
 pub fn read_history<S: Source>(
     alloc: Global,
     source: &mut S,
@@ -60,30 +62,22 @@ pub fn read_history<S: Source>(
     ensures found { IsTrue (S.state source.old).honest → IfOk result (λ history. history ≡ map_values note_of (map.retain_keys (S.state source.old).objects (is_reached (parent_names (S.state source.old).objects) (without (S.state source.old).objects (contains same_name hidden.now)) commits.now))) }
     ensures asked { IsAsked (S.state source.old) (S.state source.new) (fault_in result) }
 {
-    let mut history = History::new(alloc, source.hashing());
-    let mut seen = HashSet::with_hasher(alloc, source.hashing());
-    let mut waiting = Vec::new(alloc);
-    let Ok(()) = note_open(source, hidden, None, commits, &mut seen, &mut waiting) else {
+    let mut names = IndexSet::with_hasher(alloc, source.hashing());
+    let mut notes = Vec::new(alloc);
+    let Ok(()) = queue_open(source, hidden, commits, &mut names) else {
         return Err(SourceFault::Memory);
     };
-    'waiting: while let Some(name) = waiting.pop() {
+    'queued: while let Some(name) = names.get_index(notes.len()).copied() {
         let noted = match noted(alloc, source, name) {
             Ok(noted) => noted,
             Err(fault) => return Err(fault),
         };
-        let Ok(()) = note_open(
-            source,
-            hidden,
-            None,
-            noted.parents(),
-            &mut seen,
-            &mut waiting,
-        ) else {
+        let Ok(()) = queue_open(source, hidden, noted.parents(), &mut names) else {
             return Err(SourceFault::Memory);
         };
-        let Ok(()) = history.insert(name, noted) else {
+        let Ok(()) = notes.push(noted) else {
             return Err(SourceFault::Memory);
         };
     }
-    Ok(history)
+    Ok(History::of(names, notes))
 }

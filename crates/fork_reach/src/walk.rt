@@ -17,7 +17,7 @@ use std::collections::HashSet;
 
 // The names that are reached from the roots, past none that is hidden. A name is seen when it is put on
 // the list of those that wait to be followed, so that each is followed once; one whose kind goes on to
-// none is never put there.
+// none is never put there. What an object leads to first is followed next.
 pub(crate) fn walk<S: Source>(
     alloc: Global,
     source: &mut S,
@@ -36,10 +36,11 @@ pub(crate) fn walk<S: Source>(
         return Err(SourceFault::Memory);
     };
     'waiting: while let Some(name) = waiting.pop() {
-        let names = match next_names(alloc, source, along, name) {
+        let mut names = match next_names(alloc, source, along, name) {
             Ok(names) => names,
             Err(fault) => return Err(fault),
         };
+        names.reverse();
         let Ok(()) = note_open(
             source,
             hidden,

@@ -26,8 +26,10 @@ fn a_history_keeps_parents_and_times(rt: HostRuntime) -> Result<(), Fail> {
     assert!(rt; !history.contains(absent()));
     assert_eq!(rt; history.parents(left), [first].as_slice());
     assert_eq!(rt; history.parents(first).len(), 0);
+    let (listed, notes) = history.commits();
+    assert_eq!(rt; listed.len(), 3);
     let mut seconds = 0u64;
-    for (_, noted) in history.iter() {
+    for noted in notes {
         seconds = seconds.saturating_add(noted.seconds());
     }
     assert_eq!(rt; seconds, 40);

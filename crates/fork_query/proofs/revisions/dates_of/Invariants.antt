@@ -1,9 +1,8 @@
-use Rattle.std.proofs.Common.{◌++◌, map}
-use Rattle.std.specs.FinMap.{entries}
-use Rattle.std.specs.List.Sorted.{IsPermutation}
+use Rattle.std.proofs.Common.{◌≡◌, map, take}
+use Rattle.std.specs.List.{zip}
 use Rattle.fork_query.specs.Dates.{noted_date}
 use Rattle.fork_query.proofs.revisions.dates_of.Given as goal
 
--- the dates so far, and those that are left, are the dates of all commits in some order
-abbrev pub invariant-loop-name : goal.invariant-loop-name
-invariant-loop-name l = IsPermutation (map noted_date (entries l.fn.history)) (l.dates.items ++ map noted_date l.name-iterator)
+-- the dates of the commits so far
+abbrev pub invariant-loop-at : goal.invariant-loop-at
+invariant-loop-at l = l.dates.items ≡ map noted_date (take l.at (zip l.names l.notes))

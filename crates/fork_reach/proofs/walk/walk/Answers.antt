@@ -1,5 +1,7 @@
 use Rattle.std.proofs.Common.{IsTrue, None, Some, vec_len, subst, sym, ◌∙◌, ap}
 use Rattle.std.specs.HashSet.{contains}
+use Rattle.std.specs.List.Sorted.{IsPermutation}
+use Rattle.std.proofs.lemmas.List.Sorted.{Contains-permutation, IsPermutation-sym}
 use Rattle.git_name.specs.Same.{same_name}
 use Rattle.fork_reach.specs.Along.{names_along, rests_at}
 use Rattle.fork_reach.specs.Hidden.{without}
@@ -10,6 +12,7 @@ use Rattle.fork_reach.proofs.AskedLemmas.{asked_again, not_asked}
 use Rattle.fork_reach.proofs.HiddenLemmas.{measured_without}
 use Rattle.fork_reach.proofs.NameLemmas.{empty_holds_none}
 use Rattle.fork_reach.proofs.ReachLemmas.{reached_alike}
+use Rattle.fork_reach.proofs.SeeingLemmas.{sees_moved}
 use Rattle.fork_reach.proofs.WalkLemmas.{walks_begin, none_waits, walks_end, walks_on}
 use Rattle.fork_reach.proofs.walk.walk.Goals as goal
 
@@ -34,14 +37,16 @@ waiting-preserved g c =
     let seen = contains same_name c.waiting.seen in
     let rest = c.pop.new.self.items in
     let name = c.in-Some.name in
-    let names = c.as_slice.result.now in
+    let names = c.in-Ok-next_names.names.items in
+    let turned = subst (IsPermutation names) (sym c.as_slice.ensures.value) c.reverse.ensures.permutation in
     let now_seen = contains same_name c.note_open-in-Some.new.seen in
     let now_waits = c.note_open-in-Some.new.waiting.items in
     record {
       asked = asked;
       walks = walks_on next (without (measures_of old.objects) hides) (rests_at (Some c.args.along) (measures_of old.objects)) c.args.roots.now old.honest seen c.waiting.waiting.items rest name names now_seen now_waits (λ honest from rests. quiet_along c.args.along old.objects from rests) c.in-Some.ensures.items before.walks
-          (λ honest. c.as_slice.ensures.value ∙ told.next (subst IsTrue (sym before.asked.honest) honest) ∙ ap (λ all. names_along c.args.along all name) (before.asked.objects honest))
-          (subst (λ measures. Sees (without measures hides) (rests_at (Some c.args.along) measures) names seen rest now_seen now_waits) asked.measures c.in-Ok-note_open.ensures);
+          (λ honest. told.next (subst IsTrue (sym before.asked.honest) honest) ∙ ap (λ all. names_along c.args.along all name) (before.asked.objects honest))
+          (subst (λ measures. Sees (without measures hides) (rests_at (Some c.args.along) measures) names seen rest now_seen now_waits) asked.measures
+          (sees_moved _ _ c.as_slice.result.now names seen rest now_seen now_waits (λ n. Contains-permutation names c.as_slice.result.now n turned) (λ n. Contains-permutation c.as_slice.result.now names n (IsPermutation-sym names c.as_slice.result.now turned)) c.in-Ok-note_open.ensures));
     }
 
 pub returns-clause-found : goal.returns-clause-found

@@ -9,8 +9,8 @@ use Rattle.fork_reach.proofs.history.History.ancestors.Goals as goal
 pub waiting-init : goal.waiting-init
 waiting-init c =
     let self = c.args.self.now in
-    walks_begin (noted_parents self) self (λ _. false) c.args.commits.now true (contains same_name c.with_hasher-seen.result) c.new-waiting.result.items (contains same_name c.note_all.new.seen) c.note_all.new.waiting.items
-    (λ honest from is. absurd (cc)) (empty_holds_none c.with_hasher-seen.result.keys c.with_hasher-seen.ensures.empty) c.new-waiting.ensures.items c.in-Ok.ensures
+    walks_begin (noted_parents self) self (λ _. false) c.args.commits.now true (contains same_name c.in_ok-seen.seen) c.new-waiting.result.items (contains same_name c.note_all.new.seen) c.note_all.new.waiting.items
+    (λ honest from is. absurd (cc)) (empty_holds_none c.in_ok-seen.seen.keys c.in_ok-seen.ensures.empty) c.new-waiting.ensures.items c.in-Ok.ensures
 
 pub waiting-preserved : goal.waiting-preserved
 waiting-preserved c =

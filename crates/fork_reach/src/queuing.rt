@@ -1,0 +1,68 @@
+ghost use Rattle.std.specs.Prelude.{[], ◌∷◌, OnOk};
+ghost use Rattle.std.specs.HashSet.{contains};
+ghost use Rattle.git_name.specs.Same.{same_name};
+ghost use Rattle.fork_reach.specs.Hidden.{without};
+ghost use Rattle.fork_reach.specs.Objects.{measures_of};
+ghost use Rattle.fork_reach.specs.Queuing.{Queues};
+
+use crate::names::{Names, Open};
+use crate::source::Source;
+use git_name::{Hashing, Name};
+use indexmap::IndexSet;
+use std::alloc::AllocError;
+use std::collections::HashSet;
+
+// Puts the name behind the others, where it is there and does not stand among them yet. It is put there
+// first and taken out again where it is not there, since that is rare and each look-up hashes the name
+// anew.
+fn queue<N: Names>(
+    there: &N,
+    name: Name,
+    names: &mut IndexSet<Name, Hashing>,
+) -> Result<(), AllocError>
+    ensures { OnOk result (Queues (N.names there.now) (name ∷ []) names.old.keys names.new.keys) }
+{
+    let before = names.len();
+    let Ok(is_new) = names.insert(name) else {
+        return Err(AllocError);
+    };
+    if !is_new {
+        return Ok(());
+    }
+    let Some(_) = there.leads(name) else {
+        names.truncate(before);
+        return Ok(());
+    };
+    Ok(())
+}
+
+// The same of each of these names.
+fn queue_all<N: Names>(
+    there: &N,
+    more: &[Name],
+    names: &mut IndexSet<Name, Hashing>,
+) -> Result<(), AllocError>
+    ensures { OnOk result (Queues (N.names there.now) more.now names.old.keys names.new.keys) }
+{
+    for name in more {
+        queue(there, *name, names)?;
+    }
+    Ok(())
+}
+
+// The same over the objects of a source of which some are hidden.
+pub(crate) fn queue_open<S: Source>(
+    source: &S,
+    hidden: &HashSet<Name, Hashing>,
+    more: &[Name],
+    names: &mut IndexSet<Name, Hashing>,
+) -> Result<(), AllocError>
+    ensures { OnOk result (Queues (without (measures_of (S.state source.now).objects) (contains same_name hidden.now)) more.now names.old.keys names.new.keys) }
+{
+    let open = Open {
+        source,
+        hidden,
+        along: None,
+    };
+    queue_all(&open, more, names)
+}

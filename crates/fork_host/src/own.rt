@@ -27,10 +27,10 @@ use fork_reach::{SourceFault, reach};
 use fork_request::TenantName;
 use git_name::{Hashing, Kind, Name, Sealed};
 use git_reftx::Refs;
+use indexmap::IndexSet;
 use loose_store::LooseFiles;
 use push_stream::{Brief, StreamFault};
 use std::alloc::{AllocError, Global};
-use std::collections::HashSet;
 
 // One tenant's own part of the vault. It is made once for a request, from the vault and the tenant that
 // asks, and is all of the vault that a row of the answer is given.
@@ -157,7 +157,7 @@ impl<'a, S: LooseFiles> Own<'a, S> {
     }
 
     // Of what the tenant sees, the objects of these names stay.
-    pub(crate) fn keep_only(&mut self, names: &HashSet<Name, Hashing>)
+    pub(crate) fn keep_only(&mut self, names: &IndexSet<Name, Hashing>)
         ensures tenants { self.new.vault.now.tenants ≡ at_tenant self.old.vault.now.tenants self.old.tenant.now (with_kept (λ name. contains same_name names.now name)) }
         ensures store { LeavesStore self.old.vault.now self.new.vault.now }
         ensures same { IsSame self.old self.new }
@@ -184,7 +184,7 @@ impl<'a, S: LooseFiles> Own<'a, S> {
         &mut self,
         alloc: Global,
         roots: &[Name],
-    ) -> Result<HashSet<Name, Hashing>, SourceFault>
+    ) -> Result<IndexSet<Name, Hashing>, SourceFault>
         ensures found { IsTrue self.old.vault.now.honest → IfOk result (λ found. (name : List ℕ) → contains same_name found name ≡ is_reached (linked_names (visible_by self.old)) (visible_by self.old) roots.now name) }
         ensures kept { IsTrue self.old.vault.now.honest → self.new.vault.now.tenants ≡ self.old.vault.now.tenants }
 

@@ -21,9 +21,10 @@ use fork_request::RepositoryName;
 use fork_sound::{Readings, first_bad};
 use git_name::Name;
 use git_reftx::Refs;
+use indexmap::IndexSet;
 use loose_store::LooseFiles;
 use std::alloc::{AllocError, Global};
-use std::collections::{BTreeSet, HashSet};
+use std::collections::BTreeSet;
 
 // What stands against what a tenant saw.
 #[derive(Drop)]
@@ -69,7 +70,7 @@ pub(crate) fn see_again<S: LooseFiles>(
     match judge_seen(own, readings, &names, repositories, limit) {
         Ok(()) => Ok(()),
         Err(against) => {
-            let none = HashSet::with_hasher(alloc, own.hashing_of_names());
+            let none = IndexSet::with_hasher(alloc, own.hashing_of_names());
             own.keep_only(&none);
             Err(against)
         }

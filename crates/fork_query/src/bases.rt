@@ -19,18 +19,18 @@ use crate::want::Want;
 use fork_reach::{History, Source, SourceFault, ascending, read_history};
 use git_name::{Hashing, Name};
 use git_reftx::Refs;
+use indexmap::IndexSet;
 use std::alloc::{AllocError, Global};
-use std::collections::HashSet;
 
 // Keeps the names that the others have too.
-fn keep_both(names: &mut HashSet<Name, Hashing>, others: &HashSet<Name, Hashing>)
+fn keep_both(names: &mut IndexSet<Name, Hashing>, others: &IndexSet<Name, Hashing>)
     ensures { (name : List ℕ) → contains same_name names.new name ≡ (contains same_name others.now name && contains same_name names.old name) }
 {
     names.retain(|name| others.contains(name));
 }
 
 // Takes out the names that the others have.
-fn take_out(names: &mut HashSet<Name, Hashing>, others: &HashSet<Name, Hashing>)
+fn take_out(names: &mut IndexSet<Name, Hashing>, others: &IndexSet<Name, Hashing>)
     ensures { (name : List ℕ) → contains same_name names.new name ≡ (not (contains same_name others.now name) && contains same_name names.old name) }
 {
     names.retain(|name| !others.contains(name));
@@ -42,7 +42,7 @@ fn common(
     history: &History,
     a: Name,
     b: Name,
-) -> Result<HashSet<Name, Hashing>, AllocError>
+) -> Result<IndexSet<Name, Hashing>, AllocError>
     ensures { IfOk result (λ common. (name : List ℕ) → contains same_name common name ≡ is_common_noted history.now a b name) }
 {
     let mut common = history.ancestors(alloc, &[a])?;
@@ -53,7 +53,7 @@ fn common(
 
 // Puts the parents of a commit among the names, but for itself.
 fn put_parents(
-    names: &mut HashSet<Name, Hashing>,
+    names: &mut IndexSet<Name, Hashing>,
     commit: Name,
     parents: &[Name],
 ) -> Result<(), AllocError>
@@ -74,11 +74,11 @@ fn put_parents(
 fn outdone(
     alloc: Global,
     history: &History,
-    commits: &HashSet<Name, Hashing>,
-) -> Result<HashSet<Name, Hashing>, AllocError>
+    commits: &IndexSet<Name, Hashing>,
+) -> Result<IndexSet<Name, Hashing>, AllocError>
     ensures { IfOk result (λ outdone. (name : List ℕ) → contains same_name outdone name ≡ list_any (is_other_parent history.now name) commits.now.keys) }
 {
-    let mut outdone = HashSet::with_capacity_and_hasher(alloc, commits.len(), history.hashing())?;
+    let mut outdone = IndexSet::with_capacity_and_hasher(alloc, commits.len(), history.hashing())?;
     for commit in commits {
         put_parents(&mut outdone, *commit, history.parents(*commit))?;
     }
@@ -92,7 +92,7 @@ fn best(
     history: &History,
     a: Name,
     b: Name,
-) -> Result<HashSet<Name, Hashing>, AllocError>
+) -> Result<IndexSet<Name, Hashing>, AllocError>
     ensures { IfOk result (λ best. (name : List ℕ) → contains same_name best name ≡ is_best_noted history.now a b name) }
 {
     let mut best = common(alloc, history, a, b)?;
@@ -107,7 +107,7 @@ fn bases<S: Source>(alloc: Global, source: &mut S, a: Name, b: Name) -> Result<V
     ensures listed { IsTrue (S.state source.old).honest → IfOk result (λ text. text.items ≡ name_lines (merge_bases (S.state source.old).objects a b)) }
     ensures asked { IsAsked (S.state source.old) (S.state source.new) (fault_in result) }
 {
-    let none = HashSet::with_hasher(alloc, source.hashing());
+    let none = IndexSet::with_hasher(alloc, source.hashing());
     let history = match read_history(alloc, source, &[a, b], &none) {
         Ok(history) => history,
         Err(fault) => return Err(fault),

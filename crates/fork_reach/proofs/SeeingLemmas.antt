@@ -165,22 +165,6 @@ pub was_new : {answer : Bool} (seen : Bool) → answer ≡ not seen → answer �
 was_new true told is = (let no : false ≡ true = sym told ∙ is in absurd (cc))
 was_new false told is = refl
 
--- a name that is inserted where it was seen changes nothing
-pub was_there : (first : List ℕ) (seen now_seen : List ℕ → Bool) → Inserts first seen now_seen → seen first ≡ true → (name : List ℕ) → seen name ≡ now_seen name
-was_there first seen now_seen inserts known name = by (is_eq (name_cmp first name)) refl ∙ sym (inserts name)
-  where
-    by : (b : Bool) → is_eq (name_cmp first name) ≡ b → seen name ≡ cond b true (seen name)
-    by true tied = ap seen (sym (tied_names first name tied)) ∙ known
-    by false other = refl
-
--- and one that is taken out again is as if it had not been inserted
-pub taken_out : (first : List ℕ) (seen with_it now_seen : List ℕ → Bool) → Inserts first seen with_it → ((name : List ℕ) → now_seen name ≡ cond (same_name first name) false (with_it name)) → seen first ≡ false → (name : List ℕ) → seen name ≡ now_seen name
-taken_out first seen with_it now_seen inserts removed new name = by (is_eq (name_cmp first name)) refl ∙ sym (removed name ∙ ap (λ b. cond b false (with_it name)) (one_test first name) ∙ ap (λ b. cond (is_eq (name_cmp first name)) false b) (inserts name))
-  where
-    by : (b : Bool) → is_eq (name_cmp first name) ≡ b → seen name ≡ cond b false (cond b true (seen name))
-    by true tied = ap seen (sym (tied_names first name tied)) ∙ new
-    by false other = refl
-
 -- names that are the same but for their order are seen to alike
 pub sees_moved : {X : Type 0} (objects : FinMap name_cmp X) (ends : List ℕ → Bool) (xs ys : Names) (seen : List ℕ → Bool) (waits : Names) (now_seen : List ℕ → Bool) (now_waits : Names) → ((name : List ℕ) → Contains ys name → Contains xs name) → ((name : List ℕ) → Contains xs name → Contains ys name)
     → Sees objects ends xs seen waits now_seen now_waits → Sees objects ends ys seen waits now_seen now_waits

@@ -3,6 +3,7 @@ pub mod Faults
 pub mod Hidden
 pub mod History
 pub mod Objects
+pub mod Parents
 pub mod Queuing
 pub mod Reach
 pub mod Seeing

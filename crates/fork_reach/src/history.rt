@@ -14,7 +14,6 @@ use crate::noting::note_all;
 use git_name::{Hashing, Name};
 use indexmap::IndexSet;
 use std::alloc::{AllocError, Global};
-use std::collections::HashSet;
 use std::marker::Model;
 
 /// Commits in memory, each with its parents and its time: at the place of a name stands what is noted of
@@ -116,10 +115,10 @@ impl History {
         &self,
         alloc: Global,
         commits: &[Name],
-    ) -> Result<HashSet<Name, Hashing>, AllocError>
+    ) -> Result<IndexSet<Name, Hashing>, AllocError>
         ensures { IfOk result (λ found. (name : List ℕ) → contains same_name found name ≡ is_reached (noted_parents self.now) self.now commits.now name) }
     {
-        let mut seen = HashSet::with_capacity_and_hasher(alloc, self.names.len(), self.hashing())?;
+        let mut seen = IndexSet::with_capacity_and_hasher(alloc, self.names.len(), self.hashing())?;
         let mut waiting = Vec::new(alloc);
         let Ok(()) = note_all(self, commits, &mut seen, &mut waiting) else {
             return Err(AllocError);

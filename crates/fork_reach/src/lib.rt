@@ -10,6 +10,7 @@ mod names;
 mod noted;
 mod noting;
 mod order;
+mod parents;
 mod queuing;
 mod reaching;
 mod recording;

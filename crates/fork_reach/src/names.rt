@@ -10,7 +10,7 @@ ghost use Rattle.fork_reach.specs.Objects.{Measures, measures_of};
 use crate::along::{Along, goes_on_in};
 use crate::source::Source;
 use git_name::{Hashing, Name};
-use std::collections::HashSet;
+use indexmap::IndexSet;
 
 // Names to which a walk may go.
 pub(crate) trait Names {
@@ -34,12 +34,12 @@ pub(crate) trait Names {
 #[derive(Drop)]
 pub(crate) struct Open<'a, S> {
     pub(crate) source: &'a S,
-    pub(crate) hidden: &'a HashSet<Name, Hashing>,
+    pub(crate) hidden: &'a IndexSet<Name, Hashing>,
     pub(crate) along: Option<Along>,
 }
 
 // Whether the name is hidden. Where none is, no name is hashed.
-fn is_hidden(hidden: &HashSet<Name, Hashing>, name: Name) -> bool
+fn is_hidden(hidden: &IndexSet<Name, Hashing>, name: Name) -> bool
     ensures { result ≡ contains same_name hidden.now name }
 {
     !hidden.is_empty() && hidden.contains(&name)

@@ -2,7 +2,7 @@ ghost use Rattle.std.specs.Prelude.{◌≡◌, [], IfOk};
 ghost use Rattle.git_commit.specs.Whole.{commit_of};
 ghost use Rattle.fork_reach.specs.History.{note_of};
 
-use crate::along::parents_of;
+use crate::parents::Parents;
 use git_commit::Commit;
 use git_name::{Kind, Name};
 use std::alloc::{AllocError, Global};
@@ -12,25 +12,26 @@ use std::marker::Model;
 /// 1970. Of what is no commit it keeps no parents, and 0.
 #[derive(Debug, Drop)]
 pub struct Noted {
-    parents: Vec<Name>,
+    parents: Parents,
     seconds: u64,
 }
 
 impl Model for Noted {
     ghost use Rattle.fork_reach.specs.History.{Note};
+    ghost use Rattle.fork_reach.specs.Parents.{parents_listed};
 
     ghost Value = { Note };
 
-    ghost view = { λ a. record { parents = a.parents.items; seconds = a.seconds } };
+    ghost view = { λ a. record { parents = parents_listed a.parents; seconds = a.seconds } };
 }
 
 impl Noted {
     // Of no commit.
-    pub(crate) fn none(alloc: Global) -> Noted
+    pub(crate) fn none() -> Noted
         ensures { result ≡ record { parents = []; seconds = 0 } }
     {
         Noted {
-            parents: Vec::new(alloc),
+            parents: Parents::Root,
             seconds: 0,
         }
     }
@@ -39,7 +40,7 @@ impl Noted {
     fn of_commit(alloc: Global, commit: &Commit<'_>) -> Result<Noted, AllocError>
         ensures { IfOk result (λ noted. noted ≡ record { parents = (commit_of commit.now).parents; seconds = (commit_of commit.now).committer.seconds }) }
     {
-        let parents = parents_of(alloc, commit)?;
+        let parents = Parents::of(alloc, commit)?;
         Ok(Noted {
             parents,
             seconds: commit.committer().seconds(),
@@ -51,11 +52,11 @@ impl Noted {
         ensures { IfOk result (λ noted. noted ≡ note_of (record { kind = kind; bytes = bytes.now })) }
     {
         if !matches!(kind, Kind::Commit) {
-            return Ok(Noted::none(alloc));
+            return Ok(Noted::none());
         }
         match Commit::read(bytes) {
             Ok(commit) => Noted::of_commit(alloc, &commit),
-            Err(_) => Ok(Noted::none(alloc)),
+            Err(_) => Ok(Noted::none()),
         }
     }
 

@@ -10,8 +10,8 @@ use crate::along::Along;
 use crate::names::{Names, Open};
 use crate::source::Source;
 use git_name::{Hashing, Name};
+use indexmap::IndexSet;
 use std::alloc::AllocError;
-use std::collections::HashSet;
 
 // Notes the name as seen, and as one that waits where a walk goes on from it, where it is there and was
 // not seen yet. It is noted first and taken out again where it is not there, since that is rare and each
@@ -19,11 +19,12 @@ use std::collections::HashSet;
 fn note<N: Names>(
     there: &N,
     name: Name,
-    seen: &mut HashSet<Name, Hashing>,
+    seen: &mut IndexSet<Name, Hashing>,
     waiting: &mut Vec<Name>,
 ) -> Result<(), AllocError>
     ensures { OnOk result (Sees (N.names there.now) (N.ends there.now) (name ∷ []) (contains same_name seen.old) waiting.old.items (contains same_name seen.new) waiting.new.items) }
 {
+    let before = seen.len();
     let Ok(is_new) = seen.insert(name) else {
         return Err(AllocError);
     };
@@ -31,7 +32,7 @@ fn note<N: Names>(
         return Ok(());
     }
     let Some(leads) = there.leads(name) else {
-        seen.remove(&name);
+        seen.truncate(before);
         return Ok(());
     };
     if !leads {
@@ -45,7 +46,7 @@ fn note<N: Names>(
 pub(crate) fn note_all<N: Names>(
     there: &N,
     names: &[Name],
-    seen: &mut HashSet<Name, Hashing>,
+    seen: &mut IndexSet<Name, Hashing>,
     waiting: &mut Vec<Name>,
 ) -> Result<(), AllocError>
     ensures { OnOk result (Sees (N.names there.now) (N.ends there.now) names.now (contains same_name seen.old) waiting.old.items (contains same_name seen.new) waiting.new.items) }
@@ -59,10 +60,10 @@ pub(crate) fn note_all<N: Names>(
 // The same over the objects of a source of which some are hidden.
 pub(crate) fn note_open<S: Source>(
     source: &S,
-    hidden: &HashSet<Name, Hashing>,
+    hidden: &IndexSet<Name, Hashing>,
     along: Option<Along>,
     names: &[Name],
-    seen: &mut HashSet<Name, Hashing>,
+    seen: &mut IndexSet<Name, Hashing>,
     waiting: &mut Vec<Name>,
 ) -> Result<(), AllocError>
     ensures { OnOk result (Sees (without (measures_of (S.state source.now).objects) (contains same_name hidden.now)) (rests_at along (measures_of (S.state source.now).objects)) names.now (contains same_name seen.old) waiting.old.items (contains same_name seen.new) waiting.new.items) }

@@ -7,11 +7,11 @@ ghost use Rattle.git_name.specs.Same.{same_name};
 ghost use Rattle.fork_reach.specs.Reach.{is_among};
 
 use git_name::{Hashing, Name};
+use indexmap::IndexSet;
 use std::alloc::{AllocError, Global};
-use std::collections::HashSet;
 
 // The names of a set, in no order.
-fn listed(alloc: Global, names: &HashSet<Name, Hashing>) -> Result<Vec<Name>, AllocError>
+fn listed(alloc: Global, names: &IndexSet<Name, Hashing>) -> Result<Vec<Name>, AllocError>
     ensures names { IfOk result (λ list. list.items ≡ names.now.keys) }
     ensures distinct { IsDistinct same_name names.now.keys }
 {
@@ -20,7 +20,7 @@ fn listed(alloc: Global, names: &HashSet<Name, Hashing>) -> Result<Vec<Name>, Al
 }
 
 /// The names of a set, ascending.
-pub fn ascending(alloc: Global, names: &HashSet<Name, Hashing>) -> Result<Vec<Name>, AllocError>
+pub fn ascending(alloc: Global, names: &IndexSet<Name, Hashing>) -> Result<Vec<Name>, AllocError>
     ensures order { IfOk result (λ list. IsStrictlySortedBy name_cmp list.items) }
     ensures same { IfOk result (λ list. (name : List ℕ) → is_among list.items name ≡ contains same_name names.now name) }
 {

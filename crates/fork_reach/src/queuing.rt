@@ -10,7 +10,6 @@ use crate::source::Source;
 use git_name::{Hashing, Name};
 use indexmap::IndexSet;
 use std::alloc::AllocError;
-use std::collections::HashSet;
 
 // Puts the name behind the others, where it is there and does not stand among them yet. It is put there
 // first and taken out again where it is not there, since that is rare and each look-up hashes the name
@@ -53,7 +52,7 @@ fn queue_all<N: Names>(
 // The same over the objects of a source of which some are hidden.
 pub(crate) fn queue_open<S: Source>(
     source: &S,
-    hidden: &HashSet<Name, Hashing>,
+    hidden: &IndexSet<Name, Hashing>,
     more: &[Name],
     names: &mut IndexSet<Name, Hashing>,
 ) -> Result<(), AllocError>

@@ -11,8 +11,8 @@ use crate::along::Along;
 use crate::source::{Source, SourceFault};
 use crate::walk::walk;
 use git_name::{Hashing, Name};
+use indexmap::IndexSet;
 use std::alloc::Global;
-use std::collections::HashSet;
 
 /// The names of the source's objects that links lead to from these roots, and of the roots that it
 /// finds. Roots that it does not find are passed over. Each tree, commit and tag is read once, a blob
@@ -21,14 +21,14 @@ pub fn reach<S: Source>(
     alloc: Global,
     source: &mut S,
     roots: &[Name],
-) -> Result<HashSet<Name, Hashing>, SourceFault>
+) -> Result<IndexSet<Name, Hashing>, SourceFault>
     ensures found { IsTrue (S.state source.old).honest → IfOk result (λ found. (name : List ℕ) → contains same_name found name ≡ is_reached (linked_names (S.state source.old).objects) (S.state source.old).objects roots.now name) }
     // Over any source.
     ensures there { IfOk result (λ found. (name : List ℕ) → contains same_name found name ≡ true → map.contains_key (S.state source.old).objects name ≡ true) }
     ensures rooted { IfOk result (λ found. (name : List ℕ) → Contains roots.now name → map.contains_key (S.state source.old).objects name ≡ true → contains same_name found name ≡ true) }
     ensures asked { IsAsked (S.state source.old) (S.state source.new) (fault_in result) }
 {
-    let none = HashSet::with_hasher(alloc, source.hashing());
+    let none = IndexSet::with_hasher(alloc, source.hashing());
     walk(alloc, source, Along::Links, roots, &none)
 }
 
@@ -38,8 +38,8 @@ pub fn reach_past<S: Source>(
     alloc: Global,
     source: &mut S,
     roots: &[Name],
-    hidden: &HashSet<Name, Hashing>,
-) -> Result<HashSet<Name, Hashing>, SourceFault>
+    hidden: &IndexSet<Name, Hashing>,
+) -> Result<IndexSet<Name, Hashing>, SourceFault>
     ensures found { IsTrue (S.state source.old).honest → IfOk result (λ found. (name : List ℕ) → contains same_name found name ≡ is_reached (linked_names (S.state source.old).objects) (without (S.state source.old).objects (contains same_name hidden.now)) roots.now name) }
     ensures asked { IsAsked (S.state source.old) (S.state source.new) (fault_in result) }
 {
@@ -52,13 +52,13 @@ pub fn ancestors<S: Source>(
     alloc: Global,
     source: &mut S,
     commits: &[Name],
-) -> Result<HashSet<Name, Hashing>, SourceFault>
+) -> Result<IndexSet<Name, Hashing>, SourceFault>
     ensures found { IsTrue (S.state source.old).honest → IfOk result (λ found. (name : List ℕ) → contains same_name found name ≡ is_reached (parent_names (S.state source.old).objects) (S.state source.old).objects commits.now name) }
     // Over any source.
     ensures there { IfOk result (λ found. (name : List ℕ) → contains same_name found name ≡ true → map.contains_key (S.state source.old).objects name ≡ true) }
     ensures rooted { IfOk result (λ found. (name : List ℕ) → Contains commits.now name → map.contains_key (S.state source.old).objects name ≡ true → contains same_name found name ≡ true) }
     ensures asked { IsAsked (S.state source.old) (S.state source.new) (fault_in result) }
 {
-    let none = HashSet::with_hasher(alloc, source.hashing());
+    let none = IndexSet::with_hasher(alloc, source.hashing());
     walk(alloc, source, Along::Parents, commits, &none)
 }

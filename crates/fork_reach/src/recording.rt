@@ -17,7 +17,6 @@ use crate::source::{Source, SourceFault};
 use git_name::{Hashing, Kind, Name};
 use indexmap::IndexSet;
 use std::alloc::Global;
-use std::collections::HashSet;
 
 // Whether the object of this name is a commit. It reads no bytes of it.
 fn is_commit<S: Source>(source: &S, name: Name) -> bool
@@ -39,13 +38,13 @@ fn noted<S: Source>(alloc: Global, source: &mut S, name: Name) -> Result<Noted, 
         return Noted::of(alloc, kind, bytes).map_err(|_| SourceFault::Memory);
     }
     if !is_commit(source, name) {
-        return Ok(Noted::none(alloc));
+        return Ok(Noted::none());
     }
     match source.read(alloc, name) {
         Ok(Some(sealed)) => Noted::of(alloc, sealed.kind(), sealed.bytes()).map_err(
             |_| SourceFault::Memory,
         ),
-        Ok(None) => Ok(Noted::none(alloc)),
+        Ok(None) => Ok(Noted::none()),
         Err(fault) => Err(fault),
     }
 }
@@ -57,7 +56,7 @@ pub fn read_history<S: Source>(
     alloc: Global,
     source: &mut S,
     commits: &[Name],
-    hidden: &HashSet<Name, Hashing>,
+    hidden: &IndexSet<Name, Hashing>,
 ) -> Result<History, SourceFault>
     ensures found { IsTrue (S.state source.old).honest → IfOk result (λ history. history ≡ map_values note_of (map.retain_keys (S.state source.old).objects (is_reached (parent_names (S.state source.old).objects) (without (S.state source.old).objects (contains same_name hidden.now)) commits.now))) }
     ensures asked { IsAsked (S.state source.old) (S.state source.new) (fault_in result) }

@@ -12,8 +12,8 @@ use crate::along::{Along, next_names};
 use crate::noting::note_open;
 use crate::source::{Source, SourceFault};
 use git_name::{Hashing, Name};
+use indexmap::IndexSet;
 use std::alloc::Global;
-use std::collections::HashSet;
 
 // The names that are reached from the roots, past none that is hidden. A name is seen when it is put on
 // the list of those that wait to be followed, so that each is followed once; one whose kind goes on to
@@ -23,14 +23,14 @@ pub(crate) fn walk<S: Source>(
     source: &mut S,
     along: Along,
     roots: &[Name],
-    hidden: &HashSet<Name, Hashing>,
-) -> Result<HashSet<Name, Hashing>, SourceFault>
+    hidden: &IndexSet<Name, Hashing>,
+) -> Result<IndexSet<Name, Hashing>, SourceFault>
     ensures found { IsTrue (S.state source.old).honest → IfOk result (λ found. (name : List ℕ) → contains same_name found name ≡ is_reached (names_along along (S.state source.old).objects) (without (S.state source.old).objects (contains same_name hidden.now)) roots.now name) }
     ensures there { IfOk result (λ found. (name : List ℕ) → contains same_name found name ≡ true → map.contains_key (without (S.state source.old).objects (contains same_name hidden.now)) name ≡ true) }
     ensures rooted { IfOk result (λ found. (name : List ℕ) → Contains roots.now name → map.contains_key (without (S.state source.old).objects (contains same_name hidden.now)) name ≡ true → contains same_name found name ≡ true) }
     ensures asked { IsAsked (S.state source.old) (S.state source.new) (fault_in result) }
 {
-    let mut seen = HashSet::with_hasher(alloc, source.hashing());
+    let mut seen = IndexSet::with_hasher(alloc, source.hashing());
     let mut waiting = Vec::new(alloc);
     let Ok(()) = note_open(source, hidden, Some(along), roots, &mut seen, &mut waiting) else {
         return Err(SourceFault::Memory);

@@ -1,7 +1,8 @@
 ghost use Rattle.std.specs.Prelude.{◌≡◌, Bool, List, ℕ};
 
 use git_name::{Hashing, Name};
-use std::collections::{BTreeSet, HashSet};
+use indexmap::IndexSet;
+use std::collections::BTreeSet;
 
 /// A set of names, in order or hashed.
 pub trait NameSet {
@@ -24,7 +25,7 @@ impl NameSet for BTreeSet<Name> {
     }
 }
 
-impl NameSet for HashSet<Name, Hashing> {
+impl NameSet for IndexSet<Name, Hashing> {
     ghost use Rattle.std.specs.HashSet.{contains};
     ghost use Rattle.git_name.specs.Same.{same_name};
 

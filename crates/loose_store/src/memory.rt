@@ -8,15 +8,16 @@ ghost use Rattle.git_name.specs.Same.{Sets, same_name};
 use crate::files::{FileFault, LooseFiles};
 use crate::memory_file::MemoryFile;
 use git_name::{Hashing, Kind, Name, Sealed};
+use indexmap::IndexMap;
 use std::alloc::{AllocError, Global};
-use std::collections::HashMap;
 use std::marker::Model;
 
-/// Files in memory, hashed by their names. An object that was put stays as it came, and its file is
+/// Files in memory, hashed by their names. They lie in the order in which they came, so that objects that
+/// came together are found near one another. An object that was put stays as it came, and its file is
 /// spelled where it is read.
 #[derive(Debug, Drop)]
 pub struct Memory {
-    files: HashMap<Name, MemoryFile, Hashing>,
+    files: IndexMap<Name, MemoryFile, Hashing>,
 }
 
 impl Model for Memory {
@@ -34,7 +35,7 @@ impl Model for Memory {
 }
 
 fn insert_into(
-    files: &mut HashMap<Name, MemoryFile, Hashing>,
+    files: &mut IndexMap<Name, MemoryFile, Hashing>,
     name: Name,
     file: MemoryFile,
 ) -> Result<(), AllocError>
@@ -45,16 +46,16 @@ fn insert_into(
     Ok(())
 }
 
-fn remove_from(files: &mut HashMap<Name, MemoryFile, Hashing>, name: Name)
+fn remove_from(files: &mut IndexMap<Name, MemoryFile, Hashing>, name: Name)
     ensures { Sets files.old.entries files.new.entries name None }
 {
-    files.remove(&name);
+    files.swap_remove(&name);
 }
 
 // The names of the files, in no order.
 fn listed(
     alloc: Global,
-    files: &HashMap<Name, MemoryFile, Hashing>,
+    files: &IndexMap<Name, MemoryFile, Hashing>,
 ) -> Result<Vec<Name>, AllocError>
     ensures names { IfOk result (λ names. names.items ≡ keys_of files.now.entries) }
     ensures distinct { IsDistinct same_name (keys_of files.now.entries) }
@@ -66,7 +67,7 @@ fn listed(
 // The names of the files, ascending.
 fn names_in(
     alloc: Global,
-    files: &HashMap<Name, MemoryFile, Hashing>,
+    files: &IndexMap<Name, MemoryFile, Hashing>,
 ) -> Result<Vec<Name>, AllocError>
     ensures { IfOk result (λ names. names.items ≡ map.keys (map.from_entries {R = name_cmp} files.now.entries)) }
 {
@@ -90,7 +91,7 @@ impl Memory {
         ensures { result ≡ map.empty }
     {
         Memory {
-            files: HashMap::with_hasher(alloc, hashing),
+            files: IndexMap::with_hasher(alloc, hashing),
         }
     }
 

@@ -4,8 +4,8 @@ use fork_query::{QueryError, merge_base, rev_list};
 use fork_reach::read_history;
 use git_name::Hashing;
 use git_reftx::Refs;
+use indexmap::IndexSet;
 use std::alloc::{AllocError, Global};
-use std::collections::HashSet;
 use std::test::Fail;
 
 #[test]
@@ -13,7 +13,7 @@ fn a_history_keeps_parents_and_times(rt: HostRuntime) -> Result<(), Fail> {
     let alloc = rt.alloc();
     let mut kept = Kept::new(alloc);
     let names = filled(alloc, &mut kept)?;
-    let none = HashSet::with_hasher(alloc, Hashing::default());
+    let none = IndexSet::with_hasher(alloc, Hashing::default());
     let (left, first, tree) = (
         named(&names, b'l'),
         named(&names, b'f'),

@@ -2,8 +2,8 @@ use super::kept::Kept;
 use super::objects::{Names, all_named, filled, named};
 use fork_reach::{SourceFault, ancestors, reach, reach_past};
 use git_name::{Hashing, Name};
+use indexmap::IndexSet;
 use std::alloc::Global;
-use std::collections::HashSet;
 use std::test::Fail;
 
 // Where walks begin, what is hidden from the third one, what is found, and how many objects are read.
@@ -39,7 +39,7 @@ const BY_PARENTS: &[Row] = &[
 ];
 
 // Whether these names were found, and nothing else: as many as there are letters.
-fn is_found(found: &HashSet<Name, Hashing>, names: &Names, letters: &[u8]) -> bool {
+fn is_found(found: &IndexSet<Name, Hashing>, names: &Names, letters: &[u8]) -> bool {
     if found.len() != letters.len() {
         return false;
     }
@@ -58,7 +58,7 @@ fn links_lead_to_all_that_is_below_and_no_blob_is_read(rt: HostRuntime) -> Resul
         let mut kept = Kept::new(alloc);
         let names = filled(alloc, &mut kept)?;
         let from = all_named(alloc, &names, letters)?;
-        let mut away = HashSet::with_hasher(alloc, Hashing::default());
+        let mut away = IndexSet::with_hasher(alloc, Hashing::default());
         for letter in *hidden {
             away.insert(named(&names, *letter))?;
         }

@@ -1,36 +1,33 @@
-use Rattle.std.proofs.Common.{List, ℕ, Bool, sym, subst, [], ◌∷◌}
+use Rattle.std.proofs.Common.{ap, length, take, sym, subst, ◌∙◌, [], ◌∷◌}
+use Rattle.std.proofs.Math.Seq.{take-append_seam}
+use Rattle.std.specs.List.{list_any}
 use Rattle.std.specs.HashSet.{contains}
 use Rattle.git_name.specs.Same.{same_name}
 use Rattle.fork_reach.specs.Seeing.{Sees}
-use Rattle.fork_reach.proofs.SeeingLemmas.{inserts_hashed, sees_absent, sees_end, sees_known, sees_new, taken_out, was_new, was_old, was_there}
+use Rattle.fork_reach.proofs.QueueLemmas.{joins_new, joins_old}
+use Rattle.fork_reach.proofs.SeeingLemmas.{inserts_hashed, sees_absent, sees_end, sees_known, sees_new, was_new, was_old}
 use Rattle.fork_reach.proofs.noting.note.Goals as goal
 
 pub returns-then-not-is_new : goal.returns-then-not-is_new
 returns-then-not-is_new g c =
-    let there = g.N.Names.names c.args.there.now in
-    let ends = g.N.Names.ends c.args.there.now in
     let first = c.args.name in
+    let names = c.args.seen.now.keys in
     let seen = contains same_name c.args.seen.now in
-    let now_seen = contains same_name c.insert.new.self in
-    let waits = c.args.waiting.now.items in
     let told = c.in-Ok.ensures in
     let known = was_old (seen first) told.added c.if-not-is_new.true in
-    let same = was_there first seen now_seen (inserts_hashed first seen now_seen told.updates.0) known in
-    subst (λ (s : List ℕ → Bool). Sees there ends (first ∷ []) seen waits s waits) (λ j name. same name j) (sees_known there ends first seen waits known)
+    subst (λ ks. Sees (g.N.Names.names c.args.there.now) (g.N.Names.ends c.args.there.now) (first ∷ []) seen c.args.waiting.now.items (λ name. list_any (same_name name) ks) c.args.waiting.now.items) (sym (joins_old names first c.insert.new.self.keys told.keys known))
+    (sees_known (g.N.Names.names c.args.there.now) (g.N.Names.ends c.args.there.now) first seen c.args.waiting.now.items known)
 
 pub returns-in_default-leads : goal.returns-in_default-leads
 returns-in_default-leads g c =
-    let there = g.N.Names.names c.args.there.now in
-    let ends = g.N.Names.ends c.args.there.now in
     let first = c.args.name in
+    let names = c.args.seen.now.keys in
     let seen = contains same_name c.args.seen.now in
-    let with_it = contains same_name c.insert.new.self in
-    let now_seen = contains same_name c.remove.new.self in
-    let waits = c.args.waiting.now.items in
     let told = c.in-Ok.ensures in
-    let new = was_new (seen first) told.added c.if-not-is_new.false in
-    let same = taken_out first seen with_it now_seen (inserts_hashed first seen with_it told.updates.0) c.remove.ensures.updates.0 new in
-    subst (λ (s : List ℕ → Bool). Sees there ends (first ∷ []) seen waits s waits) (λ j name. same name j) (sees_absent there ends first seen waits (sym c.in_default-leads.ensures.there))
+    let joined = joins_new names first c.insert.new.self.keys told.keys (was_new (seen first) told.added c.if-not-is_new.false) in
+    let back = c.truncate.ensures.keys ∙ ap (λ n. take n c.insert.new.self.keys) c.len-before.ensures.len ∙ ap (take (length names)) joined ∙ take-append_seam names (first ∷ []) in
+    subst (λ ks. Sees (g.N.Names.names c.args.there.now) (g.N.Names.ends c.args.there.now) (first ∷ []) seen c.args.waiting.now.items (λ name. list_any (same_name name) ks) c.args.waiting.now.items) (sym back)
+    (sees_absent (g.N.Names.names c.args.there.now) (g.N.Names.ends c.args.there.now) first seen c.args.waiting.now.items (sym c.in_default-leads.ensures.there))
 
 pub returns-then-not-leads : goal.returns-then-not-leads
 returns-then-not-leads g c =

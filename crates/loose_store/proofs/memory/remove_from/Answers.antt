@@ -2,4 +2,4 @@ use Rattle.git_name.proofs.HashMaps.{sets_by_test}
 use Rattle.loose_store.proofs.memory.remove_from.Goals as goal
 
 pub returns : goal.returns
-returns c = sets_by_test _ _ _ _ c.remove.ensures.updates.0
+returns c = sets_by_test _ _ _ _ c.swap_remove.ensures.updates.0

@@ -1,0 +1,45 @@
+ghost use Rattle.std.specs.Prelude.{◌≡◌, IfOk};
+ghost use Rattle.git_commit.specs.Whole.{commit_of};
+ghost use Rattle.fork_reach.specs.Parents.{parents_listed};
+
+use crate::along::parents_of;
+use git_commit::Commit;
+use git_name::Name;
+use std::alloc::{AllocError, Global};
+use std::slice;
+
+// The names of a commit's parents, in their order. Most commits have one, which stands here and takes no
+// memory of its own.
+#[derive(Debug, Drop)]
+pub(crate) enum Parents {
+    Root,
+    One(Name),
+    Merge(Vec<Name>),
+}
+
+impl Parents {
+    // Those of a commit.
+    pub(crate) fn of(alloc: Global, commit: &Commit<'_>) -> Result<Parents, AllocError>
+        ensures { IfOk result (λ parents. parents_listed parents ≡ (commit_of commit.now).parents) }
+    {
+        let mut left = commit.parents();
+        let Some(first) = left.next() else {
+            return Ok(Parents::Root);
+        };
+        let Some(_) = left.next() else {
+            return Ok(Parents::One(first));
+        };
+        Ok(Parents::Merge(parents_of(alloc, commit)?))
+    }
+
+    // All of them.
+    pub(crate) fn as_slice(&self) -> &[Name]
+        ensures { result.now ≡ parents_listed self.now }
+    {
+        match self {
+            Parents::Root => &[],
+            Parents::One(parent) => slice::from_ref(parent),
+            Parents::Merge(parents) => parents.as_slice(),
+        }
+    }
+}

@@ -14,8 +14,8 @@ use indexmap::IndexSet;
 use std::alloc::AllocError;
 
 // Notes the name as seen, and as one that waits where a walk goes on from it, where it is there and was
-// not seen yet. It is noted first and taken out again where it is not there, since that is rare and each
-// look-up hashes the name anew.
+// not seen yet. It is noted first, and taken out again where it is hidden or not there: each look-up hashes
+// the name anew.
 fn note<N: Names>(
     there: &N,
     name: Name,

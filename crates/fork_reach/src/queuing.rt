@@ -12,8 +12,7 @@ use indexmap::IndexSet;
 use std::alloc::AllocError;
 
 // Puts the name behind the others, where it is there and does not stand among them yet. It is put there
-// first and taken out again where it is not there, since that is rare and each look-up hashes the name
-// anew.
+// first, and taken out again where it is hidden or not there: each look-up hashes the name anew.
 fn queue<N: Names>(
     there: &N,
     name: Name,

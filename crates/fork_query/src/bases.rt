@@ -20,20 +20,23 @@ use fork_reach::{History, Source, SourceFault, ascending, read_history};
 use git_name::{Hashing, Name};
 use git_reftx::Refs;
 use indexmap::IndexSet;
+use nearby::Nearby;
 use std::alloc::{AllocError, Global};
 
 // Keeps the names that the others have too.
 fn keep_both(names: &mut IndexSet<Name, Hashing>, others: &IndexSet<Name, Hashing>)
     ensures { (name : List ℕ) → contains same_name names.new name ≡ (contains same_name others.now name && contains same_name names.old name) }
 {
-    names.retain(|name| others.contains(name));
+    let nearby = Nearby::new();
+    names.retain(|name| nearby.holds(others, *name));
 }
 
 // Takes out the names that the others have.
 fn take_out(names: &mut IndexSet<Name, Hashing>, others: &IndexSet<Name, Hashing>)
     ensures { (name : List ℕ) → contains same_name names.new name ≡ (not (contains same_name others.now name) && contains same_name names.old name) }
 {
-    names.retain(|name| !others.contains(name));
+    let nearby = Nearby::new();
+    names.retain(|name| !nearby.holds(others, *name));
 }
 
 // The common ancestors of both.

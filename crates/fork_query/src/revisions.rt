@@ -17,9 +17,9 @@ use git_reftx::Refs;
 use std::alloc::{AllocError, Global};
 use std::cmp::Reverse;
 
-// The commits of the history, the newest first.
-fn dates_of(alloc: Global, history: &History) -> Result<Vec<Dated>, AllocError>
-    ensures { IfOk result (λ dates. dates.items ≡ newest_first (mapped noted_date (map.entries history.now))) }
+// The commits of the history, which goes, the newest first.
+fn dates_of(alloc: Global, history: History) -> Result<Vec<Dated>, AllocError>
+    ensures { IfOk result (λ dates. dates.items ≡ newest_first (mapped noted_date (map.entries history))) }
 {
     let (names, notes) = history.commits();
     let mut dates = Vec::with_capacity(alloc, names.len())?;
@@ -63,7 +63,7 @@ fn revisions<S: Source>(
         Ok(history) => history,
         Err(fault) => return Err(fault),
     };
-    let Ok(dates) = dates_of(alloc, &history) else {
+    let Ok(dates) = dates_of(alloc, history) else {
         return Err(SourceFault::Memory);
     };
     match lines_of(alloc, dates.as_slice()) {

@@ -13,6 +13,7 @@ use crate::noted::Noted;
 use crate::noting::note_all;
 use git_name::{Hashing, Name};
 use indexmap::IndexSet;
+use nearby::Nearby;
 use std::alloc::{AllocError, Global};
 use std::marker::Model;
 
@@ -21,6 +22,7 @@ use std::marker::Model;
 #[derive(Drop)]
 pub struct History {
     names: IndexSet<Name, Hashing>,
+    nearby: Nearby,
     notes: Vec<Noted>,
 }
 
@@ -65,7 +67,11 @@ impl History {
         requires { length notes.items ≡ length names.keys }
         ensures { result ≡ notes_under names.keys notes.items }
     {
-        History { names, notes }
+        History {
+            names,
+            nearby: Nearby::new(),
+            notes,
+        }
     }
 
     /// How the names of its commits are hashed.
@@ -77,14 +83,14 @@ impl History {
     pub fn contains(&self, name: Name) -> bool
         ensures { result ≡ map.contains_key self.now name }
     {
-        self.names.contains(&name)
+        self.nearby.holds(&self.names, name)
     }
 
     // What is kept of the commit of this name.
     fn get(&self, name: Name) -> Option<&Noted>
         ensures { option_copied result ≡ map.get self.now name }
     {
-        match self.names.get_index_of(&name) {
+        match self.nearby.place(&self.names, name) {
             Some(at) => Some(&self.notes[at]),
             None => None,
         }

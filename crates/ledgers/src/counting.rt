@@ -10,6 +10,7 @@ use crate::word::{Word, goes, goes_unstaged};
 use catalogue::Catalogue;
 use git_name::{Hashing, Name};
 use indexmap::IndexMap;
+use nearby::Nearby;
 use std::collections::BTreeSet;
 
 // Lowers the numbers of the names that leave as these alone are kept. It takes no memory.
@@ -22,8 +23,9 @@ pub(crate) fn lower_left<N: NameSet>(
     ensures places { places_of catalogue.new ≡ places_of catalogue.old }
     ensures counts { (q : List ℕ) → count_of catalogue.new q + due_in (leaves_kept (N.names names.now)) words.now.entries q ≡ count_of catalogue.old q }
 {
+    let nearby = Nearby::new();
     for (name, word) in words.iter() {
-        if goes(word, names.has(*name)) {
+        if goes(word, names.has(&nearby, *name)) {
             catalogue.lower(*name);
         }
     }

@@ -2,6 +2,7 @@ ghost use Rattle.std.specs.Prelude.{◌≡◌, Bool, List, ℕ};
 
 use git_name::{Hashing, Name};
 use indexmap::IndexSet;
+use nearby::Nearby;
 use std::collections::BTreeSet;
 
 /// A set of names, in order or hashed.
@@ -9,8 +10,8 @@ pub trait NameSet {
     /// Which names are in it.
     ghost names: { Self → List ℕ → Bool };
 
-    /// Whether this name is in it.
-    fn has(&self, name: Name) -> bool
+    /// Whether this name is in it. It may be looked for near the last places first.
+    fn has(&self, nearby: &Nearby, name: Name) -> bool
         ensures { result ≡ names self.now name };
 }
 
@@ -20,7 +21,7 @@ impl NameSet for BTreeSet<Name> {
 
     ghost names = { λ set. contains name_cmp set };
 
-    fn has(&self, name: Name) -> bool {
+    fn has(&self, _nearby: &Nearby, name: Name) -> bool {
         self.contains(&name)
     }
 }
@@ -31,7 +32,7 @@ impl NameSet for IndexSet<Name, Hashing> {
 
     ghost names = { λ set. contains same_name set };
 
-    fn has(&self, name: Name) -> bool {
-        self.contains(&name)
+    fn has(&self, nearby: &Nearby, name: Name) -> bool {
+        nearby.holds(self, name)
     }
 }

@@ -17,6 +17,7 @@ use crate::words::{
 use catalogue::Catalogue;
 use git_name::{Hashing, Kind, Name};
 use indexmap::IndexMap;
+use nearby::Nearby;
 use std::alloc::{AllocError, Global};
 use std::collections::BTreeSet;
 use std::marker::Model;
@@ -26,6 +27,7 @@ use std::marker::Model;
 #[derive(Drop)]
 pub(crate) struct WordMap {
     words: IndexMap<Name, Word, Hashing>,
+    nearby: Nearby,
     staged: Vec<Name>,
 }
 
@@ -50,6 +52,7 @@ impl WordMap {
     {
         WordMap {
             words: IndexMap::with_hasher(alloc, hashing),
+            nearby: Nearby::new(),
             staged: Vec::new(alloc),
         }
     }
@@ -58,7 +61,7 @@ impl WordMap {
     pub fn get(&self, name: Name) -> Option<Word>
         ensures { result ≡ map.get self.now name }
     {
-        word_at(&self.words, name)
+        self.nearby.get(&self.words, name).copied()
     }
 
     /// The names of what is seen, ascending.
@@ -83,7 +86,7 @@ impl WordMap {
         ensures fresh { IfOk result (λ is_new. is_new ≡ not (map.contains_key self.old name)) }
         ensures err { OnErr result (self.new ≡ self.old) }
     {
-        let before = self.get(name);
+        let before = word_at(&self.words, name);
         if is_staged(before) {
             return Ok(false);
         }

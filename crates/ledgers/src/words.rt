@@ -20,6 +20,7 @@ use crate::word::{Word, keep, see, unstage};
 use catalogue::Catalogue;
 use git_name::{Hashing, Name};
 use indexmap::IndexMap;
+use nearby::Nearby;
 use std::alloc::{AllocError, Global};
 use std::collections::BTreeSet;
 
@@ -123,7 +124,8 @@ pub(crate) fn keep_among<N: NameSet>(words: &mut IndexMap<Name, Word, Hashing>, 
     ensures distinct { IsDistinct same_name (keys_of words.old.entries) }
 {
     let _count = words.len();
-    words.retain(|name, word| keep(word, names.has(*name)));
+    let nearby = Nearby::new();
+    words.retain(|name, word| keep(word, names.has(&nearby, *name)));
 }
 
 // What is staged under these names is so no more. It takes no memory.

@@ -9,6 +9,7 @@ use crate::files::{FileFault, LooseFiles};
 use crate::memory_file::MemoryFile;
 use git_name::{Hashing, Kind, Name, Sealed};
 use indexmap::IndexMap;
+use nearby::Nearby;
 use std::alloc::{AllocError, Global};
 use std::marker::Model;
 
@@ -18,6 +19,7 @@ use std::marker::Model;
 #[derive(Debug, Drop)]
 pub struct Memory {
     files: IndexMap<Name, MemoryFile, Hashing>,
+    nearby: Nearby,
 }
 
 impl Model for Memory {
@@ -92,6 +94,7 @@ impl Memory {
     {
         Memory {
             files: IndexMap::with_hasher(alloc, hashing),
+            nearby: Nearby::new(),
         }
     }
 
@@ -121,14 +124,14 @@ impl LooseFiles for Memory {
     ghost failures = { λ _. 0 };
 
     fn get(&mut self, alloc: Global, name: Name) -> Result<Option<Vec<u8>>, FileFault> {
-        let Some(file) = self.files.get(&name) else {
+        let Some(file) = self.nearby.get(&self.files, name) else {
             return Ok(None);
         };
         Ok(Some(file.to_bytes(alloc)?))
     }
 
     fn lend(&self, name: Name) -> Option<(Kind, &[u8])> {
-        match self.files.get(&name) {
+        match self.nearby.get(&self.files, name) {
             Some(file) => file.object(),
             None => None,
         }

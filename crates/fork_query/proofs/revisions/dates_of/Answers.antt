@@ -25,5 +25,5 @@ returns c =
     let names = c.commits.result.0.now in
     let notes = c.commits.result.1.now in
     let all : c.loop-at.at ≡ length names = search rules in
-    sorted_found c.args.history.now names notes c.loop-at.dates.items c.sort_unstable.new.self.items c.commits.ensures.entries c.commits.ensures.each
+    sorted_found c.args.history names notes c.loop-at.dates.items c.sort_unstable.new.self.items c.commits.ensures.entries c.commits.ensures.each
     (c.loop-at.invariant ∙ ap (λ n. map noted_date (take n (zip names notes))) all) c.sort_unstable.ensures.permutation c.sort_unstable.ensures.sorted

@@ -10,5 +10,5 @@ pub returns : goal.returns
 returns c =
     let names = c.self.inside.names.keys in
     let notes = c.self.inside.notes.items in
-    c.contains.ensures ∙ sym (noted_there (same_name c.args.name) names notes c.self.invariant)
+    c.holds.ensures ∙ sym (noted_there (same_name c.args.name) names notes c.self.invariant)
     ∙ ap is_some (sym (get_of_hashed (zip names notes) c.args.name) ∙ ap (λ m. map.get m c.args.name) c.self.view_is)

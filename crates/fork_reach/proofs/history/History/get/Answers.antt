@@ -7,7 +7,7 @@ pub returns-in-None : goal.returns-in-None
 returns-in-None c =
     let names = c.self.inside.names.keys in
     let notes = c.self.inside.notes.items in
-    ap (at_place notes) (sym c.in-None.is ∙ c.get_index_of.ensures.index) ∙ get_noted names notes c.args.name c.args.self.now c.self.invariant c.self.view_is
+    ap (at_place notes) (sym c.in-None.is ∙ c.place.ensures) ∙ get_noted names notes c.args.name c.args.self.now c.self.invariant c.self.view_is
 
 pub returns-in-Some : goal.returns-in-Some
 returns-in-Some c =
@@ -16,4 +16,4 @@ returns-in-Some c =
     let count = vec_len c.self.inside.notes in
     let inside : c.in-Some.at < count = search rules in
     sym (slice_get_read notes count c.in-Some.at c.index.result.now (search rules) inside (search rules))
-    ∙ ap (at_place notes) (sym c.in-Some.is ∙ c.get_index_of.ensures.index) ∙ get_noted names notes c.args.name c.args.self.now c.self.invariant c.self.view_is
+    ∙ ap (at_place notes) (sym c.in-Some.is ∙ c.place.ensures) ∙ get_noted names notes c.args.name c.args.self.now c.self.invariant c.self.view_is

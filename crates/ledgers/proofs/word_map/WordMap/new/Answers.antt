@@ -10,4 +10,4 @@ use Rattle.ledgers.proofs.word_map.WordMap.new.Goals as goal
 
 pub invariant_of-result : goal.invariant_of-result
 invariant_of-result c = λ q.
-    ap (λ ks. is_among ks q) c.new.ensures.items ∙ none_staged q ∙ sym (ap (λ (es : List (List ℕ × Word)). option_map_or is_staged (map.get {R = name_cmp} (map.from_entries es) q) false) c.with_hasher.ensures.empty)
+    ap (λ ks. is_among ks q) c.new-2.ensures.items ∙ none_staged q ∙ sym (ap (λ (es : List (List ℕ × Word)). option_map_or is_staged (map.get {R = name_cmp} (map.from_entries es) q) false) c.with_hasher.ensures.empty)

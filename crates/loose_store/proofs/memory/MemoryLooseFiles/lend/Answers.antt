@@ -12,5 +12,5 @@ pub returns-in-Some : goal.returns-in-Some
 returns-in-Some c _ = IfSome_then c.object.result c.object.ensures (λ lent is.
     ap (λ files. map.get files c.args.name) (sym c.self.view_is)
     ∙ get_map_values name_total bytes_of (map.from_entries c.self.inside.files.entries) c.args.name
-    ∙ ap (option_map bytes_of) (get_of_hashed c.self.inside.files.entries c.args.name ∙ sym c.in-Some.ensures.value)
+    ∙ ap (option_map bytes_of) (get_of_hashed c.self.inside.files.entries c.args.name ∙ sym c.in-Some.ensures)
     ∙ ap Some is)

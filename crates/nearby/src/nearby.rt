@@ -1,0 +1,109 @@
+ghost use Rattle.std.specs.Prelude.{◌≡◌, Some, IfSome, slice_get};
+ghost use Rattle.std.specs.Bool.{OnTrue};
+ghost use Rattle.std.specs.HashSet.{contains};
+ghost use Rattle.std.specs.Option.{option_copied};
+ghost use Rattle.indexmap.specs.IndexMap.{get};
+ghost use Rattle.indexmap.specs.IndexSet.{index_of};
+ghost use Rattle.git_name.specs.Same.{same_name};
+
+use git_name::{Hashing, Name};
+use indexmap::{IndexMap, IndexSet};
+use std::cell::Cell;
+
+// So many places before and behind the one where a name was found last are tried.
+const REACH: usize = 8;
+
+/// Two places of a table of names at which names were found last. Objects that came together lie
+/// together, so whoever follows their links finds most of them near the one place or the other, and
+/// need not hash their names: where a hash leads is at random, and seldom in a processor's cache.
+#[derive(Debug, Drop)]
+pub struct Nearby {
+    last: Cell<usize>,
+    other: Cell<usize>,
+}
+
+// Whether the name stands at this place.
+fn stands_at(names: &[Name], at: usize, name: Name) -> bool
+    ensures { OnTrue result (slice_get names.now at ≡ Some name) }
+{
+    match names.get(at) {
+        Some(found) => *found == name,
+        None => false,
+    }
+}
+
+// The place of the name, where it stands near this one. The nearer ones are tried first.
+fn place_near(names: &[Name], place: usize, name: Name) -> Option<usize>
+    ensures { IfSome result (λ at. slice_get names.now at ≡ Some name) }
+{
+    for step in 0..REACH {
+        let behind = place.wrapping_add(step);
+        if stands_at(names, behind, name) {
+            return Some(behind);
+        }
+        let before = place.wrapping_sub(step + 1);
+        if stands_at(names, before, name) {
+            return Some(before);
+        }
+    }
+    None
+}
+
+impl Nearby {
+    /// At the beginning of a table.
+    pub fn new() -> Nearby {
+        Nearby {
+            last: Cell::new(0),
+            other: Cell::new(0),
+        }
+    }
+
+    // The place of the name, where it stands near one of the last.
+    fn find(&self, names: &[Name], name: Name) -> Option<usize>
+        ensures { IfSome result (λ at. slice_get names.now at ≡ Some name) }
+    {
+        let last = self.last.get();
+        let place = match place_near(names, last, name) {
+            Some(place) => place,
+            None => place_near(names, self.other.replace(last), name)?,
+        };
+        self.last.set(place);
+        Some(place)
+    }
+
+    /// The place of a name in a set. It is looked for near the last places first, of whatever table
+    /// they are.
+    pub fn place(&self, names: &IndexSet<Name, Hashing>, name: Name) -> Option<usize>
+        ensures { result ≡ index_of same_name names.now name }
+    {
+        if let Some(place) = self.find(names.as_slice(), name) {
+            return Some(place);
+        }
+        let place = names.get_index_of(&name)?;
+        self.last.set(place);
+        Some(place)
+    }
+
+    /// Whether a name is in a set. It is looked for near the last places first, of whatever table they
+    /// are.
+    pub fn holds(&self, names: &IndexSet<Name, Hashing>, name: Name) -> bool
+        ensures { result ≡ contains same_name names.now name }
+    {
+        self.place(names, name).is_some()
+    }
+
+    /// The value of a name in a map. It is looked for near the last places first, of whatever table
+    /// they are.
+    pub fn get<'a, V>(&self, entries: &'a IndexMap<Name, V, Hashing>, name: Name) -> Option<&'a V>
+        ensures { option_copied result ≡ get same_name entries.now name }
+    {
+        if let Some(place) = self.find(entries.keys().as_slice(), name) {
+            if let Some((_, value)) = entries.get_index(place) {
+                return Some(value);
+            }
+        }
+        let (place, _, value) = entries.get_full(&name)?;
+        self.last.set(place);
+        Some(value)
+    }
+}

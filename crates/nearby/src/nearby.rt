@@ -10,16 +10,21 @@ use git_name::{Hashing, Name};
 use indexmap::{IndexMap, IndexSet};
 use std::cell::Cell;
 
-// So many places before and behind the one where a name was found last are tried.
+// So many places before and behind one where a name was found are tried.
 const REACH: usize = 8;
 
-/// Two places of a table of names at which names were found last. Objects that came together lie
+// So often in a row a name may stand far from those before it, until the places about them are tried no
+// more. They are again, once a name stands near one before it.
+const PATIENCE: usize = 4;
+
+/// The two places of a table of names at which names were found last. Objects that came together lie
 /// together, so whoever follows their links finds most of them near the one place or the other, and
 /// need not hash their names: where a hash leads is at random, and seldom in a processor's cache.
 #[derive(Debug, Drop)]
 pub struct Nearby {
     last: Cell<usize>,
     other: Cell<usize>,
+    missed: Cell<usize>,
 }
 
 // Whether the name stands at this place.
@@ -37,16 +42,21 @@ fn place_near(names: &[Name], place: usize, name: Name) -> Option<usize>
     ensures { IfSome result (λ at. slice_get names.now at ≡ Some name) }
 {
     for step in 0..REACH {
-        let behind = place.wrapping_add(step);
-        if stands_at(names, behind, name) {
-            return Some(behind);
-        }
         let before = place.wrapping_sub(step + 1);
         if stands_at(names, before, name) {
             return Some(before);
         }
+        let behind = place.wrapping_add(step + 1);
+        if stands_at(names, behind, name) {
+            return Some(behind);
+        }
     }
     None
+}
+
+// Whether the one place is near the other.
+fn is_near(place: usize, other: usize) -> bool {
+    place.abs_diff(other) <= REACH
 }
 
 impl Nearby {
@@ -55,7 +65,23 @@ impl Nearby {
         Nearby {
             last: Cell::new(0),
             other: Cell::new(0),
+            missed: Cell::new(0),
         }
+    }
+
+    // Notes the place of the name that was found now.
+    fn note(&self, place: usize, missed: usize) {
+        self.other.set(self.last.replace(place));
+        self.missed.set(missed);
+    }
+
+    // The same of a name that was found by its hash.
+    fn note_hashed(&self, place: usize) {
+        if is_near(place, self.last.get()) || is_near(place, self.other.get()) {
+            self.note(place, 0);
+            return;
+        }
+        self.note(place, self.missed.get().saturating_add(1));
     }
 
     // The place of the name, where it stands near one of the last.
@@ -63,11 +89,19 @@ impl Nearby {
         ensures { IfSome result (λ at. slice_get names.now at ≡ Some name) }
     {
         let last = self.last.get();
-        let place = match place_near(names, last, name) {
-            Some(place) => place,
-            None => place_near(names, self.other.replace(last), name)?,
-        };
-        self.last.set(place);
+        if stands_at(names, last, name) {
+            return Some(last);
+        }
+        if self.missed.get() >= PATIENCE {
+            return None;
+        }
+        if let Some(place) = place_near(names, last, name) {
+            self.last.set(place);
+            self.missed.set(0);
+            return Some(place);
+        }
+        let place = place_near(names, self.other.get(), name)?;
+        self.note(place, 0);
         Some(place)
     }
 
@@ -80,7 +114,7 @@ impl Nearby {
             return Some(place);
         }
         let place = names.get_index_of(&name)?;
-        self.last.set(place);
+        self.note_hashed(place);
         Some(place)
     }
 
@@ -103,7 +137,7 @@ impl Nearby {
             }
         }
         let (place, _, value) = entries.get_full(&name)?;
-        self.last.set(place);
+        self.note_hashed(place);
         Some(value)
     }
 }

@@ -12,30 +12,27 @@ use crate::want::Want;
 use fork_reach::{Source, SourceFault, ascending, reach, reach_past};
 use git_name::Name;
 use git_reftx::Refs;
-use push_stream::write_record;
+use push_stream::add_record;
 use std::alloc::Global;
 
-// Adds the record of the object of this name, which is read once.
+// The text with the record of the object of this name behind it. The object is read once.
 fn send<S: Source>(
     alloc: Global,
     source: &mut S,
     name: Name,
-    text: &mut Vec<u8>,
-) -> Result<(), SourceFault>
-    ensures sent { IsTrue (S.state source.old).honest → OnOk result (text.new.items ≡ text.old.items ++ record_at (S.state source.old).objects name) }
-    ensures named { OnOk result (AreRecords text.old.items → AreRecords text.new.items) }
+    text: Vec<u8>,
+) -> Result<Vec<u8>, SourceFault>
+    ensures sent { IsTrue (S.state source.old).honest → IfOk result (λ longer. longer.items ≡ text.items ++ record_at (S.state source.old).objects name) }
+    ensures named { IfOk result (λ longer. AreRecords text.items → AreRecords longer.items) }
     ensures asked { IsAsked (S.state source.old) (S.state source.new) (fault_in result) }
 {
     let sealed = match source.read(alloc, name) {
         Ok(Some(sealed)) => sealed,
-        Ok(None) => return Ok(()),
+        Ok(None) => return Ok(text),
         Err(fault) => return Err(fault),
     };
-    let Ok(record) = write_record(alloc, &sealed) else {
-        return Err(SourceFault::Memory);
-    };
-    match text.extend_from_slice(record.as_slice()) {
-        Ok(()) => Ok(()),
+    match add_record(text, &sealed) {
+        Ok(text) => Ok(text),
         Err(_) => Err(SourceFault::Memory),
     }
 }
@@ -52,10 +49,10 @@ fn send_all<S: Source>(
 {
     let mut text = Vec::new(alloc);
     for name in names {
-        match send(alloc, source, name, &mut text) {
-            Ok(()) => {}
+        text = match send(alloc, source, name, text) {
+            Ok(text) => text,
             Err(fault) => return Err(fault),
-        }
+        };
     }
     Ok(text)
 }

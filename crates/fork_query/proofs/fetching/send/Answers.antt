@@ -10,10 +10,9 @@ use Rattle.fork_query.proofs.fetching.send.Goals as goal
 one_more : (objects : List Object) (object : Object) → flat_map record_of objects ++ record_of object ≡ flat_map record_of (objects ++ object ∷ [])
 one_more objects object = sym (flat_map-append record_of objects (object ∷ []) ∙ ap (λ text. flat_map record_of objects ++ text) (append-nil (record_of object)))
 
-pub returns-in-Ok-extend_from_slice-clause-named : goal.returns-in-Ok-extend_from_slice-clause-named
-returns-in-Ok-extend_from_slice-clause-named g c = λ so_far.
+pub returns-in-Ok-clause-named : goal.returns-in-Ok-clause-named
+returns-in-Ok-clause-named g c = λ so_far.
     let object = c.in-Ok-Some.sealed in (
       so_far.0 ++ object ∷ [],
-      c.in-Ok-extend_from_slice.ensures.items ∙ ap (λ text. text ++ c.as_slice.result.now) so_far.1
-          ∙ ap (λ text. flat_map record_of so_far.0 ++ text) (c.as_slice.ensures.value ∙ c.in-Ok.ensures) ∙ one_more so_far.0 object,
+      c.in-Ok.ensures ∙ ap (λ text. text ++ record_of object) so_far.1 ∙ one_more so_far.0 object,
     )

@@ -13,9 +13,12 @@ use std::cell::Cell;
 // So many places before and behind one where a name was found are tried.
 const REACH: usize = 8;
 
-// So often in a row a name may stand far from those before it, until the places about them are tried no
-// more. They are again, once a name stands near one before it.
+// Where so many names more stood far from those before them than near, the places about these are tried no
+// more, until names stand near again.
 const PATIENCE: usize = 4;
+
+// No more of them than so many are counted, so that it is soon seen that names stand near again.
+const COUNTED: usize = 8;
 
 /// The two places of a table of names at which names were found last. Objects that came together lie
 /// together, so whoever follows their links finds most of them near the one place or the other, and
@@ -24,7 +27,7 @@ const PATIENCE: usize = 4;
 pub struct Nearby {
     last: Cell<usize>,
     other: Cell<usize>,
-    missed: Cell<usize>,
+    far: Cell<usize>,
 }
 
 // Whether the name stands at this place.
@@ -65,23 +68,24 @@ impl Nearby {
         Nearby {
             last: Cell::new(0),
             other: Cell::new(0),
-            missed: Cell::new(0),
+            far: Cell::new(0),
         }
     }
 
-    // Notes the place of the name that was found now.
-    fn note(&self, place: usize, missed: usize) {
+    // Counts a name that stood near one of the last, or far from both.
+    fn count(&self, is_near: bool) {
+        let far = self.far.get();
+        if is_near {
+            self.far.set(far.saturating_sub(1));
+        } else {
+            self.far.set(far.saturating_add(1).min(COUNTED));
+        }
+    }
+
+    // Notes the place of a name that was found by its hash.
+    fn note(&self, place: usize) {
+        self.count(is_near(place, self.last.get()) || is_near(place, self.other.get()));
         self.other.set(self.last.replace(place));
-        self.missed.set(missed);
-    }
-
-    // The same of a name that was found by its hash.
-    fn note_hashed(&self, place: usize) {
-        if is_near(place, self.last.get()) || is_near(place, self.other.get()) {
-            self.note(place, 0);
-            return;
-        }
-        self.note(place, self.missed.get().saturating_add(1));
     }
 
     // The place of the name, where it stands near one of the last.
@@ -92,16 +96,17 @@ impl Nearby {
         if stands_at(names, last, name) {
             return Some(last);
         }
-        if self.missed.get() >= PATIENCE {
+        if self.far.get() > PATIENCE {
             return None;
         }
         if let Some(place) = place_near(names, last, name) {
             self.last.set(place);
-            self.missed.set(0);
+            self.count(true);
             return Some(place);
         }
         let place = place_near(names, self.other.get(), name)?;
-        self.note(place, 0);
+        self.other.set(self.last.replace(place));
+        self.count(true);
         Some(place)
     }
 
@@ -113,8 +118,11 @@ impl Nearby {
         if let Some(place) = self.find(names.as_slice(), name) {
             return Some(place);
         }
-        let place = names.get_index_of(&name)?;
-        self.note_hashed(place);
+        let Some(place) = names.get_index_of(&name) else {
+            self.count(false);
+            return None;
+        };
+        self.note(place);
         Some(place)
     }
 
@@ -136,8 +144,11 @@ impl Nearby {
                 return Some(value);
             }
         }
-        let (place, _, value) = entries.get_full(&name)?;
-        self.note_hashed(place);
+        let Some((place, _, value)) = entries.get_full(&name) else {
+            self.count(false);
+            return None;
+        };
+        self.note(place);
         Some(value)
     }
 }

@@ -13,11 +13,10 @@ use std::cell::Cell;
 // So many places before and behind one where a name was found are tried.
 const REACH: usize = 8;
 
-// Where so many names more stood far from those before them than near, the places about these are tried no
-// more, until names stand near again.
+// Where `far` is above this, only the last place itself is tried.
 const PATIENCE: usize = 4;
 
-// No more of them than so many are counted, so that it is soon seen that names stand near again.
+// `far` is no more than this, so that a few names that stand near bring it down again.
 const COUNTED: usize = 8;
 
 /// The two places of a table of names at which names were found last. Objects that came together lie
@@ -27,6 +26,7 @@ const COUNTED: usize = 8;
 pub struct Nearby {
     last: Cell<usize>,
     other: Cell<usize>,
+    // How much oftener names stood far from these places than near, lately.
     far: Cell<usize>,
 }
 
@@ -72,7 +72,7 @@ impl Nearby {
         }
     }
 
-    // Counts a name that stood near one of the last, or far from both.
+    // Counts a name that stood near one of the last places, or far from both, or nowhere.
     fn count(&self, is_near: bool) {
         let far = self.far.get();
         if is_near {

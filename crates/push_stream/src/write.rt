@@ -10,7 +10,8 @@ use std::alloc::{AllocError, Global};
 const BESIDE: usize = 94;
 
 #[tactic(auto, unfolding(crate::specs::Record::record_of))]
-/// A text with the record of an object behind it, as `git cat-file --batch` prints it (git-cat-file(1)).
+/// A text with the record of an object behind it, as `git cat-file --batch` prints it (git-cat-file(1)). For
+/// want of memory there is neither.
 pub fn add_record(text: Vec<u8>, sealed: &Sealed) -> Result<Vec<u8>, AllocError>
     ensures { IfOk result (λ longer. longer.items ≡ text.items ++ record_of sealed.now) }
 {

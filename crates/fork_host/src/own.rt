@@ -80,7 +80,8 @@ impl<'a, S: LooseFiles> Own<'a, S> {
 
     // The object that the tenant sees under this name, lent where it need not be read.
     pub(crate) fn lend_seen(&self, name: Name) -> Option<(Kind, &[u8])>
-        ensures { IfSome result (λ lent. IsTrue self.now.vault.now.honest × (map.get (visible_by self.now) name ≡ Some (record { kind = lent.0; bytes = lent.1.now }))) }
+        ensures found { IfSome result (λ lent. IsTrue self.now.vault.now.honest × (map.get (visible_by self.now) name ≡ Some (record { kind = lent.0; bytes = lent.1.now }))) }
+        ensures named { IfSome result (λ lent. object_name (record { kind = lent.0; bytes = lent.1.now }) ≡ name) }
     {
         self.vault.lend(self.tenant, name)
     }

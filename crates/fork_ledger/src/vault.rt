@@ -190,7 +190,8 @@ impl<S: LooseFiles> Vault<S> {
     /// The object that a tenant sees under this name, its kind and its bytes, lent where its file lies in
     /// memory and need not be hashed; nothing where it has to be read.
     pub fn lend(&self, tenant: &TenantName, name: Name) -> Option<(Kind, &[u8])>
-        ensures { IfSome result (λ lent. IsTrue self.now.honest × (map.get (private_of self.now.tenants tenant.now).visible name ≡ Some (record { kind = lent.0; bytes = lent.1.now }))) }
+        ensures found { IfSome result (λ lent. IsTrue self.now.honest × (map.get (private_of self.now.tenants tenant.now).visible name ≡ Some (record { kind = lent.0; bytes = lent.1.now }))) }
+        ensures named { IfSome result (λ lent. object_name (record { kind = lent.0; bytes = lent.1.now }) ≡ name) }
     {
         if self.holdings.sees(tenant, name) {
             return self.files.lend(name);
@@ -200,7 +201,8 @@ impl<S: LooseFiles> Vault<S> {
 
     /// The same of an object that a tenant sees or has staged.
     pub fn lend_held(&self, tenant: &TenantName, name: Name) -> Option<(Kind, &[u8])>
-        ensures { IfSome result (λ lent. IsTrue self.now.honest × (map.get (both_of (private_of self.now.tenants tenant.now)) name ≡ Some (record { kind = lent.0; bytes = lent.1.now }))) }
+        ensures found { IfSome result (λ lent. IsTrue self.now.honest × (map.get (both_of (private_of self.now.tenants tenant.now)) name ≡ Some (record { kind = lent.0; bytes = lent.1.now }))) }
+        ensures named { IfSome result (λ lent. object_name (record { kind = lent.0; bytes = lent.1.now }) ≡ name) }
     {
         let Some(_) = self.holdings.word(tenant, name) else {
             return None;

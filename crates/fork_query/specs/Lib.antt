@@ -2,6 +2,7 @@ pub mod Dates
 pub mod Fetch
 pub mod Followed
 pub mod Items
+pub mod Lent
 pub mod MergeBase
 pub mod NotedBases
 pub mod Objects
@@ -9,6 +10,7 @@ pub mod Peel
 pub mod Reached
 pub mod References
 pub mod RevList
+pub mod Sent
 pub mod Sides
 pub mod Told
 pub mod Trees

@@ -1,17 +1,22 @@
 ghost use Rattle.std.specs.Prelude.{◌≡◌, ◌++◌, IsTrue, IfOk, OnOk};
+ghost use Rattle.std.specs.HashSet.{contains};
 ghost use Rattle.std.specs.List.{flat_map};
+ghost use Rattle.git_name.specs.Same.{same_name};
 ghost use Rattle.git_name.specs.Text.{words_of};
 ghost use Rattle.fork_reach.specs.Faults.{IsAsked, fault_in};
 ghost use Rattle.fork_query.specs.Fetch.{fetch_told, fetched, record_at};
 ghost use Rattle.fork_query.specs.Objects.{AreRecords};
+ghost use Rattle.fork_query.specs.Sent.{IsSent};
 ghost use Rattle.fork_query.specs.Told.{Tells, fault_told};
 
+use crate::lent::lent_records;
 use crate::query_error::QueryError;
 use crate::sides::{Sides, select};
 use crate::want::Want;
 use fork_reach::{Source, SourceFault, ascending, reach, reach_past};
-use git_name::Name;
+use git_name::{Hashing, Name};
 use git_reftx::Refs;
+use indexmap::IndexSet;
 use push_stream::add_record;
 use std::alloc::Global;
 
@@ -31,7 +36,7 @@ fn send<S: Source>(
         Ok(None) => return Ok(text),
         Err(fault) => return Err(fault),
     };
-    match add_record(text, &sealed) {
+    match add_record(text, sealed.name(), sealed.kind(), sealed.bytes()) {
         Ok(text) => Ok(text),
         Err(_) => Err(SourceFault::Memory),
     }
@@ -57,6 +62,27 @@ fn send_all<S: Source>(
     Ok(text)
 }
 
+// The records of the objects of these names, ascending by name. What is not lent is read, each once.
+fn send_found<S: Source>(
+    alloc: Global,
+    source: &mut S,
+    names: &IndexSet<Name, Hashing>,
+) -> Result<Vec<u8>, SourceFault>
+    ensures sent { IsTrue (S.state source.old).honest → IfOk result (λ text. IsSent (S.state source.old).objects (contains same_name names.now) text.items) }
+    ensures named { IfOk result (λ text. AreRecords text.items) }
+    ensures asked { IsAsked (S.state source.old) (S.state source.new) (fault_in result) }
+{
+    match lent_records(alloc, source, names) {
+        Ok(Some(text)) => return Ok(text),
+        Ok(None) => {}
+        Err(_) => return Err(SourceFault::Memory),
+    }
+    let Ok(names) = ascending(alloc, names) else {
+        return Err(SourceFault::Memory);
+    };
+    send_all(alloc, source, names)
+}
+
 #[tactic(auto, unfolding(crate::specs::Fetch::fetched))]
 // The records of what is reached from the wanted names and not from the excluded ones. What the excluded
 // ones reach is walked first, and the walk from the wanted ones stops there.
@@ -73,16 +99,13 @@ fn records<S: Source>(alloc: Global, source: &mut S, sides: &Sides) -> Result<Ve
         Ok(names) => names,
         Err(fault) => return Err(fault),
     };
-    let Ok(names) = ascending(alloc, &names) else {
-        return Err(SourceFault::Memory);
-    };
-    send_all(alloc, source, names)
+    send_found(alloc, source, &names)
 }
 
 #[tactic(auto, unfolding(crate::specs::Fetch::fetch_told))]
 /// The records of the objects to which links lead from the items' objects, but for those to which they lead
 /// from the items that begin with `^`; ascending by name. Each tree, commit and tag is read once for the walk
-/// and once to be sent, a blob only to be sent. The items are words, parted by one SP each.
+/// and once to be sent, a blob only to be sent; what is lent is not read. The items are words, parted by one SP each.
 pub fn fetch<S: Source>(
     alloc: Global,
     source: &mut S,

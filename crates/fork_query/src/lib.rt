@@ -8,6 +8,7 @@ mod fetching;
 mod followed;
 mod items;
 mod laws;
+mod lent;
 mod name_lines;
 mod objects;
 mod peeling;

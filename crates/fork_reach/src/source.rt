@@ -43,7 +43,8 @@ pub trait Source {
     /// The object of this name, its kind and its bytes, lent where it lies. What is not lent has to be
     /// read.
     fn lend(&self, name: Name) -> Option<(Kind, &[u8])>
-        ensures { IfSome result (λ lent. IsTrue (state self.now).honest × (map.get (state self.now).objects name ≡ Some (record { kind = lent.0; bytes = lent.1.now }))) }
+        ensures found { IfSome result (λ lent. IsTrue (state self.now).honest × (map.get (state self.now).objects name ≡ Some (record { kind = lent.0; bytes = lent.1.now }))) }
+        ensures named { IfSome result (λ lent. object_name (record { kind = lent.0; bytes = lent.1.now }) ≡ name) }
     {
         let _name = name;
         None

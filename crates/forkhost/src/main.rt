@@ -3,6 +3,7 @@
 #![tactic(auto)]
 
 use fork_program::{Untold, program};
+use std::alloc::Global;
 use std::fs::{File, Files};
 use std::io::{BufReader, BufWriter, Write};
 use std::net::Net;
@@ -30,12 +31,24 @@ fn arguments<R: Env + AllocGlobal + Eprint>(rt: &R) -> io::Result<Option<Vec<Str
     Ok(Some(texts))
 }
 
+// A block of so many bytes, which glibc maps apart, as it is longer than what it maps apart by itself.
+const MAPPED: usize = 33_000_000;
+
+// Keeps memory that is given back for what comes next, up to twice such a block. glibc goes by the longest
+// block mapped apart that was ever given back (mallopt(3), M_MMAP_THRESHOLD); till there was one, it
+// returns the memory of each long answer to the kernel, which clears all its pages anew for the next.
+// No page of the block itself is touched.
+fn keep_memory(alloc: Global) {
+    let _block = Vec::<u8>::with_capacity(alloc, MAPPED);
+}
+
 // Runs the program on these words, and answers its exit status, which stays where nothing can be told.
 fn ended<R: AllocGlobal + Input + Print + Eprint + Files<File = File> + Net + RandomSource>(
     rt: &R,
     words: &[&str],
 ) -> io::Result<u8> {
     let alloc = rt.alloc();
+    keep_memory(alloc);
     let mut reader = BufReader::new(alloc, rt.reader())?;
     let mut writer = BufWriter::new(alloc, io::writer(rt))?;
     let mut faults = Vec::new(alloc);

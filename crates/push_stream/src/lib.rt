@@ -33,4 +33,4 @@ pub use crate::record::{MAX_CONTENT, MAX_REST};
 pub use crate::sent::Sent;
 pub use crate::step::Step;
 pub use crate::upload::MAX_UPLOAD;
-pub use crate::write::{add_record, write_record};
+pub use crate::write::{BESIDE, add_record, write_record};

@@ -20,14 +20,12 @@ returns-clause-sent g c = λ honest.
     let first = c.in-Ok.ensures.asked in
     let both = asked_again old mid late None first c.in-Ok-reach_past.ensures.asked in
     let walked = c.in-Ok-reach_past.names in
-    let names = c.in-Ok-ascending.names.items in
     let hides = contains same_name c.in-Ok.hidden in
     let wants = c.args.sides.now.wanted.items in
     let haves = c.args.sides.now.excluded.items in
     let hidden = subst (λ roots. (name : List ℕ) → hides name ≡ is_reached (linked_names old.objects) old.objects roots name) c.as_slice.ensures.value (c.in-Ok.ensures.found honest) in
     let past = subst (λ roots. (name : List ℕ) → contains same_name walked name ≡ is_reached (linked_names mid.objects) (without mid.objects hides) roots name) c.as_slice-2.ensures.value (c.in-Ok-reach_past.ensures.found (subst IsTrue (sym first.honest) honest)) in
     let found = subst (λ (all : Objects). (name : List ℕ) → contains same_name walked name ≡ is_reached (linked_names all) (without all hides) wants name) (first.objects honest) past in
-    let sorted = c.in-Ok-ascending.ensures in
-    let keys = names_beyond (linked_names old.objects) old.objects hides wants haves names sorted.order hidden (λ name. sorted.same name ∙ found name) in
-    IfOk-weaker c.send_all.result _ _ (λ text sent. sent ∙ ap (λ all. flat_map (record_at all) names) (both.objects honest) ∙ ap (flat_map (record_at old.objects)) keys)
-    (c.send_all.ensures.sent (subst IsTrue (sym both.honest) honest))
+    IfOk-weaker c.send_found.result _ _ (λ text sent. sent.3 ∙ ap (λ all. flat_map (record_at all) sent.0) (both.objects honest)
+    ∙ ap (flat_map (record_at old.objects)) (names_beyond (linked_names old.objects) old.objects hides wants haves sent.0 sent.1 hidden (λ name. sent.2 name ∙ found name)))
+    (c.send_found.ensures.sent (subst IsTrue (sym both.honest) honest))

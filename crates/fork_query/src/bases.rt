@@ -24,7 +24,7 @@ use nearby::Nearby;
 use std::alloc::{AllocError, Global};
 
 // Keeps the names that the others have too.
-fn keep_both(names: &mut IndexSet<Name, Hashing>, others: &IndexSet<Name, Hashing>)
+fn keep_among(names: &mut IndexSet<Name, Hashing>, others: &IndexSet<Name, Hashing>)
     ensures { (name : List ℕ) → contains same_name names.new name ≡ (contains same_name others.now name && contains same_name names.old name) }
 {
     let nearby = Nearby::new();
@@ -39,6 +39,20 @@ fn take_out(names: &mut IndexSet<Name, Hashing>, others: &IndexSet<Name, Hashing
     names.retain(|name| !nearby.holds(others, *name));
 }
 
+// The names that both have: the fewer are looked for among the more.
+fn both(a: IndexSet<Name, Hashing>, b: IndexSet<Name, Hashing>) -> IndexSet<Name, Hashing>
+    ensures { (name : List ℕ) → contains same_name result name ≡ (contains same_name a name && contains same_name b name) }
+{
+    let mut a = a;
+    let mut b = b;
+    if b.len() < a.len() {
+        keep_among(&mut b, &a);
+        return b;
+    }
+    keep_among(&mut a, &b);
+    a
+}
+
 // The common ancestors of both.
 fn common(
     alloc: Global,
@@ -48,10 +62,9 @@ fn common(
 ) -> Result<IndexSet<Name, Hashing>, AllocError>
     ensures { IfOk result (λ common. (name : List ℕ) → contains same_name common name ≡ is_common_noted history.now a b name) }
 {
-    let mut common = history.ancestors(alloc, &[a])?;
+    let of_a = history.ancestors(alloc, &[a])?;
     let of_b = history.ancestors(alloc, &[b])?;
-    keep_both(&mut common, &of_b);
-    Ok(common)
+    Ok(both(of_a, of_b))
 }
 
 // Puts the parents of a commit among the names, but for itself.

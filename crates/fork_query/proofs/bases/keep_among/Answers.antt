@@ -5,7 +5,7 @@ use Rattle.std.proofs.lemmas.Fn.{filter_same}
 use Rattle.std.proofs.lemmas.Map.Views.{any-filter_same}
 use Rattle.git_name.specs.Same.{same_name}
 use Rattle.git_name.proofs.HashMaps.{one_name}
-use Rattle.fork_query.proofs.bases.keep_both.Goals as goal
+use Rattle.fork_query.proofs.bases.keep_among.Goals as goal
 
 pub returns : goal.returns
 returns c = λ name.

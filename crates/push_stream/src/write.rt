@@ -1,4 +1,6 @@
-ghost use Rattle.std.specs.Prelude.{◌≡◌, ◌++◌, IfOk};
+ghost use Rattle.std.specs.Prelude.{◌≡◌, ◌++◌, ◌∷◌, [], IfOk, decimal, length};
+ghost use Rattle.hex.specs.Hex.{encode_lower};
+ghost use Rattle.git_name.specs.Kind.{type_word};
 ghost use Rattle.git_name.specs.Object.{object_name};
 ghost use Rattle.push_stream.specs.Record.{record_of};
 
@@ -19,7 +21,8 @@ pub fn add_record(
     kind: Kind,
     bytes: &[u8],
 ) -> Result<Vec<u8>, AllocError>
-    ensures { object_name (record { kind = kind; bytes = bytes.now }) ≡ name → IfOk result (λ longer. longer.items ≡ text.items ++ record_of (record { kind = kind; bytes = bytes.now })) }
+    ensures spelled { IfOk result (λ longer. longer.items ≡ text.items ++ encode_lower name ++ 32 ∷ type_word kind ++ 32 ∷ decimal (length bytes.now) ++ 10 ∷ bytes.now ++ 10 ∷ []) }
+    ensures record { object_name (record { kind = kind; bytes = bytes.now }) ≡ name → IfOk result (λ longer. longer.items ≡ text.items ++ record_of (record { kind = kind; bytes = bytes.now })) }
 {
     let mut digits = [0; 64];
     name.write_hex(&mut digits);

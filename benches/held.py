@@ -4,9 +4,8 @@ import subprocess
 
 
 def held(words, **how):
-    """A process on the last of our processors alone. One that waits for each request is else woken on another one
-    each time, whose caches have nothing of it, so that a small history takes twice its time in some runs and a
-    large one does not."""
+    """A process on the last of our processors alone, so that two sizes are not measured on two. Left free, one size
+    took twice its time in some calls while the other did not; why was not found."""
     free = os.sched_getaffinity(0)
     os.sched_setaffinity(0, {max(free)})
     try:

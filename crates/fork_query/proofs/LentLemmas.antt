@@ -13,11 +13,12 @@ use Rattle.git_name.specs.Name.{name_cmp}
 use Rattle.git_name.specs.Same.{same_name}
 use Rattle.git_name.proofs.SortedNames.{strictly_sorted}
 use Rattle.push_stream.specs.Record.{record_of}
+use Rattle.fork_reach.specs.declared.lending.Lent.{Lent}
+use Rattle.fork_reach.specs.Lending.{IsLent, IsNamed, object_lent}
 use Rattle.fork_reach.specs.Reach.{is_among}
 use Rattle.fork_reach.specs.Source.{SourceState}
-use Rattle.fork_query.specs.declared.lent.Lent.{Lent}
 use Rattle.fork_query.specs.Fetch.{record_at, record_or_none}
-use Rattle.fork_query.specs.Lent.{IsLent, IsNamed, object_lent, record_lent}
+use Rattle.fork_query.specs.Lent.{record_lent}
 use Rattle.fork_query.specs.Objects.{AreRecords}
 use Rattle.fork_query.specs.Sent.{IsSent}
 

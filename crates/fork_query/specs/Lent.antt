@@ -1,23 +1,8 @@
--- Objects that are lent, each under its name.
-use Rattle.std.specs.Prelude.{◌≡◌, ℕ, List, IsTrue, Some}
-use Rattle.std.specs.FinMap.{get}
-use Rattle.git_name.specs.Object.{Object, object_name}
+-- The record of an object that is lent.
+use Rattle.std.specs.Prelude.{ℕ, List}
 use Rattle.push_stream.specs.Record.{record_of}
-use Rattle.fork_reach.specs.Source.{SourceState}
-use Rattle.fork_query.specs.declared.lent.Lent.{Lent}
+use Rattle.fork_reach.specs.declared.lending.Lent.{Lent}
+use Rattle.fork_reach.specs.Lending.{object_lent}
 
--- the object
-abbrev pub object_lent : Lent → Object
-object_lent lent = record { kind = lent.kind; bytes = lent.bytes.now }
-
--- its name is its own
-abbrev pub IsNamed : Lent → Type 0
-IsNamed lent = object_name (object_lent lent) ≡ lent.name
-
--- an honest source shows it under its name, which is its own
-abbrev pub IsLent : {Base Rest : Type 0} → SourceState Base Rest → Lent → Type 0
-IsLent state lent = IsTrue state.honest × (get state.objects lent.name ≡ Some (object_lent lent)) × IsNamed lent
-
--- its record
 abbrev pub record_lent : Lent → List ℕ
 record_lent lent = record_of (object_lent lent)

@@ -3,10 +3,15 @@ use Rattle.std.specs.Prelude.{◌≡◌, ℕ, Bool, List}
 use Rattle.std.specs.List.{flat_map}
 use Rattle.std.specs.List.Sorted.{IsStrictlySortedBy}
 use Rattle.git_name.specs.Name.{name_cmp}
-use Rattle.fork_reach.specs.Reach.{is_among}
+use Rattle.fork_reach.specs.Hidden.{without}
+use Rattle.fork_reach.specs.Reach.{is_among, is_reached, linked_names}
 use Rattle.fork_reach.specs.Source.{Objects}
 use Rattle.fork_query.specs.Fetch.{record_at}
 
 -- the text is the records of the objects of the names that pass the test, ascending
 abbrev pub IsSent : Objects → (List ℕ → Bool) → List ℕ → Type 0
 IsSent objects passes text = (names : List (List ℕ)) × IsStrictlySortedBy name_cmp names × ((name : List ℕ) → is_among names name ≡ passes name) × (text ≡ flat_map (record_at objects) names)
+
+-- they are those of what the roots reach past the hidden names
+abbrev pub IsSentPast : Objects → (List ℕ → Bool) → List (List ℕ) → List ℕ → Type 0
+IsSentPast objects hidden roots text = IsSent objects (is_reached (linked_names objects) (without objects hidden) roots) text

@@ -6,7 +6,7 @@ ghost use Rattle.git_name.specs.Text.{words_of};
 ghost use Rattle.fork_reach.specs.Faults.{IsAsked, fault_in};
 ghost use Rattle.fork_query.specs.Fetch.{fetch_told, fetched, record_at};
 ghost use Rattle.fork_query.specs.Objects.{AreRecords};
-ghost use Rattle.fork_query.specs.Sent.{IsSent};
+ghost use Rattle.fork_query.specs.Sent.{IsSentPast};
 ghost use Rattle.fork_query.specs.Told.{Tells, fault_told};
 
 use crate::lent::lent_records;
@@ -62,25 +62,45 @@ fn send_all<S: Source>(
     Ok(text)
 }
 
-// The records of the objects of these names, ascending by name. What is not lent is read, each once.
-fn send_found<S: Source>(
+// The records of what is reached from these roots past the hidden names, ascending by name, each read once for
+// the walk, if at all, and once to be sent.
+fn read_records<S: Source>(
     alloc: Global,
     source: &mut S,
-    names: &IndexSet<Name, Hashing>,
+    roots: &[Name],
+    hidden: &IndexSet<Name, Hashing>,
 ) -> Result<Vec<u8>, SourceFault>
-    ensures sent { IsTrue (S.state source.old).honest → IfOk result (λ text. IsSent (S.state source.old).objects (contains same_name names.now) text.items) }
+    ensures sent { IsTrue (S.state source.old).honest → IfOk result (λ text. IsSentPast (S.state source.old).objects (contains same_name hidden.now) roots.now text.items) }
     ensures named { IfOk result (λ text. AreRecords text.items) }
     ensures asked { IsAsked (S.state source.old) (S.state source.new) (fault_in result) }
 {
-    match lent_records(alloc, source, names) {
+    let names = match reach_past(alloc, source, roots, hidden) {
+        Ok(names) => names,
+        Err(fault) => return Err(fault),
+    };
+    let Ok(names) = ascending(alloc, &names) else {
+        return Err(SourceFault::Memory);
+    };
+    send_all(alloc, source, names)
+}
+
+// The same; nothing is read where all is lent.
+fn records_past<S: Source>(
+    alloc: Global,
+    source: &mut S,
+    roots: &[Name],
+    hidden: &IndexSet<Name, Hashing>,
+) -> Result<Vec<u8>, SourceFault>
+    ensures sent { IsTrue (S.state source.old).honest → IfOk result (λ text. IsSentPast (S.state source.old).objects (contains same_name hidden.now) roots.now text.items) }
+    ensures named { IfOk result (λ text. AreRecords text.items) }
+    ensures asked { IsAsked (S.state source.old) (S.state source.new) (fault_in result) }
+{
+    match lent_records(alloc, source, roots, hidden) {
         Ok(Some(text)) => return Ok(text),
         Ok(None) => {}
         Err(_) => return Err(SourceFault::Memory),
     }
-    let Ok(names) = ascending(alloc, names) else {
-        return Err(SourceFault::Memory);
-    };
-    send_all(alloc, source, names)
+    read_records(alloc, source, roots, hidden)
 }
 
 #[tactic(auto, unfolding(crate::specs::Fetch::fetched))]
@@ -95,11 +115,7 @@ fn records<S: Source>(alloc: Global, source: &mut S, sides: &Sides) -> Result<Ve
         Ok(hidden) => hidden,
         Err(fault) => return Err(fault),
     };
-    let names = match reach_past(alloc, source, sides.wanted.as_slice(), &hidden) {
-        Ok(names) => names,
-        Err(fault) => return Err(fault),
-    };
-    send_found(alloc, source, &names)
+    records_past(alloc, source, sides.wanted.as_slice(), &hidden)
 }
 
 #[tactic(auto, unfolding(crate::specs::Fetch::fetch_told))]

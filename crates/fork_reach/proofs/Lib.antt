@@ -5,6 +5,7 @@ pub mod HiddenLemmas
 pub mod HistoryLemmas
 pub mod KeptObjects
 pub mod KeyLemmas
+pub mod LendLemmas
 pub mod MeasureLemmas
 pub mod NameLemmas
 pub mod NoteLemmas

@@ -2,6 +2,7 @@ pub mod Along
 pub mod Faults
 pub mod Hidden
 pub mod History
+pub mod Lending
 pub mod Objects
 pub mod Parents
 pub mod Queuing

@@ -43,7 +43,7 @@ pub(crate) fn goes_on_in(along: Option<Along>, kind: Kind) -> bool
 }
 
 // The names of the object's links, in their order.
-fn link_names(alloc: Global, kind: Kind, bytes: &[u8]) -> Result<Vec<Name>, AllocError>
+pub(crate) fn link_names(alloc: Global, kind: Kind, bytes: &[u8]) -> Result<Vec<Name>, AllocError>
     ensures { IfOk result (λ names. names.items ≡ map (λ link. link.name) (links_in kind bytes.now)) }
 {
     let mut names = Vec::new(alloc);

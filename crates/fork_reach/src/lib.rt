@@ -6,6 +6,7 @@
 mod along;
 mod history;
 mod laws;
+mod lending;
 mod names;
 mod noted;
 mod noting;
@@ -20,6 +21,7 @@ mod walk;
 
 pub use crate::history::History;
 pub use crate::laws::reached_is_led_to;
+pub use crate::lending::{Lent, lend_reached};
 pub use crate::noted::Noted;
 pub use crate::order::ascending;
 pub use crate::reaching::{ancestors, reach, reach_past};

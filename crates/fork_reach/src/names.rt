@@ -39,7 +39,7 @@ pub(crate) struct Open<'a, S> {
 }
 
 // Whether the name is hidden. Where none is, no name is hashed.
-fn is_hidden(hidden: &IndexSet<Name, Hashing>, name: Name) -> bool
+pub(crate) fn is_hidden(hidden: &IndexSet<Name, Hashing>, name: Name) -> bool
     ensures { result ≡ contains same_name hidden.now name }
 {
     !hidden.is_empty() && hidden.contains(&name)

@@ -1,6 +1,7 @@
 use Rattle.std.proofs.Common.{◌≡◌, take}
 use Rattle.std.specs.List.{AllByRecursion, flat_map}
-use Rattle.fork_query.specs.Lent.{IsNamed, record_lent}
+use Rattle.fork_reach.specs.Lending.{IsNamed}
+use Rattle.fork_query.specs.Lent.{record_lent}
 use Rattle.fork_query.proofs.lent.write_all.Given as goal
 
 -- the records so far

@@ -5,6 +5,7 @@ ghost use Rattle.catalogue.specs.Counted.{IsNext, count_of, one_if, places_of};
 use crate::holders::{count_down, count_up, entry_at, insert_into, looked_place, take_out};
 use git_name::{Hashing, Name};
 use indexmap::IndexMap;
+use nearby::Nearby;
 use std::alloc::{AllocError, Global};
 use std::marker::Model;
 
@@ -12,6 +13,7 @@ use std::marker::Model;
 #[derive(Drop)]
 pub struct Catalogue {
     holders: IndexMap<Name, usize, Hashing>,
+    nearby: Nearby,
     place: usize,
 }
 
@@ -35,6 +37,7 @@ impl Catalogue {
     {
         Catalogue {
             holders: IndexMap::with_hasher(alloc, hashing),
+            nearby: Nearby::new(),
             place: 0,
         }
     }
@@ -89,7 +92,7 @@ impl Catalogue {
         ensures places { places_of self.new ≡ places_of self.old }
         ensures counts { (q : List ℕ) → count_of self.new q ≡ count_of self.old q + one_if (same_name name q) }
     {
-        count_up(&mut self.holders, name);
+        count_up(&mut self.holders, &self.nearby, name);
     }
 
     /// One holder less of a name that has one. It takes no memory.
@@ -98,7 +101,7 @@ impl Catalogue {
         ensures places { places_of self.new ≡ places_of self.old }
         ensures counts { (q : List ℕ) → count_of self.new q + one_if (same_name name q) ≡ count_of self.old q }
     {
-        count_down(&mut self.holders, name);
+        count_down(&mut self.holders, &self.nearby, name);
     }
 
     /// The name that the next look falls at, if nobody holds it.

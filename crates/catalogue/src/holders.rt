@@ -8,6 +8,7 @@ ghost use Rattle.catalogue.specs.Counted.{count_in, one_if};
 
 use git_name::{Hashing, Name};
 use indexmap::IndexMap;
+use nearby::Nearby;
 use std::alloc::AllocError;
 
 // Puts a new name, which nobody holds, at the last place.
@@ -25,27 +26,33 @@ pub(crate) fn insert_into(
 }
 
 // One holder more of a name that is there. It takes no memory.
-pub(crate) fn count_up(holders: &mut IndexMap<Name, usize, Hashing>, name: Name)
+pub(crate) fn count_up(holders: &mut IndexMap<Name, usize, Hashing>, nearby: &Nearby, name: Name)
     requires there { IsSome (lookup (same_name name) holders.old.entries) }
     requires fits { count_in holders.old.entries name + 1 < 2 ^ 64 }
     ensures keys { keys_of holders.new.entries ≡ keys_of holders.old.entries }
     ensures counts { (q : List ℕ) → count_in holders.new.entries q ≡ count_in holders.old.entries q + one_if (same_name name q) }
     ensures distinct { IsDistinct same_name (keys_of holders.new.entries) }
 {
-    let Some(count) = holders.get_mut(&name) else {
+    let Some(place) = nearby.key_place(holders, name) else {
+        unreachable!();
+    };
+    let Some(count) = holders.get_index_mut(place) else {
         unreachable!();
     };
     *count += 1;
 }
 
 // One holder less of a name that has one. It takes no memory.
-pub(crate) fn count_down(holders: &mut IndexMap<Name, usize, Hashing>, name: Name)
+pub(crate) fn count_down(holders: &mut IndexMap<Name, usize, Hashing>, nearby: &Nearby, name: Name)
     requires { 0 < count_in holders.old.entries name }
     ensures keys { keys_of holders.new.entries ≡ keys_of holders.old.entries }
     ensures counts { (q : List ℕ) → count_in holders.new.entries q + one_if (same_name name q) ≡ count_in holders.old.entries q }
     ensures distinct { IsDistinct same_name (keys_of holders.new.entries) }
 {
-    let Some(count) = holders.get_mut(&name) else {
+    let Some(place) = nearby.key_place(holders, name) else {
+        unreachable!();
+    };
+    let Some(count) = holders.get_index_mut(place) else {
         unreachable!();
     };
     *count -= 1;

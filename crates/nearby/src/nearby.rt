@@ -2,6 +2,7 @@ ghost use Rattle.std.specs.Prelude.{◌≡◌, Some, IfSome, slice_get};
 ghost use Rattle.std.specs.Bool.{OnTrue};
 ghost use Rattle.std.specs.HashSet.{contains};
 ghost use Rattle.std.specs.Option.{option_copied};
+ghost use Rattle.indexmap.specs.IndexMap as map;
 ghost use Rattle.indexmap.specs.IndexMap.{get};
 ghost use Rattle.indexmap.specs.IndexSet.{index_of};
 ghost use Rattle.git_name.specs.Same.{same_name};
@@ -40,18 +41,32 @@ fn stands_at(names: &[Name], at: usize, name: Name) -> bool
     }
 }
 
-// The place of the name, where it stands near this one. The nearer ones are tried first.
-fn place_near(names: &[Name], place: usize, name: Name) -> Option<usize>
+// The place of the name, where it stands so many places before or behind this one.
+fn place_beside(names: &[Name], place: usize, step: usize, name: Name) -> Option<usize>
+    ensures { IfSome result (λ at. slice_get names.now at ≡ Some name) }
+{
+    let before = place.wrapping_sub(step);
+    if stands_at(names, before, name) {
+        return Some(before);
+    }
+    let behind = place.wrapping_add(step);
+    if stands_at(names, behind, name) {
+        return Some(behind);
+    }
+    None
+}
+
+// The place of the name, where it stands near one of these two. The nearer ones are tried first, those of
+// both by turns, as who goes back and forth between two places would else try all near the one each time.
+fn place_near(names: &[Name], last: usize, other: usize, name: Name) -> Option<usize>
     ensures { IfSome result (λ at. slice_get names.now at ≡ Some name) }
 {
     for step in 0..REACH {
-        let before = place.wrapping_sub(step + 1);
-        if stands_at(names, before, name) {
-            return Some(before);
+        if let Some(at) = place_beside(names, other, step, name) {
+            return Some(at);
         }
-        let behind = place.wrapping_add(step + 1);
-        if stands_at(names, behind, name) {
-            return Some(behind);
+        if let Some(at) = place_beside(names, last, step + 1, name) {
+            return Some(at);
         }
     }
     None
@@ -99,13 +114,11 @@ impl Nearby {
         if self.far.get() > PATIENCE {
             return None;
         }
-        if let Some(place) = place_near(names, last, name) {
-            self.last.set(place);
-            self.count(true);
-            return Some(place);
+        let place = place_near(names, last, self.other.get(), name)?;
+        if !is_near(place, last) {
+            self.other.set(last);
         }
-        let place = place_near(names, self.other.get(), name)?;
-        self.other.set(self.last.replace(place));
+        self.last.set(place);
         self.count(true);
         Some(place)
     }
@@ -132,6 +145,22 @@ impl Nearby {
         ensures { result ≡ contains same_name names.now name }
     {
         self.place(names, name).is_some()
+    }
+
+    /// The place of a name in a map. It is looked for near the last places first, of whatever table they
+    /// are.
+    pub fn key_place<V>(&self, entries: &IndexMap<Name, V, Hashing>, name: Name) -> Option<usize>
+        ensures { result ≡ map.index_of same_name entries.now name }
+    {
+        if let Some(place) = self.find(entries.keys().as_slice(), name) {
+            return Some(place);
+        }
+        let Some(place) = entries.get_index_of(&name) else {
+            self.count(false);
+            return None;
+        };
+        self.note(place);
+        Some(place)
     }
 
     /// The value of a name in a map. It is looked for near the last places first, of whatever table

@@ -5,9 +5,11 @@ pub mod HiddenLemmas
 pub mod HistoryLemmas
 pub mod KeptObjects
 pub mod KeyLemmas
+pub mod MarkLemmas
 pub mod MeasureLemmas
 pub mod NameLemmas
 pub mod NoteLemmas
+pub mod ParentLemmas
 pub mod QueueLemmas
 pub mod ReachLemmas
 pub mod RisingLemmas

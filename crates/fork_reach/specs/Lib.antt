@@ -2,6 +2,8 @@ pub mod Along
 pub mod Faults
 pub mod Hidden
 pub mod History
+pub mod Marks
+pub mod NotedBases
 pub mod Objects
 pub mod Parents
 pub mod Queuing

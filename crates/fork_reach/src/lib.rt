@@ -11,6 +11,7 @@ mod noted;
 mod noting;
 mod order;
 mod parents;
+mod places;
 mod queuing;
 mod reaching;
 mod recording;

@@ -21,10 +21,10 @@ use Rattle.fork_reach.proofs.NameLemmas.{Contains-keys, among-Contains, among-fr
 use Rattle.fork_reach.proofs.ReachLemmas.{led_to_reached, next_reached, reached_led_to, reached_there, root_reached}
 use Rattle.fork_reach.proofs.SeeingLemmas.{sole, sole_there}
 use Rattle.fork_query.specs.MergeBase.{is_ancestor, is_common, is_outdone}
-use Rattle.fork_query.specs.NotedBases.{is_ancestor_noted, is_best_noted, is_common_noted, is_other_parent}
+use Rattle.fork_reach.specs.NotedBases.{is_ancestor_noted, is_best_noted, is_common_noted, is_other_parent}
 use Rattle.fork_query.proofs.BeyondLemmas.{there_passes}
 use Rattle.fork_query.proofs.KeyLemmas.{keys_of_names}
-use Rattle.fork_query.proofs.ParentLemmas.{unequal}
+use Rattle.fork_reach.proofs.ParentLemmas.{unequal}
 
 -- what is reached is there
 reached_is_there : {X : Type 0} (next : List ℕ → List (List ℕ)) (objects : FinMap name_cmp X) (roots : List (List ℕ)) (name : List ℕ) → IsReached next objects roots name → contains_key objects name ≡ true

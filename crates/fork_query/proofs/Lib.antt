@@ -5,7 +5,6 @@ pub mod Examples
 pub mod FollowedLemmas
 pub mod KeyLemmas
 pub mod LentLemmas
-pub mod ParentLemmas
 pub mod PeelLemmas
 pub mod SideLemmas
 pub mod SortLemmas

@@ -4,7 +4,6 @@ pub mod Followed
 pub mod Items
 pub mod Lent
 pub mod MergeBase
-pub mod NotedBases
 pub mod Objects
 pub mod Peel
 pub mod Reached

@@ -6,9 +6,11 @@ pub mod HistoryLemmas
 pub mod KeptObjects
 pub mod KeyLemmas
 pub mod LendLemmas
+pub mod MarkLemmas
 pub mod MeasureLemmas
 pub mod NameLemmas
 pub mod NoteLemmas
+pub mod ParentLemmas
 pub mod QueueLemmas
 pub mod ReachLemmas
 pub mod RisingLemmas

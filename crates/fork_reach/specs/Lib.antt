@@ -3,6 +3,8 @@ pub mod Faults
 pub mod Hidden
 pub mod History
 pub mod Lending
+pub mod Marks
+pub mod NotedBases
 pub mod Objects
 pub mod Parents
 pub mod Queuing

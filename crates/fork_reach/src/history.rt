@@ -6,11 +6,13 @@ ghost use Rattle.std.specs.List.Sorted.{IsPermutation};
 ghost use Rattle.std.specs.FinMap as map;
 ghost use Rattle.git_name.specs.Same.{same_name};
 ghost use Rattle.fork_reach.specs.History.{noted_parents, notes_under};
+ghost use Rattle.fork_reach.specs.NotedBases.{is_best_noted};
 ghost use Rattle.fork_reach.specs.Reach.{is_reached};
 
 use crate::names::Names;
 use crate::noted::Noted;
 use crate::noting::note_all;
+use crate::places::Places;
 use git_name::{Hashing, Name};
 use indexmap::IndexSet;
 use nearby::Nearby;
@@ -135,5 +137,24 @@ impl History {
             };
         }
         Ok(seen)
+    }
+
+    /// The names of those common ancestors of the two commits that no other common one has as a parent.
+    /// It reads no object, and hashes no names but those of its answer, and one that does not stand near
+    /// the one before.
+    pub fn best_common(
+        &self,
+        alloc: Global,
+        a: Name,
+        b: Name,
+    ) -> Result<IndexSet<Name, Hashing>, AllocError>
+        ensures { IfOk result (λ best. (name : List ℕ) → contains same_name best name ≡ is_best_noted self.now a b name) }
+    {
+        let places = Places {
+            names: &self.names,
+            nearby: &self.nearby,
+            notes: self.notes.as_slice(),
+        };
+        places.best_common(alloc, a, b)
     }
 }

@@ -12,6 +12,7 @@ mod noted;
 mod noting;
 mod order;
 mod parents;
+mod places;
 mod queuing;
 mod reaching;
 mod recording;

@@ -21,4 +21,4 @@ returns-in-Ok-write_names-clause-listed g c = λ honest.
     let next = parent_names objects in
     let none = contains same_name c.with_hasher-none.result in
     let read = c.in-Ok.ensures.found honest ∙ ap (map_values note_of) (kept_alike objects (is_reached next (without objects none) roots) (is_reached next objects roots) (reached_all next objects none roots (hashes_none c.with_hasher-none.result.keys c.with_hasher-none.ensures.empty))) in
-    c.in-Ok-write_names.ensures ∙ ap name_lines (c.as_slice.ensures.value ∙ best_names objects c.args.a c.args.b c.in-Ok.history read c.in-Ok-ascending.listed.items c.in-Ok-ascending.ensures.order (λ name. c.in-Ok-ascending.ensures.same name ∙ c.in-Ok-best.ensures name))
+    c.in-Ok-write_names.ensures ∙ ap name_lines (c.as_slice.ensures.value ∙ best_names objects c.args.a c.args.b c.in-Ok.history read c.in-Ok-ascending.listed.items c.in-Ok-ascending.ensures.order (λ name. c.in-Ok-ascending.ensures.same name ∙ c.in-Ok-best_common.ensures name))

@@ -7,11 +7,8 @@ ghost use Rattle.std.specs.FinMap as map;
 ghost use Rattle.git_name.specs.Same.{same_name};
 ghost use Rattle.fork_reach.specs.History.{noted_parents, notes_under};
 ghost use Rattle.fork_reach.specs.NotedBases.{is_best_noted};
-ghost use Rattle.fork_reach.specs.Reach.{is_reached};
 
-use crate::names::Names;
 use crate::noted::Noted;
-use crate::noting::note_all;
 use crate::places::Places;
 use git_name::{Hashing, Name};
 use indexmap::IndexSet;
@@ -44,25 +41,6 @@ impl Model for History {
     ghost invariant = { λ a. length a.notes.items ≡ length a.names.keys };
 }
 
-impl Names for History {
-    ghost use Rattle.std.specs.Prelude.{false};
-    ghost use Rattle.fork_reach.specs.History.{Note};
-
-    ghost Of = { Note };
-
-    ghost names = { λ history. history };
-
-    ghost ends = { λ _ _. false };
-
-    fn leads(&self, name: Name) -> Option<bool> {
-        if self.contains(name) {
-            Some(true)
-        } else {
-            None
-        }
-    }
-}
-
 impl History {
     // The commits of these names, each with what is noted of it at the same place.
     pub(crate) fn of(names: IndexSet<Name, Hashing>, notes: Vec<Noted>) -> History
@@ -74,11 +52,6 @@ impl History {
             nearby: Nearby::new(),
             notes,
         }
-    }
-
-    /// How the names of its commits are hashed.
-    pub fn hashing(&self) -> Hashing {
-        *self.names.hasher()
     }
 
     /// Whether the commit of this name is one of them.
@@ -115,28 +88,6 @@ impl History {
         ensures each { length result.1.now ≡ length result.0.now }
     {
         (self.names.as_slice(), self.notes.as_slice())
-    }
-
-    /// The names of those of these commits that parents lead to from the given ones, and of the given
-    /// ones themselves. It reads no object.
-    pub fn ancestors(
-        &self,
-        alloc: Global,
-        commits: &[Name],
-    ) -> Result<IndexSet<Name, Hashing>, AllocError>
-        ensures { IfOk result (λ found. (name : List ℕ) → contains same_name found name ≡ is_reached (noted_parents self.now) self.now commits.now name) }
-    {
-        let mut seen = IndexSet::with_capacity_and_hasher(alloc, self.names.len(), self.hashing())?;
-        let mut waiting = Vec::new(alloc);
-        let Ok(()) = note_all(self, commits, &mut seen, &mut waiting) else {
-            return Err(AllocError);
-        };
-        'waiting: while let Some(name) = waiting.pop() {
-            let Ok(()) = note_all(self, self.parents(name), &mut seen, &mut waiting) else {
-                return Err(AllocError);
-            };
-        }
-        Ok(seen)
     }
 
     /// The names of those common ancestors of the two commits that no other common one has as a parent.

@@ -43,7 +43,7 @@ fn note<N: Names>(
 }
 
 // The same of each of these names.
-pub(crate) fn note_all<N: Names>(
+fn note_all<N: Names>(
     there: &N,
     names: &[Name],
     seen: &mut IndexSet<Name, Hashing>,

@@ -33,7 +33,7 @@ fn a_history_keeps_parents_and_times(rt: HostRuntime) -> Result<(), Fail> {
         seconds = seconds.saturating_add(noted.seconds());
     }
     assert_eq!(rt; seconds, 40);
-    let found = history.ancestors(alloc, &[first])?;
+    let found = history.best_common(alloc, left, first)?;
     assert!(rt; found.len() == 1 && found.contains(&first));
     Ok(())
 }

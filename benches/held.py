@@ -1,6 +1,11 @@
-"""Begins a process that stays on one processor."""
+"""Begins processes that stay on one processor, and takes from it what it has at hand of them."""
 import os
 import subprocess
+import sys
+
+# Goes over more bytes than the caches of a processor hold. It is a process of its own, as the peak memory of this one
+# is the floor of what its children tell.
+OTHERS = [sys.executable, "-c", "bytearray(b'x') * 67_108_864"]
 
 
 def held(words, **how):
@@ -12,3 +17,10 @@ def held(words, **how):
         return subprocess.Popen(words, **how)
     finally:
         os.sched_setaffinity(0, free)
+
+
+def go_over_others():
+    """Goes over other memory there. A few objects that just came would stand in the processor's caches whole, and ten
+    times as many would not; behind this neither do."""
+    if held(OTHERS).wait():
+        sys.exit("other memory was not gone over")

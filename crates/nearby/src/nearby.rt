@@ -9,6 +9,7 @@ ghost use Rattle.git_name.specs.Same.{same_name};
 
 use git_name::{Hashing, Name};
 use indexmap::{IndexMap, IndexSet};
+use std::array;
 use std::cell::Cell;
 
 // So many places before and behind one where a name was found are tried.
@@ -20,15 +21,22 @@ const PATIENCE: usize = 4;
 // `far` is no more than this, so that a few names that stand near bring it down again.
 const COUNTED: usize = 8;
 
+// So many places of names that were hashed are remembered.
+const GUESSES: usize = 1024;
+
 /// The two places of a table of names at which names were found last. Objects that came together lie
 /// together, so whoever follows their links finds most of them near the one place or the other, and
 /// need not hash their names: where a hash leads is at random, and seldom in a processor's cache.
+/// Beside them stand places of names that had to be hashed, as those of what stays from commit to commit,
+/// to which many trees link again.
 #[derive(Debug, Drop)]
 pub struct Nearby {
     last: Cell<usize>,
     other: Cell<usize>,
     // How much oftener names stood far from these places than near, lately.
     far: Cell<usize>,
+    // By how names begin, where the last one stood that began so and was hashed.
+    guesses: [Cell<u32>; GUESSES],
 }
 
 // Whether the name stands at this place.
@@ -72,6 +80,12 @@ fn place_near(names: &[Name], last: usize, other: usize, name: Name) -> Option<u
     None
 }
 
+// Which of the guesses is of names that begin as this one.
+fn guess_of(name: Name) -> usize {
+    let bytes = name.as_bytes();
+    ((bytes[0] as usize) << 2) | ((bytes[1] >> 6) as usize)
+}
+
 // Whether the one place is near the other.
 fn is_near(place: usize, other: usize) -> bool {
     place.abs_diff(other) <= REACH
@@ -84,6 +98,7 @@ impl Nearby {
             last: Cell::new(0),
             other: Cell::new(0),
             far: Cell::new(0),
+            guesses: array::from_fn(|_| Cell::new(0)),
         }
     }
 
@@ -97,20 +112,24 @@ impl Nearby {
         }
     }
 
-    // Notes the place of a name that was found by its hash.
+    // Notes a place that was found far from the last ones, or by chance near them.
     fn note(&self, place: usize) {
         self.count(is_near(place, self.last.get()) || is_near(place, self.other.get()));
         self.other.set(self.last.replace(place));
     }
 
+    // Notes the place of a name that was found by its hash.
+    fn learn(&self, name: Name, place: usize) {
+        if let (Some(guess), Ok(place)) = (self.guesses.get(guess_of(name)), u32::try_from(place)) {
+            guess.set(place);
+        }
+        self.note(place);
+    }
+
     // The place of the name, where it stands near one of the last.
-    fn find(&self, names: &[Name], name: Name) -> Option<usize>
+    fn find_near(&self, names: &[Name], last: usize, name: Name) -> Option<usize>
         ensures { IfSome result (λ at. slice_get names.now at ≡ Some name) }
     {
-        let last = self.last.get();
-        if stands_at(names, last, name) {
-            return Some(last);
-        }
         if self.far.get() > PATIENCE {
             return None;
         }
@@ -121,6 +140,32 @@ impl Nearby {
         self.last.set(place);
         self.count(true);
         Some(place)
+    }
+
+    // The place of the name, where it stood as names were hashed that begin as it does.
+    fn find_again(&self, names: &[Name], name: Name) -> Option<usize>
+        ensures { IfSome result (λ at. slice_get names.now at ≡ Some name) }
+    {
+        let place = self.guesses.get(guess_of(name))?.get() as usize;
+        if !stands_at(names, place, name) {
+            return None;
+        }
+        self.note(place);
+        Some(place)
+    }
+
+    // The place of the name, where it is found without its hash.
+    fn find(&self, names: &[Name], name: Name) -> Option<usize>
+        ensures { IfSome result (λ at. slice_get names.now at ≡ Some name) }
+    {
+        let last = self.last.get();
+        if stands_at(names, last, name) {
+            return Some(last);
+        }
+        if let Some(place) = self.find_near(names, last, name) {
+            return Some(place);
+        }
+        self.find_again(names, name)
     }
 
     /// The place of a name in a set. It is looked for near the last places first, of whatever table
@@ -135,7 +180,7 @@ impl Nearby {
             self.count(false);
             return None;
         };
-        self.note(place);
+        self.learn(name, place);
         Some(place)
     }
 
@@ -159,7 +204,7 @@ impl Nearby {
             self.count(false);
             return None;
         };
-        self.note(place);
+        self.learn(name, place);
         Some(place)
     }
 
@@ -177,7 +222,7 @@ impl Nearby {
             self.count(false);
             return None;
         };
-        self.note(place);
+        self.learn(name, place);
         Some(value)
     }
 }

@@ -101,7 +101,7 @@ impl WordMap {
     pub fn publish(&mut self)
         ensures { self.new ≡ published_words self.old }
     {
-        see_all(&mut self.words, self.staged.as_slice());
+        see_all(&mut self.words, &self.nearby, self.staged.as_slice());
         empty(&mut self.staged);
     }
 
@@ -113,7 +113,12 @@ impl WordMap {
         ensures places { places_of catalogue.new ≡ places_of catalogue.old }
         ensures counts { (q : List ℕ) → count_of catalogue.new q + due_at leaves_discarded self.old q ≡ count_of catalogue.old q }
     {
-        unstage_all(&mut self.words, self.staged.as_slice(), catalogue);
+        unstage_all(
+            &mut self.words,
+            &self.nearby,
+            self.staged.as_slice(),
+            catalogue,
+        );
         empty(&mut self.staged);
     }
 

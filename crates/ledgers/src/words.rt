@@ -52,17 +52,20 @@ pub(crate) fn put_staged(
 }
 
 // What is staged under a name is seen, and no more staged.
-fn see_one(words: &mut IndexMap<Name, Word, Hashing>, name: Name)
+fn see_one(words: &mut IndexMap<Name, Word, Hashing>, nearby: &Nearby, name: Name)
     ensures { Settles (λ word. Some (seen_word word)) name (from_entries words.old.entries) (from_entries words.new.entries) }
 {
-    let Some(word) = words.get_mut(&name) else {
+    let Some(place) = nearby.key_place(words, name) else {
+        return;
+    };
+    let Some(word) = words.get_index_mut(place) else {
         return;
     };
     see(word);
 }
 
 // What is staged under a name is staged no more. Answers whether the word left.
-fn unstage_one(words: &mut IndexMap<Name, Word, Hashing>, name: Name) -> bool
+fn unstage_one(words: &mut IndexMap<Name, Word, Hashing>, nearby: &Nearby, name: Name) -> bool
     ensures settles { Settles unstaged_word name (from_entries words.old.entries) (from_entries words.new.entries) }
     ensures left { result ≡ option_map_or (leaves_discarded name) (get {R = name_cmp} (from_entries words.old.entries) name) false }
 {
@@ -70,7 +73,7 @@ fn unstage_one(words: &mut IndexMap<Name, Word, Hashing>, name: Name) -> bool
         return false;
     };
     if word.is_visible() {
-        see_one(words, name);
+        see_one(words, nearby, name);
         return false;
     }
     words.swap_remove(&name);
@@ -78,25 +81,30 @@ fn unstage_one(words: &mut IndexMap<Name, Word, Hashing>, name: Name) -> bool
 }
 
 // What is staged under a name is staged no more, and its number is lowered where its word leaves.
-fn take_back(words: &mut IndexMap<Name, Word, Hashing>, name: Name, catalogue: &mut Catalogue)
+fn take_back(
+    words: &mut IndexMap<Name, Word, Hashing>,
+    nearby: &Nearby,
+    name: Name,
+    catalogue: &mut Catalogue,
+)
     requires { due_at leaves_discarded (from_entries words.old.entries) name ≤ count_of catalogue.old name }
     ensures settles { Settles unstaged_word name (from_entries words.old.entries) (from_entries words.new.entries) }
     ensures places { places_of catalogue.new ≡ places_of catalogue.old }
     ensures counts { (q : List ℕ) → count_of catalogue.new q + due_at leaves_discarded (from_entries words.old.entries) q ≡ count_of catalogue.old q + due_at leaves_discarded (from_entries words.new.entries) q }
 {
-    if !unstage_one(words, name) {
+    if !unstage_one(words, nearby, name) {
         return;
     }
     catalogue.lower(name);
 }
 
 // What is staged, which are the words of these names, is seen, and no more staged. It takes no memory.
-pub(crate) fn see_all(words: &mut IndexMap<Name, Word, Hashing>, staged: &[Name])
+pub(crate) fn see_all(words: &mut IndexMap<Name, Word, Hashing>, nearby: &Nearby, staged: &[Name])
     requires { AreStaged staged.now (from_entries words.old.entries) }
     ensures { from_entries words.new.entries ≡ published_words (from_entries words.old.entries) }
 {
     for name in staged {
-        see_one(words, *name);
+        see_one(words, nearby, *name);
     }
 }
 
@@ -104,6 +112,7 @@ pub(crate) fn see_all(words: &mut IndexMap<Name, Word, Hashing>, staged: &[Name]
 // that leave are lowered. It takes no memory.
 pub(crate) fn unstage_all(
     words: &mut IndexMap<Name, Word, Hashing>,
+    nearby: &Nearby,
     staged: &[Name],
     catalogue: &mut Catalogue,
 )
@@ -114,7 +123,7 @@ pub(crate) fn unstage_all(
     ensures counts { (q : List ℕ) → count_of catalogue.new q + due_at leaves_discarded (from_entries words.old.entries) q ≡ count_of catalogue.old q }
 {
     for name in staged {
-        take_back(words, *name, catalogue);
+        take_back(words, nearby, *name, catalogue);
     }
 }
 

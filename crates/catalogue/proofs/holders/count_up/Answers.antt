@@ -1,17 +1,18 @@
-use Rattle.std.proofs.Common.{◌≡◌, ◌+◌, Some, sym, ap, subst, ◌∙◌, slice_get, arith}
+use Rattle.std.proofs.Common.{◌≡◌, ◌+◌, Some, true, false, sym, ap, subst, ◌∙◌, slice_get, arith}
 use Rattle.std.specs.Map.{keys_of, values_of}
 use Rattle.std.specs.List.{IsDistinct, position}
-use Rattle.std.specs.Option.{option_copied_mut, unwrap_or}
+use Rattle.std.specs.Option.{IsSome, option_copied_mut, unwrap_or}
 use Rattle.indexmap.proofs.CallerLemmas.{keys-with_value_at}
+use Rattle.nearby.proofs.PlaceLemmas.{none_at, value_at, written_at}
 use Rattle.looks.specs.Places.{same_name}
 use Rattle.catalogue.specs.Counted.{count_in}
-use Rattle.catalogue.proofs.CountLemmas.{counted_up, none_there, number_at, written_at}
+use Rattle.catalogue.proofs.CountLemmas.{counted_up}
 use Rattle.catalogue.proofs.holders.count_up.Goals as goal
 
 pub unreachable-requires : goal.unreachable-requires
 unreachable-requires c =
-    let absent = none_there c.args.holders.now.entries c.args.name (sym c.key_place.ensures ∙ c.in_default.is) in
-    let there = c.requires.there in
+    let absent = none_at c.args.holders.now.entries c.args.name (sym c.key_place.ensures ∙ c.in_default.is) in
+    let no : false ≡ true = subst IsSome absent c.requires.there in
     cc
 
 pub overflow_add-count : goal.overflow_add-count
@@ -19,7 +20,7 @@ overflow_add-count c =
     let entries = c.args.holders.now.entries in
     let place : position (same_name c.args.name) (keys_of entries) ≡ Some c.in-Some.place = sym c.key_place.ensures ∙ c.in-Some.is in
     let value : slice_get (values_of entries) c.in-Some.place ≡ Some c.in-Some-get_index_mut.count.now = sym c.get_index_mut.ensures.value ∙ ap option_copied_mut c.in-Some-get_index_mut.is in
-    let number : count_in entries c.args.name ≡ c.in-Some-get_index_mut.count.now = ap (λ found. unwrap_or found 0) (number_at entries c.args.name c.in-Some.place c.in-Some-get_index_mut.count.now place value) in
+    let number : count_in entries c.args.name ≡ c.in-Some-get_index_mut.count.now = ap (λ found. unwrap_or found 0) (value_at entries c.args.name c.in-Some.place c.in-Some-get_index_mut.count.now place value) in
     let fits = c.requires.fits in
     omega arith
 
@@ -32,7 +33,7 @@ returns-clause-counts c =
     let count = c.in-Some-get_index_mut.count.now in
     let place : position (same_name c.args.name) (keys_of entries) ≡ Some c.in-Some.place = sym c.key_place.ensures ∙ c.in-Some.is in
     let value : slice_get (values_of entries) c.in-Some.place ≡ Some count = sym c.get_index_mut.ensures.value ∙ ap option_copied_mut c.in-Some-get_index_mut.is in
-    counted_up entries _ c.args.name count (number_at entries c.args.name c.in-Some.place count place value)
+    counted_up entries _ c.args.name count (value_at entries c.args.name c.in-Some.place count place value)
     (written_at c.args.holders.now c.args.name c.in-Some.place count (count + 1) c.get_index_mut.ensures.unique place value)
 
 pub returns-clause-distinct : goal.returns-clause-distinct

@@ -1,5 +1,5 @@
 -- A history that is read, commit by commit.
-use Rattle.std.proofs.Common.{◌≡◌, ◌≢◌, ℕ, Bool, true, false, cond, List, [], map, Option, None, Some, is_some, refl, sym, ap, ◌∙◌}
+use Rattle.std.proofs.Common.{◌≡◌, ℕ, Bool, true, false, cond, List, map, Option, None, Some, is_some, refl, sym, ap, ◌∙◌}
 use Rattle.std.specs.FinMap.{contains_key, get, retain_keys, same_map}
 use Rattle.std.specs.List.{zip}
 use Rattle.std.specs.Map.{lookup}
@@ -7,31 +7,15 @@ use Rattle.std.specs.Option.{option_map}
 use Rattle.git_name.specs.Maps.{map_values}
 use Rattle.git_name.specs.Object.{Object}
 use Rattle.git_name.specs.Same.{same_name}
-use Rattle.git_name.specs.declared.kind.Kind.{Kind}
-use Rattle.git_name.specs.declared.kind.Kind.TheVariants.{Blob, Tree, Commit, Tag}
 use Rattle.git_name.proofs.HashMaps.{get_of_hashed}
 use Rattle.git_name.proofs.MapLemmas.{get_map_values}
 use Rattle.git_name.proofs.Names.{name_total, name_exact}
 use Rattle.fork_reach.specs.History.{Note, note_at, note_of, note_of_found, notes_under}
 use Rattle.fork_reach.specs.Queuing.{stands_in}
 use Rattle.fork_reach.specs.Reach.{parent_names, parents_of_found}
-use Rattle.fork_reach.specs.Source.{Objects, kind_in}
+use Rattle.fork_reach.specs.Source.{Objects}
 use Rattle.fork_reach.proofs.HiddenLemmas.{get_kept}
 use Rattle.fork_reach.proofs.NoteLemmas.{noted_by}
-
--- what is no commit is noted as none
-pub no_note : (objects : Objects) (name : List ℕ) → kind_in objects name ≢ Some Commit → note_at objects name ≡ record { parents = []; seconds = 0 }
-no_note objects name other = by (get objects name) other
-  where
-    of_kind : (kind : Kind) (bytes : List ℕ) → Some kind ≢ Some Commit → note_of (record { kind = kind; bytes = bytes }) ≡ record { parents = []; seconds = 0 }
-    of_kind Blob bytes is = refl
-    of_kind Tree bytes is = refl
-    of_kind Commit bytes is = absurd (is refl)
-    of_kind Tag bytes is = refl
-
-    by : (found : Option Object) → option_map (λ object. object.kind) found ≢ Some Commit → note_of_found found ≡ record { parents = []; seconds = 0 }
-    by None is = refl
-    by (Some object) is = of_kind object.kind object.bytes is
 
 some_noted : (found : Option Object) → is_some found ≡ true → Some (note_of_found found) ≡ option_map note_of found
 some_noted None there = (let no : ⊥ = cc in absurd no)

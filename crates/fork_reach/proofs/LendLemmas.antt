@@ -1,6 +1,5 @@
 -- Objects that are lent and queued one by one, and list by list.
-use Rattle.std.proofs.Common.{◌≡◌, ℕ, zero, suc, Bool, true, None, slice_get, List, [], ◌∷◌, ◌++◌, Some, is_some, map, refl, sym, ap, subst, ◌∙◌}
-use Rattle.std.specs.FinMap.{contains_key, get}
+use Rattle.std.proofs.Common.{◌≡◌, ℕ, zero, suc, Bool, None, slice_get, List, [], ◌∷◌, ◌++◌, Some, map, refl, sym, ap, subst}
 use Rattle.std.specs.List.{AllByRecursion}
 use Rattle.std.specs.Option.{option_map}
 use Rattle.git_object.specs.ObjectIn.{links_in}
@@ -26,10 +25,6 @@ lends_both state hidden xs ys queue lent mid mid_lent now now_lent first second 
   alike = λ are. second.alike (first.alike are);
   still = λ all. second.still (first.still all);
 }
-
--- what is lent is there
-pub lent_is_there : {Base Rest : Type 0} (state : SourceState Base Rest) (one : Lent) (name : List ℕ) → one.name ≡ name → IsLent state one → contains_key state.objects name ≡ true
-lent_is_there state one name is lent = ap (λ n. is_some (get state.objects n)) (sym is) ∙ ap is_some lent.1
 
 -- one more is lent
 pub one_more : {Base Rest : Type 0} (state : SourceState Base Rest) (lent : List Lent) (one : Lent) → AllByRecursion (IsLent state) lent → IsLent state one → AllByRecursion (IsLent state) (lent ++ one ∷ [])

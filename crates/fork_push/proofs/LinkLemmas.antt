@@ -1,19 +1,27 @@
 -- Links of sent objects, one object after another.
-use Rattle.std.proofs.Common.{◌≡◌, ℕ, ◌+◌, ◌<◌, Bool, List, [], ◌∷◌, Option, None, Some, refl, sym, ap, ◌∙◌, length, drop, get_or}
+use Rattle.std.proofs.Common.{◌≡◌, ℕ, ◌+◌, ◌<◌, Bool, true, false, cond, not, is_none, List, [], ◌∷◌, Option, None, Some, refl, sym, ap, ◌∙◌, length, drop, get_or}
 use Rattle.std.specs.FinMap.{get}
-use Rattle.std.specs.List.{find}
+use Rattle.std.specs.List.{find, flat_map}
 use Rattle.std.specs.Option.{option_map, option_or}
 use Rattle.std.proofs.lemmas.List.{drop_more}
 use Rattle.std.proofs.lemmas.List.Folds.{find-append}
 use Rattle.git_name.specs.Object.{Object}
-use Rattle.git_name.specs.declared.kind.Kind.TheVariants.{Blob}
+use Rattle.git_name.specs.declared.kind.Kind.{Kind}
+use Rattle.git_name.specs.declared.kind.Kind.TheVariants.{Blob, Tree}
+use Rattle.git_tree.specs.Entry.{Entry}
+use Rattle.git_tree.specs.Row.{IsRow, entries_in}
+use Rattle.git_tree.specs.TreeIn.{tree_in}
+use Rattle.git_tree.proofs.RowLemmas.{row_is_of}
+use Rattle.git_tree.proofs.TestLemmas.{is_tree_in}
 use Rattle.git_object.specs.declared.link.Link.{Link}
-use Rattle.git_object.specs.ObjectIn.{links_in, object_in}
+use Rattle.git_object.specs.Links.{entry_links}
+use Rattle.git_object.specs.Object.{TreeOf}
+use Rattle.git_object.specs.ObjectIn.{links_in, links_or_none, object_in}
 use Rattle.git_reftx.proofs.RefusalLemmas.{option_or_assoc}
 use Rattle.fork_reach.specs.Reach.{links_of_found}
 use Rattle.fork_reach.specs.Source.{Objects, kind_in}
 use Rattle.fork_push.specs.declared.refusal.PushRefusal.TheVariants.{Missing}
-use Rattle.fork_push.specs.Push.{is_missing, link_refusal, links_under, wrong_type}
+use Rattle.fork_push.specs.Push.{has_kind, is_missing, is_wrong, link_refusal, links_under, wrong_type}
 
 no_links : (bytes : List ℕ) → links_in Blob bytes ≡ []
 unfolding links_in object_in
@@ -66,3 +74,39 @@ pub missing_at : (both : Objects) (names : List (List ℕ)) (i : ℕ) (name : Li
 missing_at both names i name link inside is so_far found =
     ap (λ first. option_or (option_map (λ l. Missing l.name) first) (wrong_type both (links_under both names)))
     (ap (λ first. option_or first (find (is_missing both) (links_under both (drop (i + 1) names)))) found ∙ sym (found_from (is_missing both) both names i name inside is) ∙ so_far)
+
+-- where nothing is found in the links of right entries, nothing is in those of a tree
+pub tree_passed : (test : Link → Bool) (bytes : List ℕ) → (IsRow bytes → find test (flat_map entry_links (entries_in bytes)) ≡ None) → find test (links_in Tree bytes) ≡ None
+unfolding links_in object_in
+tree_passed test bytes none = by (tree_in bytes) refl
+  where
+    by : (read : Option (List Entry)) → tree_in bytes ≡ read → find test (links_or_none (option_map (λ entries. TreeOf entries) read)) ≡ None
+    by None is = refl
+    by (Some entries) is =
+        let tree = is_tree_in bytes entries is in
+        let row = row_is_of bytes entries tree.are.each tree.spelling in
+        ap (λ each. find test (flat_map entry_links each)) (sym row.0) ∙ none row.1
+
+-- an entry where nothing is found is passed over
+pub entry_passed : (test : Link → Bool) (entry : Entry) (entries : List Entry) → find test (entry_links entry) ≡ None
+    → find test (flat_map entry_links (entry ∷ entries)) ≡ find test (flat_map entry_links entries)
+entry_passed test entry entries none =
+    find-append test (entry_links entry) (flat_map entry_links entries) ∙ ap (λ found. option_or found (find test (flat_map entry_links entries))) none
+
+-- where no link is wrong, none is missing
+left_none : (o : Option Link) (link : Link) (b : Bool) → cond b (Some link) o ≡ None → o ≡ None
+left_none o link true none = (let differs : ⊥ = cc in absurd differs)
+left_none o link false none = none
+
+missing_wrong : (link : Link) (kind : Option Kind) (o found : Option Link) → cond (not (has_kind link.kind kind)) (Some link) o ≡ None → found ≡ None → cond (is_none kind) (Some link) found ≡ None
+missing_wrong link None o found wrong none = (let differs : ⊥ = cc in absurd differs)
+missing_wrong link (Some kind) o found wrong none = none
+
+pub none_missing : (both : Objects) (links : List Link) → find (is_wrong both) links ≡ None → find (is_missing both) links ≡ None
+none_missing both [] none = refl
+none_missing both (link ∷ links) none =
+    missing_wrong link (kind_in both link.name) (find (is_wrong both) links) (find (is_missing both) links) none (none_missing both links (left_none (find (is_wrong both) links) link (is_wrong both link) none))
+
+-- and what was noted before stays
+pub noted_still : (old found : Option Link) → found ≡ None → old ≡ option_or old found
+noted_still old found none = or_none old ∙ ap (option_or old) (sym none)

@@ -1,12 +1,56 @@
-ghost use Rattle.std.specs.Prelude.{◌≡◌, IfNone};
+ghost use Rattle.std.specs.Prelude.{◌≡◌, IfNone, None};
+ghost use Rattle.std.specs.Bool.{OnTrue};
 ghost use Rattle.std.specs.List.{find};
 ghost use Rattle.std.specs.Option.{option_or};
+ghost use Rattle.git_tree.specs.Entry.{entry_of};
+ghost use Rattle.git_object.specs.Links.{entry_links};
 ghost use Rattle.git_object.specs.ObjectIn.{links_in};
 ghost use Rattle.fork_push.specs.Push.{is_missing, is_wrong};
 
 use fork_reach::Source;
 use git_name::Kind;
 use git_object::{Link, Object, links};
+use git_tree::{TreeEntry, first_entry};
+
+// Whether the object of a tree's entry is there, and of the kind that the mode wants. A gitlink wants
+// none.
+fn is_met<S: Source>(source: &S, entry: TreeEntry<'_>) -> bool
+    ensures { OnTrue result (find (is_wrong (S.state source.now).objects) (entry_links (entry_of entry.entry)) ≡ None) }
+{
+    let Some(wanted) = entry.mode.link_kind() else {
+        return true;
+    };
+    match source.kind_of(entry.name) {
+        Some(kind) => kind == wanted,
+        None => false,
+    }
+}
+
+// Whether the objects of all entries are so, if the bytes are a tree. Whether they are one is not asked,
+// so this takes one look at each entry.
+fn are_entries_met<S: Source>(source: &S, bytes: &[u8]) -> bool
+    ensures { OnTrue result (find (is_wrong (S.state source.now).objects) (links_in Kind.Tree bytes.now) ≡ None) }
+{
+    let mut rest = bytes;
+    while let Some((entry, behind)) = first_entry(rest) {
+        if !is_met(source, entry) {
+            return false;
+        }
+        rest = behind;
+    }
+    true
+}
+
+// Whether nothing stands against the links of an object of this kind and these bytes, as far as that is
+// seen without its grammar.
+fn are_met<S: Source>(source: &S, kind: Kind, bytes: &[u8]) -> bool
+    ensures { OnTrue result (find (is_wrong (S.state source.now).objects) (links_in kind bytes.now) ≡ None) }
+{
+    match kind {
+        Kind::Tree => are_entries_met(source, bytes),
+        _ => false,
+    }
+}
 
 // The first link of an object of this kind and these bytes whose object is not there. Where there is
 // none, the first link to another kind is noted, unless one was before.
@@ -19,6 +63,9 @@ pub(crate) fn judge_links<S: Source>(
     ensures missing { result ≡ find (is_missing (S.state source.now).objects) (links_in kind bytes.now) }
     ensures wrong { IfNone result (wrong.new ≡ option_or wrong.old (find (is_wrong (S.state source.now).objects) (links_in kind bytes.now))) }
 {
+    if are_met(source, kind, bytes) {
+        return None;
+    }
     let Ok(object) = Object::read(kind, bytes) else {
         return None;
     };

@@ -6,6 +6,7 @@
 mod builder;
 mod entry;
 mod fault;
+mod first;
 mod fronts;
 mod laws;
 mod mode;
@@ -18,6 +19,7 @@ mod tree;
 pub use crate::builder::{PushError, TreeBuilder};
 pub use crate::entry::TreeEntry;
 pub use crate::fault::TreeFault;
+pub use crate::first::first_entry;
 pub use crate::laws::{
     one_fault_at_most, one_list_of_entries, one_push_fault_at_most, tests_find_the_tree,
 };

@@ -66,7 +66,7 @@ impl Catalogue {
     pub fn count(&self, name: Name) -> usize
         ensures { result ≡ count_of self.now name }
     {
-        match self.holders.get(&name) {
+        match self.nearby.get(&self.holders, name) {
             Some(count) => *count,
             None => 0,
         }

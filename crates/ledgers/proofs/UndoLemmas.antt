@@ -1,13 +1,14 @@
 -- What is staged and noted, unstaged again.
 use Rattle.std.proofs.Common.{◌≡◌, ℕ, List, [], ◌∷◌, ◌++◌, Bool, true, false, cond, Option, Some, None, refl, sym, ap, ◌∙◌}
 use Rattle.std.specs.Prelude.{OnErr, OnOk, Result, Ok, Err}
-use Rattle.std.specs.BTreeMap.{is_at}
 use Rattle.std.specs.Cmp.{eq_by_cmp_equiv}
 use Rattle.std.specs.Option.{option_and_then, option_map_or, unwrap_or}
 use Rattle.std.specs.Ordering.{eq_by_cmp}
 use Rattle.std.specs.FinMap.{empty, get, get-insert, insert, same_map}
 use Rattle.git_name.specs.declared.kind.Kind.{Kind}
 use Rattle.git_name.specs.Name.{name_cmp}
+use Rattle.git_name.specs.Same.{same_name}
+use Rattle.git_name.proofs.HashMaps.{one_test}
 use Rattle.git_name.proofs.Names.{name_total, name_exact}
 use Rattle.ledgers.specs.AllStaged.{all_staged_words}
 use Rattle.ledgers.specs.declared.entry.Entry.{Entry}
@@ -120,8 +121,8 @@ unstaged_noted old new words name fresh notes = same_map name_total name_exact _
     by q false apart = refl
 
 -- a set has one more name
-pub notes_of : (name : List ℕ) (old new : List ℕ → Bool) → ((q : List ℕ) → new q ≡ cond (is_at (name_cmp name) q) true (old q)) → Notes name old new
-notes_of name old new set q = set q ∙ ap (λ b. cond b true (old q)) ((eq_by_cmp_equiv name_total).symm name q)
+pub notes_of : (name : List ℕ) (old new : List ℕ → Bool) → ((q : List ℕ) → new q ≡ cond (same_name name q) true (old q)) → Notes name old new
+notes_of name old new set q = set q ∙ ap (λ b. cond b true (old q)) (one_test name q ∙ (eq_by_cmp_equiv name_total).symm name q)
 
 -- and is staged then
 pub unstaged_staged : (old new : List ℕ → Bool) (words : Words) (name : List ℕ) (kind : Kind) (n : ℕ) → option_map_or is_staged (get words name) false ≡ false → Notes name old new

@@ -1,7 +1,5 @@
 // Numbers of holders, lowered for the names that leave a ledger.
 ghost use Rattle.std.specs.Prelude.{◌≡◌, ◌≤◌, ◌+◌, List, ℕ};
-ghost use Rattle.std.specs.BTreeSet.{contains};
-ghost use Rattle.git_name.specs.Name.{name_cmp};
 ghost use Rattle.catalogue.specs.Counted.{count_of, places_of};
 ghost use Rattle.ledgers.specs.Due.{due_in, leaves_kept, leaves_unstaged};
 
@@ -11,7 +9,6 @@ use catalogue::Catalogue;
 use git_name::{Hashing, Name};
 use indexmap::IndexMap;
 use nearby::Nearby;
-use std::collections::BTreeSet;
 
 // Lowers the numbers of the names that leave as these alone are kept. It takes no memory.
 pub(crate) fn lower_left<N: NameSet>(
@@ -32,17 +29,18 @@ pub(crate) fn lower_left<N: NameSet>(
 }
 
 // Lowers the numbers of the names that leave as what is staged under these goes. It takes no memory.
-pub(crate) fn lower_unstaged(
+pub(crate) fn lower_unstaged<N: NameSet>(
     words: &IndexMap<Name, Word, Hashing>,
-    names: &BTreeSet<Name>,
+    names: &N,
     catalogue: &mut Catalogue,
 )
-    requires { (q : List ℕ) → due_in (leaves_unstaged (contains name_cmp names.now)) words.now.entries q ≤ count_of catalogue.old q }
+    requires { (q : List ℕ) → due_in (leaves_unstaged (N.names names.now)) words.now.entries q ≤ count_of catalogue.old q }
     ensures places { places_of catalogue.new ≡ places_of catalogue.old }
-    ensures counts { (q : List ℕ) → count_of catalogue.new q + due_in (leaves_unstaged (contains name_cmp names.now)) words.now.entries q ≡ count_of catalogue.old q }
+    ensures counts { (q : List ℕ) → count_of catalogue.new q + due_in (leaves_unstaged (N.names names.now)) words.now.entries q ≡ count_of catalogue.old q }
 {
+    let nearby = Nearby::new();
     for (name, word) in words.iter() {
-        if goes_unstaged(word, names.contains(name)) {
+        if goes_unstaged(word, names.has(&nearby, *name)) {
             catalogue.lower(*name);
         }
     }

@@ -1,8 +1,6 @@
 ghost use Rattle.std.specs.Prelude.{◌≡◌, ◌<◌, ◌≤◌, ◌+◌, ◌⊎◌, ◌++◌, ◌∷◌, [], ◌||◌, ◌&&◌, not, ℕ, List, Some, length, slice_get, take, OnOk, OnErr, IfOk, IfSome, IfNone, false, true, nat_le, IsPermutation};
-ghost use Rattle.std.specs.BTreeSet.{contains};
 ghost use Rattle.std.specs.FinMap as map;
 ghost use Rattle.std.specs.Option.{option_map_or};
-ghost use Rattle.git_name.specs.Name.{name_cmp};
 ghost use Rattle.looks.specs.Places.{at_start, is_listed, looked_at, same_name};
 ghost use Rattle.catalogue.specs.Counted.{IsNext, count_of, places_of};
 ghost use Rattle.ledgers.specs.Holders.{IsCounting, holders_of, is_held_in};
@@ -17,7 +15,6 @@ use catalogue::Catalogue;
 use fork_request::TenantName;
 use git_name::{Hashing, Kind, Name};
 use std::alloc::{AllocError, Global};
-use std::collections::BTreeSet;
 use std::marker::Model;
 
 /// The ledgers of all tenants, and the catalogue, whose number of holders of a name is that of the
@@ -49,6 +46,11 @@ impl Holdings {
     {
         let ledgers = Ledgers::new(alloc, hashing);
         Holdings { ledgers, catalogue }
+    }
+
+    /// How names of objects are hashed.
+    pub fn hashing(&self) -> Hashing {
+        self.ledgers.hashing()
     }
 
     /// Adds a tenant that holds nothing, unless it is there.
@@ -170,8 +172,8 @@ impl Holdings {
     }
 
     /// What a tenant has staged under these names is so no more. It takes no memory.
-    pub fn unstage(&mut self, tenant: &TenantName, names: &BTreeSet<Name>)
-        ensures ledgers { self.new.ledgers ≡ at_ledger self.old.ledgers tenant.now (unstaged_words (λ name. contains name_cmp names.now name)) }
+    pub fn unstage<N: NameSet>(&mut self, tenant: &TenantName, names: &N)
+        ensures ledgers { self.new.ledgers ≡ at_ledger self.old.ledgers tenant.now (unstaged_words (N.names names.now)) }
         ensures places { places_of self.new.catalogue ≡ places_of self.old.catalogue }
     {
         unstage_counted(&mut self.ledgers, &mut self.catalogue, tenant, names);
@@ -356,15 +358,15 @@ fn keep_counted<N: NameSet>(
 }
 
 // What is staged under these names goes, and what leaves the ledger is counted no more.
-fn unstage_counted(
+fn unstage_counted<N: NameSet>(
     ledgers: &mut Ledgers,
     catalogue: &mut Catalogue,
     tenant: &TenantName,
-    names: &BTreeSet<Name>,
+    names: &N,
 )
     requires counting { IsCounting ledgers.old catalogue.old }
     ensures counting { IsCounting ledgers.new catalogue.new }
-    ensures ledgers { ledgers.new ≡ at_ledger ledgers.old tenant.now (unstaged_words (λ name. contains name_cmp names.now name)) }
+    ensures ledgers { ledgers.new ≡ at_ledger ledgers.old tenant.now (unstaged_words (N.names names.now)) }
     ensures places { places_of catalogue.new ≡ places_of catalogue.old }
 {
     let Some(own) = ledgers.get(tenant) else {

@@ -1,7 +1,5 @@
 ghost use Rattle.std.specs.Prelude.{◌≡◌, ◌≤◌, ◌+◌, List, ℕ, not, OnOk, OnErr, IfOk, nat_le};
-ghost use Rattle.std.specs.BTreeSet.{contains};
 ghost use Rattle.std.specs.FinMap as map;
-ghost use Rattle.git_name.specs.Name.{name_cmp};
 ghost use Rattle.catalogue.specs.Counted.{count_of, places_of};
 ghost use Rattle.ledgers.specs.Due.{due_at, leaves_discarded, leaves_kept, leaves_unstaged};
 ghost use Rattle.ledgers.specs.Totals.{capped, total_of, used_by};
@@ -14,7 +12,6 @@ use crate::words::size_of;
 use catalogue::Catalogue;
 use git_name::{Hashing, Kind, Name};
 use std::alloc::{AllocError, Global};
-use std::collections::BTreeSet;
 use std::marker::Model;
 
 /// What is known of one tenant's objects without their bytes, and what they use, those that it sees
@@ -126,8 +123,8 @@ impl Ledger {
     }
 
     /// What is staged under these names is so no more. It takes no memory, and walks all words.
-    pub fn unstage(&mut self, names: &BTreeSet<Name>)
-        ensures { self.new ≡ unstaged_words (λ name. contains name_cmp names.now name) self.old }
+    pub fn unstage<N: NameSet>(&mut self, names: &N)
+        ensures { self.new ≡ unstaged_words (N.names names.now) self.old }
     {
         self.words.unstage(names);
         let (used, total) = self.words.uses();
@@ -136,10 +133,10 @@ impl Ledger {
     }
 
     /// Lowers the numbers of the names that leave by `unstage`. It takes no memory.
-    pub fn lower_unstaged(&self, names: &BTreeSet<Name>, catalogue: &mut Catalogue)
-        requires { (q : List ℕ) → due_at (leaves_unstaged (contains name_cmp names.now)) self.now q ≤ count_of catalogue.old q }
+    pub fn lower_unstaged<N: NameSet>(&self, names: &N, catalogue: &mut Catalogue)
+        requires { (q : List ℕ) → due_at (leaves_unstaged (N.names names.now)) self.now q ≤ count_of catalogue.old q }
         ensures places { places_of catalogue.new ≡ places_of catalogue.old }
-        ensures counts { (q : List ℕ) → count_of catalogue.new q + due_at (leaves_unstaged (contains name_cmp names.now)) self.now q ≡ count_of catalogue.old q }
+        ensures counts { (q : List ℕ) → count_of catalogue.new q + due_at (leaves_unstaged (N.names names.now)) self.now q ≡ count_of catalogue.old q }
     {
         self.words.lower_unstaged(names, catalogue);
     }

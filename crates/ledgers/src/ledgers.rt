@@ -1,8 +1,6 @@
 ghost use Rattle.std.specs.Prelude.{◌≡◌, ◌≤◌, ◌+◌, List, ℕ, Some, None, false, not, IfOk, OnOk, OnErr};
-ghost use Rattle.std.specs.BTreeSet.{contains};
 ghost use Rattle.std.specs.FinMap as map;
 ghost use Rattle.std.specs.Option.{option_copied};
-ghost use Rattle.git_name.specs.Name.{name_cmp};
 ghost use Rattle.catalogue.specs.Counted.{count_of, places_of};
 ghost use Rattle.ledgers.specs.Due.{due_at, leaves_discarded};
 ghost use Rattle.ledgers.specs.Ledgers.{at_ledger, ledger_at, with_ledger};
@@ -14,7 +12,7 @@ use catalogue::Catalogue;
 use fork_request::TenantName;
 use git_name::{Hashing, Kind, Name};
 use std::alloc::{AllocError, Global};
-use std::collections::{BTreeMap, BTreeSet};
+use std::collections::BTreeMap;
 use std::marker::Model;
 
 /// The ledgers of all tenants.
@@ -44,6 +42,11 @@ impl Ledgers {
             tenants: BTreeMap::new(alloc),
             hashing,
         }
+    }
+
+    /// How names of objects are hashed.
+    pub fn hashing(&self) -> Hashing {
+        self.hashing
     }
 
     /// How many tenants there are.
@@ -135,8 +138,8 @@ impl Ledgers {
     }
 
     /// What a tenant has staged under these names is so no more. It takes no memory.
-    pub fn unstage(&mut self, tenant: &TenantName, names: &BTreeSet<Name>)
-        ensures { self.new ≡ at_ledger self.old tenant.now (unstaged_words (λ name. contains name_cmp names.now name)) }
+    pub fn unstage<N: NameSet>(&mut self, tenant: &TenantName, names: &N)
+        ensures { self.new ≡ at_ledger self.old tenant.now (unstaged_words (N.names names.now)) }
     {
         let Some(own) = self.tenants.get_mut(tenant) else {
             return;

@@ -3,9 +3,8 @@ ghost use Rattle.std.specs.Prelude.{◌≡◌, Bool, List, ℕ};
 use git_name::{Hashing, Name};
 use indexmap::IndexSet;
 use nearby::Nearby;
-use std::collections::BTreeSet;
 
-/// A set of names, in order or hashed.
+/// A set of names.
 pub trait NameSet {
     /// Which names are in it.
     ghost names: { Self → List ℕ → Bool };
@@ -13,17 +12,6 @@ pub trait NameSet {
     /// Whether this name is in it. It may be looked for near the last places first.
     fn has(&self, nearby: &Nearby, name: Name) -> bool
         ensures { result ≡ names self.now name };
-}
-
-impl NameSet for BTreeSet<Name> {
-    ghost use Rattle.std.specs.BTreeSet.{contains};
-    ghost use Rattle.git_name.specs.Name.{name_cmp};
-
-    ghost names = { λ set. contains name_cmp set };
-
-    fn has(&self, _nearby: &Nearby, name: Name) -> bool {
-        self.contains(&name)
-    }
 }
 
 impl NameSet for IndexSet<Name, Hashing> {

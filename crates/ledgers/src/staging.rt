@@ -1,7 +1,7 @@
 // Objects that are staged in one call, all or none.
 ghost use Rattle.std.specs.Prelude.{◌≡◌, true, OnErr, OnOk};
-ghost use Rattle.std.specs.BTreeSet.{contains};
-ghost use Rattle.git_name.specs.Name.{name_cmp};
+ghost use Rattle.std.specs.HashSet.{contains};
+ghost use Rattle.git_name.specs.Same.{same_name};
 ghost use Rattle.looks.specs.Places.{is_listed};
 ghost use Rattle.catalogue.specs.Counted.{places_of};
 ghost use Rattle.ledgers.specs.AllStaged.{AreListed, all_staged_words};
@@ -11,9 +11,9 @@ ghost use Rattle.ledgers.specs.Words.{staged_words, unstaged_words};
 use crate::entry::Entry;
 use crate::holdings::Holdings;
 use fork_request::TenantName;
-use git_name::Name;
+use git_name::{Hashing, Name};
+use indexmap::IndexSet;
 use std::alloc::{AllocError, Global};
-use std::collections::BTreeSet;
 
 /// Stages the objects of these entries for a tenant, in order, all or none. Their names are catalogued.
 pub fn stage_all(
@@ -27,7 +27,7 @@ pub fn stage_all(
     ensures err { OnErr result (holdings.new.ledgers ≡ holdings.old.ledgers) }
     ensures places { places_of holdings.new.catalogue ≡ places_of holdings.old.catalogue }
 {
-    let mut noted = BTreeSet::new(alloc);
+    let mut noted = IndexSet::with_hasher(alloc, holdings.hashing());
     for entry in entries {
         let Ok(()) = stage_noted(holdings, tenant, *entry, &mut noted) else {
             holdings.unstage(tenant, &noted);
@@ -43,11 +43,11 @@ fn stage_noted(
     holdings: &mut Holdings,
     tenant: &TenantName,
     entry: Entry,
-    noted: &mut BTreeSet<Name>,
+    noted: &mut IndexSet<Name, Hashing>,
 ) -> Result<(), AllocError>
     requires listed { is_listed (places_of holdings.old.catalogue).names entry.name ≡ true }
     ensures ok { OnOk result (holdings.new.ledgers ≡ at_ledger holdings.old.ledgers tenant.now (staged_words entry.name entry.kind entry.length)) }
-    ensures undone { at_ledger holdings.new.ledgers tenant.now (unstaged_words (contains name_cmp noted.new)) ≡ at_ledger holdings.old.ledgers tenant.now (unstaged_words (contains name_cmp noted.old)) }
+    ensures undone { at_ledger holdings.new.ledgers tenant.now (unstaged_words (contains same_name noted.new)) ≡ at_ledger holdings.old.ledgers tenant.now (unstaged_words (contains same_name noted.old)) }
     ensures places { places_of holdings.new.catalogue ≡ places_of holdings.old.catalogue }
 {
     if holdings.has_staged(tenant, entry.name) {

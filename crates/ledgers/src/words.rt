@@ -1,6 +1,5 @@
 // Words by the names of their objects, hashed.
 ghost use Rattle.std.specs.Prelude.{◌≡◌, ◌≤◌, ◌+◌, ◌++◌, ◌∷◌, [], List, ℕ, OnOk, OnErr, IfOk, Some, false, not, ◌&&◌, sum_by};
-ghost use Rattle.std.specs.BTreeSet as set;
 ghost use Rattle.std.specs.FinMap.{from_entries, get, keys};
 ghost use Rattle.std.specs.List.{IsDistinct};
 ghost use Rattle.std.specs.Map.{keys_of, values_of};
@@ -22,7 +21,6 @@ use git_name::{Hashing, Name};
 use indexmap::IndexMap;
 use nearby::Nearby;
 use std::alloc::{AllocError, Global};
-use std::collections::BTreeSet;
 
 // The word of a name.
 pub(crate) fn word_at(words: &IndexMap<Name, Word, Hashing>, name: Name) -> Option<Word>
@@ -138,12 +136,13 @@ pub(crate) fn keep_among<N: NameSet>(words: &mut IndexMap<Name, Word, Hashing>, 
 }
 
 // What is staged under these names is so no more. It takes no memory.
-pub(crate) fn unstage_among(words: &mut IndexMap<Name, Word, Hashing>, names: &BTreeSet<Name>)
-    ensures entries { words.new.entries ≡ chosen_in (λ name word. unstaged_if (set.contains name_cmp names.now name) word) words.old.entries }
+pub(crate) fn unstage_among<N: NameSet>(words: &mut IndexMap<Name, Word, Hashing>, names: &N)
+    ensures entries { words.new.entries ≡ chosen_in (λ name word. unstaged_if (N.names names.now name) word) words.old.entries }
     ensures distinct { IsDistinct same_name (keys_of words.old.entries) }
 {
     let _count = words.len();
-    words.retain(|name, word| unstage(word, names.contains(name)));
+    let nearby = Nearby::new();
+    words.retain(|name, word| unstage(word, names.has(&nearby, *name)));
 }
 
 // All names leave a list, which gives back its room.
@@ -155,10 +154,11 @@ pub(crate) fn empty(staged: &mut Vec<Name>)
 }
 
 // These names leave a list. It takes no memory.
-pub(crate) fn leave_out(staged: &mut Vec<Name>, names: &BTreeSet<Name>)
-    ensures { (q : List ℕ) → is_among staged.new.items q ≡ (not (set.contains name_cmp names.now q) && is_among staged.old.items q) }
+pub(crate) fn leave_out<N: NameSet>(staged: &mut Vec<Name>, names: &N)
+    ensures { (q : List ℕ) → is_among staged.new.items q ≡ (not (N.names names.now q) && is_among staged.old.items q) }
 {
-    staged.retain(|name| !names.contains(name));
+    let nearby = Nearby::new();
+    staged.retain(|name| !names.has(&nearby, *name));
 }
 
 // The names of what is seen, in no order.

@@ -1,9 +1,9 @@
 use fork_ledger::Vault;
 use fork_request::TenantName;
-use git_name::{Kind, Sealed, name_of, seal};
+use git_name::{Hashing, Kind, Sealed, name_of, seal};
+use indexmap::IndexSet;
 use loose_store::Memory;
 use std::alloc::{AllocError, Global};
-use std::collections::BTreeSet;
 use std::test::Fail;
 
 // Blobs of these contents.
@@ -48,7 +48,7 @@ fn objects_are_staged_in_one_call(rt: HostRuntime) -> Result<(), Fail> {
     assert_eq!(rt; vault.used(&alice), 134);
     assert!(rt; vault.get(alloc, &alice, name).or(Err("get"))?.is_some());
     assert_eq!(rt; vault.collect(alloc).or(Err("collect"))?, 0);
-    vault.keep_only(&alice, &BTreeSet::new(alloc));
+    vault.keep_only(&alice, &IndexSet::with_hasher(alloc, Hashing::default()));
     assert!(rt; vault.lend_held(&alice, name).is_none());
     assert_eq!(rt; vault.collect(alloc).or(Err("collect"))?, 2);
     Ok(())

@@ -1,9 +1,8 @@
 use Rattle.std.proofs.Common.{◌≡◌, ◌+◌, ◌++◌, [], ◌∷◌, take, refl, sym, ◌∙◌, ap, arith}
-use Rattle.std.specs.BTreeMap.{is_at}
-use Rattle.std.specs.BTreeSet.{contains}
+use Rattle.std.specs.HashSet.{contains}
 use Rattle.std.specs.List.{list_any}
 use Rattle.std.proofs.lemmas.List.{take_more}
-use Rattle.git_name.specs.Name.{name_cmp}
+use Rattle.git_name.specs.Same.{same_name}
 use Rattle.ledgers.specs.AllStaged.{all_staged_words}
 use Rattle.ledgers.specs.Ledgers.{at_ledger, ledger_at}
 use Rattle.ledgers.specs.Words.{unstaged_words}
@@ -14,10 +13,10 @@ pub loop-entry-init : goal.loop-entry-init
 loop-entry-init c =
     let m = c.args.holdings.now.ledgers in
     let t = c.args.tenant.now in
-    let noted = contains name_cmp c.new-noted.result in
+    let noted = contains same_name c.with_hasher-noted.result in
     record {
       so_far = sym (ledger_same m t (all_staged_words []) refl);
-      undone = ledger_same m t (unstaged_words noted) (unstaged_none noted (ledger_at m t) (λ q. ap (list_any (is_at (name_cmp q))) c.new-noted.ensures.empty));
+      undone = ledger_same m t (unstaged_words noted) (unstaged_none noted (ledger_at m t) (λ q. ap (list_any (same_name q)) c.with_hasher-noted.ensures.empty));
       places = refl;
     }
 

@@ -1,6 +1,6 @@
 use Rattle.std.proofs.Common.{◌≡◌, take}
-use Rattle.std.specs.BTreeSet.{contains}
-use Rattle.git_name.specs.Name.{name_cmp}
+use Rattle.std.specs.HashSet.{contains}
+use Rattle.git_name.specs.Same.{same_name}
 use Rattle.catalogue.specs.Counted.{places_of}
 use Rattle.ledgers.specs.AllStaged.{all_staged_words}
 use Rattle.ledgers.specs.Ledgers.{at_ledger}
@@ -11,6 +11,6 @@ use Rattle.ledgers.proofs.staging.stage_all.Given as goal
 abbrev pub invariant-loop-entry : goal.invariant-loop-entry
 invariant-loop-entry l = record {
   so_far : l.holdings.ledgers ≡ at_ledger l.fn.holdings.ledgers l.tenant (all_staged_words (take l.entry-index l.entries));
-  undone : at_ledger l.holdings.ledgers l.tenant (unstaged_words (contains name_cmp l.noted)) ≡ l.fn.holdings.ledgers;
+  undone : at_ledger l.holdings.ledgers l.tenant (unstaged_words (contains same_name l.noted)) ≡ l.fn.holdings.ledgers;
   places : places_of l.holdings.catalogue ≡ places_of l.fn.holdings.catalogue;
 }

@@ -57,7 +57,7 @@ pub(crate) fn receive<S: LooseFiles>(
 pub(crate) fn entries_of(alloc: Global, objects: &[Sealed]) -> Result<Vec<Entry>, AllocError>
     ensures { IfOk result (λ entries. entries.items ≡ map_list entry_of objects.now) }
 {
-    let mut entries = Vec::new(alloc);
+    let mut entries = Vec::with_capacity(alloc, objects.len())?;
     for sealed in objects {
         entries.push(Entry::of(sealed))?;
     }

@@ -61,11 +61,11 @@ fn judge_object<S: Source>(
     ensures wrong { IsTrue (S.state source.old).honest → IfOk result (λ link. IfNone link (wrong.new ≡ option_or wrong.old (find (is_wrong (S.state source.old).objects) (links_of_found (map.get (S.state source.old).objects name))))) }
     ensures asked { IsAsked (S.state source.old) (S.state source.new) (fault_in result) }
 {
-    if is_blob(source, name) {
-        return Ok(None);
-    }
     if let Some((kind, bytes)) = source.lend(name) {
         return Ok(judge_links(source, kind, bytes, wrong));
+    }
+    if is_blob(source, name) {
+        return Ok(None);
     }
     match source.read(alloc, name) {
         Ok(Some(sealed)) => Ok(judge_links(source, sealed.kind(), sealed.bytes(), wrong)),

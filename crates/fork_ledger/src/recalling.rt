@@ -64,5 +64,8 @@ fn recall(
     let Ok(()) = holdings.enter(name) else {
         return Err(AllocError);
     };
-    holdings.stage(tenant, name, kind, length)
+    let Ok(_) = holdings.stage(tenant, name, kind, length) else {
+        return Err(AllocError);
+    };
+    Ok(())
 }

@@ -47,7 +47,7 @@ pub(crate) fn stage_whole<S: LooseFiles>(
     match receive(alloc, files, holdings, sealed) {
         Ok(()) => {
             match holdings.stage(tenant, entry.name, entry.kind, entry.length) {
-                Ok(()) => Ok(()),
+                Ok(_) => Ok(()),
                 Err(_) => Err(VaultFault::Memory),
             }
         }

@@ -1,12 +1,14 @@
 -- A tree of tenants' ledgers, seen as the finite map that it is.
-use Rattle.std.proofs.Common.{◌≡◌, ℕ, Bool, true, false, not, cond, List, Option, None, Some, refl, sym, ap, ◌∙◌, is_some}
+use Rattle.std.proofs.Common.{◌≡◌, ℕ, Bool, true, false, cond, List, Option, None, Some, refl, sym, ap, ◌∙◌, is_some}
 use Rattle.std.specs.Option.{unwrap_or}
 use Rattle.std.specs.Map.{lookup}
 use Rattle.std.specs.BTreeMap.{is_at}
-use Rattle.std.specs.FinMap.{contains_key, empty, from_entries, get, insert}
+use Rattle.std.specs.FinMap.{contains_key, empty, from_entries, get, get-empty, insert}
 use Rattle.git_name.specs.Name.{name_cmp}
-use Rattle.ledgers.specs.Words.{Words}
-use Rattle.ledgers.specs.Ledgers.{AllWords, at_ledger, ledger_at, with_ledger}
+use Rattle.ledgers.specs.declared.word.Standing.{Standing}
+use Rattle.ledgers.specs.declared.word.Word.{Word}
+use Rattle.ledgers.specs.Words.{Words, standing_of}
+use Rattle.ledgers.specs.Ledgers.{AllWords, at_ledger, ledger_at, with_ledger, word_at}
 use Rattle.ledgers.proofs.UpdateLemmas.{found_in, written_back, insert_same}
 
 -- a tenant that is there
@@ -52,29 +54,18 @@ added_is ledgers es fs t own b is found absent set none =
 pub there_already : (ledgers : AllWords) (es : List (List ℕ × Words)) (t : List ℕ) (b : Bool) → from_entries es ≡ ledgers → b ≡ is_some (lookup (is_at (name_cmp t)) es) → b ≡ true → ledgers ≡ with_ledger ledgers t
 there_already ledgers es t b is found there = ap (λ c. cond c ledgers (insert ledgers t empty)) (sym there ∙ there_is ledgers es t b is found)
 
--- an unknown tenant has no ledger
-pub fresh_unknown : (ledgers : AllWords) (es : List (List ℕ × Words)) (t name : List ℕ) (own : Words) → from_entries es ≡ ledgers → None ≡ lookup (is_at (name_cmp t)) es → get ledgers t ≡ Some own → false ≡ not (contains_key own name)
-fresh_unknown ledgers es t name own is none here =
-    let lacks = found_in ledgers es t None is none in
-    let no : ⊥ = cc (lacks, here) in absurd no
+-- the word of a tenant whose ledger is there, and of one that has none
+pub known_word : (ledgers : AllWords) (t name : List ℕ) (own : Words) → get ledgers t ≡ Some own → word_at ledgers t name ≡ get own name
+known_word ledgers t name own here = ap (λ o. get (unwrap_or o empty) name) here
 
--- what is found is the tenant's ledger
-pub fresh_known : (ledgers : AllWords) (es : List (List ℕ × Words)) (t name : List ℕ) (found own : Words) (b : Bool) → from_entries es ≡ ledgers → Some found ≡ lookup (is_at (name_cmp t)) es → b ≡ not (contains_key found name)
-    → get ledgers t ≡ Some own → b ≡ not (contains_key own name)
-fresh_known ledgers es t name found own b is there fresh here =
-    fresh ∙ ap (λ o. not (contains_key (unwrap_or o empty) name)) (sym (found_in ledgers es t (Some found) is there) ∙ here)
+pub no_word : (ledgers : AllWords) (t name : List ℕ) → get ledgers t ≡ None → word_at ledgers t name ≡ None
+no_word ledgers t name none = ap (λ o. get (unwrap_or o empty) name) none ∙ get-empty name_cmp name
 
--- a tenant whose ledger is found is not unknown
-pub known_there : (ledgers : AllWords) (es : List (List ℕ × Words)) (t : List ℕ) (found : Words) → from_entries es ≡ ledgers → Some found ≡ lookup (is_at (name_cmp t)) es → get ledgers t ≡ None → ⊥
-known_there ledgers es t found is there none =
-    let here = found_in ledgers es t (Some found) is there in
-    let no : ⊥ = cc (here, none) in no
+-- how an object stood says whether there was a word of it
+pub was_there : (before : Option Standing) (word : Option Word) → before ≡ standing_of word → is_some before ≡ true → is_some word ≡ true
+was_there before None is some = (let no : ⊥ = cc in absurd no)
+was_there before (Some word) is some = refl
 
--- what a test of an absence says of what it asks
-pub was_there : (is_new there : Bool) → is_new ≡ not there → is_new ≡ false → there ≡ true
-was_there is_new true is old = refl
-was_there is_new false is old = absurd (cc)
-
-pub was_absent : (is_new there : Bool) → is_new ≡ not there → is_new ≡ true → there ≡ false
-was_absent is_new true is new = absurd (cc)
-was_absent is_new false is new = refl
+pub was_absent : (before : Option Standing) (word : Option Word) → before ≡ standing_of word → is_some before ≡ false → is_some word ≡ false
+was_absent before None is none = refl
+was_absent before (Some word) is none = (let no : ⊥ = cc in absurd no)

@@ -1,6 +1,5 @@
 -- What is staged and noted, unstaged again.
 use Rattle.std.proofs.Common.{◌≡◌, ℕ, List, [], ◌∷◌, ◌++◌, Bool, true, false, cond, Option, Some, None, refl, sym, ap, ◌∙◌}
-use Rattle.std.specs.Prelude.{OnErr, OnOk, Result, Ok, Err}
 use Rattle.std.specs.Cmp.{eq_by_cmp_equiv}
 use Rattle.std.specs.Option.{option_and_then, option_map_or, unwrap_or}
 use Rattle.std.specs.Ordering.{eq_by_cmp}
@@ -13,7 +12,7 @@ use Rattle.git_name.proofs.Names.{name_total, name_exact}
 use Rattle.ledgers.specs.AllStaged.{all_staged_words}
 use Rattle.ledgers.specs.declared.entry.Entry.{Entry}
 use Rattle.ledgers.specs.Ledgers.{AllWords, at_ledger, ledger_at}
-use Rattle.ledgers.specs.Words.{Words, is_staged, is_visible, kept_as, seen_word, staged_over, staged_too, staged_words, unstaged_if, unstaged_word, unstaged_words, waits, with_standing}
+use Rattle.ledgers.specs.Words.{Words, is_staged, is_visible, kept_as, seen_word, staged_over, staged_too, staged_words, standing_of, unstaged_if, unstaged_word, unstaged_words, waits, with_standing}
 use Rattle.ledgers.specs.declared.word.Standing.{Standing}
 use Rattle.ledgers.specs.declared.word.Standing.TheVariants.{Visible, Staged, Both}
 use Rattle.ledgers.specs.declared.word.Word.{Word}
@@ -152,11 +151,26 @@ undone_staged m t old new name kind n fresh notes =
     ledger_twice m t (staged_words name kind n) (unstaged_words new)
     ∙ ledger_alike m t (λ words. unstaged_words new (staged_words name kind n words)) (unstaged_words old) (unstaged_staged old new (ledger_at m t) name kind n fresh notes)
 
--- whichever it is
-pub undone_either : {A E : Type 0} (r : Result A E) (m n : AllWords) (t : List ℕ) (old new : List ℕ → Bool) (name : List ℕ) (kind : Kind) (size : ℕ) → option_map_or is_staged (get (ledger_at m t) name) false ≡ false → Notes name old new
-    → OnOk r (n ≡ at_ledger m t (staged_words name kind size)) → OnErr r (n ≡ m) → at_ledger n t (unstaged_words new) ≡ at_ledger m t (unstaged_words old)
-undone_either (Ok a) m n t old new name kind size fresh notes ok err = ap (λ x. at_ledger x t (unstaged_words new)) ok ∙ undone_staged m t old new name kind size fresh notes
-undone_either (Err e) m n t old new name kind size fresh notes ok err = ap (λ x. at_ledger x t (unstaged_words new)) err ∙ undone_noted m t old new name fresh notes
+-- one name alone is noted
+alone : (name q : List ℕ) → same_name name q ≡ cond (eq_by_cmp name_cmp q name) true false
+alone name q = one_test name q ∙ (eq_by_cmp_equiv name_total).symm name q ∙ by (eq_by_cmp name_cmp q name)
+  where
+    by : (b : Bool) → b ≡ cond b true false
+    by true = refl
+    by false = refl
+
+-- what was not staged before, staged and unstaged again
+pub undone_at_once : (m n : AllWords) (t : List ℕ) (name : List ℕ) (kind : Kind) (size : ℕ) → option_map_or is_staged (get (ledger_at m t) name) false ≡ false
+    → n ≡ at_ledger m t (staged_words name kind size) → at_ledger n t (unstaged_words (same_name name)) ≡ m
+undone_at_once m n t name kind size fresh is =
+    ap (λ x. at_ledger x t (unstaged_words (same_name name))) is
+    ∙ undone_staged m t (λ q. false) (same_name name) name kind size fresh (alone name)
+    ∙ ledger_same m t (unstaged_words (λ q. false)) (unstaged_none (λ q. false) (ledger_at m t) (λ q. refl))
+
+-- whether it was staged, by how it stood
+pub waits_staged : (word : Option Word) → option_map_or waits (standing_of word) false ≡ option_map_or is_staged word false
+waits_staged None = refl
+waits_staged (Some word) = refl
 
 -- one more entry
 pub all_staged_more : (entries : List Entry) (entry : Entry) (words : Words)

@@ -34,6 +34,10 @@ is_visible word = shows word.standing
 abbrev pub is_staged : Word → Bool
 is_staged word = waits word.standing
 
+-- how an object stands of which a ledger says this
+abbrev pub standing_of : Option Word → Option Standing
+standing_of word = option_map (λ word. word.standing) word
+
 -- the same word of an object that stands otherwise
 abbrev pub with_standing : Word → Standing → Word
 with_standing word standing = record { kind = word.kind; length = word.length; standing = standing }

@@ -6,11 +6,11 @@ ghost use Rattle.catalogue.specs.Counted.{IsNext, count_of, places_of};
 ghost use Rattle.ledgers.specs.Holders.{IsCounting, holders_of, is_held_in};
 ghost use Rattle.ledgers.specs.Ledgers.{at_ledger, ledger_at, with_ledger, word_at};
 ghost use Rattle.ledgers.specs.Totals.{capped, total_of, used_by};
-ghost use Rattle.ledgers.specs.Words.{discarded_words, is_staged, is_visible, kept_words, published_words, staged_words, unstaged_words, words_that};
+ghost use Rattle.ledgers.specs.Words.{discarded_words, is_staged, is_visible, kept_words, published_words, staged_words, standing_of, unstaged_words, words_that};
 
 use crate::ledgers::Ledgers;
 use crate::name_set::NameSet;
-use crate::word::Word;
+use crate::word::{Standing, Word};
 use catalogue::Catalogue;
 use fork_request::TenantName;
 use git_name::{Hashing, Kind, Name};
@@ -124,16 +124,18 @@ impl Holdings {
         self.catalogue.count(name) > 0
     }
 
-    /// Stages a name that is catalogued for a tenant.
+    /// Stages a name that is catalogued for a tenant. Answers how its object stood with the tenant
+    /// before, if there was a word of it.
     pub fn stage(
         &mut self,
         tenant: &TenantName,
         name: Name,
         kind: Kind,
         length: u64,
-    ) -> Result<(), AllocError>
+    ) -> Result<Option<Standing>, AllocError>
         requires listed { is_listed (places_of self.old.catalogue).names name ≡ true }
         ensures ok { OnOk result (self.new.ledgers ≡ at_ledger self.old.ledgers tenant.now (staged_words name kind length)) }
+        ensures before { IfOk result (λ before. before ≡ standing_of (word_at self.old.ledgers tenant.now name)) }
         ensures err { OnErr result (self.new.ledgers ≡ self.old.ledgers) }
         ensures places { places_of self.new.catalogue ≡ places_of self.old.catalogue }
     {
@@ -303,26 +305,27 @@ fn stage_counted(
     name: Name,
     kind: Kind,
     length: u64,
-) -> Result<(), AllocError>
+) -> Result<Option<Standing>, AllocError>
     requires counting { IsCounting ledgers.old catalogue.old }
     requires listed { is_listed (places_of catalogue.old).names name ≡ true }
     ensures counting { IsCounting ledgers.new catalogue.new }
     ensures ok { OnOk result (ledgers.new ≡ at_ledger ledgers.old tenant.now (staged_words name kind length)) }
+    ensures before { IfOk result (λ before. before ≡ standing_of (word_at ledgers.old tenant.now name)) }
     ensures err { OnErr result (ledgers.new ≡ ledgers.old) }
     ensures places { places_of catalogue.new ≡ places_of catalogue.old }
 {
     let Some(_) = ledgers.get(tenant) else {
-        return Ok(());
+        return Ok(None);
     };
-    let Ok(is_new) = ledgers.stage(tenant, name, kind, length) else {
+    let Ok(before) = ledgers.stage(tenant, name, kind, length) else {
         return Err(AllocError);
     };
-    if !is_new {
-        return Ok(());
+    if before.is_some() {
+        return Ok(before);
     }
     let _tenants = ledgers.len();
     catalogue.raise(name);
-    Ok(())
+    Ok(before)
 }
 
 // What is staged goes, and what leaves the ledger is counted no more.

@@ -1,12 +1,12 @@
-ghost use Rattle.std.specs.Prelude.{◌≡◌, ◌≤◌, ◌+◌, List, ℕ, not, OnOk, OnErr, IfOk, nat_le};
+ghost use Rattle.std.specs.Prelude.{◌≡◌, ◌≤◌, ◌+◌, List, ℕ, OnOk, OnErr, IfOk, nat_le};
 ghost use Rattle.std.specs.FinMap as map;
 ghost use Rattle.catalogue.specs.Counted.{count_of, places_of};
 ghost use Rattle.ledgers.specs.Due.{due_at, leaves_discarded, leaves_kept, leaves_unstaged};
 ghost use Rattle.ledgers.specs.Totals.{capped, total_of, used_by};
-ghost use Rattle.ledgers.specs.Words.{discarded_words, is_visible, kept_words, published_words, staged_words, unstaged_words, words_that};
+ghost use Rattle.ledgers.specs.Words.{discarded_words, is_visible, kept_words, published_words, staged_words, standing_of, unstaged_words, words_that};
 
 use crate::name_set::NameSet;
-use crate::word::Word;
+use crate::word::{Standing, Word};
 use crate::word_map::WordMap;
 use crate::words::size_of;
 use catalogue::Catalogue;
@@ -77,20 +77,25 @@ impl Ledger {
     }
 
     /// Stages an object. Where there is a word of its name, that one's kind and length stay. Answers
-    /// whether there was none.
-    pub fn stage(&mut self, name: Name, kind: Kind, length: u64) -> Result<bool, AllocError>
+    /// how the object stood before, if there was one.
+    pub fn stage(
+        &mut self,
+        name: Name,
+        kind: Kind,
+        length: u64,
+    ) -> Result<Option<Standing>, AllocError>
         ensures ok { OnOk result (self.new ≡ staged_words name kind length self.old) }
-        ensures fresh { IfOk result (λ is_new. is_new ≡ not (map.contains_key self.old name)) }
+        ensures before { IfOk result (λ before. before ≡ standing_of (map.get self.old name)) }
         ensures err { OnErr result (self.new ≡ self.old) }
     {
-        let Ok(is_new) = self.words.stage(name, kind, length) else {
+        let Ok(before) = self.words.stage(name, kind, length) else {
             return Err(AllocError);
         };
-        if !is_new {
-            return Ok(false);
+        if before.is_some() {
+            return Ok(before);
         }
         self.total = self.total.saturating_add(size_of(length));
-        Ok(true)
+        Ok(before)
     }
 
     /// What is staged becomes visible. It takes no memory.

@@ -1,13 +1,14 @@
-ghost use Rattle.std.specs.Prelude.{◌≡◌, ◌≤◌, ◌+◌, List, ℕ, Some, None, false, not, IfOk, OnOk, OnErr};
+ghost use Rattle.std.specs.Prelude.{◌≡◌, ◌≤◌, ◌+◌, List, ℕ, IfOk, OnOk, OnErr};
 ghost use Rattle.std.specs.FinMap as map;
 ghost use Rattle.std.specs.Option.{option_copied};
 ghost use Rattle.catalogue.specs.Counted.{count_of, places_of};
 ghost use Rattle.ledgers.specs.Due.{due_at, leaves_discarded};
-ghost use Rattle.ledgers.specs.Ledgers.{at_ledger, ledger_at, with_ledger};
-ghost use Rattle.ledgers.specs.Words.{Words, discarded_words, kept_words, published_words, staged_words, unstaged_words};
+ghost use Rattle.ledgers.specs.Ledgers.{at_ledger, ledger_at, with_ledger, word_at};
+ghost use Rattle.ledgers.specs.Words.{discarded_words, kept_words, published_words, staged_words, standing_of, unstaged_words};
 
 use crate::ledger::Ledger;
 use crate::name_set::NameSet;
+use crate::word::Standing;
 use catalogue::Catalogue;
 use fork_request::TenantName;
 use git_name::{Hashing, Kind, Name};
@@ -80,27 +81,26 @@ impl Ledgers {
         }
     }
 
-    /// Stages an object for a tenant. Answers whether the tenant is there and had no word
-    /// of its name.
+    /// Stages an object for a tenant. Answers how it stood with the tenant before, if the tenant is
+    /// there and had a word of its name.
     pub fn stage(
         &mut self,
         tenant: &TenantName,
         name: Name,
         kind: Kind,
         length: u64,
-    ) -> Result<bool, AllocError>
+    ) -> Result<Option<Standing>, AllocError>
         ensures ok { OnOk result (self.new ≡ at_ledger self.old tenant.now (staged_words name kind length)) }
-        ensures fresh { IfOk result (λ is_new. (own : Words) → map.get self.old tenant.now ≡ Some own → is_new ≡ not (map.contains_key own name)) }
-        ensures absent { IfOk result (λ is_new. map.get self.old tenant.now ≡ None → is_new ≡ false) }
+        ensures before { IfOk result (λ before. before ≡ standing_of (word_at self.old tenant.now name)) }
         ensures err { OnErr result (self.new ≡ self.old) }
     {
         let Some(own) = self.tenants.get_mut(tenant) else {
-            return Ok(false);
+            return Ok(None);
         };
-        let Ok(is_new) = own.stage(name, kind, length) else {
+        let Ok(before) = own.stage(name, kind, length) else {
             return Err(AllocError);
         };
-        Ok(is_new)
+        Ok(before)
     }
 
     /// What a tenant has staged becomes visible to it. It takes no memory.

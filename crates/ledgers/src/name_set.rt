@@ -24,3 +24,13 @@ impl NameSet for IndexSet<Name, Hashing> {
         nearby.holds(self, name)
     }
 }
+
+impl NameSet for Name {
+    ghost use Rattle.git_name.specs.Same.{same_name};
+
+    ghost names = { same_name };
+
+    fn has(&self, _nearby: &Nearby, name: Name) -> bool {
+        *self == name
+    }
+}

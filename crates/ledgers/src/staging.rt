@@ -10,6 +10,7 @@ ghost use Rattle.ledgers.specs.Words.{staged_words, unstaged_words};
 
 use crate::entry::Entry;
 use crate::holdings::Holdings;
+use crate::word::waited;
 use fork_request::TenantName;
 use git_name::{Hashing, Name};
 use indexmap::IndexSet;
@@ -37,7 +38,7 @@ pub fn stage_all(
     Ok(())
 }
 
-// Stages an object, unless one of its name is staged, and notes the name before. To unstage what is
+// Stages an object, and notes its name, unless one of its name was staged before. To unstage what is
 // noted leaves what it left before.
 fn stage_noted(
     holdings: &mut Holdings,
@@ -50,11 +51,15 @@ fn stage_noted(
     ensures undone { at_ledger holdings.new.ledgers tenant.now (unstaged_words (contains same_name noted.new)) ≡ at_ledger holdings.old.ledgers tenant.now (unstaged_words (contains same_name noted.old)) }
     ensures places { places_of holdings.new.catalogue ≡ places_of holdings.old.catalogue }
 {
-    if holdings.has_staged(tenant, entry.name) {
+    let Ok(before) = holdings.stage(tenant, entry.name, entry.kind, entry.length) else {
+        return Err(AllocError);
+    };
+    if waited(before) {
         return Ok(());
     }
     let Ok(_) = noted.insert(entry.name) else {
+        holdings.unstage(tenant, &entry.name);
         return Err(AllocError);
     };
-    holdings.stage(tenant, entry.name, entry.kind, entry.length)
+    Ok(())
 }

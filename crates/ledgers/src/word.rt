@@ -1,6 +1,6 @@
 ghost use Rattle.std.specs.Prelude.{◌≡◌, Some, false, is_some, not, if◌then◌else◌};
 ghost use Rattle.std.specs.Option.{option_map_or};
-ghost use Rattle.ledgers.specs.Words.{is_staged, is_visible, kept_as, kept_word, seen_word, staged_over, staged_too, unstaged_if, unstaged_word};
+ghost use Rattle.ledgers.specs.Words.{is_staged, is_visible, kept_as, kept_word, seen_word, standing_of, staged_over, staged_too, unstaged_if, unstaged_word, waits};
 
 use git_name::Kind;
 
@@ -52,6 +52,27 @@ pub(crate) fn is_staged(word: Option<Word>) -> bool
     match word {
         Some(word) => word.is_staged(),
         None => false,
+    }
+}
+
+// How an object stands of which a ledger says this.
+pub(crate) fn standing_of(word: Option<Word>) -> Option<Standing>
+    ensures { result ≡ standing_of word }
+{
+    match word {
+        Some(word) => Some(word.standing),
+        None => None,
+    }
+}
+
+// Whether the tenant has staged what stood so, if there was anything.
+pub(crate) fn waited(standing: Option<Standing>) -> bool
+    ensures { result ≡ option_map_or waits standing false }
+{
+    match standing {
+        Some(Standing::Staged) => true,
+        Some(Standing::Both) => true,
+        _ => false,
     }
 }
 

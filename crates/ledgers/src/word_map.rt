@@ -1,13 +1,13 @@
-ghost use Rattle.std.specs.Prelude.{◌≡◌, ◌≤◌, ◌+◌, List, ℕ, not, OnOk, OnErr, IfOk};
+ghost use Rattle.std.specs.Prelude.{◌≡◌, ◌≤◌, ◌+◌, List, ℕ, OnOk, OnErr, IfOk};
 ghost use Rattle.std.specs.FinMap as map;
 ghost use Rattle.catalogue.specs.Counted.{count_of, places_of};
 ghost use Rattle.ledgers.specs.Due.{due_at, leaves_discarded, leaves_kept, leaves_unstaged};
 ghost use Rattle.ledgers.specs.Totals.{capped, total_of, used_by};
-ghost use Rattle.ledgers.specs.Words.{discarded_words, is_visible, kept_words, published_words, staged_words, unstaged_words, words_that};
+ghost use Rattle.ledgers.specs.Words.{discarded_words, is_visible, kept_words, published_words, staged_words, standing_of, unstaged_words, words_that};
 
 use crate::counting::{lower_left, lower_unstaged};
 use crate::name_set::NameSet;
-use crate::word::{Word, is_staged, word_over};
+use crate::word::{Standing, Word, is_staged, standing_of, word_over};
 use crate::words::{
     empty, keep_among, leave_out, put_staged, see_all, seen_names, unstage_all, unstage_among,
     uses, word_at,
@@ -77,21 +77,26 @@ impl WordMap {
     }
 
     /// Stages an object. Where there is a word of its name, that one's kind and length stay. Answers
-    /// whether there was none.
-    pub fn stage(&mut self, name: Name, kind: Kind, length: u64) -> Result<bool, AllocError>
+    /// how the object stood before, if there was one.
+    pub fn stage(
+        &mut self,
+        name: Name,
+        kind: Kind,
+        length: u64,
+    ) -> Result<Option<Standing>, AllocError>
         ensures ok { OnOk result (self.new ≡ staged_words name kind length self.old) }
-        ensures fresh { IfOk result (λ is_new. is_new ≡ not (map.contains_key self.old name)) }
+        ensures before { IfOk result (λ before. before ≡ standing_of (map.get self.old name)) }
         ensures err { OnErr result (self.new ≡ self.old) }
     {
         let before = word_at(&self.words, name);
         if is_staged(before) {
-            return Ok(false);
+            return Ok(standing_of(before));
         }
         let word = word_over(kind, length, before);
         let Ok(()) = put_staged(&mut self.words, &mut self.staged, name, word) else {
             return Err(AllocError);
         };
-        Ok(before.is_none())
+        Ok(standing_of(before))
     }
 
     /// What is staged becomes visible. It takes no memory, and walks what is staged alone.

@@ -1,14 +1,9 @@
-use Rattle.std.proofs.Common.{rules}
-use Rattle.ledgers.specs.Words.{staged_words}
-use Rattle.ledgers.proofs.TenantEntries.{changed_is, fresh_known, fresh_unknown, known_there, same_is, unknown_is}
+use Rattle.std.proofs.Common.{ap, rules, sym, ◌∙◌}
+use Rattle.std.specs.FinMap.{get, get-empty}
+use Rattle.git_name.specs.Name.{name_cmp}
+use Rattle.ledgers.specs.Words.{staged_words, standing_of}
+use Rattle.ledgers.proofs.TenantEntries.{changed_is, ledger_found, same_is, unknown_is}
 use Rattle.ledgers.proofs.ledgers.Ledgers.stage.Goals as goal
-
-pub returns-in_default-clause-fresh : goal.returns-in_default-clause-fresh
-returns-in_default-clause-fresh c own here = fresh_unknown c.args.self.now c.self.inside.tenants.entries c.args.tenant.now c.args.name own c.self.view_is c.in_default.ensures.value here
-
-pub returns-clause-fresh : goal.returns-clause-fresh
-returns-clause-fresh c own here =
-    fresh_known c.args.self.now c.self.inside.tenants.entries c.args.tenant.now c.args.name c.in-Some.own.now own c.in-Ok.is_new c.self.view_is c.in-Some.ensures.value c.in-Ok.ensures.fresh here
 
 pub returns-in_default-clause-ok : goal.returns-in_default-clause-ok
 returns-in_default-clause-ok c =
@@ -24,5 +19,10 @@ returns-clause-ok c =
     let stays = (c.get_mut.follows.holds c.stage.new.self).3 (search rules) in
     changed_is c.args.self.now c.self.inside.tenants.entries (c.get_mut.follows.lender c.stage.new.self).entries c.args.tenant.now c.in-Some.own.now c.stage.new.self (staged_words c.args.name c.args.kind c.args.length) c.self.view_is c.in-Some.ensures.value stays.0 c.in-Ok.ensures.ok
 
-pub returns-clause-absent : goal.returns-clause-absent
-returns-clause-absent c none = absurd (known_there c.args.self.now c.self.inside.tenants.entries c.args.tenant.now c.in-Some.own.now c.self.view_is c.in-Some.ensures.value none)
+pub returns-in_default-clause-before : goal.returns-in_default-clause-before
+returns-in_default-clause-before c =
+    sym (ap (λ words. standing_of (get words c.args.name)) (ledger_found c.args.self.now c.self.inside.tenants.entries c.args.tenant.now _ c.self.view_is c.in_default.ensures.value) ∙ ap standing_of (get-empty name_cmp c.args.name))
+
+pub returns-clause-before : goal.returns-clause-before
+returns-clause-before c =
+    c.in-Ok.ensures.before ∙ sym (ap (λ words. standing_of (get words c.args.name)) (ledger_found c.args.self.now c.self.inside.tenants.entries c.args.tenant.now _ c.self.view_is c.in-Some.ensures.value))

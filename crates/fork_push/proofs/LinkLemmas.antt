@@ -1,5 +1,5 @@
 -- Links of sent objects, one object after another.
-use Rattle.std.proofs.Common.{◌≡◌, ℕ, ◌+◌, ◌<◌, Bool, true, false, cond, not, is_none, List, [], ◌∷◌, Option, None, Some, refl, sym, ap, ◌∙◌, length, drop, get_or}
+use Rattle.std.proofs.Common.{◌≡◌, ℕ, ◌+◌, ◌<◌, Bool, true, false, cond, not, is_none, List, [], ◌∷◌, Option, None, Some, refl, sym, ap, ◌∙◌, length, drop, get_or, map}
 use Rattle.std.specs.FinMap.{get}
 use Rattle.std.specs.List.{find, flat_map}
 use Rattle.std.specs.Option.{option_map, option_or}
@@ -7,15 +7,18 @@ use Rattle.std.proofs.lemmas.List.{drop_more}
 use Rattle.std.proofs.lemmas.List.Folds.{find-append}
 use Rattle.git_name.specs.Object.{Object}
 use Rattle.git_name.specs.declared.kind.Kind.{Kind}
-use Rattle.git_name.specs.declared.kind.Kind.TheVariants.{Blob, Tree}
+use Rattle.git_name.specs.declared.kind.Kind.TheVariants.{Blob, Commit, Tree}
 use Rattle.git_tree.specs.Entry.{Entry}
 use Rattle.git_tree.specs.Row.{IsRow, entries_in}
 use Rattle.git_tree.specs.TreeIn.{tree_in}
 use Rattle.git_tree.proofs.RowLemmas.{row_is_of}
 use Rattle.git_tree.proofs.TestLemmas.{is_tree_in}
 use Rattle.git_object.specs.declared.link.Link.{Link}
-use Rattle.git_object.specs.Links.{entry_links}
-use Rattle.git_object.specs.Object.{TreeOf}
+use Rattle.git_commit.specs.Commit.{CommitValue, IsCommit}
+use Rattle.git_commit.specs.CommitIn.{commit_in}
+use Rattle.git_commit.proofs.CommitInLemmas.{is_commit_in}
+use Rattle.git_object.specs.Links.{commit_link, entry_links, link_to}
+use Rattle.git_object.specs.Object.{CommitOf, TreeOf}
 use Rattle.git_object.specs.ObjectIn.{links_in, links_or_none, object_in}
 use Rattle.git_reftx.proofs.RefusalLemmas.{option_or_assoc}
 use Rattle.fork_reach.specs.Reach.{links_of_found}
@@ -86,6 +89,19 @@ tree_passed test bytes none = by (tree_in bytes) refl
         let tree = is_tree_in bytes entries is in
         let row = row_is_of bytes entries tree.are.each tree.spelling in
         ap (λ each. find test (flat_map entry_links each)) (sym row.0) ∙ none row.1
+
+-- the same of the names in the first lines, and of a commit
+pub commit_passed : (test : Link → Bool) (bytes : List ℕ) → ((value : CommitValue) → IsCommit value bytes → find test (link_to value.tree Tree ∷ map commit_link value.parents) ≡ None) → find test (links_in Commit bytes) ≡ None
+unfolding links_in object_in
+commit_passed test bytes none = by (commit_in bytes) refl
+  where
+    by : (read : Option CommitValue) → commit_in bytes ≡ read → find test (links_or_none (option_map (λ commit. CommitOf commit) read)) ≡ None
+    by None is = refl
+    by (Some value) is = none value (is_commit_in bytes value is)
+
+-- a link that passes no test is passed over
+pub link_passed : (test : Link → Bool) (link : Link) (links : List Link) → test link ≡ false → find test (link ∷ links) ≡ find test links
+link_passed test link links none = ap (λ b. cond b (Some link) (find test links)) none
 
 -- an entry where nothing is found is passed over
 pub entry_passed : (test : Link → Bool) (entry : Entry) (entries : List Entry) → find test (entry_links entry) ≡ None

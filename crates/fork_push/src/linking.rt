@@ -1,28 +1,36 @@
-ghost use Rattle.std.specs.Prelude.{◌≡◌, IfNone, None};
+ghost use Rattle.std.specs.Prelude.{◌≡◌, IfNone, None, false};
 ghost use Rattle.std.specs.Bool.{OnTrue};
 ghost use Rattle.std.specs.List.{find};
 ghost use Rattle.std.specs.Option.{option_or};
 ghost use Rattle.git_tree.specs.Entry.{entry_of};
-ghost use Rattle.git_object.specs.Links.{entry_links};
+ghost use Rattle.git_object.specs.Links.{entry_links, link_to};
 ghost use Rattle.git_object.specs.ObjectIn.{links_in};
 ghost use Rattle.fork_push.specs.Push.{is_missing, is_wrong};
 
 use fork_reach::Source;
-use git_name::Kind;
+use git_commit::first_links;
+use git_name::{Kind, Name};
 use git_object::{Link, Object, links};
 use git_tree::{TreeEntry, first_entry};
 
+// Whether the object of this name is there, and of this kind.
+fn is_met<S: Source>(source: &S, name: Name, kind: Kind) -> bool
+    ensures { OnTrue result (is_wrong (S.state source.now).objects (link_to name kind) ≡ false) }
+{
+    match source.kind_of(name) {
+        Some(found) => found == kind,
+        None => false,
+    }
+}
+
 // Whether the object of a tree's entry is there, and of the kind that the mode wants. A gitlink wants
 // none.
-fn is_met<S: Source>(source: &S, entry: TreeEntry<'_>) -> bool
+fn is_entry_met<S: Source>(source: &S, entry: TreeEntry<'_>) -> bool
     ensures { OnTrue result (find (is_wrong (S.state source.now).objects) (entry_links (entry_of entry.entry)) ≡ None) }
 {
-    let Some(wanted) = entry.mode.link_kind() else {
-        return true;
-    };
-    match source.kind_of(entry.name) {
-        Some(kind) => kind == wanted,
-        None => false,
+    match entry.mode.link_kind() {
+        Some(kind) => is_met(source, entry.name, kind),
+        None => true,
     }
 }
 
@@ -33,10 +41,30 @@ fn are_entries_met<S: Source>(source: &S, bytes: &[u8]) -> bool
 {
     let mut rest = bytes;
     while let Some((entry, behind)) = first_entry(rest) {
-        if !is_met(source, entry) {
+        if !is_entry_met(source, entry) {
             return false;
         }
         rest = behind;
+    }
+    true
+}
+
+// Whether the objects of the tree and of all parents are so, if the bytes are a commit. Whether they are
+// one is not asked.
+fn are_names_met<S: Source>(source: &S, bytes: &[u8]) -> bool
+    ensures { OnTrue result (find (is_wrong (S.state source.now).objects) (links_in Kind.Commit bytes.now) ≡ None) }
+{
+    let (tree, parents) = match first_links(bytes) {
+        Some(names) => names,
+        None => return false,
+    };
+    if !is_met(source, tree, Kind::Tree) {
+        return false;
+    }
+    for parent in parents {
+        if !is_met(source, parent, Kind::Commit) {
+            return false;
+        }
     }
     true
 }
@@ -48,6 +76,7 @@ fn are_met<S: Source>(source: &S, kind: Kind, bytes: &[u8]) -> bool
 {
     match kind {
         Kind::Tree => are_entries_met(source, bytes),
+        Kind::Commit => are_names_met(source, bytes),
         _ => false,
     }
 }

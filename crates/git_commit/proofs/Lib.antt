@@ -1,3 +1,4 @@
+pub mod FrontLemmas
 pub mod ParentLemmas
 pub mod CommitLemmas
 pub mod WholeLemmas

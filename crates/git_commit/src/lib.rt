@@ -5,6 +5,7 @@
 
 mod commit;
 mod fault;
+mod front;
 mod header;
 mod laws;
 mod parents;
@@ -12,6 +13,7 @@ mod writing;
 
 pub use crate::commit::Commit;
 pub use crate::fault::CommitFault;
+pub use crate::front::first_links;
 pub use crate::header::{Header, Headers};
 pub use crate::laws::{one_fault, one_value, tests_find_the_commit};
 pub use crate::parents::Parents;

@@ -14,7 +14,7 @@ loop-entry-preserved g c =
     record {
       row = λ right. c.in-Some.ensures.row (c.loop-entry.invariant.row right);
       wrong = λ right.
-          sym (entry_passed test (entry_of c.in-Some.entry) (entries_in c.in-Some.behind.now) c.if-not-is_met.ensures)
+          sym (entry_passed test (entry_of c.in-Some.entry) (entries_in c.in-Some.behind.now) c.if-not-is_entry_met.ensures)
           ∙ ap (λ each. find test (flat_map entry_links each)) (sym (c.in-Some.ensures.first (c.loop-entry.invariant.row right)))
           ∙ c.loop-entry.invariant.wrong right;
     }

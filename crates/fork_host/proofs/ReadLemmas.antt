@@ -10,18 +10,12 @@ use Rattle.fork_ledger.specs.declared.fault.VaultFault.TheVariants as vault
 use Rattle.fork_ledger.specs.Store as ledger
 use Rattle.fork_host.specs.Rows.{read_told}
 
-abbrev Found : Type 0
-Found = Result (Option Object) VaultFault
-
-abbrev Told : Type 0
-Told = Result (Option Object) SourceFault
-
 -- what holds of what was found is told
-pub if_told : (P Q : Option Object → Type 0) → ((found : Option Object) → P found → Q found) → (r : Found) (t : Told) → t ≡ read_told r → IfOk r P → IfOk t Q
+pub if_told : (P Q : Option Object → Type 0) → ((found : Option Object) → P found → Q found) → (r : Result (Option Object) VaultFault) (t : Result (Option Object) SourceFault) → t ≡ read_told r → IfOk r P → IfOk t Q
 if_told P Q weaker (Ok found) t is holds = subst (λ t'. IfOk t' Q) (sym is) (weaker found holds)
 if_told P Q weaker (Err fault) t is holds = subst (λ t'. IfOk t' Q) (sym is) tt
 
-counts : (r : Found) (before now : ℕ) → ledger.CountsFault before now (ledger.fault_in r) → CountsFault before now (fault_in (read_told r))
+counts : {A : Type 0} (r : Result A VaultFault) (before now : ℕ) → ledger.CountsFault before now (ledger.fault_in r) → CountsFault before now (fault_in (read_told r))
 counts (Ok found) before now is = is
 counts (Err vault.Store) before now is = is
 counts (Err vault.Damaged) before now is = is
@@ -29,10 +23,10 @@ counts (Err vault.Memory) before now is = is
 counts (Err vault.Collision) before now is = is
 
 -- a failure is counted alike
-pub told_counts : (r : Found) (t : Told) (before now : ℕ) → t ≡ read_told r → ledger.CountsFault before now (ledger.fault_in r) → CountsFault before now (fault_in t)
-told_counts r t before now is counted = subst (λ t'. CountsFault before now (fault_in t')) (sym is) (counts r before now counted)
+pub told_counts : {A : Type 0} (r : Result A VaultFault) (t : Result A SourceFault) (before now : ℕ) → t ≡ read_told r → ledger.CountsFault before now (ledger.fault_in r) → CountsFault before now (fault_in t)
+told_counts {A = A} r t before now is counted = subst (λ (t' : Result A SourceFault). CountsFault before now (fault_in t')) (sym is) (counts r before now counted)
 
-undamaged : (r : Found) → IfErr r (λ fault. fault ≢ vault.Collision) → ledger.fault_in r ≢ Some vault.Damaged → fault_in (read_told r) ≢ Some Damaged
+undamaged : {A : Type 0} (r : Result A VaultFault) → IfErr r (λ fault. fault ≢ vault.Collision) → ledger.fault_in r ≢ Some vault.Damaged → fault_in (read_told r) ≢ Some Damaged
 undamaged (Ok found) apart whole damaged = (let differs : ⊥ = cc in differs)
 undamaged (Err vault.Store) apart whole damaged = (let differs : ⊥ = cc in differs)
 undamaged (Err vault.Damaged) apart whole damaged = whole refl
@@ -40,5 +34,5 @@ undamaged (Err vault.Memory) apart whole damaged = (let differs : ⊥ = cc in di
 undamaged (Err vault.Collision) apart whole damaged = apart refl
 
 -- what is whole is told as no damage
-pub told_undamaged : (r : Found) (t : Told) → t ≡ read_told r → IfErr r (λ fault. fault ≢ vault.Collision) → ledger.fault_in r ≢ Some vault.Damaged → fault_in t ≢ Some Damaged
-told_undamaged r t is apart whole damaged = undamaged r apart whole (ap fault_in (sym is) ∙ damaged)
+pub told_undamaged : {A : Type 0} (r : Result A VaultFault) (t : Result A SourceFault) → t ≡ read_told r → IfErr r (λ fault. fault ≢ vault.Collision) → ledger.fault_in r ≢ Some vault.Damaged → fault_in t ≢ Some Damaged
+told_undamaged {A = A} r t is apart whole damaged = undamaged r apart whole (ap (λ (t' : Result A SourceFault). fault_in t') (sym is) ∙ damaged)

@@ -72,6 +72,6 @@ fault_read ledger.Damaged = source.Damaged
 fault_read ledger.Memory = source.Memory
 fault_read ledger.Collision = source.Damaged
 
-abbrev pub read_told : Result (Option Object) VaultFault → Result (Option Object) SourceFault
+abbrev pub read_told : {A : Type 0} → Result A VaultFault → Result A SourceFault
 read_told (Ok found) = Ok found
 read_told (Err fault) = Err (fault_read fault)

@@ -6,6 +6,7 @@ ghost use Rattle.git_name.specs.Same.{same_name};
 ghost use Rattle.git_reftx.specs.Transaction.{References};
 ghost use Rattle.push_stream.specs.Brief.{brief_shown};
 ghost use Rattle.fork_reach.specs.Faults.{fault_in as source_fault_in};
+ghost use Rattle.fork_reach.specs.Known.{AreParents};
 ghost use Rattle.fork_reach.specs.Objects.{use_of};
 ghost use Rattle.fork_reach.specs.Reach.{is_reached, linked_names};
 ghost use Rattle.fork_reach.specs.Source.{kind_in};
@@ -21,6 +22,7 @@ ghost use Rattle.std.specs.Prelude.{ℕ, List, Contains, Some, true};
 ghost use Rattle.std.specs.List.{AllByRecursion};
 
 use crate::both::Both;
+use commit_graph::Graph;
 use fork_ledger::{Held, RecallFault, Vault, VaultFault};
 use fork_push::{Verdict, judge};
 use fork_reach::{SourceFault, reach};
@@ -84,6 +86,25 @@ impl<'a, S: LooseFiles> Own<'a, S> {
         ensures named { IfSome result (λ lent. object_name (record { kind = lent.0; bytes = lent.1.now }) ≡ name) }
     {
         self.vault.lend(self.tenant, name)
+    }
+
+    // The commits whose parents are known without reading them.
+    pub(crate) fn known(&self) -> &Graph
+        ensures { IsTrue self.now.vault.now.honest → AreParents (visible_by self.now) result.now }
+    {
+        self.vault.graph()
+    }
+
+    // Comes to know the parents of a commit that the tenant sees, and of those that they lead to.
+    pub(crate) fn learn_seen(&mut self, alloc: Global, commit: Name) -> Result<(), VaultFault>
+        ensures kept { IsTrue self.old.vault.now.honest → self.new.vault.now.tenants ≡ self.old.vault.now.tenants }
+        ensures files { IsTrue self.old.vault.now.honest → self.new.vault.now.files ≡ self.old.vault.now.files }
+        ensures shape { shape_of self.new.vault.now.tenants ≡ shape_of self.old.vault.now.tenants }
+        ensures store { AsksStore self.old.vault.now self.new.vault.now (fault_in result) }
+        ensures apart { IfErr result (λ fault. fault ≢ VaultFault.Collision) }
+        ensures same { IsSame self.old self.new }
+    {
+        self.vault.learn(alloc, self.tenant, commit)
     }
 
     // The object that the tenant has staged under this name.

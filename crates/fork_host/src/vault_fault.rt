@@ -3,7 +3,6 @@ ghost use Rattle.fork_host.specs.Rows.{fault_read, read_told};
 
 use fork_ledger::VaultFault;
 use fork_reach::SourceFault;
-use git_name::Sealed;
 
 // How a source tells a fault of the vault. Two objects of one name never meet in a read.
 pub(crate) fn source_fault(fault: VaultFault) -> SourceFault
@@ -16,8 +15,8 @@ pub(crate) fn source_fault(fault: VaultFault) -> SourceFault
     }
 }
 
-// How a source tells what a read of the vault gave.
-pub(crate) fn told(found: Result<Option<Sealed>, VaultFault>) -> Result<Option<Sealed>, SourceFault>
+// How a source tells what the vault gave.
+pub(crate) fn told<T>(found: Result<T, VaultFault>) -> Result<T, SourceFault>
     ensures { result ≡ read_told found }
 {
     match found {

@@ -3,6 +3,7 @@ pub mod BothLemmas
 pub mod CameLemmas
 pub mod CheckLemmas
 pub mod CoverLemmas
+pub mod GraphLemmas
 pub mod HarmLemmas
 pub mod HeldLemmas
 pub mod KeepingLemmas

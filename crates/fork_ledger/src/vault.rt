@@ -2,6 +2,7 @@ ghost use Rattle.std.specs.Prelude.{◌≡◌, ◌≢◌, ◌⊎◌, ◌≤◌, 
 ghost use Rattle.std.specs.FinMap as map;
 ghost use Rattle.std.specs.List.{AllByRecursion};
 ghost use Rattle.git_name.specs.Object.{object_name};
+ghost use Rattle.fork_reach.specs.Known.{AreParents};
 ghost use Rattle.fork_reach.specs.Objects.{use_of};
 ghost use Rattle.looks.specs.Looks.{Looks, Walks};
 ghost use Rattle.looks.specs.Places.{at_start, is_listed};
@@ -22,11 +23,12 @@ use crate::checking::check_all;
 use crate::fault::VaultFault;
 use crate::harms::Harms;
 use crate::held::{Held, held_of};
-use crate::reading::read_held;
+use crate::reading::{learn, read_held};
 use crate::recalling::{RecallFault, recall_known};
 use crate::staging::{stage_all_whole, stage_whole};
 use crate::sweeping::{collect, sweep};
 use catalogue::Catalogue;
+use commit_graph::Graph;
 use fork_request::TenantName;
 use git_name::{Hashing, Kind, Name, Sealed};
 use ledgers::{Holdings, NameSet};
@@ -208,6 +210,37 @@ impl<S: LooseFiles> Vault<S> {
             return None;
         };
         self.files.lend(name)
+    }
+
+    /// The commits whose parents are known without reading them, whoever sees them.
+    pub fn graph(&self) -> &Graph
+        ensures { IsTrue self.now.honest → (tenant : List ℕ) → AreParents (private_of self.now.tenants tenant).visible result.now }
+    {
+        let _holdings = &self.holdings;
+        self.files.graph()
+    }
+
+    /// Comes to know the parents of a commit that a tenant sees, and of those that they lead to. Each is read
+    /// once, and no more once it is known.
+    pub fn learn(
+        &mut self,
+        alloc: Global,
+        tenant: &TenantName,
+        commit: Name,
+    ) -> Result<(), VaultFault>
+        ensures kept { IsTrue self.old.honest → self.new.tenants ≡ self.old.tenants }
+        ensures files { IsTrue self.old.honest → self.new.files ≡ self.old.files }
+
+        // Over any store.
+        ensures shape { shape_of self.new.tenants ≡ shape_of self.old.tenants }
+        ensures store { AsksStore self.old self.new (fault_in result) }
+        ensures places { self.new.places ≡ self.old.places }
+        ensures apart { IfErr result (λ fault. fault ≢ VaultFault.Collision) }
+    {
+        if !self.holdings.sees(tenant, commit) {
+            return Ok(());
+        }
+        learn(alloc, &mut self.files, commit)
     }
 
     /// What is known of the object that a tenant sees or has staged under this name. It asks no store.

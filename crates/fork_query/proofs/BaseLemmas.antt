@@ -20,7 +20,8 @@ use Rattle.fork_reach.proofs.HiddenLemmas.{get_kept}
 use Rattle.fork_reach.proofs.NameLemmas.{Contains-keys, among-Contains, among-from_Contains, any_passes, same_tests}
 use Rattle.fork_reach.proofs.ReachLemmas.{led_to_reached, next_reached, reached_led_to, reached_there, root_reached}
 use Rattle.fork_reach.proofs.SeeingLemmas.{sole, sole_there}
-use Rattle.fork_query.specs.MergeBase.{is_ancestor, is_common, is_outdone}
+use Rattle.fork_reach.specs.Descent.{is_best_of, is_common_of, is_parent_of}
+use Rattle.fork_query.specs.MergeBase.{is_ancestor, is_base, is_common, is_outdone}
 use Rattle.fork_reach.specs.NotedBases.{is_ancestor_noted, is_best_noted, is_common_noted, is_other_parent}
 use Rattle.fork_query.proofs.BeyondLemmas.{there_passes}
 use Rattle.fork_query.proofs.KeyLemmas.{keys_of_names}
@@ -109,19 +110,8 @@ first_of_both a b name is = subst (Contains (a ∷ b ∷ [])) (sole_there a name
 second_of_both : (a b name : List ℕ) → Contains (b ∷ []) name → Contains (a ∷ b ∷ []) name
 second_of_both a b name is = subst (Contains (a ∷ b ∷ [])) (sole_there b name is) (1, omega arith, refl)
 
-module _ (objects : Objects) (a b : List ℕ) (notes : Notes) (read : IsRead objects (a ∷ b ∷ []) notes) where
-  of_a : (name : List ℕ) → is_ancestor_noted notes a name ≡ is_ancestor objects a name
-  of_a name = noted_reached objects (a ∷ b ∷ []) notes read (a ∷ []) (first_of_both a b) name
-
-  of_b : (name : List ℕ) → is_ancestor_noted notes b name ≡ is_ancestor objects b name
-  of_b name = noted_reached objects (a ∷ b ∷ []) notes read (b ∷ []) (second_of_both a b) name
-
-  common_noted : (name : List ℕ) → is_common_noted notes a b name ≡ is_common objects a b name
-  common_noted name = same_tests _ _
-      (λ is. (let both = and_parts (is_ancestor_noted notes b name) _ is in and_from _ _ (sym (of_a name) ∙ both.1) (sym (of_b name) ∙ both.0)))
-      (λ is. (let both = and_parts (is_ancestor objects a name) _ is in and_from _ _ (of_b name ∙ both.1) (of_a name ∙ both.0)))
-
-  -- a common ancestor is noted
+module _ (objects : Objects) (a b : List ℕ) where
+  -- a common ancestor is read with both histories
   common_read : (name : List ℕ) → is_common objects a b name ≡ true → is_reached (parent_names objects) objects (a ∷ b ∷ []) name ≡ true
   common_read name is =
       let both = and_parts (is_ancestor objects a name) _ is in
@@ -138,6 +128,67 @@ module _ (objects : Objects) (a b : List ℕ) (notes : Notes) (read : IsRead obj
       and_from _ _ (led_to_reached next objects (a ∷ []) name (onward next objects (a ∷ []) from (reached_led_to next objects (a ∷ []) from both.0) name reached))
       (led_to_reached next objects (b ∷ []) name (onward next objects (b ∷ []) from (reached_led_to next objects (b ∷ []) from both.1) name reached))
 
+  -- a common one that has it as a parent
+  abbrev has_child_of : List ℕ → Bool
+  has_child_of name = list_any (λ other. is_common_of objects a b other && is_parent_of objects other name) (keys objects)
+
+  common_of : (name : List ℕ) → is_common_of objects a b name ≡ is_common objects a b name
+  common_of name = same_tests _ _
+      (λ is. (let both = and_parts (is_ancestor objects b name) _ is in and_from _ _ both.1 both.0))
+      (λ is. (let both = and_parts (is_ancestor objects a name) _ is in and_from _ _ both.1 both.0))
+
+  one_step_of : (name : List ℕ) → is_common objects a b name ≡ true → has_child_of name ≡ true → is_outdone objects a b name ≡ true
+  one_step_of name common is =
+      let next = parent_names objects in
+      let any = Any-from_list_any (λ other. is_common_of objects a b other && is_parent_of objects other name) (keys objects) is in
+      let other = any.1 in
+      let both = and_parts (is_common_of objects a b other) _ any.4 in
+      let parent = and_parts (not (bytes_eq other name)) _ both.1 in
+      let also = sym (common_of other) ∙ both.0 in
+      let reached = led_to_reached next objects (other ∷ []) name (Next other name (Root other (sole other) (common_there other also)) (among-Contains (next other) name parent.1) (common_there name common)) in
+      any_passes (λ o. is_common objects a b o && not (bytes_eq o name) && is_ancestor objects o name) (keys objects) other (Contains-keys objects other (common_there other also))
+      (and_from _ _ (and_from _ _ also parent.0) reached)
+
+  all_steps_of : (name : List ℕ) → is_outdone objects a b name ≡ true → has_child_of name ≡ true
+  all_steps_of name is =
+      let next = parent_names objects in
+      let any = Any-from_list_any (λ o. is_common objects a b o && not (bytes_eq o name) && is_ancestor objects o name) (keys objects) is in
+      let other = any.1 in
+      let both = and_parts (is_common objects a b other && not (bytes_eq other name)) _ any.4 in
+      let parts = and_parts (is_common objects a b other) _ both.0 in
+      let apart : name ≢ other = λ same. (let no : false ≡ true = sym (not-true _ parts.1) ∙ (bytes_eq-Decides other name).1 (sym same) in cc) in
+      let step = last_step next objects other name (reached_led_to next objects (other ∷ []) name both.1) apart in
+      let also = common_on other step.last parts.0 step.reached in
+      any_passes (λ o. is_common_of objects a b o && is_parent_of objects o name) (keys objects) step.last (Contains-keys objects step.last (common_there step.last also))
+      (and_from _ _ (common_of step.last ∙ also) (and_from _ _ (ap not (unequal step.last name step.apart)) (among-from_Contains (next step.last) name step.linked)))
+
+  -- so for a common ancestor one step is enough
+  pub best_of : (name : List ℕ) → is_best_of objects a b name ≡ is_base objects a b name
+  best_of name = same_tests _ _
+      (λ is.
+      let both = and_parts (not (has_child_of name)) _ is in
+      let common = sym (common_of name) ∙ both.1 in
+      and_from _ _ common (ap not (sym (same_tests _ _ (one_step_of name common) (all_steps_of name))) ∙ both.0))
+      (λ is.
+      let both = and_parts (is_common objects a b name) _ is in
+      and_from _ _ (ap not (same_tests _ _ (one_step_of name both.0) (all_steps_of name)) ∙ both.1) (common_of name ∙ both.0))
+
+  -- and they are listed by name
+  pub best_names : (best : List (List ℕ)) → IsStrictlySortedBy name_cmp best → ((name : List ℕ) → is_among best name ≡ is_base objects a b name) → best ≡ keys (retain_keys objects (is_base objects a b))
+  best_names best ordered found = keys_of_names best _ ordered (λ name. found name ∙ sym (there_passes objects (is_base objects a b) (λ n is. common_there n (and_parts (is_common objects a b n) _ is).0) name))
+
+module _ (objects : Objects) (a b : List ℕ) (notes : Notes) (read : IsRead objects (a ∷ b ∷ []) notes) where
+  of_a : (name : List ℕ) → is_ancestor_noted notes a name ≡ is_ancestor objects a name
+  of_a name = noted_reached objects (a ∷ b ∷ []) notes read (a ∷ []) (first_of_both a b) name
+
+  of_b : (name : List ℕ) → is_ancestor_noted notes b name ≡ is_ancestor objects b name
+  of_b name = noted_reached objects (a ∷ b ∷ []) notes read (b ∷ []) (second_of_both a b) name
+
+  common_noted : (name : List ℕ) → is_common_noted notes a b name ≡ is_common objects a b name
+  common_noted name = same_tests _ _
+      (λ is. (let both = and_parts (is_ancestor_noted notes b name) _ is in and_from _ _ (sym (of_a name) ∙ both.1) (sym (of_b name) ∙ both.0)))
+      (λ is. (let both = and_parts (is_ancestor objects a name) _ is in and_from _ _ (of_b name ∙ both.1) (of_a name ∙ both.0)))
+
   abbrev has_child : List ℕ → Bool
   has_child name = list_any (λ other. is_common_noted notes a b other && is_other_parent notes name other) (keys notes)
 
@@ -149,9 +200,9 @@ module _ (objects : Objects) (a b : List ℕ) (notes : Notes) (read : IsRead obj
       let both = and_parts (is_common_noted notes a b other) _ any.4 in
       let parent = and_parts (not (bytes_eq other name)) _ both.1 in
       let also = sym (common_noted other) ∙ both.0 in
-      let linked = subst (λ names. Contains names name) (noted_next objects (a ∷ b ∷ []) notes read other (common_read other also)) (among-Contains (noted_parents notes other) name parent.1) in
-      let reached = led_to_reached next objects (other ∷ []) name (Next other name (Root other (sole other) (common_there other also)) linked (common_there name common)) in
-      any_passes (λ o. is_common objects a b o && not (bytes_eq o name) && is_ancestor objects o name) (keys objects) other (Contains-keys objects other (common_there other also))
+      let linked = subst (λ names. Contains names name) (noted_next objects (a ∷ b ∷ []) notes read other (common_read objects a b other also)) (among-Contains (noted_parents notes other) name parent.1) in
+      let reached = led_to_reached next objects (other ∷ []) name (Next other name (Root other (sole other) (common_there objects a b other also)) linked (common_there objects a b name common)) in
+      any_passes (λ o. is_common objects a b o && not (bytes_eq o name) && is_ancestor objects o name) (keys objects) other (Contains-keys objects other (common_there objects a b other also))
       (and_from _ _ (and_from _ _ also parent.0) reached)
 
   all_steps : (name : List ℕ) → is_outdone objects a b name ≡ true → has_child name ≡ true
@@ -163,14 +214,14 @@ module _ (objects : Objects) (a b : List ℕ) (notes : Notes) (read : IsRead obj
       let parts = and_parts (is_common objects a b other) _ both.0 in
       let apart : name ≢ other = λ same. (let no : false ≡ true = sym (not-true _ parts.1) ∙ (bytes_eq-Decides other name).1 (sym same) in cc) in
       let step = last_step next objects other name (reached_led_to next objects (other ∷ []) name both.1) apart in
-      let also = common_on other step.last parts.0 step.reached in
-      let noted = common_read step.last also in
+      let also = common_on objects a b other step.last parts.0 step.reached in
+      let noted = common_read objects a b step.last also in
       let linked = subst (λ names. Contains names name) (sym (noted_next objects (a ∷ b ∷ []) notes read step.last noted)) step.linked in
       any_passes (λ o. is_common_noted notes a b o && is_other_parent notes name o) (keys notes) step.last (Contains-keys notes step.last (noted_there objects (a ∷ b ∷ []) notes read step.last ∙ noted))
       (and_from _ _ (common_noted step.last ∙ also) (and_from _ _ (ap not (unequal step.last name step.apart)) (among-from_Contains (noted_parents notes step.last) name linked)))
 
-  -- so for a common ancestor one step is enough
-  best_noted : (name : List ℕ) → is_best_noted notes a b name ≡ (is_common objects a b name && not (is_outdone objects a b name))
+  -- over a history one step is enough as well
+  pub best_noted : (name : List ℕ) → is_best_noted notes a b name ≡ is_base objects a b name
   best_noted name = same_tests _ _
       (λ is.
       let both = and_parts (not (has_child name)) _ is in
@@ -179,6 +230,3 @@ module _ (objects : Objects) (a b : List ℕ) (notes : Notes) (read : IsRead obj
       (λ is.
       let both = and_parts (is_common objects a b name) _ is in
       and_from _ _ (ap not (same_tests _ _ (one_step name both.0) (all_steps name)) ∙ both.1) (common_noted name ∙ both.0))
-
-  pub best_names : (best : List (List ℕ)) → IsStrictlySortedBy name_cmp best → ((name : List ℕ) → is_among best name ≡ is_best_noted notes a b name) → best ≡ keys (retain_keys objects (λ name. is_common objects a b name && not (is_outdone objects a b name)))
-  best_names best ordered found = keys_of_names best _ ordered (λ name. found name ∙ best_noted name ∙ sym (there_passes objects (λ n. is_common objects a b n && not (is_outdone objects a b n)) (λ n is. common_there n (and_parts (is_common objects a b n) _ is).0) name))

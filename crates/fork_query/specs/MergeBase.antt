@@ -21,9 +21,13 @@ is_common objects a b name = is_ancestor objects a name && is_ancestor objects b
 abbrev pub is_outdone : Objects → List ℕ → List ℕ → List ℕ → Bool
 is_outdone objects a b name = list_any (λ other. is_common objects a b other && not (bytes_eq other name) && is_ancestor objects other name) (keys objects)
 
--- the common ancestors that none outdoes, ascending by name
+-- it is common, and none outdoes it
+abbrev pub is_base : Objects → List ℕ → List ℕ → List ℕ → Bool
+is_base objects a b name = is_common objects a b name && not (is_outdone objects a b name)
+
+-- those, ascending by name
 unfoldable pub merge_bases : Objects → List ℕ → List ℕ → List (List ℕ)
-merge_bases objects a b = keys (retain_keys objects (λ name. is_common objects a b name && not (is_outdone objects a b name)))
+merge_bases objects a b = keys (retain_keys objects (is_base objects a b))
 
 abbrev pub bases_of : Objects → Result (List ℕ) Refusal → Result (List ℕ) Refusal → Result (List ℕ) Refusal
 bases_of objects (Ok a) (Ok b) = Ok (name_lines (merge_bases objects a b))

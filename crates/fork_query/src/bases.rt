@@ -1,6 +1,8 @@
-ghost use Rattle.std.specs.Prelude.{◌≡◌, IsTrue, IfOk};
+ghost use Rattle.std.specs.Prelude.{◌≡◌, List, ℕ, IsTrue, IfOk};
+ghost use Rattle.std.specs.HashSet.{contains};
+ghost use Rattle.git_name.specs.Same.{same_name};
 ghost use Rattle.fork_reach.specs.Faults.{IsAsked, fault_in};
-ghost use Rattle.fork_query.specs.MergeBase.{bases_told, merge_bases};
+ghost use Rattle.fork_query.specs.MergeBase.{bases_told, is_base, merge_bases};
 ghost use Rattle.fork_query.specs.Objects.{name_lines};
 ghost use Rattle.fork_query.specs.Told.{Tells, fault_told};
 
@@ -9,16 +11,20 @@ use crate::items::named_item;
 use crate::name_lines::write_names;
 use crate::query_error::QueryError;
 use crate::want::Want;
-use fork_reach::{Source, SourceFault, ascending, read_history};
-use git_name::Name;
+use fork_reach::{Source, SourceFault, ascending, known_bases, read_history};
+use git_name::{Hashing, Name};
 use git_reftx::Refs;
 use indexmap::IndexSet;
 use std::alloc::Global;
 
-#[tactic(auto, unfolding(crate::specs::MergeBase::merge_bases))]
-// The best common ancestors, one a line.
-fn bases<S: Source>(alloc: Global, source: &mut S, a: Name, b: Name) -> Result<Vec<u8>, SourceFault>
-    ensures listed { IsTrue (S.state source.old).honest → IfOk result (λ text. text.items ≡ name_lines (merge_bases (S.state source.old).objects a b)) }
+// The best common ancestors, by both histories, which are read.
+fn read_bases<S: Source>(
+    alloc: Global,
+    source: &mut S,
+    a: Name,
+    b: Name,
+) -> Result<IndexSet<Name, Hashing>, SourceFault>
+    ensures best { IsTrue (S.state source.old).honest → IfOk result (λ best. (name : List ℕ) → contains same_name best name ≡ is_base (S.state source.old).objects a b name) }
     ensures asked { IsAsked (S.state source.old) (S.state source.new) (fault_in result) }
 {
     let none = IndexSet::with_hasher(alloc, source.hashing());
@@ -26,8 +32,46 @@ fn bases<S: Source>(alloc: Global, source: &mut S, a: Name, b: Name) -> Result<V
         Ok(history) => history,
         Err(fault) => return Err(fault),
     };
-    let Ok(best) = history.best_common(alloc, a, b) else {
-        return Err(SourceFault::Memory);
+    match history.best_common(alloc, a, b) {
+        Ok(best) => Ok(best),
+        Err(_) => Err(SourceFault::Memory),
+    }
+}
+
+// The same by the parents that the source knows, which it learns where it can.
+fn best<S: Source>(
+    alloc: Global,
+    source: &mut S,
+    a: Name,
+    b: Name,
+) -> Result<IndexSet<Name, Hashing>, SourceFault>
+    ensures best { IsTrue (S.state source.old).honest → IfOk result (λ best. (name : List ℕ) → contains same_name best name ≡ is_base (S.state source.old).objects a b name) }
+    ensures asked { IsAsked (S.state source.old) (S.state source.new) (fault_in result) }
+{
+    match source.learn(alloc, a) {
+        Ok(()) => {}
+        Err(fault) => return Err(fault),
+    }
+    match source.learn(alloc, b) {
+        Ok(()) => {}
+        Err(fault) => return Err(fault),
+    }
+    match known_bases(alloc, source, a, b) {
+        Ok(Some(best)) => Ok(best),
+        Ok(None) => read_bases(alloc, source, a, b),
+        Err(_) => Err(SourceFault::Memory),
+    }
+}
+
+#[tactic(auto, unfolding(crate::specs::MergeBase::merge_bases))]
+// The best common ancestors, one a line.
+fn bases<S: Source>(alloc: Global, source: &mut S, a: Name, b: Name) -> Result<Vec<u8>, SourceFault>
+    ensures listed { IsTrue (S.state source.old).honest → IfOk result (λ text. text.items ≡ name_lines (merge_bases (S.state source.old).objects a b)) }
+    ensures asked { IsAsked (S.state source.old) (S.state source.new) (fault_in result) }
+{
+    let best = match best(alloc, source, a, b) {
+        Ok(best) => best,
+        Err(fault) => return Err(fault),
     };
     let Ok(listed) = ascending(alloc, &best) else {
         return Err(SourceFault::Memory);
@@ -40,7 +84,8 @@ fn bases<S: Source>(alloc: Global, source: &mut S, a: Name, b: Name) -> Result<V
 
 #[tactic(auto, unfolding(crate::specs::MergeBase::bases_told))]
 /// The best common ancestors of two commits, one a line, ascending by name: those that no other common
-/// ancestor has among its own. Each commit is read once. A `^` is part of an item.
+/// ancestor has among its own. Each commit is read once, and none whose parents the source knows. A `^` is
+/// part of an item.
 pub fn merge_base<S: Source>(
     alloc: Global,
     source: &mut S,

@@ -5,10 +5,11 @@ use Rattle.std.specs.Option.{option_map_or}
 use Rattle.git_name.specs.declared.kind.Kind.{Kind}
 use Rattle.git_name.specs.declared.kind.Kind.TheVariants.{Blob, Tree, Commit, Tag}
 use Rattle.git_object.specs.ObjectIn.{links_in}
+use Rattle.commit_graph.specs.Parents.{parents_in}
 use Rattle.fork_reach.specs.declared.along.Along.{Along}
 use Rattle.fork_reach.specs.declared.along.Along.TheVariants.{Links, Parents}
 use Rattle.fork_reach.specs.Objects.{Measures}
-use Rattle.fork_reach.specs.Reach.{linked_names, parent_names, parents_in}
+use Rattle.fork_reach.specs.Reach.{linked_names, parent_names}
 use Rattle.fork_reach.specs.Source.{Objects}
 
 -- the names that an object of a kind goes on to

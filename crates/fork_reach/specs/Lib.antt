@@ -1,7 +1,9 @@
 pub mod Along
+pub mod Descent
 pub mod Faults
 pub mod Hidden
 pub mod History
+pub mod Known
 pub mod Lending
 pub mod Marks
 pub mod NotedBases

@@ -3,12 +3,9 @@ use Rattle.std.specs.Prelude.{◌≡◌, ℕ, zero, suc, ◌&&◌, ◌||◌, Boo
 use Rattle.std.specs.List.{list_any}
 use Rattle.std.specs.FinMap.{FinMap, get, contains_key, keys, len}
 use Rattle.std.specs.Str.{bytes_eq}
-use Rattle.git_name.specs.declared.kind.Kind.{Kind}
-use Rattle.git_name.specs.declared.kind.Kind.TheVariants.{Blob, Tree, Commit, Tag}
 use Rattle.git_name.specs.Name.{name_cmp}
 use Rattle.git_name.specs.Object.{Object}
-use Rattle.git_commit.specs.Commit.{CommitValue}
-use Rattle.git_commit.specs.CommitIn.{commit_in}
+use Rattle.commit_graph.specs.Parents.{parents_in}
 use Rattle.git_object.specs.declared.link.Link.{Link}
 use Rattle.git_object.specs.ObjectIn.{links_in}
 use Rattle.fork_reach.specs.Source.{Objects}
@@ -21,18 +18,6 @@ links_of_found (Some object) = links_in object.kind object.bytes
 -- the names that the object of a name links to, in their order
 abbrev pub linked_names : Objects → List ℕ → List (List ℕ)
 linked_names objects name = map (λ link. link.name) (links_of_found (get objects name))
-
--- the parents of a commit, where there is one
-abbrev pub parents_or_none : Option CommitValue → List (List ℕ)
-parents_or_none None = []
-parents_or_none (Some commit) = commit.parents
-
--- the parents of the commit that bytes of a kind are; any other object has none
-abbrev pub parents_in : Kind → List ℕ → List (List ℕ)
-parents_in Blob bytes = []
-parents_in Tree bytes = []
-parents_in Commit bytes = parents_or_none (commit_in bytes)
-parents_in Tag bytes = []
 
 -- the parents of an object, where there is one
 abbrev pub parents_of_found : Option Object → List (List ℕ)

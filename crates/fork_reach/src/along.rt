@@ -1,12 +1,10 @@
 ghost use Rattle.std.specs.Prelude.{◌≡◌, map, not, IsTrue, IfOk};
-ghost use Rattle.git_commit.specs.Whole.{commit_of};
 ghost use Rattle.git_object.specs.ObjectIn.{links_in};
 ghost use Rattle.fork_reach.specs.Along.{names_along, names_in, rests, rests_in};
 ghost use Rattle.fork_reach.specs.Faults.{IsAsked, fault_in};
-ghost use Rattle.fork_reach.specs.Reach.{parents_in};
 
 use crate::source::{Source, SourceFault};
-use git_commit::Commit;
+use commit_graph::parent_names;
 use git_name::{Kind, Name};
 use git_object::{Object, links};
 use std::alloc::{AllocError, Global};
@@ -54,33 +52,6 @@ pub(crate) fn link_names(alloc: Global, kind: Kind, bytes: &[u8]) -> Result<Vec<
         names.push(link.name)?;
     }
     Ok(names)
-}
-
-// Most commits have so many parents: room for no more is made before there are more.
-const USUAL_PARENTS: usize = 1;
-
-// The names of the commit's parents, in their order.
-pub(crate) fn parents_of(alloc: Global, commit: &Commit<'_>) -> Result<Vec<Name>, AllocError>
-    ensures { IfOk result (λ names. names.items ≡ (commit_of commit.now).parents) }
-{
-    let mut names = Vec::with_capacity(alloc, USUAL_PARENTS)?;
-    for parent in commit.parents() {
-        names.push(parent)?;
-    }
-    Ok(names)
-}
-
-// The same of the commit that the object is; any other object has none.
-fn parent_names(alloc: Global, kind: Kind, bytes: &[u8]) -> Result<Vec<Name>, AllocError>
-    ensures { IfOk result (λ names. names.items ≡ parents_in kind bytes.now) }
-{
-    if !matches!(kind, Kind::Commit) {
-        return Ok(Vec::new(alloc));
-    }
-    let Ok(commit) = Commit::read(bytes) else {
-        return Ok(Vec::new(alloc));
-    };
-    parents_of(alloc, &commit)
 }
 
 // The names that the object goes on to.

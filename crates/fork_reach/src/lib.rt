@@ -4,6 +4,7 @@
 #![tactic(auto)]
 
 mod along;
+mod descent;
 mod history;
 mod laws;
 mod lending;
@@ -20,6 +21,7 @@ mod source;
 mod usage;
 mod walk;
 
+pub use crate::descent::known_bases;
 pub use crate::history::History;
 pub use crate::laws::reached_is_led_to;
 pub use crate::lending::{Lent, lend_reached};

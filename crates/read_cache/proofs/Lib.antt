@@ -2,3 +2,4 @@ pub mod CacheLemmas
 pub mod KnownLemmas
 pub mod SureLemmas
 pub mod WholeLemmas
+pub mod LinkLemmas

@@ -1,3 +1,5 @@
 pub mod Cached
 pub mod Known
+pub mod Learning
+pub mod Linked
 pub mod Stores

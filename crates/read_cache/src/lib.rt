@@ -1,8 +1,9 @@
-//! A store of objects that keeps what was read last: a hot object is read and hashed once for all who
-//! ask. It knows no tenant: who may ask for an object is settled above it.
+//! A store of objects that keeps what was read last, so that a hot object is read and hashed once for all
+//! who ask, and of commits their parents. It knows no tenant: who may ask for an object is settled above it.
 #![tactic(auto)]
 
 mod cached_store;
+mod learning;
 mod read_cache;
 mod survey;
 

@@ -1,24 +1,11 @@
-use Rattle.std.proofs.Common.{[], ◌∷◌, ap, ◌∙◌}
-use Rattle.std.specs.HashSet.{contains}
-use Rattle.git_name.specs.Maps.{map_values}
-use Rattle.git_name.specs.Same.{same_name}
-use Rattle.fork_reach.specs.Hidden.{without}
-use Rattle.fork_reach.specs.History.{note_of}
-use Rattle.fork_reach.specs.Reach.{is_reached, parent_names}
-use Rattle.fork_reach.proofs.HiddenLemmas.{reached_all}
-use Rattle.fork_reach.proofs.NameLemmas.{hashes_none}
+use Rattle.std.proofs.Common.{ap, ◌∙◌}
 use Rattle.fork_query.specs.MergeBase.{merge_bases}
 use Rattle.fork_query.specs.Objects.{name_lines}
 use Rattle.fork_query.proofs.BaseLemmas.{best_names}
-use Rattle.fork_query.proofs.BeyondLemmas.{kept_alike}
 use Rattle.fork_query.proofs.bases.bases.Goals as goal
 
 pub returns-in-Ok-write_names-clause-listed : goal.returns-in-Ok-write_names-clause-listed
 unfolding merge_bases
 returns-in-Ok-write_names-clause-listed g c = λ honest.
     let objects = (g.S.Source.state c.args.source.now).objects in
-    let roots = c.args.a ∷ c.args.b ∷ [] in
-    let next = parent_names objects in
-    let none = contains same_name c.with_hasher-none.result in
-    let read = c.in-Ok.ensures.found honest ∙ ap (map_values note_of) (kept_alike objects (is_reached next (without objects none) roots) (is_reached next objects roots) (reached_all next objects none roots (hashes_none c.with_hasher-none.result.keys c.with_hasher-none.ensures.empty))) in
-    c.in-Ok-write_names.ensures ∙ ap name_lines (c.as_slice.ensures.value ∙ best_names objects c.args.a c.args.b c.in-Ok.history read c.in-Ok-ascending.listed.items c.in-Ok-ascending.ensures.order (λ name. c.in-Ok-ascending.ensures.same name ∙ c.in-Ok-best_common.ensures name))
+    c.in-Ok-write_names.ensures ∙ ap name_lines (c.as_slice.ensures.value ∙ best_names objects c.args.a c.args.b c.in-Ok-ascending.listed.items c.in-Ok-ascending.ensures.order (λ name. c.in-Ok-ascending.ensures.same name ∙ c.in-Ok.ensures.best honest name))

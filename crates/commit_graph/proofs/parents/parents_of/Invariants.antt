@@ -1,7 +1,7 @@
 use Rattle.std.proofs.Common.{◌≡◌, ◌++◌}
 use Rattle.git_commit.specs.Left.{parents_left}
 use Rattle.git_commit.specs.Whole.{commit_of}
-use Rattle.fork_reach.proofs.along.parents_of.Given as goal
+use Rattle.commit_graph.proofs.parents.parents_of.Given as goal
 
 -- the parents so far, and then those that are left
 abbrev pub invariant-loop-parent : goal.invariant-loop-parent

@@ -1,0 +1,17 @@
+use Rattle.std.proofs.Common.{ap, subst, sym, ◌∙◌}
+use Rattle.commit_graph.specs.Graph.{Forgets, Rises, shown}
+use Rattle.commit_graph.proofs.GraphLemmas.{front_kept, none_placed, rises_front}
+use Rattle.commit_graph.proofs.graph.Graph.forget.Goals as goal
+
+pub invariant_of-self : goal.invariant_of-self
+invariant_of-self c = subst (Rises 0) (sym c.truncate.ensures.entries) (rises_front 0 c.self.inside.placed.entries c.in-Some.at c.self.invariant)
+
+pub returns-in-Some : goal.returns-in-Some
+returns-in-Some c =
+    let placed = c.self.inside.placed.entries in
+    subst (λ g. Forgets c.args.name g (shown c.truncate.new.self.entries)) c.self.view_is
+    (subst (λ left. Forgets c.args.name (shown placed) (shown left)) (sym c.truncate.ensures.entries) (front_kept placed c.args.name c.in-Some.at c.self.invariant c.len.ensures.unique (sym c.key_place.ensures ∙ c.in-Some.is)))
+
+pub returns-in_default : goal.returns-in_default
+returns-in_default c =
+    subst (λ g. Forgets c.args.name g g) c.self.view_is (none_placed c.self.inside.placed.entries c.args.name c.len.ensures.unique (sym c.key_place.ensures ∙ c.in_default.is))

@@ -1,5 +1,5 @@
 -- Commits whose parents are known (own): each stands behind its parents.
-use Rattle.std.specs.Prelude.{◌≡◌, ◌≢◌, ◌<◌, ◌++◌, ℕ, suc, List, [], ◌∷◌, length, map, Contains}
+use Rattle.std.specs.Prelude.{◌≡◌, ◌<◌, ◌++◌, ℕ, suc, List, [], ◌∷◌, length, map, Contains}
 use Rattle.std.specs.List.{AllByRecursion, IsDistinct, slice_index_or}
 use Rattle.std.specs.Map.{keys_of, values_of}
 use Rattle.git_name.specs.Same.{same_name}

@@ -1,7 +1,7 @@
 -- Places that wait, from the greatest down: what is common, and what is outdone.
-use Rattle.std.proofs.Common.{◌≡◌, ◌≢◌, ◌⊎◌, ◌<◌, ◌≤◌, ◌+◌, ◌-◌, ◌&&◌, ◌||◌, not, ℕ, zero, suc, Bool, true, false, inl, inr, refl, sym, ap, subst, ◌∙◌, arith}
-use Rattle.std.proofs.lemmas.Bool.{and_from, and_parts, cases_order}
-use Rattle.fork_reach.specs.Descent.{GoesOn, Settles, is_common_at}
+use Rattle.std.proofs.Common.{◌≡◌, ◌≢◌, ◌⊎◌, ◌<◌, ◌≤◌, ◌+◌, ℕ, zero, suc, Bool, true, inl, inr, sym, subst, arith}
+use Rattle.std.proofs.lemmas.Bool.{cases_order}
+use Rattle.fork_reach.specs.Descent.{Settles}
 
 -- one of two sides: who is an ancestor, from where on
 pub record IsSide (parent : ℕ → ℕ → Type 0) (from : ℕ) (is : ℕ → Type 0) : Type 0 where

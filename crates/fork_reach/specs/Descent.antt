@@ -1,11 +1,10 @@
 -- A way from later places of a graph to earlier ones (own).
-use Rattle.std.specs.Prelude.{◌≡◌, ◌≢◌, ◌⊎◌, ◌<◌, ◌≤◌, ◌&&◌, ◌||◌, not, ℕ, Bool, true, List, [], ◌∷◌, length, Contains}
+use Rattle.std.specs.Prelude.{◌≡◌, ◌≢◌, ◌⊎◌, ◌<◌, ◌&&◌, ◌||◌, not, ℕ, Bool, true, List, [], ◌∷◌, length, Contains}
 use Rattle.std.specs.BTreeSet.{BTreeSet, contains}
 use Rattle.std.specs.FinMap.{contains_key, keys}
 use Rattle.std.specs.List.{list_any}
 use Rattle.std.specs.Ordering.{nat_cmp}
 use Rattle.std.specs.Str.{bytes_eq}
-use Rattle.git_name.specs.Same.{same_name}
 use Rattle.commit_graph.specs.Graph.{Commits, name_at, parents_at}
 use Rattle.fork_reach.specs.Reach.{is_among, is_reached, parent_names}
 use Rattle.fork_reach.specs.Source.{Objects}

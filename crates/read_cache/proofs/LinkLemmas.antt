@@ -7,7 +7,6 @@ use Rattle.std.specs.declared.alloc.AllocError.{AllocError}
 use Rattle.std.proofs.lemmas.List.Elements.{Contains-append_cases, Contains-append_left}
 use Rattle.commit_graph.specs.Graph.{Commits, Forgets}
 use Rattle.loose_store.specs.Files.{Files, SameBut}
-use Rattle.loose_store.specs.Stored.{Whole}
 use Rattle.read_cache.specs.Learning.{IsRead}
 use Rattle.read_cache.specs.declared.learning.Waiting.{Waiting}
 use Rattle.read_cache.specs.Linked.{AreLinked, IsLinked}

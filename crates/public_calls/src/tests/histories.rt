@@ -1,6 +1,5 @@
 use super::kept::Kept;
 use super::objects::{Names, absent, all_named, filled, items, named, put_line};
-use commit_graph::Graph;
 use fork_query::{QueryError, merge_base, rev_list};
 use fork_reach::read_history;
 use git_name::Hashing;
@@ -112,47 +111,5 @@ fn each_commit_is_read_once_for_bases(rt: HostRuntime) -> Result<(), Fail> {
         assert!(rt; is_told(&answer, wanted.as_slice()), "{letters:?}");
         assert_eq!(rt; kept.reads, *reads, "{letters:?}");
     }
-    Ok(())
-}
-
-// Makes known who the parents are of all commits but the one that stands alone. Answers whether none was
-// known before its parents, and none twice.
-fn know(alloc: Global, graph: &mut Graph, names: &Names) -> Result<bool, AllocError> {
-    let (first, left, right) = (named(names, b'f'), named(names, b'l'), named(names, b'r'));
-    let is_early = graph.push(alloc, left, &[first])?;
-    let is_first = graph.push(alloc, first, &[])?;
-    let is_again = graph.push(alloc, first, &[])?;
-    graph.push(alloc, left, &[first])?;
-    graph.push(alloc, right, &[first])?;
-    graph.push(alloc, named(names, b'm'), &[left, right])?;
-    graph.push(alloc, named(names, b'c'), &[right, left])?;
-    Ok(is_first && !is_early && !is_again)
-}
-
-#[test]
-fn known_commits_are_not_read_for_bases(rt: HostRuntime) -> Result<(), Fail> {
-    // Two commits, and their bases.
-    const ROWS: &[(u8, u8, &[u8])] = &[
-        (b'm', b'c', b"lr"),
-        (b'l', b'r', b"f"),
-        (b'm', b'l', b"l"),
-        (b'l', b'l', b"l"),
-        (b'f', b'c', b"f"),
-    ];
-    let alloc = rt.alloc();
-    let mut kept = Kept::new(alloc);
-    let names = filled(alloc, &mut kept)?;
-    assert!(rt; know(alloc, &mut kept.known, &names)?);
-    for (a, b, letters) in ROWS {
-        let a = items(alloc, &names, &[*a])?;
-        let b = items(alloc, &names, &[*b])?;
-        let references = Refs::new(alloc);
-        let answer = merge_base(alloc, &mut kept, &references, a.as_slice(), b.as_slice());
-        let wanted = lines(alloc, &names, letters, true)?;
-        assert!(rt; is_told(&answer, wanted.as_slice()), "{letters:?}");
-        assert_eq!(rt; kept.reads, 0, "{letters:?}");
-    }
-    kept.known.forget(named(&names, b'l'));
-    assert_eq!(rt; kept.known.len(), 1);
     Ok(())
 }

@@ -3,15 +3,14 @@ ghost use Rattle.std.specs.Option.{option_copied};
 ghost use Rattle.std.specs.FinMap as map;
 ghost use Rattle.git_name.specs.Name.{name_cmp};
 
-use commit_graph::Graph;
 use fork_push::Sides;
 use fork_reach::{Source, SourceFault};
-use git_name::{Hashing, Kind, Name, Sealed};
+use git_name::{Kind, Name, Sealed};
 use std::alloc::{AllocError, Global};
 use std::collections::BTreeMap;
 
 /// Objects in memory, of which each read is counted from 1. The store fails at one of the reads, and has
-/// lost the bytes of one object, where that is wanted. Parents are known as far as a test says.
+/// lost the bytes of one object, where that is wanted.
 #[derive(Drop)]
 pub struct Kept {
     objects: BTreeMap<Name, Sealed>,
@@ -19,7 +18,6 @@ pub struct Kept {
     pub fails_at: u64,
     pub failures: u64,
     pub lost: Option<Name>,
-    pub known: Graph,
 }
 
 impl Kept {
@@ -30,7 +28,6 @@ impl Kept {
             fails_at: 0,
             failures: 0,
             lost: None,
-            known: Graph::new(alloc, Hashing::default()),
         }
     }
 
@@ -62,10 +59,6 @@ impl Source for Kept {
             Some(sealed) => Some(sealed.kind()),
             None => None,
         }
-    }
-
-    fn graph(&self) -> Option<&Graph> {
-        Some(&self.known)
     }
 
     fn read(&mut self, _alloc: Global, name: Name) -> Result<Option<Sealed>, SourceFault> {

@@ -1,5 +1,4 @@
 use Rattle.std.proofs.Common.{◌∙◌, sym}
-use Rattle.std.proofs.lemmas.Result.{on_ok_weaker}
 use Rattle.indexmap.proofs.CallerLemmas.{insert_entry-new}
 use Rattle.git_name.specs.Same.{same_name}
 use Rattle.commit_graph.proofs.GraphLemmas.{none_found}

@@ -1,4 +1,4 @@
-use Rattle.std.proofs.Common.{IsTrue, subst, sym, ◌∙◌}
+use Rattle.std.proofs.Common.{subst, sym, ◌∙◌}
 use Rattle.read_cache.specs.Learning.{IsRead}
 use Rattle.read_cache.proofs.LinkLemmas.{read_before}
 use Rattle.read_cache.proofs.learning.learn.Goals as goal

@@ -1,4 +1,4 @@
-use Rattle.std.proofs.Common.{ap, subst, sym, ◌∙◌}
+use Rattle.std.proofs.Common.{subst, sym, ◌∙◌}
 use Rattle.commit_graph.specs.Graph.{Forgets, Rises, shown}
 use Rattle.commit_graph.proofs.GraphLemmas.{front_kept, none_placed, rises_front}
 use Rattle.commit_graph.proofs.graph.Graph.forget.Goals as goal

@@ -1,4 +1,4 @@
-use Rattle.std.proofs.Common.{true, refl, subst, sym}
+use Rattle.std.proofs.Common.{subst, sym}
 use Rattle.std.proofs.lemmas.Result.{on_ok_weaker}
 use Rattle.fork_reach.specs.Descent.{IsParent, Settles, has}
 use Rattle.fork_reach.proofs.GraphLemmas.{settles_given}

@@ -112,7 +112,7 @@ impl Graph {
         if self.placed.len() == 0 {
             return;
         }
-        if let Some(at) = self.nearby.key_place(&self.placed, name) {
+        if let Some(at) = self.placed.get_index_of(&name) {
             self.placed.truncate(at);
         }
     }

@@ -162,6 +162,7 @@ impl<'a, S: Source> Descent<'a, S> {
     {
         let mut waiting = self.begin(alloc, a, b)?;
         let mut best = IndexSet::with_hasher(alloc, self.source.hashing());
+        // All places from this one on are done, so each turn nears the end.
         let mut below = self.graph.len();
         'waiting: while let Some(last) = last_of_both(&waiting.of_a, &waiting.of_b) {
             let at = last_of(&waiting.outdone, last);

@@ -15,7 +15,7 @@ use indexmap::IndexSet;
 use loose_store::{LooseFiles, StoreFault};
 use std::alloc::Global;
 
-// So many commits are begun at the most.
+// So many commits are begun at the most: over a store that lies names need have no end.
 const MOST: usize = 4_294_967_296;
 
 // A commit that was read, and how many of its first parents are known.

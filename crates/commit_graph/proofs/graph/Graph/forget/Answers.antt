@@ -10,8 +10,8 @@ pub returns-in-Some : goal.returns-in-Some
 returns-in-Some c =
     let placed = c.self.inside.placed.entries in
     subst (λ g. Forgets c.args.name g (shown c.truncate.new.self.entries)) c.self.view_is
-    (subst (λ left. Forgets c.args.name (shown placed) (shown left)) (sym c.truncate.ensures.entries) (front_kept placed c.args.name c.in-Some.at c.self.invariant c.len.ensures.unique (sym c.key_place.ensures ∙ c.in-Some.is)))
+    (subst (λ left. Forgets c.args.name (shown placed) (shown left)) (sym c.truncate.ensures.entries) (front_kept placed c.args.name c.in-Some.at c.self.invariant c.len.ensures.unique (sym c.get_index_of.ensures.index ∙ c.in-Some.is)))
 
 pub returns-in_default : goal.returns-in_default
 returns-in_default c =
-    subst (λ g. Forgets c.args.name g g) c.self.view_is (none_placed c.self.inside.placed.entries c.args.name c.len.ensures.unique (sym c.key_place.ensures ∙ c.in_default.is))
+    subst (λ g. Forgets c.args.name g g) c.self.view_is (none_placed c.self.inside.placed.entries c.args.name c.len.ensures.unique (sym c.get_index_of.ensures.index ∙ c.in_default.is))

@@ -1,18 +1,20 @@
 -- Commits in places, as entries come and go.
-use Rattle.std.proofs.Common.{◌≡◌, ◌<◌, ◌+◌, ◌++◌, ℕ, zero, suc, Bool, true, false, List, [], ◌∷◌, Option, None, Some, is_some, Result, Ok, Err, length, map, take, drop, position, slice_get, get_or, Contains, refl, sym, ap, subst, ◌∙◌, arith, append-nil}
+use Rattle.std.proofs.Common.{◌≡◌, ◌&&◌, ◌<◌, ◌+◌, ◌++◌, ℕ, zero, suc, Bool, true, false, List, [], ◌∷◌, Option, None, Some, is_some, Result, Ok, Err, length, map, take, drop, position, slice_get, get_or, Contains, refl, sym, ap, subst, ◌∙◌, arith, append-nil}
 use Rattle.std.specs.Bool.{OnFalse, OnTrue}
 use Rattle.std.specs.Result.{IfOk, OnErr}
 use Rattle.std.specs.declared.alloc.AllocError.{AllocError}
-use Rattle.std.specs.List.{AllByRecursion, IsDistinct}
+use Rattle.std.specs.List.{AllByRecursion, IsDistinct, list_all, list_any}
+use Rattle.std.proofs.lemmas.Bool.{and_from}
+use Rattle.std.proofs.lemmas.List.Folds.{list_all-append}
 use Rattle.std.specs.Map.{keys_of}
 use Rattle.std.specs.Option.{option_map, unwrap_or}
-use Rattle.std.proofs.lemmas.List.{get_or_append_left, length-map, length-take, map-append, take-append-drop, take-map}
+use Rattle.std.proofs.lemmas.List.{get_or_append_left, length-map, length-take, map-append, take-append-drop, take-map, take_more}
 use Rattle.std.proofs.lemmas.Option.{same_Some, slice_get-get_or, slice_get-map}
 use Rattle.std.proofs.lemmas.List.Quantifiers.{position-Some}
 use Rattle.git_name.specs.Same.{same_name}
 use Rattle.git_name.proofs.HashMaps.{one_name}
-use Rattle.nearby.proofs.PlaceLemmas.{only_place}
-use Rattle.commit_graph.specs.Graph.{Commits, Forgets, IsGraph, Placed, Rises, name_at, parents_at, shown}
+use Rattle.nearby.proofs.PlaceLemmas.{only_place, placed}
+use Rattle.commit_graph.specs.Graph.{Commits, Forgets, IsGraph, Placed, Rises, name_at, parents_at, shown, stands}
 use Rattle.commit_graph.specs.Links.{places_listed}
 use Rattle.commit_graph.specs.declared.links.Links.{Links}
 
@@ -188,3 +190,20 @@ pub put_weaker : (P Q : Type 0) (result : Result Bool AllocError) → (P → Q) 
 put_weaker P Q (Ok true) more put = more put
 put_weaker P Q (Ok false) more put = tt
 put_weaker P Q (Err fault) more put = tt
+
+-- who has a place is one of them
+pub stands_placed : {X : Type 0} (commits : List (List ℕ × X)) (name : List ℕ) (place : Option ℕ) → position (same_name name) (keys_of commits) ≡ place → stands commits name ≡ is_some place
+stands_placed commits name place is = sym (placed (same_name name) (keys_of commits)) ∙ ap is_some is
+
+-- one more passes
+pub all_more : (test : List ℕ → Bool) (names : List (List ℕ)) (at : ℕ) → at < length names → list_all test (take at names) ≡ true → test (get_or names at []) ≡ true → list_all test (take (at + 1) names) ≡ true
+all_more test names at inside before passes =
+    ap (list_all test) (take_more names at [] inside) ∙ list_all-append test (take at names) (get_or names at [] ∷ [])
+    ∙ and_from _ _ before (and_from (test (get_or names at [])) true passes refl)
+
+pub both_told : (all absent told : Bool) → all ≡ true → told ≡ absent → told ≡ (all && absent)
+both_told true absent told is same = same
+both_told false absent told is same = absurd (cc)
+
+pub stands_shown : (placed : Placed) (name : List ℕ) → stands (shown placed) name ≡ stands placed name
+stands_shown placed name = ap (list_any (same_name name)) (keys_shown placed placed)

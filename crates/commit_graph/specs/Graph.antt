@@ -1,6 +1,6 @@
 -- Commits whose parents are known (own): each stands behind its parents.
-use Rattle.std.specs.Prelude.{◌≡◌, ◌<◌, ◌++◌, ℕ, suc, List, [], ◌∷◌, length, map, Contains}
-use Rattle.std.specs.List.{AllByRecursion, IsDistinct, slice_index_or}
+use Rattle.std.specs.Prelude.{◌≡◌, ◌<◌, ◌++◌, ℕ, suc, Bool, List, [], ◌∷◌, length, map, Contains}
+use Rattle.std.specs.List.{AllByRecursion, IsDistinct, list_any, slice_index_or}
 use Rattle.std.specs.Map.{keys_of, values_of}
 use Rattle.git_name.specs.Same.{same_name}
 use Rattle.commit_graph.specs.declared.links.Links.{Links}
@@ -9,6 +9,10 @@ use Rattle.commit_graph.specs.Links.{places_listed}
 -- names of commits, each with those of its parents
 abbrev pub Commits : Type 0
 Commits = List (List ℕ × List (List ℕ))
+
+-- whether a name is one of theirs
+abbrev pub stands : {X : Type 0} → List (List ℕ × X) → List ℕ → Bool
+stands commits name = list_any (same_name name) (keys_of commits)
 
 -- the name at a place
 abbrev pub name_at : {X : Type 0} → List (List ℕ × X) → ℕ → List ℕ

@@ -1,9 +1,9 @@
-ghost use Rattle.std.specs.Prelude.{◌≡◌, ◌++◌, ◌<◌, [], ◌∷◌, length, map as mapped, position, slice_get, IfOk, IfSome, OnErr};
+ghost use Rattle.std.specs.Prelude.{◌≡◌, ◌++◌, ◌<◌, ◌&&◌, not, is_some, [], ◌∷◌, length, map as mapped, position, slice_get, IfOk, IfSome, OnErr};
 ghost use Rattle.std.specs.Bool.{OnFalse, OnTrue};
-ghost use Rattle.std.specs.List.{AllByRecursion};
+ghost use Rattle.std.specs.List.{AllByRecursion, list_all};
 ghost use Rattle.std.specs.Map.{keys_of};
 ghost use Rattle.git_name.specs.Same.{same_name};
-ghost use Rattle.commit_graph.specs.Graph.{Forgets, IsGraph, name_at, parents_at};
+ghost use Rattle.commit_graph.specs.Graph.{Forgets, IsGraph, name_at, parents_at, stands};
 ghost use Rattle.commit_graph.specs.Links.{places_listed};
 
 use crate::links::Links;
@@ -81,6 +81,7 @@ impl Graph {
     // The links of a commit to these parents, if they stand among the commits.
     fn links_to(&self, alloc: Global, parents: &[Name]) -> Result<Option<Links>, AllocError>
         ensures names { IfOk result (λ found. IfSome found (λ links. mapped (name_at self.now) (places_listed links) ≡ parents.now)) }
+        ensures found { IfOk result (λ found. is_some found ≡ list_all (stands self.now) parents.now) }
         ensures within { IfOk result (λ found. IfSome found (λ links. AllByRecursion (λ place. place < length self.now) (places_listed links))) }
     {
         let mut places = Vec::with_capacity(alloc, parents.len())?;
@@ -95,6 +96,7 @@ impl Graph {
 
     /// Puts a commit behind the others, if its parents stand among them and it does not.
     pub fn push(&mut self, alloc: Global, name: Name, parents: &[Name]) -> Result<bool, AllocError>
+        ensures told { IfOk result (λ is_pushed. is_pushed ≡ (list_all (stands self.old) parents.now && not (stands self.old name))) }
         ensures pushed { IfOk result (λ is_pushed. OnTrue is_pushed (self.new ≡ self.old ++ (name, parents.now) ∷ [])) }
         ensures left { IfOk result (λ is_pushed. OnFalse is_pushed (self.new ≡ self.old)) }
         ensures err { OnErr result (self.new ≡ self.old) }
@@ -124,6 +126,7 @@ fn put_last(
     name: Name,
     links: Links,
 ) -> Result<bool, AllocError>
+    ensures told { IfOk result (λ is_put. is_put ≡ not (stands placed.old.entries name)) }
     ensures put { IfOk result (λ is_put. OnTrue is_put (placed.new.entries ≡ placed.old.entries ++ (name, links) ∷ [])) }
     ensures left { IfOk result (λ is_put. OnFalse is_put (placed.new.entries ≡ placed.old.entries)) }
     ensures err { OnErr result (placed.new.entries ≡ placed.old.entries) }

@@ -1,6 +1,7 @@
 mod fetches;
 mod hashes;
 mod histories;
+mod hosts;
 mod kept;
 mod objects;
 mod pieces;

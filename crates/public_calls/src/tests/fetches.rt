@@ -3,7 +3,7 @@ use super::objects::{Names, all_named, filled, items};
 use fork_query::{QueryError, cat_file, fetch};
 use fork_reach::SourceFault;
 use git_reftx::Refs;
-use std::alloc::Global;
+use std::alloc::{AllocError, Global};
 use std::test::Fail;
 
 // The records of the objects of these letters, ascending by name.
@@ -16,6 +16,29 @@ fn records(alloc: Global, kept: &mut Kept, names: &Names, letters: &[u8]) -> Res
         text.extend_from_slice(told.as_slice())?;
     }
     Ok(text)
+}
+
+// Whether what is fetched for these items are the records of these objects, and how many reads it took.
+fn fetches(
+    alloc: Global,
+    kept: &mut Kept,
+    text: &[u8],
+    letters: &[u8],
+) -> Result<(bool, u64), Fail> {
+    let names = filled(alloc, kept)?;
+    let text = items(alloc, &names, text)?;
+    let told = fetch(alloc, kept, &Refs::new(alloc), text.as_slice()).or(Err("fetch"))?;
+    let count = kept.reads;
+    let wanted = records(alloc, kept, &names, letters)?;
+    Ok((told.as_slice() == wanted.as_slice(), count))
+}
+
+// Whether the answer to what two items want tells that the store failed.
+fn fails(alloc: Global, kept: &mut Kept) -> Result<bool, AllocError> {
+    let names = filled(alloc, kept)?;
+    let text = items(alloc, &names, b"l ^f")?;
+    let answer = fetch(alloc, kept, &Refs::new(alloc), text.as_slice());
+    Ok(has_failed(&answer))
 }
 
 #[test]
@@ -32,12 +55,9 @@ fn each_object_is_read_once_to_be_sent_and_once_for_a_walk(rt: HostRuntime) -> R
     let alloc = rt.alloc();
     for (text, letters, reads) in ROWS {
         let mut kept = Kept::new(alloc);
-        let names = filled(alloc, &mut kept)?;
-        let text = items(alloc, &names, text)?;
-        let told = fetch(alloc, &mut kept, &Refs::new(alloc), text.as_slice()).or(Err("fetch"))?;
-        assert_eq!(rt; kept.reads, *reads, "{letters:?}");
-        let wanted = records(alloc, &mut kept, &names, letters)?;
-        assert_eq!(rt; told.as_slice(), wanted.as_slice());
+        let told = fetches(alloc, &mut kept, text, letters);
+        drop(kept);
+        assert_eq!(rt; told?, (true, *reads), "{letters:?}");
     }
     Ok(())
 }
@@ -55,11 +75,10 @@ fn each_read_that_fails_is_told(rt: HostRuntime) -> Result<(), Fail> {
     let alloc = rt.alloc();
     for fails_at in 1..9 {
         let mut kept = Kept::new(alloc);
-        let names = filled(alloc, &mut kept)?;
         kept.fails_at = fails_at;
-        let text = items(alloc, &names, b"l ^f")?;
-        let answer = fetch(alloc, &mut kept, &Refs::new(alloc), text.as_slice());
-        assert_eq!(rt; has_failed(&answer), fails_at < 8, "{fails_at}");
+        let has_failed = fails(alloc, &mut kept);
+        drop(kept);
+        assert_eq!(rt; has_failed?, fails_at < 8, "{fails_at}");
     }
     Ok(())
 }

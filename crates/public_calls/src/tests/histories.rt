@@ -1,36 +1,57 @@
 use super::kept::Kept;
 use super::objects::{Names, absent, all_named, filled, items, named, put_line};
 use fork_query::{QueryError, merge_base, rev_list};
-use fork_reach::read_history;
-use git_name::Hashing;
+use fork_reach::{History, read_history};
+use git_name::{Hashing, Name};
 use git_reftx::Refs;
 use indexmap::IndexSet;
 use std::alloc::{AllocError, Global};
 use std::test::Fail;
 
-#[test]
-fn a_history_keeps_parents_and_times(rt: HostRuntime) -> Result<(), Fail> {
-    let alloc = rt.alloc();
-    let mut kept = Kept::new(alloc);
-    let names = filled(alloc, &mut kept)?;
-    let none = IndexSet::with_hasher(alloc, Hashing::default());
-    let (left, first, tree) = (
-        named(&names, b'l'),
-        named(&names, b'f'),
-        named(&names, b't'),
-    );
-    let roots = [left, tree, absent()];
-    let history = read_history(alloc, &mut kept, &roots, &none).or(Err("read_history"))?;
-    assert_eq!(rt; kept.reads, 2);
+// Whether a history has three commits, whose times add up to 40.
+fn has_three(history: &History) -> bool {
     let (listed, notes) = history.commits();
-    assert_eq!(rt; listed.len(), 3);
     let mut seconds = 0u64;
     for noted in notes {
         seconds = seconds.saturating_add(noted.seconds());
     }
-    assert_eq!(rt; seconds, 40);
-    let found = history.best_common(alloc, left, first)?;
-    assert!(rt; found.len() == 1 && found.contains(&first));
+    listed.len() == 3 && seconds == 40
+}
+
+// Whether this is the one best common ancestor of two commits.
+fn has_best(
+    alloc: Global,
+    history: &History,
+    a: Name,
+    b: Name,
+    best: Name,
+) -> Result<bool, AllocError> {
+    let found = history.best_common(alloc, a, b)?;
+    Ok(found.len() == 1 && found.contains(&best))
+}
+
+// Whether a history of the left commit, a tree and an object that is not there keeps what it should.
+fn keeps_left(alloc: Global, kept: &mut Kept) -> Result<bool, Fail> {
+    let names = filled(alloc, kept)?;
+    let none = IndexSet::with_hasher(alloc, Hashing::default());
+    let (left, first) = (named(&names, b'l'), named(&names, b'f'));
+    let roots = [left, named(&names, b't'), absent()];
+    let history = read_history(alloc, kept, &roots, &none).or(Err("read_history"))?;
+    let has_three = has_three(&history);
+    let has_best = has_best(alloc, &history, left, first, first);
+    drop(history);
+    Ok(has_three && has_best?)
+}
+
+#[test]
+fn a_history_keeps_parents_and_times(rt: HostRuntime) -> Result<(), Fail> {
+    let alloc = rt.alloc();
+    let mut kept = Kept::new(alloc);
+    let is_right = keeps_left(alloc, &mut kept);
+    let count = kept.reads;
+    drop(kept);
+    assert!(rt; is_right?);
+    assert_eq!(rt; count, 2);
     Ok(())
 }
 
@@ -59,6 +80,38 @@ fn is_told(answer: &Result<Vec<u8>, QueryError>, text: &[u8]) -> bool {
     }
 }
 
+// Whether a revision list of these items has these commits.
+fn lists(
+    alloc: Global,
+    kept: &mut Kept,
+    text: &[u8],
+    letters: &[u8],
+    by_name: bool,
+) -> Result<bool, AllocError> {
+    let names = filled(alloc, kept)?;
+    let text = items(alloc, &names, text)?;
+    let wanted = lines(alloc, &names, letters, by_name)?;
+    let answer = rev_list(alloc, kept, &Refs::new(alloc), text.as_slice());
+    Ok(is_told(&answer, wanted.as_slice()))
+}
+
+// Whether these are the bases of two commits.
+fn has_bases(
+    alloc: Global,
+    kept: &mut Kept,
+    a: u8,
+    b: u8,
+    letters: &[u8],
+) -> Result<bool, AllocError> {
+    let names = filled(alloc, kept)?;
+    let a = items(alloc, &names, &[a])?;
+    let b = items(alloc, &names, &[b])?;
+    let wanted = lines(alloc, &names, letters, true)?;
+    let references = Refs::new(alloc);
+    let answer = merge_base(alloc, kept, &references, a.as_slice(), b.as_slice());
+    Ok(is_told(&answer, wanted.as_slice()))
+}
+
 #[test]
 fn each_commit_is_read_once_to_be_listed(rt: HostRuntime) -> Result<(), Fail> {
     // The items, the commits, whether their order is that of names, and how many objects are read.
@@ -78,12 +131,11 @@ fn each_commit_is_read_once_to_be_listed(rt: HostRuntime) -> Result<(), Fail> {
     let alloc = rt.alloc();
     for (text, letters, by_name, reads) in ROWS {
         let mut kept = Kept::new(alloc);
-        let names = filled(alloc, &mut kept)?;
-        let text = items(alloc, &names, text)?;
-        let answer = rev_list(alloc, &mut kept, &Refs::new(alloc), text.as_slice());
-        let wanted = lines(alloc, &names, letters, *by_name)?;
-        assert!(rt; is_told(&answer, wanted.as_slice()), "{letters:?}");
-        assert_eq!(rt; kept.reads, *reads, "{letters:?}");
+        let is_right = lists(alloc, &mut kept, text, letters, *by_name);
+        let count = kept.reads;
+        drop(kept);
+        assert!(rt; is_right?, "{letters:?}");
+        assert_eq!(rt; count, *reads, "{letters:?}");
     }
     Ok(())
 }
@@ -102,14 +154,11 @@ fn each_commit_is_read_once_for_bases(rt: HostRuntime) -> Result<(), Fail> {
     let alloc = rt.alloc();
     for (a, b, letters, reads) in ROWS {
         let mut kept = Kept::new(alloc);
-        let names = filled(alloc, &mut kept)?;
-        let a = items(alloc, &names, &[*a])?;
-        let b = items(alloc, &names, &[*b])?;
-        let references = Refs::new(alloc);
-        let answer = merge_base(alloc, &mut kept, &references, a.as_slice(), b.as_slice());
-        let wanted = lines(alloc, &names, letters, true)?;
-        assert!(rt; is_told(&answer, wanted.as_slice()), "{letters:?}");
-        assert_eq!(rt; kept.reads, *reads, "{letters:?}");
+        let is_right = has_bases(alloc, &mut kept, *a, *b, letters);
+        let count = kept.reads;
+        drop(kept);
+        assert!(rt; is_right?, "{letters:?}");
+        assert_eq!(rt; count, *reads, "{letters:?}");
     }
     Ok(())
 }

@@ -1,5 +1,5 @@
 use super::kept::Kept;
-use git_name::{Kind, Name, Sealed, seal};
+use git_name::{Kind, Name, seal};
 use std::alloc::{AllocError, Global};
 
 /// Two commits, left and right, have the first one as their parent, and two others have both of these as
@@ -30,12 +30,13 @@ pub fn put_line(out: &mut Vec<u8>, word: &[u8], name: Name) -> Result<(), AllocE
     Ok(())
 }
 
-fn commit(
+fn put_commit(
     alloc: Global,
+    kept: &mut Kept,
     tree: Name,
     parents: &[Name],
     seconds: &[u8],
-) -> Result<Sealed, AllocError> {
+) -> Result<Name, AllocError> {
     let mut bytes = Vec::new(alloc);
     put_line(&mut bytes, b"tree ", tree)?;
     for parent in parents {
@@ -44,24 +45,33 @@ fn commit(
     bytes.extend_from_slice(b"author A <a@x> 99 +0000\ncommitter A <a@x> ")?;
     bytes.extend_from_slice(seconds)?;
     bytes.extend_from_slice(b" +0000\n\n")?;
-    Ok(seal(Kind::Commit, bytes))
+    kept.put(seal(Kind::Commit, bytes))
 }
 
-fn tag(alloc: Global, object: Name, rest: &[u8]) -> Result<Sealed, AllocError> {
+fn put_tag(alloc: Global, kept: &mut Kept, object: Name, rest: &[u8]) -> Result<Name, AllocError> {
     let mut bytes = Vec::new(alloc);
     put_line(&mut bytes, b"object ", object)?;
     bytes.extend_from_slice(rest)?;
-    Ok(seal(Kind::Tag, bytes))
+    kept.put(seal(Kind::Tag, bytes))
 }
 
-/// A tree of entries, each a mode and a file name as a tree has them, and a name.
-pub fn tree(alloc: Global, entries: &[(&[u8], Name)]) -> Result<Sealed, AllocError> {
+/// Puts a tree of entries, each a mode and a file name as a tree has them, and a name.
+pub fn put_tree(
+    alloc: Global,
+    kept: &mut Kept,
+    entries: &[(&[u8], Name)],
+) -> Result<Name, AllocError> {
     let mut bytes = Vec::new(alloc);
     for (entry, name) in entries {
         bytes.extend_from_slice(entry)?;
         bytes.extend_from_slice(name.as_bytes().as_slice())?;
     }
-    Ok(seal(Kind::Tree, bytes))
+    kept.put(seal(Kind::Tree, bytes))
+}
+
+/// Puts a blob of one byte.
+pub fn put_blob(alloc: Global, kept: &mut Kept) -> Result<Name, AllocError> {
+    kept.put(seal(Kind::Blob, b"x".to_vec(alloc)?))
 }
 
 /// The name of no object.
@@ -71,23 +81,22 @@ pub fn absent() -> Name {
 
 /// Puts all objects among what is kept.
 pub fn filled(alloc: Global, kept: &mut Kept) -> Result<Names, AllocError> {
-    let blob = seal(Kind::Blob, b"x".to_vec(alloc)?);
-    let blob = kept.put(blob)?;
-    let empty = kept.put(tree(alloc, &[])?)?;
+    let blob = put_blob(alloc, kept)?;
+    let empty = put_tree(alloc, kept, &[])?;
     let entries = [
         (b"100755 a\0".as_slice(), blob),
         (b"40000 b\0".as_slice(), empty),
         (b"160000 c\0".as_slice(), absent()),
     ];
-    let tree = kept.put(tree(alloc, entries.as_slice())?)?;
-    let first = kept.put(commit(alloc, empty, &[], b"10")?)?;
-    let left = kept.put(commit(alloc, tree, &[first], b"30")?)?;
-    let right = kept.put(commit(alloc, empty, &[first], b"20")?)?;
-    let merge = kept.put(commit(alloc, empty, &[left, right], b"40")?)?;
-    let cross = kept.put(commit(alloc, empty, &[right, left], b"40")?)?;
-    let alone = kept.put(commit(alloc, empty, &[], b"50")?)?;
-    let inner = kept.put(tag(alloc, left, b"type commit\ntag v\n")?)?;
-    let outer = kept.put(tag(alloc, inner, b"type tag\ntag w\n")?)?;
+    let tree = put_tree(alloc, kept, entries.as_slice())?;
+    let first = put_commit(alloc, kept, empty, &[], b"10")?;
+    let left = put_commit(alloc, kept, tree, &[first], b"30")?;
+    let right = put_commit(alloc, kept, empty, &[first], b"20")?;
+    let merge = put_commit(alloc, kept, empty, &[left, right], b"40")?;
+    let cross = put_commit(alloc, kept, empty, &[right, left], b"40")?;
+    let alone = put_commit(alloc, kept, empty, &[], b"50")?;
+    let inner = put_tag(alloc, kept, left, b"type commit\ntag v\n")?;
+    let outer = put_tag(alloc, kept, inner, b"type tag\ntag w\n")?;
     Ok(Names {
         blob,
         tree,

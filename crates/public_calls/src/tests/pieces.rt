@@ -1,5 +1,5 @@
-use git_name::{Kind, seal};
-use push_stream::{BodyError, Incoming, StreamFault, write_record};
+use git_name::{Kind, Sealed, seal};
+use push_stream::{BodyError, Incoming, Sent, StreamFault, write_record};
 use std::alloc::{AllocError, Global};
 use std::test::Fail;
 
@@ -90,45 +90,73 @@ fn forty_objects_come_once_each_in_pieces_by_chance(rt: HostRuntime) -> Result<(
     Ok(())
 }
 
+// Whether an object that was sent is of this kind and so many bytes.
+fn is_sent(sent: &Sent, kind: Kind, length: u64) -> bool {
+    sent.kind == kind && sent.length == length
+}
+
 #[test]
 fn what_was_sent_is_told_of_an_upload(rt: HostRuntime) -> Result<(), Fail> {
     let mut upload = Incoming::new(rt.alloc());
-    assert!(rt; upload.sent().is_empty());
-    assert_eq!(rt; fed(rt.alloc(), &mut upload, STREAM)?, 2);
-    match upload.sent() {
-        [tree, commit] => {
-            assert!(rt; tree.kind == Kind::Tree && tree.length == 0);
-            assert!(rt; commit.kind == Kind::Commit && commit.length == 128);
-        }
-        _ => assert!(rt; false),
+    let was_empty = upload.sent().is_empty();
+    let objects = fed(rt.alloc(), &mut upload, STREAM);
+    let is_told = match upload.sent() {
+        [tree, commit] => is_sent(tree, Kind::Tree, 0) && is_sent(commit, Kind::Commit, 128),
+        _ => false,
+    };
+    drop(upload);
+    assert_eq!(rt; objects?, 2);
+    assert!(rt; was_empty && is_told);
+    Ok(())
+}
+
+// Adds the records of these objects.
+fn add_records(alloc: Global, records: &mut Vec<u8>, objects: &[Sealed]) -> Result<(), AllocError> {
+    for sealed in objects {
+        records.extend_from_slice(write_record(alloc, sealed)?.as_slice())?;
     }
     Ok(())
 }
 
-// The bytes that open an upload again, of which this was all that came, in pieces of so many bytes.
-fn again(alloc: Global, bytes: &[u8], size: usize) -> Result<Vec<u8>, AllocError> {
-    let mut upload = Incoming::new(alloc);
+// Feeds an upload in pieces of so many bytes. What came are these records; nothing where it broke, or
+// finds no room.
+fn gathered(
+    alloc: Global,
+    upload: &mut Incoming,
+    bytes: &[u8],
+    size: usize,
+) -> Result<Vec<u8>, AllocError> {
     let mut records = Vec::new(alloc);
     for piece in bytes.chunks(size.max(1)) {
         if upload.count() > 1_048_576 || piece.len() > 1_048_576 {
             return Ok(Vec::new(alloc));
         }
         let step = upload.feed(alloc, piece)?;
-        for sealed in &step.objects {
-            records.extend_from_slice(write_record(alloc, sealed)?.as_slice())?;
-        }
+        add_records(alloc, &mut records, step.objects.as_slice())?;
         if step.is_fault {
             records.clear();
         }
     }
+    Ok(records)
+}
+
+// The bytes that open an upload again, of which these records came.
+fn opened(alloc: Global, upload: &Incoming, records: &[u8]) -> Result<Vec<u8>, AllocError> {
     let parts = upload.again();
     let mut opened = parts.header.to_vec(alloc)?;
-    opened.append(&mut records)?;
+    opened.extend_from_slice(records)?;
     opened.extend_from_slice(parts.tail)?;
     for _ in 0..parts.zeros {
         opened.push(0)?;
     }
     Ok(opened)
+}
+
+// The same of an upload of which this was all that came, in pieces of so many bytes.
+fn again(alloc: Global, bytes: &[u8], size: usize) -> Result<Vec<u8>, AllocError> {
+    let mut upload = Incoming::new(alloc);
+    let records = gathered(alloc, &mut upload, bytes, size)?;
+    opened(alloc, &upload, records.as_slice())
 }
 
 #[test]
@@ -149,6 +177,23 @@ fn an_upload_is_opened_again_by_the_bytes_that_came(rt: HostRuntime) -> Result<(
     Ok(())
 }
 
+// Whether an upload of these bytes hands out nothing, and ends as the wrong one above.
+fn is_broken(alloc: Global, bytes: &[u8]) -> Result<bool, AllocError> {
+    let mut upload = Incoming::new(alloc);
+    let objects = fed(alloc, &mut upload, bytes)?;
+    let is_wrong = match upload.finish(alloc) {
+        Err(BodyError::Fault(StreamFault::WrongName(_))) => true,
+        _ => false,
+    };
+    Ok(
+        objects == 0
+            && is_wrong
+            && upload.is_fault()
+            && upload.count() == 279
+            && upload.sent().is_empty(),
+    )
+}
+
 #[test]
 fn a_broken_upload_is_opened_again_by_as_many_bytes(rt: HostRuntime) -> Result<(), Fail> {
     let alloc = rt.alloc();
@@ -162,13 +207,6 @@ fn a_broken_upload_is_opened_again_by_as_many_bytes(rt: HostRuntime) -> Result<(
     let (kept, zeros) = opened.split_at(100.min(opened.len()));
     assert!(rt; wrong.starts_with(kept));
     assert!(rt; zeros.iter().all(|byte| *byte == 0));
-    let mut upload = Incoming::new(alloc);
-    assert_eq!(rt; fed(alloc, &mut upload, opened.as_slice())?, 0);
-    assert!(rt; upload.is_fault() && upload.count() == 279);
-    assert!(rt; upload.sent().is_empty());
-    match upload.finish(alloc) {
-        Err(BodyError::Fault(StreamFault::WrongName(_))) => {}
-        _ => assert!(rt; false),
-    }
+    assert!(rt; is_broken(alloc, opened.as_slice())?);
     Ok(())
 }

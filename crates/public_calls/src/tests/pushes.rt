@@ -1,7 +1,7 @@
 use super::kept::Kept;
-use super::objects::{absent, tree};
+use super::objects::{absent, put_blob, put_tree};
 use fork_push::{PushRefusal, Verdict, judge};
-use git_name::{Kind, Name, name_of, seal};
+use git_name::{Kind, Name, name_of};
 use git_reftx::{Change, Command, Demand, RefWord, Refs};
 use push_stream::{Brief, StreamFault};
 use std::alloc::{AllocError, Global};
@@ -17,10 +17,10 @@ fn blob() -> Name {
 
 // The objects by their letters.
 fn filled(alloc: Global, kept: &mut Kept) -> Result<[(u8, Name); 4], AllocError> {
-    let blob = kept.put(seal(Kind::Blob, b"x".to_vec(alloc)?))?;
-    let of_blob = kept.put(tree(alloc, &[(b"100644 a\0", blob)])?)?;
-    let astray = kept.put(tree(alloc, &[(b"100644 a\0", absent())])?)?;
-    let wrong = kept.put(tree(alloc, &[(b"40000 a\0", blob)])?)?;
+    let blob = put_blob(alloc, kept)?;
+    let of_blob = put_tree(alloc, kept, &[(b"100644 a\0", blob)])?;
+    let astray = put_tree(alloc, kept, &[(b"100644 a\0", absent())])?;
+    let wrong = put_tree(alloc, kept, &[(b"40000 a\0", blob)])?;
     Ok([(b'b', blob), (b't', of_blob), (b'm', astray), (b'w', wrong)])
 }
 
@@ -52,6 +52,20 @@ fn sent(
         change: Change::Point(blob()),
     })?;
     Ok(Brief { commands, names })
+}
+
+// What a push of the objects of these letters, and of a reference that points at the blob, comes to.
+fn judged(
+    alloc: Global,
+    kept: &mut Kept,
+    letters: &[u8],
+    reference: &[u8],
+    limit: u64,
+) -> Result<&'static str, AllocError> {
+    let objects = filled(alloc, kept)?;
+    let brief = sent(alloc, objects.as_slice(), letters, reference)?;
+    let verdict = judge(alloc, kept, &Ok(brief), &Refs::new(alloc), limit);
+    Ok(told(&verdict))
 }
 
 // What a verdict says, in a word.
@@ -97,11 +111,11 @@ fn the_first_reason_decides_and_no_blob_is_read(rt: HostRuntime) -> Result<(), F
     let alloc = rt.alloc();
     for (letters, reference, limit, wanted, reads) in ROWS {
         let mut kept = Kept::new(alloc);
-        let objects = filled(alloc, &mut kept)?;
-        let brief = sent(alloc, objects.as_slice(), letters, reference)?;
-        let verdict = judge(alloc, &mut kept, &Ok(brief), &Refs::new(alloc), *limit);
-        assert_eq!(rt; told(&verdict), *wanted, "{letters:?}");
-        assert_eq!(rt; kept.reads, *reads, "{letters:?}");
+        let told = judged(alloc, &mut kept, letters, reference, *limit);
+        let count = kept.reads;
+        drop(kept);
+        assert_eq!(rt; told?, *wanted, "{letters:?}");
+        assert_eq!(rt; count, *reads, "{letters:?}");
     }
     Ok(())
 }
@@ -113,12 +127,17 @@ fn a_push_fails_where_a_read_does_and_not_for_a_stream_that_is_wrong(
     let alloc = rt.alloc();
     let mut kept = Kept::new(alloc);
     kept.fails_at = 1;
-    let objects = filled(alloc, &mut kept)?;
-    let refs = Refs::new(alloc);
-    let verdict = judge(alloc, &mut kept, &Err(StreamFault::TooMany), &refs, USED);
-    assert_eq!(rt; told(&verdict), "stream");
-    let brief = sent(alloc, objects.as_slice(), b"t", b"refs/tags/a")?;
-    let verdict = judge(alloc, &mut kept, &Ok(brief), &refs, USED);
-    assert_eq!(rt; told(&verdict), "failed");
+    let verdict = judge(
+        alloc,
+        &mut kept,
+        &Err(StreamFault::TooMany),
+        &Refs::new(alloc),
+        USED,
+    );
+    let of_stream = told(&verdict);
+    let of_read = judged(alloc, &mut kept, b"t", b"refs/tags/a", USED);
+    drop(kept);
+    assert_eq!(rt; of_stream, "stream");
+    assert_eq!(rt; of_read?, "failed");
     Ok(())
 }

@@ -1,3 +1,4 @@
+use super::hosts::{host_of, names};
 use fork_host::Host;
 use fork_request::{Request, TenantName};
 use fork_wire::write_uploads;
@@ -5,63 +6,94 @@ use loose_store::Memory;
 use std::alloc::Global;
 use std::test::Fail;
 
-// The names of three tenants and of a stranger.
-fn names(alloc: Global) -> Result<Vec<TenantName>, Fail> {
-    let mut names = Vec::new(alloc);
-    for word in ["alice", "bob", "carol", "dave"] {
-        names.push(TenantName::read(word.as_bytes()).ok_or("no name")?)?;
-    }
-    Ok(names)
-}
+// Three tenants of a host, and a stranger.
+const WORDS: &[&str] = &["alice", "bob", "carol", "dave"];
 
-// A host of the first three of these, of which the second and the third have an upload open.
-fn host_of_uploads(alloc: Global, names: &[TenantName]) -> Result<Host<Memory>, Fail> {
-    let [alice, bob, carol, _] = names else {
+// The second and the third of these tenants open uploads.
+fn open_uploads(alloc: Global, host: &mut Host<Memory>, names: &[TenantName]) -> Result<(), Fail> {
+    let [_, bob, carol, _] = names else {
         return Err("four names")?;
     };
-    let mut host = Host::new(alloc, Memory::new(alloc))?;
-    for name in [alice, bob, carol] {
-        host.add_tenant(alloc, name.copy(), 1000)?;
-    }
     let _ended = host.answer(alloc, carol, Request::Part(b"create refs/heads/"));
     let _begun = host.answer(alloc, bob, Request::Part(b""));
     let _more = host.answer(alloc, carol, Request::Part(b"main"));
-    Ok(host)
+    Ok(())
+}
+
+// The bytes of a tenant's open upload.
+fn is_open(
+    alloc: Global,
+    host: &mut Host<Memory>,
+    name: &TenantName,
+    wanted: Option<&[u8]>,
+) -> Result<bool, Fail> {
+    let found = host.upload(alloc, name)?;
+    match (found, wanted) {
+        (Some(bytes), Some(wanted)) => Ok(bytes.as_slice() == wanted),
+        (None, None) => Ok(true),
+        _ => Ok(false),
+    }
+}
+
+// Whether a host tells which tenants have uploads open, and by which bytes.
+fn tells_uploads(
+    alloc: Global,
+    host: &mut Host<Memory>,
+    names: &[TenantName],
+) -> Result<bool, Fail> {
+    let [alice, bob, carol, dave] = names else {
+        return Err("four names")?;
+    };
+    open_uploads(alloc, host, names)?;
+    let open = host.uploading(alloc)?;
+    let [first, second] = open.as_slice() else {
+        return Ok(false);
+    };
+    Ok(
+        first == bob
+            && second == carol
+            && is_open(alloc, host, carol, Some(b"create refs/heads/main"))?
+            && is_open(alloc, host, bob, Some(b""))?
+            && is_open(alloc, host, alice, None)?
+            && is_open(alloc, host, dave, None)?,
+    )
+}
+
+// Whether a host writes the uploads that are open as parts.
+fn writes_uploads(
+    alloc: Global,
+    host: &mut Host<Memory>,
+    names: &[TenantName],
+) -> Result<bool, Fail> {
+    open_uploads(alloc, host, names)?;
+    let mut written = Vec::new(alloc);
+    let Ok(length) = write_uploads(host, alloc, &mut written) else {
+        return Err("not written")?;
+    };
+    let wanted = b"bob 5\npart\ncarol 27\npart\ncreate refs/heads/main";
+    Ok(length == 22 && written.as_slice() == wanted.as_slice())
 }
 
 #[test]
 fn open_uploads_are_told_by_tenant(rt: HostRuntime) -> Result<(), Fail> {
     let alloc = rt.alloc();
-    let names = names(alloc)?;
-    let [alice, bob, carol, dave] = names.as_slice() else {
-        return Err("four names")?;
-    };
-    let mut host = host_of_uploads(alloc, names.as_slice())?;
-    let open = host.uploading(alloc)?;
-    assert!(rt; open.as_slice() == &names[1..3]);
-    let bytes = host.upload(alloc, carol)?.ok_or("no upload")?;
-    assert!(rt; bytes.as_slice() == b"create refs/heads/main".as_slice());
-    let bytes = host.upload(alloc, bob)?.ok_or("no upload")?;
-    assert!(rt; bytes.is_empty());
-    let none = host.upload(alloc, alice)?;
-    assert!(rt; none.is_none());
-    let none = host.upload(alloc, dave)?;
-    assert!(rt; none.is_none());
+    let names = names(alloc, WORDS)?;
+    let there = names.get(..3).ok_or("three names")?;
+    let mut host = host_of(alloc, there)?;
+    let is_right = tells_uploads(alloc, &mut host, names.as_slice());
+    drop(host);
+    assert!(rt; is_right?);
     Ok(())
 }
 
 #[test]
 fn open_uploads_are_written_as_parts(rt: HostRuntime) -> Result<(), Fail> {
     let alloc = rt.alloc();
-    let names = names(alloc)?;
-    let mut host = host_of_uploads(alloc, names.as_slice())?;
-    let mut written = Vec::new(alloc);
-    let Ok(length) = write_uploads(&mut host, alloc, &mut written) else {
-        return Err("not written")?;
-    };
-    assert_eq!(rt; length, 22);
-    assert!(rt;
-        written.as_slice() == b"bob 5\npart\ncarol 27\npart\ncreate refs/heads/main".as_slice()
-    );
+    let names = names(alloc, WORDS)?;
+    let there = names.get(..3).ok_or("three names")?;
+    let mut host = host_of(alloc, there)?;
+    let is_right = writes_uploads(alloc, &mut host, names.as_slice());
+    drop(host);
+    assert!(rt; is_right?);
     Ok(())
 }

@@ -1,6 +1,6 @@
 use fork_ledger::Vault;
 use fork_request::TenantName;
-use git_name::{Hashing, Kind, Sealed, name_of, seal};
+use git_name::{Hashing, Kind, Name, Sealed, name_of, seal};
 use indexmap::IndexSet;
 use loose_store::Memory;
 use std::alloc::{AllocError, Global};
@@ -23,33 +23,80 @@ fn is_lent(lent: Option<(Kind, &[u8])>, content: &[u8]) -> bool {
     }
 }
 
+// Whether a vault has these objects staged for a tenant, and shows it none.
+fn has_staged(
+    alloc: Global,
+    vault: &mut Vault<Memory>,
+    alice: &TenantName,
+    name: Name,
+) -> Result<bool, Fail> {
+    let seen = vault.get(alloc, alice, name).or(Err("get"))?;
+    let staged = vault
+        .get_staged(alloc, alice, name)
+        .or(Err("get_staged"))?
+        .ok_or("nothing is staged")?;
+    Ok(
+        vault.census() == 2
+            && vault.used(alice) == 0
+            && seen.is_none()
+            && staged.bytes() == b"one".as_slice()
+            && vault.lend(alice, name).is_none()
+            && is_lent(vault.lend_held(alice, name), b"one"),
+    )
+}
+
+// Whether a vault shows a tenant these objects, and keeps them all.
+fn has_published(
+    alloc: Global,
+    vault: &mut Vault<Memory>,
+    alice: &TenantName,
+    name: Name,
+) -> Result<bool, Fail> {
+    vault.publish(alice);
+    let seen = vault.get(alloc, alice, name).or(Err("get"))?;
+    Ok(
+        is_lent(vault.lend(alice, name), b"one")
+            && vault.used(alice) == 134
+            && seen.is_some()
+            && vault.collect(alloc).or(Err("collect"))? == 0,
+    )
+}
+
+// Whether a vault lets go of what a tenant has no more.
+fn has_let_go(
+    alloc: Global,
+    vault: &mut Vault<Memory>,
+    alice: &TenantName,
+    name: Name,
+) -> Result<bool, Fail> {
+    vault.keep_only(alice, &IndexSet::with_hasher(alloc, Hashing::default()));
+    Ok(vault.lend_held(alice, name).is_none() && vault.collect(alloc).or(Err("collect"))? == 2)
+}
+
+// Whether what a tenant stages in one call goes its way.
+fn goes_its_way(
+    alloc: Global,
+    vault: &mut Vault<Memory>,
+    alice: &TenantName,
+) -> Result<bool, Fail> {
+    vault.add(alloc, alice.copy())?;
+    let objects = blobs(alloc, &[b"one", b"two", b"one"])?;
+    let name = name_of(Kind::Blob, b"one");
+    vault.stage_all(alloc, alice, objects).or(Err("stage_all"))?;
+    Ok(
+        has_staged(alloc, vault, alice, name)?
+            && has_published(alloc, vault, alice, name)?
+            && has_let_go(alloc, vault, alice, name)?,
+    )
+}
+
 #[test]
 fn objects_are_staged_in_one_call(rt: HostRuntime) -> Result<(), Fail> {
     let alloc = rt.alloc();
     let alice = TenantName::read(b"alice").ok_or("no name")?;
     let mut vault = Vault::open(alloc, Memory::new(alloc)).or(Err("open"))?;
-    vault.add(alloc, alice.copy())?;
-    let objects = blobs(alloc, &[b"one", b"two", b"one"])?;
-    let name = name_of(Kind::Blob, b"one");
-    vault
-        .stage_all(alloc, &alice, objects)
-        .or(Err("stage_all"))?;
-    assert_eq!(rt; vault.census(), 2);
-    assert_eq!(rt; vault.used(&alice), 0);
-    assert!(rt; vault.get(alloc, &alice, name).or(Err("get"))?.is_none());
-    match vault.get_staged(alloc, &alice, name).or(Err("get_staged"))? {
-        Some(sealed) => assert_eq!(rt; sealed.bytes(), b"one".as_slice()),
-        None => assert!(rt; false),
-    }
-    assert!(rt; vault.lend(&alice, name).is_none());
-    assert!(rt; is_lent(vault.lend_held(&alice, name), b"one"));
-    vault.publish(&alice);
-    assert!(rt; is_lent(vault.lend(&alice, name), b"one"));
-    assert_eq!(rt; vault.used(&alice), 134);
-    assert!(rt; vault.get(alloc, &alice, name).or(Err("get"))?.is_some());
-    assert_eq!(rt; vault.collect(alloc).or(Err("collect"))?, 0);
-    vault.keep_only(&alice, &IndexSet::with_hasher(alloc, Hashing::default()));
-    assert!(rt; vault.lend_held(&alice, name).is_none());
-    assert_eq!(rt; vault.collect(alloc).or(Err("collect"))?, 2);
+    let is_right = goes_its_way(alloc, &mut vault, &alice);
+    drop(vault);
+    assert!(rt; is_right?);
     Ok(())
 }

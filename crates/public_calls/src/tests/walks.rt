@@ -3,7 +3,7 @@ use super::objects::{Names, all_named, filled, named};
 use fork_reach::{SourceFault, ancestors, reach, reach_past};
 use git_name::{Hashing, Name};
 use indexmap::IndexSet;
-use std::alloc::Global;
+use std::alloc::{AllocError, Global};
 use std::test::Fail;
 
 // Where walks begin, what is hidden from the third one, what is found, and how many objects are read.
@@ -51,25 +51,52 @@ fn is_found(found: &IndexSet<Name, Hashing>, names: &Names, letters: &[u8]) -> b
     true
 }
 
+// Whether a walk along links, past these objects, finds these, and nothing else.
+fn reaches(
+    alloc: Global,
+    kept: &mut Kept,
+    letters: &[u8],
+    hidden: &[u8],
+    wanted: &[u8],
+) -> Result<bool, Fail> {
+    let names = filled(alloc, kept)?;
+    let from = all_named(alloc, &names, letters)?;
+    let mut away = IndexSet::with_hasher(alloc, Hashing::default());
+    for letter in hidden {
+        away.insert(named(&names, *letter))?;
+    }
+    let found = if away.is_empty() {
+        reach(alloc, kept, from.as_slice())
+    } else {
+        reach_past(alloc, kept, from.as_slice(), &away)
+    };
+    let found = found.or(Err("reach"))?;
+    Ok(is_found(&found, &names, wanted))
+}
+
+// Whether a walk along parents finds these objects, and nothing else.
+fn descends_to(
+    alloc: Global,
+    kept: &mut Kept,
+    letters: &[u8],
+    wanted: &[u8],
+) -> Result<bool, Fail> {
+    let names = filled(alloc, kept)?;
+    let from = all_named(alloc, &names, letters)?;
+    let found = ancestors(alloc, kept, from.as_slice()).or(Err("ancestors"))?;
+    Ok(is_found(&found, &names, wanted))
+}
+
 #[test]
 fn links_lead_to_all_that_is_below_and_no_blob_is_read(rt: HostRuntime) -> Result<(), Fail> {
     let alloc = rt.alloc();
     for (letters, hidden, wanted, reads) in BY_LINKS {
         let mut kept = Kept::new(alloc);
-        let names = filled(alloc, &mut kept)?;
-        let from = all_named(alloc, &names, letters)?;
-        let mut away = IndexSet::with_hasher(alloc, Hashing::default());
-        for letter in *hidden {
-            away.insert(named(&names, *letter))?;
-        }
-        let found = if away.is_empty() {
-            reach(alloc, &mut kept, from.as_slice())
-        } else {
-            reach_past(alloc, &mut kept, from.as_slice(), &away)
-        };
-        let found = found.or(Err("reach"))?;
-        assert!(rt; is_found(&found, &names, wanted), "{letters:?} {hidden:?}");
-        assert_eq!(rt; kept.reads, *reads, "{letters:?} {hidden:?}");
+        let is_right = reaches(alloc, &mut kept, letters, hidden, wanted);
+        let count = kept.reads;
+        drop(kept);
+        assert!(rt; is_right?, "{letters:?} {hidden:?}");
+        assert_eq!(rt; count, *reads, "{letters:?} {hidden:?}");
     }
     Ok(())
 }
@@ -79,11 +106,11 @@ fn parents_lead_to_commits_alone(rt: HostRuntime) -> Result<(), Fail> {
     let alloc = rt.alloc();
     for (letters, _, wanted, reads) in BY_PARENTS {
         let mut kept = Kept::new(alloc);
-        let names = filled(alloc, &mut kept)?;
-        let from = all_named(alloc, &names, letters)?;
-        let found = ancestors(alloc, &mut kept, from.as_slice()).or(Err("ancestors"))?;
-        assert!(rt; is_found(&found, &names, wanted), "{letters:?}");
-        assert_eq!(rt; kept.reads, *reads, "{letters:?}");
+        let is_right = descends_to(alloc, &mut kept, letters, wanted);
+        let count = kept.reads;
+        drop(kept);
+        assert!(rt; is_right?, "{letters:?}");
+        assert_eq!(rt; count, *reads, "{letters:?}");
     }
     Ok(())
 }
@@ -96,20 +123,36 @@ fn fault_of(alloc: Global, kept: &mut Kept, root: Name) -> Option<SourceFault> {
     }
 }
 
+// Whether a walk from the outer tag tells the read that fails, and a later one finds all.
+fn fails_and_goes_on(alloc: Global, kept: &mut Kept, fails_at: u64) -> Result<bool, Fail> {
+    let names = filled(alloc, kept)?;
+    let root = named(&names, b'g');
+    kept.fails_at = fails_at;
+    let has_failed = fault_of(alloc, kept, root) == Some(SourceFault::Store);
+    let found = reach(alloc, kept, &[root]).or(Err("reach"))?;
+    Ok(has_failed && kept.failures == 1 && is_found(&found, &names, b"gltbef"))
+}
+
+// What a walk from one object comes to where another one is lost.
+fn fault_of_loss(
+    alloc: Global,
+    kept: &mut Kept,
+    root: u8,
+    lost: u8,
+) -> Result<Option<SourceFault>, AllocError> {
+    let names = filled(alloc, kept)?;
+    kept.lost = Some(named(&names, lost));
+    Ok(fault_of(alloc, kept, named(&names, root)))
+}
+
 #[test]
 fn each_read_that_fails_is_told_and_loses_nothing(rt: HostRuntime) -> Result<(), Fail> {
     let alloc = rt.alloc();
-    let mut kept = Kept::new(alloc);
-    let names = filled(alloc, &mut kept)?;
-    let root = named(&names, b'g');
     for fails_at in 1..6 {
-        kept.reads = 0;
-        kept.fails_at = fails_at;
-        let fault = fault_of(alloc, &mut kept, root);
-        assert!(rt; fault == Some(SourceFault::Store), "{fails_at}");
-        assert_eq!(rt; kept.failures, fails_at);
-        let found = reach(alloc, &mut kept, &[root]).or(Err("reach"))?;
-        assert!(rt; is_found(&found, &names, b"gltbef"));
+        let mut kept = Kept::new(alloc);
+        let is_right = fails_and_goes_on(alloc, &mut kept, fails_at);
+        drop(kept);
+        assert!(rt; is_right?, "{fails_at}");
     }
     Ok(())
 }
@@ -126,17 +169,17 @@ fn a_lost_object_is_told_where_it_is_read(rt: HostRuntime) -> Result<(), Fail> {
     ];
     let alloc = rt.alloc();
     for (root, lost, is_read) in ROWS {
-        let mut kept = Kept::new(alloc);
-        let names = filled(alloc, &mut kept)?;
-        kept.lost = Some(named(&names, *lost));
         let wanted = if *is_read {
             Some(SourceFault::Damaged)
         } else {
             None
         };
-        let fault = fault_of(alloc, &mut kept, named(&names, *root));
-        assert!(rt; fault == wanted, "{root} {lost}");
-        assert_eq!(rt; kept.failures, 0);
+        let mut kept = Kept::new(alloc);
+        let fault = fault_of_loss(alloc, &mut kept, *root, *lost);
+        let failures = kept.failures;
+        drop(kept);
+        assert!(rt; fault? == wanted, "{root} {lost}");
+        assert_eq!(rt; failures, 0);
     }
     Ok(())
 }

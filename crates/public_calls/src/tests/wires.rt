@@ -1,6 +1,6 @@
+use super::hosts::{host_of, names};
 use fork_frame::Ended;
 use fork_host::Host;
-use fork_request::TenantName;
 use fork_wire::{SessionFault, serve};
 use loose_store::Memory;
 use std::alloc::{AllocError, Global};
@@ -51,15 +51,6 @@ fn streams(alloc: Global, turns: &[(&str, &str, &str)]) -> Result<(String, Strin
         put_frame(alloc, "", text, &mut output)?;
     }
     Ok((input, output))
-}
-
-fn host_of_two(alloc: Global) -> Result<Host<Memory>, Fail> {
-    let mut host = Host::new(alloc, Memory::new(alloc))?;
-    for name in ["alice", "bob"] {
-        let tenant = TenantName::read(name.as_bytes()).ok_or("no name")?;
-        host.add_tenant(alloc, tenant, 1000)?;
-    }
-    Ok(host)
 }
 
 // Where each frame ends, and where its reply's frame does.
@@ -128,16 +119,18 @@ impl Write for Wire<'_> {
     }
 }
 
-// A session over a peer and a wire that fail: how it ended, how much was sent, and whether that is a
-// front of the replies.
-fn session(
+// How a session ended, how much was sent, and whether that is a front of the replies.
+type Told = (Result<Ended, SessionFault>, usize, bool);
+
+// A session with a host over a peer and a wire that fail.
+fn talk(
     alloc: Global,
+    host: &mut Host<Memory>,
     reads: usize,
     steps: usize,
-) -> Result<(Result<Ended, SessionFault>, usize, bool), Fail> {
+) -> Result<Told, AllocError> {
     let (input, output) = streams(alloc, TURNS.as_slice())?;
     let unflushed = Cell::new(0);
-    let mut host = host_of_two(alloc)?;
     let mut peer = Peer {
         bytes: input.as_bytes(),
         reads,
@@ -148,9 +141,18 @@ fn session(
         sent: Vec::new(alloc),
         unflushed: &unflushed,
     };
-    let ended = serve(&mut host, alloc, &mut peer, &mut wire);
+    let ended = serve(host, alloc, &mut peer, &mut wire);
     let is_front = output.as_bytes().starts_with(wire.sent.as_slice());
     Ok((ended, wire.sent.len(), is_front))
+}
+
+// The same with a host of alice and bob.
+fn session(alloc: Global, reads: usize, steps: usize) -> Result<Told, Fail> {
+    let names = names(alloc, &["alice", "bob"])?;
+    let mut host = host_of(alloc, names.as_slice())?;
+    let told = talk(alloc, &mut host, reads, steps);
+    drop(host);
+    Ok(told?)
 }
 
 #[test]

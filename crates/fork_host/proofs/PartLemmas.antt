@@ -23,7 +23,7 @@ use Rattle.fork_request.specs.declared.reply.Reply.{Reply}
 use Rattle.fork_request.specs.declared.reply.Reply.TheVariants.{Done, Failed, Refused}
 use Rattle.fork_reach.specs.Source.{Objects}
 use Rattle.fork_ledger.specs.Tenants.{VaultState}
-use Rattle.fork_model.specs.Answer.{Held, ended, open_upload, part_answer, part_drop_answer, without_upload}
+use Rattle.fork_model.specs.Answer.{Held, upload_ended, open_upload, part_answer, part_drop_answer, without_upload}
 use Rattle.fork_model.specs.Sound.{IsOrderly}
 use Rattle.fork_model.specs.Uploads.{upload_among}
 use Rattle.fork_model.specs.View.{View, Repositories}
@@ -225,7 +225,7 @@ tells_brief bytes reading (Err (Fault fault)) read found exact = same_end (finis
 tells_brief bytes reading (Err Memory) read found exact = tt
 
 -- a row that ends the upload
-pub ended_told : (row : Reply × View) (old : View) (reply : Reply) (new : View) → is_host_fault reply ≡ false → Yields row old reply new → Yields (ended row) old reply (without_upload new)
+pub ended_told : (row : Reply × View) (old : View) (reply : Reply) (new : View) → is_host_fault reply ≡ false → Yields row old reply new → Yields (upload_ended row) old reply (without_upload new)
 ended_told row old reply new told (Yielded is same) = Yielded is (ap without_upload same)
 ended_told row old reply new told (Lacking wanting stays) = (let differs : ⊥ = cc (sym told ∙ ap is_host_fault wanting) in absurd differs)
 ended_told row old reply new told (Faulted fault is stays) = (let differs : ⊥ = cc (sym told ∙ ap is_host_fault is) in absurd differs)

@@ -16,7 +16,7 @@ use Rattle.fork_request.specs.Told.{is_host_fault}
 use Rattle.fork_request.specs.declared.refusal.Refusal.TheVariants.{UploadOpen}
 use Rattle.fork_request.specs.declared.reply.Reply.{Reply}
 use Rattle.fork_request.specs.declared.reply.Reply.TheVariants.{Refused}
-use Rattle.fork_model.specs.Answer.{end_in, ended, push_into, pushed, upload_into}
+use Rattle.fork_model.specs.Answer.{end_in, upload_ended, push_into, pushed, upload_into}
 use Rattle.fork_model.specs.View.{View}
 use Rattle.fork_host.specs.Pushed.{Sends, TellsHeld}
 use Rattle.fork_host.specs.Rows.{Yields, Yielded, Lacking, Faulted}
@@ -66,7 +66,7 @@ pub end_is : (view : View) (word : List ℕ) (o : Option References) (references
 end_is view word o references upload here waits = ap (end_in view word) here ∙ ap (upload_into view word references) waits
 
 -- a row that ends the upload is answered with a host fault: the upload stays
-pub ended_failed : (row : Reply × View) (old : View) (reply : Reply) (new : View) → is_host_fault row.0 ≡ false → is_host_fault reply ≡ true → Yields row old reply new → Yields (ended row) old reply new
+pub ended_failed : (row : Reply × View) (old : View) (reply : Reply) (new : View) → is_host_fault row.0 ≡ false → is_host_fault reply ≡ true → Yields row old reply new → Yields (upload_ended row) old reply new
 ended_failed row old reply new model failed (Yielded told is) = (let differs : ⊥ = cc (sym failed ∙ ap is_host_fault told ∙ model) in absurd differs)
 ended_failed row old reply new model failed (Lacking wanting stays) = Lacking wanting stays
 ended_failed row old reply new model failed (Faulted fault is stays) = Faulted fault is stays

@@ -10,11 +10,11 @@ use Rattle.fork_ledger.specs.Tenants.{VaultState}
 use Rattle.fork_host.specs.Own.{KeepsStaged, staged_in}
 use Rattle.fork_host.specs.Staged.{Came}
 
-pub data IsFed (own : List ℕ) (old : Reading) (piece : List ℕ) (before : VaultState) (reply : Reply) (new : Reading) (after : VaultState) : Type 0 where
+pub data IsFed (tenant : List ℕ) (old : Reading) (piece : List ℕ) (before : VaultState) (reply : Reply) (new : Reading) (after : VaultState) : Type 0 where
   -- it has room: whichever bytes came before, these came too
   Fed : reply ≡ Done [] → nat_lt MAX_UPLOAD (old.count + length piece) ≡ false
-      → ((bytes : List ℕ) → Came before.honest bytes old (staged_in before own) → Came before.honest (bytes ++ piece) new (staged_in after own)) → IsFed own old piece before reply new after
+      → ((bytes : List ℕ) → Came before.honest bytes old (staged_in before tenant) → Came before.honest (bytes ++ piece) new (staged_in after tenant)) → IsFed tenant old piece before reply new after
   -- it has none
-  Full : reply ≡ Refused StagedTooLong → nat_lt MAX_UPLOAD (old.count + length piece) ≡ true → new ≡ old → KeepsStaged own before after → IsFed own old piece before reply new after
+  Full : reply ≡ Refused StagedTooLong → nat_lt MAX_UPLOAD (old.count + length piece) ≡ true → new ≡ old → KeepsStaged tenant before after → IsFed tenant old piece before reply new after
   -- a host fault leaves it
-  Unfed : (fault : HostFault) → reply ≡ Failed fault → new ≡ old → KeepsStaged own before after → IsFed own old piece before reply new after
+  Unfed : (fault : HostFault) → reply ≡ Failed fault → new ≡ old → KeepsStaged tenant before after → IsFed tenant old piece before reply new after

@@ -17,26 +17,26 @@ abbrev pub both_in : VaultState → List ℕ → Objects
 both_in vault tenant = both_of (private_of vault.tenants tenant)
 
 -- the vault has the tenant, and what is seen keeps the limit
-pub record IsReady (vault : VaultState) (own : List ℕ) (limit : ℕ) : Type 0 where
-  pub there : contains_key vault.tenants own ≡ true
-  pub within : use_of (visible_in vault own) ≤ limit
+pub record IsReady (vault : VaultState) (tenant : List ℕ) (limit : ℕ) : Type 0 where
+  pub there : contains_key vault.tenants tenant ≡ true
+  pub within : use_of (visible_in vault tenant) ≤ limit
 
 -- a tenant's part was used: each other tenant has what it had, and over any store what no store can change of it
-pub record IsOwn (own : List ℕ) (old new : VaultState) : Type 0 where
-  pub there : (tenant : List ℕ) → contains_key new.tenants tenant ≡ contains_key old.tenants tenant
-  pub shape : (tenant : List ℕ) → tenant ≢ own → private_measures (private_of new.tenants tenant) ≡ private_measures (private_of old.tenants tenant)
-  pub others : IsTrue old.honest → (tenant : List ℕ) → tenant ≢ own → private_of new.tenants tenant ≡ private_of old.tenants tenant
+pub record IsOwn (tenant : List ℕ) (old new : VaultState) : Type 0 where
+  pub there : (other : List ℕ) → contains_key new.tenants other ≡ contains_key old.tenants other
+  pub shape : (other : List ℕ) → other ≢ tenant → private_measures (private_of new.tenants other) ≡ private_measures (private_of old.tenants other)
+  pub others : IsTrue old.honest → (other : List ℕ) → other ≢ tenant → private_of new.tenants other ≡ private_of old.tenants other
   pub honest : new.honest ≡ old.honest
 
 -- what the tenant has staged stays, and over any store what no store can change of it
-pub record KeepsStaged (own : List ℕ) (old new : VaultState) : Type 0 where
-  pub shape : measures_of (staged_in new own) ≡ measures_of (staged_in old own)
-  pub exact : IsTrue old.honest → staged_in new own ≡ staged_in old own
+pub record KeepsStaged (tenant : List ℕ) (old new : VaultState) : Type 0 where
+  pub shape : measures_of (staged_in new tenant) ≡ measures_of (staged_in old tenant)
+  pub exact : IsTrue old.honest → staged_in new tenant ≡ staged_in old tenant
 
 -- the tenant sees what it saw, and over any store what no store can change of it
-pub record KeepsSeen (own : List ℕ) (old new : VaultState) : Type 0 where
-  pub shape : measures_of (visible_in new own) ≡ measures_of (visible_in old own)
-  pub exact : IsTrue old.honest → visible_in new own ≡ visible_in old own
+pub record KeepsSeen (tenant : List ℕ) (old new : VaultState) : Type 0 where
+  pub shape : measures_of (visible_in new tenant) ≡ measures_of (visible_in old tenant)
+  pub exact : IsTrue old.honest → visible_in new tenant ≡ visible_in old tenant
 
 -- the tenant's private maps alone were changed so: over an honest store they are what the change makes of them, and over any they
 -- have its names, kinds and lengths
@@ -58,22 +58,22 @@ pub record Changes (Way : Tenants → Tenants → Type 0) (old new : VaultState)
   pub honest : new.honest ≡ old.honest
 
 -- each other tenant has what it had
-pub record LeavesOthers (own : List ℕ) (old new : Tenants) : Type 0 where
-  pub there : (tenant : List ℕ) → contains_key new tenant ≡ contains_key old tenant
-  pub others : (tenant : List ℕ) → tenant ≢ own → private_of new tenant ≡ private_of old tenant
+pub record LeavesOthers (tenant : List ℕ) (old new : Tenants) : Type 0 where
+  pub there : (other : List ℕ) → contains_key new other ≡ contains_key old other
+  pub others : (other : List ℕ) → other ≢ tenant → private_of new other ≡ private_of old other
 
 -- these objects are staged beside what a tenant sees, and it sees what it saw
-pub record Stages (own : List ℕ) (both : Objects) (old new : Tenants) : Type 0 where
-  pub leaves : LeavesOthers own old new
-  pub sees : (private_of new own).visible ≡ (private_of old own).visible
-  pub staged : both_of (private_of new own) ≡ both
+pub record Stages (tenant : List ℕ) (both : Objects) (old new : Tenants) : Type 0 where
+  pub leaves : LeavesOthers tenant old new
+  pub sees : (private_of new tenant).visible ≡ (private_of old tenant).visible
+  pub staged : both_of (private_of new tenant) ≡ both
 
 -- it sees these objects, and these are staged
-pub record Has (own : List ℕ) (seen staged : Objects) (old new : Tenants) : Type 0 where
-  pub leaves : LeavesOthers own old new
-  pub sees : (private_of new own).visible ≡ seen
-  pub stages : (private_of new own).staged ≡ staged
+pub record Has (tenant : List ℕ) (seen staged : Objects) (old new : Tenants) : Type 0 where
+  pub leaves : LeavesOthers tenant old new
+  pub sees : (private_of new tenant).visible ≡ seen
+  pub stages : (private_of new tenant).staged ≡ staged
 
 -- it sees these, and nothing is staged
 abbrev pub Settles : List ℕ → Objects → Tenants → Tenants → Type 0
-Settles own objects = Has own objects empty
+Settles tenant objects = Has tenant objects empty

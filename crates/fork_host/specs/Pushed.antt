@@ -38,6 +38,6 @@ TellsBrief held (Err (Fault fault)) = held ≡ Err fault
 TellsBrief held (Err Memory) = ⊤
 
 -- a repository has these references and what is staged is seen, or want of memory leaves both
-pub data IsTaken (own : List ℕ) (before after : Repositories) (old : VaultState) (reply : Reply) (now : Repositories) (new : VaultState) : Type 0 where
-  Took : reply ≡ Done [] → now ≡ after → visible_in new own ≡ both_in old own → IsTaken own before after old reply now new
-  Lacked : reply ≡ Failed NoMemory → now ≡ before → visible_in new own ≡ visible_in old own → KeepsStaged own old new → IsTaken own before after old reply now new
+pub data IsTaken (tenant : List ℕ) (before after : Repositories) (old : VaultState) (reply : Reply) (now : Repositories) (new : VaultState) : Type 0 where
+  Took : reply ≡ Done [] → now ≡ after → visible_in new tenant ≡ both_in old tenant → IsTaken tenant before after old reply now new
+  Lacked : reply ≡ Failed NoMemory → now ≡ before → visible_in new tenant ≡ visible_in old tenant → KeepsStaged tenant old new → IsTaken tenant before after old reply now new

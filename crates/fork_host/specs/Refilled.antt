@@ -29,10 +29,10 @@ use Rattle.fork_host.specs.declared.seeing.Against.TheVariants.{Memory as NoMemo
 
 -- objects of some of these names came to what a tenant sees and has staged, and all of it is seen; over an honest store those
 -- that stand whole on it
-pub record SeesAgain (own : List ℕ) (names : List (List ℕ)) (old new : VaultState) : Type 0 where
+pub record SeesAgain (tenant : List ℕ) (names : List (List ℕ)) (old new : VaultState) : Type 0 where
   pub came : List Object
   pub among : (object : Object) → Contains came object → Contains names (object_name object)
-  pub changes : Changes (Settles own (with_objects (both_in old own) came)) old new
+  pub changes : Changes (Settles tenant (with_objects (both_in old tenant) came)) old new
   pub whole : IsTrue old.honest → (object : Object) → Contains came object → Whole old.files (object_name object) object
   pub all : IsTrue old.honest → (name : List ℕ) (object : Object) → Contains names name → Whole old.files name object → Contains came object
 
@@ -42,15 +42,15 @@ bad_in names objects = find (is_bad objects (contains name_cmp names)) names.key
 
 -- a tenant of these references and this limit sees again what it saw: over an honest store the objects of these names, each sound;
 -- over any store each reference at an object that is seen, a branch at a commit, and no more use than the limit
-pub record IsRefilled (own : List ℕ) (names : List (List ℕ)) (repositories : List (List ℕ × References)) (limit : ℕ) (old new : VaultState) : Type 0 where
+pub record IsRefilled (tenant : List ℕ) (names : List (List ℕ)) (repositories : List (List ℕ × References)) (limit : ℕ) (old new : VaultState) : Type 0 where
   pub objects : Objects
-  pub changes : Changes (Settles own objects) old new
+  pub changes : Changes (Settles tenant objects) old new
   pub named : IsTrue old.honest → IsNamed objects
   pub right : IsTrue old.honest → AreRight objects
   pub closed : IsTrue old.honest → IsClosed objects
   pub stored : IsTrue old.honest → OnStore old.files names (λ others. (others ≡ objects) × (first_bad names others ≡ None))
-  pub targets : first_astray repositories (visible_in new own) ≡ None
-  pub within : use_of (visible_in new own) ≤ limit
+  pub targets : first_astray repositories (visible_in new tenant) ≡ None
+  pub within : use_of (visible_in new tenant) ≤ limit
 
 -- what stands against it: judged by the names of a set, among what the tenant sees, of the use of what it sees and has staged
 abbrev pub IsAgainst : BTreeSet (List ℕ) → List (List ℕ × References) → ℕ → Objects → Objects → Against → Type 0

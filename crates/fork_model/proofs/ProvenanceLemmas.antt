@@ -21,7 +21,7 @@ use Rattle.fork_request.specs.Names.{is_plain_name}
 use Rattle.fork_request.specs.declared.refusal.Refusal.TheVariants.{BadName, NoRepository, NoUpload, RepositoryExists, StagedTooLong, TooMany, UploadOpen}
 use Rattle.fork_request.specs.declared.reply.Reply.{Reply}
 use Rattle.fork_request.specs.declared.reply.Reply.TheVariants.{Done, Refused}
-use Rattle.fork_model.specs.Answer.{answer, both, without_upload, init_answer, drop_answer, fork_answer, push_answer, part_answer, part_end_answer, part_drop_answer, update_answer, cat_file_answer, ls_tree_answer, rev_list_answer, merge_base_answer, fetch_answer, references_answer, quota_answer, prune_answer, targets_of, named_repository, new_repository, dropped, copied, push_into, pushed, taken, open_upload, upload_into, end_in, ended, update_in, carried_out, with_references, transaction_refusal, command_refusal, push_refusal}
+use Rattle.fork_model.specs.Answer.{answer, both, without_upload, init_answer, drop_answer, fork_answer, push_answer, part_answer, part_end_answer, part_drop_answer, update_answer, cat_file_answer, ls_tree_answer, rev_list_answer, merge_base_answer, fetch_answer, references_answer, quota_answer, prune_answer, targets_of, named_repository, new_repository, dropped, copied, push_into, pushed, taken, open_upload, upload_into, end_in, upload_ended, update_in, carried_out, with_references, transaction_refusal, command_refusal, push_refusal}
 use Rattle.fork_model.specs.Provenance.{IsAmong, IsFrom, Seen, Pushed, Uploaded, IsUploadFrom, Stays, Ends, GoesOn}
 use Rattle.fork_model.specs.View.{View}
 use Rattle.fork_model.proofs.ClosedLemmas.{of_one}
@@ -136,7 +136,7 @@ end_row view ask word None sent = known view ask _ (quiet view (Refused (NoRepos
 end_row view ask word (Some old) sent = upload_row view ask word old view.upload refl sent
 
 -- a row that ends the upload whatever it answers
-ended_row : (view : View) (ask : Ask) (row : Reply × View) → IsKnown view ask row → IsKnown view ask (ended row)
+ended_row : (view : View) (ask : Ask) (row : Reply × View) → IsKnown view ask row → IsKnown view ask (upload_ended row)
 ended_row view ask row is = record { objects = is.objects; upload = Ends refl }
 
 part_row : (view : View) (body : List ℕ) → IsKnown view (SendsPart body) (part_answer view body)

@@ -15,7 +15,7 @@ use Rattle.git_reftx.specs.Line.{LineAt, Whole, Unfinished, TooLong, line_at}
 use Rattle.git_reftx.specs.Reading.{command_at}
 use Rattle.push_stream.specs.declared.fault.StreamFault.TheVariants.{TooMany, TooLarge, Syntax, BadObject}
 use Rattle.push_stream.specs.declared.record.TheConstants.{MAX_CONTENT}
-use Rattle.push_stream.specs.Record.{PartsAt, Parts, Short, Faulty, RecordAt, Taken, Open, Wrong, content_at, ended, head_of_words, parts_at, parts_of_head, parts_of_line, record_of_parts, record_at}
+use Rattle.push_stream.specs.Record.{PartsAt, Parts, Short, Faulty, RecordAt, Taken, Open, Wrong, content_at, parts_of_content, head_of_words, parts_at, parts_of_head, parts_of_line, record_of_parts, record_at}
 use Rattle.push_stream.specs.Spelling.{AreWithin}
 use Rattle.push_stream.specs.Stream.{Stream, Flows, Breaks, sent_in, behind, after_record, records_in, after_command, header_in, stream_of}
 use Rattle.push_stream.specs.Upload.{UploadValue, continued, stream_with}
@@ -37,7 +37,7 @@ IsRecordWithin (Taken object rest) = length object.bytes ≤ MAX_CONTENT
 IsRecordWithin Open = ⊤
 IsRecordWithin (Wrong fault) = ⊤
 
-ended_within : (head : _) (content rest : List ℕ) → length content ≤ MAX_CONTENT → ArePartsWithin (ended head content rest)
+ended_within : (head : _) (content rest : List ℕ) → length content ≤ MAX_CONTENT → ArePartsWithin (parts_of_content head content rest)
 ended_within head content [] fits = tt
 ended_within head content (b ∷ rest) fits = either ArePartsWithin (eqb b 10) (Parts head content rest) (Faulty Syntax) fits tt
 
@@ -47,7 +47,7 @@ front_within size text few = (let fits : size ≤ MAX_CONTENT = grind (arith, na
 content_within : (head : _) (text : List ℕ) → ArePartsWithin (content_at head text)
 content_within head text = by (nat_lt MAX_CONTENT head.size) refl
   where
-    by : (b : Bool) → nat_lt MAX_CONTENT head.size ≡ b → ArePartsWithin (cond b (Faulty (TooLarge head.name)) (ended head (take head.size text) (drop head.size text)))
+    by : (b : Bool) → nat_lt MAX_CONTENT head.size ≡ b → ArePartsWithin (cond b (Faulty (TooLarge head.name)) (parts_of_content head (take head.size text) (drop head.size text)))
     by true is = tt
     by false is = ended_within head (take head.size text) (drop head.size text) (front_within head.size text is)
 

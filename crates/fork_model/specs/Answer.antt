@@ -145,8 +145,8 @@ abbrev pub without_upload : View → View
 without_upload view = record view { upload = None }
 
 -- a row that ends the upload whatever it answers
-abbrev pub ended : Reply × View → Reply × View
-ended row = (row.0, without_upload row.1)
+abbrev pub upload_ended : Reply × View → Reply × View
+upload_ended row = (row.0, without_upload row.1)
 
 -- an upload that ends is judged as the body of a push
 abbrev pub upload_into : View → List ℕ → References → Option UploadValue → Reply × View
@@ -159,7 +159,7 @@ end_in view repository (Some old) = upload_into view repository old view.upload
 
 -- `part-end REPO`: the repository is there, an upload is open, and it is judged
 unfoldable pub part_end_answer : View → List ℕ → Reply × View
-part_end_answer view word = ended (named_repository view word (end_in view word (get view.repositories word)))
+part_end_answer view word = upload_ended (named_repository view word (end_in view word (get view.repositories word)))
 
 -- `part-drop`: the upload goes
 unfoldable pub part_drop_answer : View → Reply × View

@@ -9,7 +9,7 @@ use Rattle.hex.specs.Hex.{decode_sized}
 use Rattle.hex.specs.declared.error.FromHexError.{FromHexError}
 use Rattle.hex.proofs.HexLemmas.{decode_of-ok, decode_sized-ok, decode_sized-twice}
 use Rattle.git_name.specs.Name.{IsName, name_in, same_again}
-use Rattle.git_name.specs.Text.{split_once, words_of}
+use Rattle.git_name.specs.Text.{Lacks, split_once, words_of}
 use Rattle.git_name.proofs.ReadingLemmas.{written_name}
 use Rattle.git_name.proofs.TextLemmas.{split_once-append, split_once-none, words_of-append, words_of-plain}
 use Rattle.fork_request.specs.Asked.{Ask, NoRequest, DropsParts, AsksUse, Prunes, asked, asked_alone, asked_bases, asked_cat_file, asked_drop, asked_fetch, asked_fork, asked_init, asked_ls_tree, asked_object, asked_part_end, asked_parts, asked_plain, asked_push, asked_query, asked_references, asked_revisions, asked_tree, asked_update, asked_verb, asked_words}
@@ -17,7 +17,7 @@ use Rattle.fork_request.specs.declared.request.TheConstants.{MAX_PAYLOAD}
 use Rattle.fork_request.specs.Spelling.{IsWord, Spells}
 use Rattle.fork_request.specs.Words.{one_or_two, pair, sole, three, word_and_items}
 use Rattle.fork_request.proofs.ItemLemmas.{WordAndItems, word_and_items_right}
-use Rattle.fork_request.proofs.PartLemmas.{Lacks, Parted, ThreeWords, TwoWords, lacks_behind, one_or_two_right, pair_right, parted, sole_right, three_line, three_right}
+use Rattle.fork_request.proofs.PartLemmas.{Parted, ThreeWords, TwoWords, lacks_behind, one_or_two_right, pair_right, parted, sole_right, three_line, three_right}
 use Rattle.fork_request.proofs.WordLemmas.{verb_many}
 
 -- a payload is no request, or spells one

@@ -7,7 +7,7 @@ use Rattle.std.proofs.lemmas.List.{length-append}
 use Rattle.std.proofs.lemmas.List.Elements.{All-append, All-cons, All-from_get_or, All-tail}
 use Rattle.std.proofs.lemmas.Str.Parse.{digit_at, IsNumeralModel, numerals_by_value}
 use Rattle.git_name.specs.Number.{number_in}
-use Rattle.git_name.specs.Text.{split_once, words_of}
+use Rattle.git_name.specs.Text.{Lacks, split_once, words_of}
 use Rattle.git_name.proofs.ReadingLemmas.{number_in-decimal, written_number}
 use Rattle.git_name.proofs.TextLemmas.{split_once-append, split_once-none, words_of-append, words_of-plain}
 use Rattle.fork_request.specs.Asked.{asked_host, host_alone, host_looks, host_parts, host_plain, host_sweep, host_verb, host_words}
@@ -18,7 +18,7 @@ use Rattle.fork_request.specs.declared.request.TheConstants.{MAX_PAYLOAD}
 use Rattle.fork_request.specs.Spelling.{HostSpells, IsWord}
 use Rattle.fork_request.specs.Words.{sole}
 use Rattle.fork_request.proofs.AskingLemmas.{IsSole, by_word}
-use Rattle.fork_request.proofs.PartLemmas.{Lacks, Parted, lacks_behind, lacks_by, parted, sole_right, some_there}
+use Rattle.fork_request.proofs.PartLemmas.{Parted, lacks_behind, lacks_by, parted, sole_right, some_there}
 use Rattle.fork_request.proofs.WordLemmas.{host_many}
 
 -- ---- what a payload asks for, it spells

@@ -7,11 +7,11 @@ use Rattle.std.proofs.lemmas.List.{append-nil}
 use Rattle.std.proofs.lemmas.List.Elements.{All-append, All-cons, All-head, All-nil, All-tail}
 use Rattle.std.proofs.lemmas.List.Sums.{AllPass-from_list_all, list_all-from_AllPass}
 use Rattle.std.proofs.lemmas.Slice.Eq.{bytes_eq-Decides}
-use Rattle.git_name.specs.Text.{onto_first, words_of}
+use Rattle.git_name.specs.Text.{Lacks, onto_first, words_of}
 use Rattle.git_name.proofs.TextLemmas.{first_of_words, spaced, spaced-words_of, words_of-append, words_of-plain}
 use Rattle.fork_request.specs.Spelling.{AreItems, IsItem, IsWord, behind_spaces}
 use Rattle.fork_request.specs.Words.{and_items, is_item, items_in, some_word, word_and_items}
-use Rattle.fork_request.proofs.PartLemmas.{Lacks, Parted, lacks_behind, lacks_front, parted, some_right}
+use Rattle.fork_request.proofs.PartLemmas.{Parted, lacks_behind, lacks_front, parted, some_right}
 
 -- ---- the test of an item
 

@@ -5,15 +5,11 @@ use Rattle.std.proofs.lemmas.Bool.Decides.{nat_tests}
 use Rattle.std.proofs.lemmas.List.{append_assoc}
 use Rattle.std.proofs.lemmas.List.Elements.{All-nil, All-cons, All-head, All-tail}
 use Rattle.std.proofs.lemmas.List.Sums.{AllPass-from_list_all}
-use Rattle.git_name.specs.Text.{words_of}
+use Rattle.git_name.specs.Text.{Lacks, words_of}
 use Rattle.git_name.proofs.TextLemmas.{first_of_words, words_of-append, words_of-plain}
 use Rattle.fork_request.specs.Spelling.{IsWord}
 use Rattle.fork_request.specs.Words.{all_words, and_word, both_words, one_or_two, pair, sole, some_word, three}
 use Rattle.fork_request.proofs.WordLemmas.{sole_many}
-
--- no such byte stands in a text
-abbrev pub Lacks : ℕ → List ℕ → Type 0
-Lacks byte text = All (λ b. b ≢ byte) text
 
 pub lacks_front : (byte : ℕ) (xs ys : List ℕ) → Lacks byte (xs ++ ys) → Lacks byte xs
 lacks_front byte [] ys lacks = All-nil (λ b. b ≢ byte)
@@ -34,7 +30,7 @@ lacks_by byte text is = λ k d within. not_byte _ byte (AllPass-from_list_all (�
 pub record Parted (byte : ℕ) (text : List ℕ) : Type 0 where
   pub front : List ℕ
   pub behind : List ℕ
-  pub lacks : All (λ b. b ≢ byte) front
+  pub lacks : Lacks byte front
   pub whole : text ≡ front ++ byte ∷ behind
 
 same_byte : (b byte : ℕ) → eqb b byte ≡ true → b ≡ byte

@@ -7,7 +7,7 @@ use Rattle.std.proofs.lemmas.List.Elements.{All-append, All-cons, All-from_recur
 use Rattle.hex.specs.Hex.{IsBytes, encode_lower, encode_with, lower_digits}
 use Rattle.hex.proofs.HexLemmas.{length-encode_with}
 use Rattle.git_name.specs.Name.{IsName}
-use Rattle.git_name.specs.Text.{split_once, words_of}
+use Rattle.git_name.specs.Text.{Lacks, split_once, words_of}
 use Rattle.git_name.proofs.ReadingLemmas.{name_in-encode_lower}
 use Rattle.git_name.proofs.TextLemmas.{split_once-append, words_of-append, words_of-plain}
 use Rattle.fork_request.specs.Asked.{Ask, Inits, Drops, Forks, Pushes, SendsPart, EndsParts, DropsParts, Updates, AsksObject, AsksTree, AsksRevisions, AsksBases, AsksReferences, Fetches, AsksUse, Prunes, NoRequest, asked, asked_bases, asked_cat_file, asked_drop, asked_fetch, asked_fork, asked_init, asked_ls_tree, asked_object, asked_part_end, asked_parts, asked_push, asked_references, asked_revisions, asked_tree, asked_update, asked_words}
@@ -15,7 +15,7 @@ use Rattle.fork_request.specs.declared.request.TheConstants.{MAX_PAYLOAD}
 use Rattle.fork_request.specs.Spelling.{AreItems, IsItem, IsWord, Spells, behind_spaces}
 use Rattle.fork_request.specs.Words.{all_words, and_items, and_word, both_words, items_in, some_word}
 use Rattle.fork_request.proofs.ItemLemmas.{behind_lacks, items_there, words_of-behind}
-use Rattle.fork_request.proofs.PartLemmas.{Lacks, lacks_by, some_there, three_line}
+use Rattle.fork_request.proofs.PartLemmas.{lacks_by, some_there, three_line}
 
 -- a verb: a word that is written out
 pub record IsVerb (verb : List ℕ) : Type 0 where

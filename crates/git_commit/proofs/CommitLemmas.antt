@@ -7,7 +7,8 @@ use Rattle.git_name.specs.Name.{IsName}
 use Rattle.git_name.specs.declared.kind.Kind.TheVariants.{Commit}
 use Rattle.git_header.specs.declared.fault.HeaderFault.{HeaderFault}
 use Rattle.git_header.specs.declared.fault.HeaderFault.TheVariants as fault
-use Rattle.git_header.specs.Line.{Lacks, IsLine, IsOther, Begins, ended, ending}
+use Rattle.git_name.specs.Text.{Lacks, ended}
+use Rattle.git_header.specs.Line.{IsLine, IsOther, Begins, ending}
 use Rattle.git_header.specs.Ident.{spelled_ident}
 use Rattle.git_header.specs.Header.{NoHeader, header_grammar, header_lines}
 use Rattle.git_commit.specs.Commit.{CommitValue, IsCommitValue, IsCommit, parent_line, commit_lines}

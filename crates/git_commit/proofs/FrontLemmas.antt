@@ -5,7 +5,8 @@ use Rattle.std.proofs.lemmas.List.Concat.{flat_map-append}
 use Rattle.hex.specs.Hex.{encode_lower}
 use Rattle.git_name.specs.Name.{IsName}
 use Rattle.git_header.specs.Header.{header_lines}
-use Rattle.git_header.specs.Line.{Lacks, IsLine, ended, ending}
+use Rattle.git_name.specs.Text.{Lacks, ended}
+use Rattle.git_header.specs.Line.{IsLine, ending}
 use Rattle.git_header.specs.Value.{ident_line, name_line}
 use Rattle.git_header.proofs.FieldLemmas.{differ}
 use Rattle.git_header.proofs.JudgingLemmas.{lines_then}

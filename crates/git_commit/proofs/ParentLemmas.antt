@@ -5,7 +5,7 @@ use Rattle.std.proofs.lemmas.List.Elements.{All-from_recursion, All-append}
 use Rattle.hex.specs.Hex.{encode_lower}
 use Rattle.git_name.specs.Name.{IsName, name_in}
 use Rattle.git_name.proofs.ReadingLemmas.{name_in-encode_lower}
-use Rattle.git_header.specs.Line.{Lacks, ended}
+use Rattle.git_name.specs.Text.{Lacks, ended}
 use Rattle.git_commit.specs.Commit.{parent_line}
 use Rattle.git_header.specs.Row.{name_or_none}
 use Rattle.git_commit.specs.Parents.{parents_in, AreParents}

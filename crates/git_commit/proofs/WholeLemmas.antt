@@ -5,7 +5,8 @@ use Rattle.hex.specs.Hex.{encode_lower}
 use Rattle.git_name.specs.Name.{IsName}
 use Rattle.git_name.specs.declared.kind.Kind.TheVariants.{Commit}
 use Rattle.git_header.specs.declared.fault.HeaderFault.{HeaderFault}
-use Rattle.git_header.specs.Line.{IsLine, ended, ending}
+use Rattle.git_name.specs.Text.{ended}
+use Rattle.git_header.specs.Line.{IsLine, ending}
 use Rattle.git_header.specs.Ident.{IdentValue, IsIdentValue, spelled_ident}
 use Rattle.git_header.specs.Header.{HeaderValue, NoHeader, IsHeader, header_lines}
 use Rattle.git_commit.specs.Commit.{CommitValue, IsCommit, parent_line, commit_lines}

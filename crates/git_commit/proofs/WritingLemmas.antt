@@ -8,7 +8,7 @@ use Rattle.git_name.specs.declared.kind.Kind.TheVariants.{Commit}
 use Rattle.git_header.specs.declared.header.Header.{Header}
 use Rattle.git_header.specs.Header.{IsHeader}
 use Rattle.git_header.specs.Left.{header_of}
-use Rattle.git_header.specs.Line.{ended}
+use Rattle.git_name.specs.Text.{ended}
 use Rattle.git_commit.specs.Commit.{parent_line}
 use Rattle.git_commit.proofs.CommitLemmas.{all_push}
 

@@ -6,7 +6,8 @@ use Rattle.git_name.specs.declared.kind.Kind.TheVariants.{Commit}
 use Rattle.git_header.specs.Ident.{IdentValue, IsIdentValue}
 use Rattle.git_header.specs.Header.{HeaderValue, IsHeader, header_lines}
 use Rattle.git_header.specs.Value.{ident_line, name_line}
-use Rattle.git_header.specs.Line.{ended, ending}
+use Rattle.git_name.specs.Text.{ended}
+use Rattle.git_header.specs.Line.{ending}
 
 -- a commit, without where it lies in memory; no message and an empty one are two values
 pub record CommitValue : Type 0 where

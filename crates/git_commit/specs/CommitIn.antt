@@ -7,7 +7,7 @@ use Rattle.git_name.specs.declared.kind.Kind.TheVariants.{Commit}
 use Rattle.git_commit.specs.Commit.{CommitValue, spelled_commit}
 use Rattle.git_commit.specs.Fault.{is_parent}
 use Rattle.git_header.specs.IdentIn.{ident_in}
-use Rattle.git_header.specs.Parting.{line_at, name_behind, header_part, message_part}
+use Rattle.git_header.specs.Parting.{nth_line, name_behind, header_part, message_part}
 use Rattle.git_header.specs.Row.{gather}
 use Rattle.git_header.specs.Tests.{is_name, is_ident, is_header}
 
@@ -21,10 +21,10 @@ commit_from lines message =
     let parents = take_while is_parent (drop 1 lines) in
     let others = drop (length parents) (drop 1 lines) in
     record {
-      tree = name_behind 5 (line_at 0 lines);
+      tree = name_behind 5 (nth_line 0 lines);
       parents = map (λ line. name_behind 7 line) parents;
-      author = ident_in (drop 7 (line_at 0 others));
-      committer = ident_in (drop 10 (line_at 1 others));
+      author = ident_in (drop 7 (nth_line 0 others));
+      committer = ident_in (drop 10 (nth_line 1 others));
       headers = (gather (drop 2 others)).headers;
       message = message;
     }

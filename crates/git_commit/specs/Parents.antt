@@ -2,7 +2,7 @@
 use Rattle.std.specs.Prelude.{◌≡◌, ℕ, List, map, drop}
 use Rattle.std.specs.List.{flat_map, AllByRecursion}
 use Rattle.git_name.specs.Name.{IsName, name_in}
-use Rattle.git_header.specs.Line.{ended}
+use Rattle.git_name.specs.Text.{ended}
 use Rattle.git_header.specs.Row.{lines_in, name_or_none}
 use Rattle.git_commit.specs.Commit.{parent_line}
 

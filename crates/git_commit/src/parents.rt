@@ -1,7 +1,7 @@
 ghost use Rattle.std.specs.Prelude.{◌≡◌, ◌≢◌, ◌++◌, List, ℕ, IfOk, IfErr, codes, map};
 ghost use Rattle.std.specs.List.{flat_map, AllByRecursion};
 ghost use Rattle.git_name.specs.Name.{IsName};
-ghost use Rattle.git_header.specs.Line.{ended};
+ghost use Rattle.git_name.specs.Text.{ended};
 ghost use Rattle.git_commit.specs.Commit.{parent_line};
 ghost use Rattle.std.proofs.Props.{props};
 ghost use Rattle.git_commit.specs.Parents.{AreParents};

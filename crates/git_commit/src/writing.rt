@@ -1,7 +1,8 @@
 ghost use Rattle.std.specs.Prelude.{◌≡◌, ◌++◌, List, ℕ, map, codes, OnOk, IfOk};
 ghost use Rattle.std.specs.List.{flat_map, AllByRecursion};
 ghost use Rattle.git_name.specs.Name.{IsName};
-ghost use Rattle.git_header.specs.Line.{ended, ending};
+ghost use Rattle.git_name.specs.Text.{ended};
+ghost use Rattle.git_header.specs.Line.{ending};
 ghost use Rattle.git_header.specs.Header.{continued, header_lines};
 ghost use Rattle.git_header.specs.Value.{name_line, ident_line};
 ghost use Rattle.git_commit.specs.Commit.{IsCommit, parent_line};

@@ -8,7 +8,8 @@ use Rattle.git_name.specs.declared.kind.Kind.{Kind}
 use Rattle.git_name.specs.declared.kind.Kind.TheVariants.{Blob, Tree, Commit, Tag}
 use Rattle.git_header.specs.declared.fault.HeaderFault.{HeaderFault}
 use Rattle.git_header.specs.declared.fault.HeaderFault.TheVariants as fault
-use Rattle.git_header.specs.Line.{Lacks, IsEnding, IsLine, IsNoLine, ended}
+use Rattle.git_name.specs.Text.{Lacks, ended}
+use Rattle.git_header.specs.Line.{IsEnding, IsLine, IsNoLine}
 use Rattle.git_header.specs.Header.{HeaderValue, IsPlain, IsKey, IsOwnWord, HasOwnWord, IsHeader, IsHeaderLine, IsContinuation, HeaderPlace, NoHeader, SomeHeader, header_grammar, header_lines, continued}
 use Rattle.git_header.specs.Row.{IsMore, more_in}
 use Rattle.git_header.specs.Judging.{AreRight, HoldsZero, Misplaced, Malformed, IsBroken, Early, Unended, Bad, IsFirstFault}

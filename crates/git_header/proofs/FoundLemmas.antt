@@ -8,7 +8,7 @@ use Rattle.git_name.proofs.ReadingLemmas.{name_in-encode_lower, number_in-decima
 use Rattle.git_name.proofs.TextLemmas.{split_once-append}
 use Rattle.git_header.specs.declared.ident.Sign.{Sign}
 use Rattle.git_header.specs.declared.ident.Sign.TheVariants.{Plus, Minus}
-use Rattle.git_header.specs.Line.{Lacks}
+use Rattle.git_name.specs.Text.{Lacks}
 use Rattle.git_header.specs.Ident.{IdentValue, IsIdentValue, sign_byte, spelled_ident, spelled_time}
 use Rattle.git_header.specs.IdentIn.{sides, sign_of, ident_in}
 use Rattle.git_header.specs.Row.{name_or_none}

@@ -3,7 +3,7 @@ use Rattle.std.proofs.Common.{◌≡◌, ◌≢◌, inl, inr, ℕ, List, [], ◌
 use Rattle.std.proofs.lemmas.List.Elements.{All-from_recursion, All-cons, All-append, All-same}
 use Rattle.git_name.specs.declared.kind.Kind.{Kind}
 use Rattle.git_name.specs.declared.kind.Kind.TheVariants.{Blob, Tree, Commit, Tag}
-use Rattle.git_header.specs.Line.{Lacks}
+use Rattle.git_name.specs.Text.{Lacks}
 use Rattle.git_header.specs.Header.{IsHeaderLine, IsOwnWord, HasOwnWord, HeaderPlace, NoHeader, SomeHeader, IsFurther}
 use Rattle.git_header.proofs.FieldLemmas.{own_is_key}
 

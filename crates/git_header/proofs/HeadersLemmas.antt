@@ -8,7 +8,8 @@ use Rattle.std.specs.Borrow.{Bor}
 use Rattle.git_name.specs.declared.kind.Kind.{Kind}
 use Rattle.git_name.specs.declared.kind.Kind.TheVariants.{Commit}
 use Rattle.git_header.specs.declared.fault.HeaderFault.{HeaderFault}
-use Rattle.git_header.specs.Line.{Lacks, IsEnding, IsLine, IsNoLine, ended}
+use Rattle.git_name.specs.Text.{Lacks, ended}
+use Rattle.git_header.specs.Line.{IsEnding, IsLine, IsNoLine}
 use Rattle.git_header.specs.Header.{HeaderValue, IsHeader, IsPlain, NoHeader, SomeHeader, header_grammar, header_lines, continued}
 use Rattle.git_header.specs.Judging.{IsFirstFault}
 use Rattle.git_header.specs.Row.{AreHeaders, headers_in, IsMore, more_in}

@@ -5,7 +5,7 @@ use Rattle.std.proofs.lemmas.Fmt.{decimal_injective}
 use Rattle.git_header.specs.declared.ident.Sign.{Sign}
 use Rattle.git_header.specs.declared.ident.Sign.TheVariants.{Plus, Minus}
 use Rattle.git_header.specs.Ident.{IdentValue, IsIdent, IsIdentValue, sign_byte, spelled_time}
-use Rattle.git_header.specs.Line.{Lacks}
+use Rattle.git_name.specs.Text.{Lacks}
 use Rattle.git_header.proofs.Splits.{split_unique, tails, heads, decimal_without}
 
 abbrev made : List ℕ → List ℕ → ℕ → Sign → List ℕ → IdentValue

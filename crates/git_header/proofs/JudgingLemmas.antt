@@ -5,7 +5,8 @@ use Rattle.std.proofs.lemmas.List.Concat.{flat_map-append}
 use Rattle.std.proofs.lemmas.List.Elements.{All-head}
 use Rattle.git_header.specs.declared.fault.HeaderFault.{HeaderFault}
 use Rattle.git_header.specs.declared.fault.HeaderFault.TheVariants as fault
-use Rattle.git_header.specs.Line.{Lacks, IsEnding, IsLine, IsNoLine, ended, ending}
+use Rattle.git_name.specs.Text.{Lacks, ended}
+use Rattle.git_header.specs.Line.{IsEnding, IsLine, IsNoLine, ending}
 use Rattle.git_header.specs.Judging.{Grammar, AreRight, IsBadLine, HoldsZero, Misplaced, Malformed, IsBroken, Early, Unended, Bad, IsFirstFault}
 use Rattle.git_header.proofs.Splits.{split_unique, split_none, heads}
 

@@ -4,7 +4,8 @@ use Rattle.std.specs.List.{AllByRecursion, flat_map, take_while}
 use Rattle.std.proofs.Math.Seq.{drop-append_seam}
 use Rattle.std.proofs.lemmas.List.Elements.{recursion_from_All}
 use Rattle.std.proofs.lemmas.List.Sums.{take_while-cons}
-use Rattle.git_header.specs.Line.{ended, ending}
+use Rattle.git_name.specs.Text.{ended}
+use Rattle.git_header.specs.Line.{ending}
 use Rattle.git_header.specs.Judging.{Grammar, AreRight}
 use Rattle.git_header.specs.Parting.{holds_some, header_part, behind_end, message_part}
 use Rattle.git_header.specs.Row.{lines_in}

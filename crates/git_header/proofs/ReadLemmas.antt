@@ -1,7 +1,8 @@
 -- A header that is read line by line.
 use Rattle.std.proofs.Common.{◌≡◌, ℕ, List, ◌++◌, refl, sym, ap, Option, Some, None}
 use Rattle.std.specs.List.{flat_map}
-use Rattle.git_header.specs.Line.{ended, ending}
+use Rattle.git_name.specs.Text.{ended}
+use Rattle.git_header.specs.Line.{ending}
 use Rattle.git_header.specs.Ident.{IdentValue, IsIdentValue, spelled_ident}
 use Rattle.git_header.specs.Value.{ident_line}
 use Rattle.git_header.specs.Judging.{Grammar, AreRight, IsFirstFault}

@@ -7,7 +7,7 @@ use Rattle.std.proofs.lemmas.List.Elements.{All-from_recursion, recursion_from_A
 use Rattle.hex.specs.Hex.{encode_lower, encode_with, lower_digits, IsBytes}
 use Rattle.git_name.specs.declared.kind.Kind.{Kind}
 use Rattle.git_name.specs.Name.{IsName}
-use Rattle.git_header.specs.Line.{Lacks, ended}
+use Rattle.git_name.specs.Text.{Lacks, ended}
 use Rattle.git_header.specs.Header.{HeaderValue, IsPlain, IsHeader, continued, header_lines}
 use Rattle.git_header.specs.Row.{before_first, lines_in, more_in, IsMore, before_space, behind_space, Gathered, one_more, gather, headers_in, AreHeaders}
 use Rattle.git_header.proofs.JudgingLemmas.{lines_then}

@@ -11,7 +11,7 @@ use Rattle.std.proofs.lemmas.Slice.Eq.{bytes_eq-Decides}
 use Rattle.git_name.specs.Name.{IsName}
 use Rattle.git_name.specs.declared.kind.Kind.{Kind}
 use Rattle.git_name.specs.declared.kind.Kind.TheVariants.{Blob, Tree, Commit, Tag}
-use Rattle.git_header.specs.Line.{Lacks}
+use Rattle.git_name.specs.Text.{Lacks}
 use Rattle.git_header.specs.Ident.{IdentValue, IsIdentText, EndsInSpace, IsZone, IsIdentValue}
 use Rattle.git_header.specs.Header.{HeaderValue, IsPlain, IsOwnWord, IsKey, IsHeader}
 use Rattle.git_header.specs.Tests.{lacks, is_name, is_plain, is_ident_text, ends_in_space, is_zone, is_ident, is_own_word, is_key, is_header}

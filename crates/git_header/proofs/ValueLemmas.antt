@@ -9,7 +9,8 @@ use Rattle.git_header.specs.declared.fault.HeaderFault.{HeaderFault}
 use Rattle.git_header.specs.declared.fault.HeaderFault.TheVariants as fault
 use Rattle.git_header.specs.declared.ident.Sign.{Sign}
 use Rattle.git_header.specs.declared.ident.Sign.TheVariants.{Plus, Minus}
-use Rattle.git_header.specs.Line.{Lacks, IsEnding, IsNoWord, IsOther, Begins}
+use Rattle.git_name.specs.Text.{Lacks}
+use Rattle.git_header.specs.Line.{IsEnding, IsNoWord, IsOther, Begins}
 use Rattle.git_header.specs.Ident.{IdentValue, IsIdentValue, spelled_ident, spelled_time, sign_byte}
 use Rattle.git_header.specs.Judging.{Grammar, Malformed, IsBroken, Bad}
 use Rattle.git_header.specs.Value.{IsNameText, IsIdentLine, Holds, IsNoValue}

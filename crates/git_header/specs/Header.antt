@@ -5,7 +5,7 @@ use Rattle.git_name.specs.declared.kind.Kind.{Kind}
 use Rattle.git_name.specs.declared.kind.Kind.TheVariants.{Blob, Tree, Commit, Tag}
 use Rattle.git_header.specs.declared.fault.HeaderFault.{HeaderFault}
 use Rattle.git_header.specs.declared.fault.HeaderFault.TheVariants as fault
-use Rattle.git_header.specs.Line.{Lacks}
+use Rattle.git_name.specs.Text.{Lacks}
 use Rattle.git_header.specs.Judging.{Grammar}
 
 -- the key, the value, and the values of the continuation lines

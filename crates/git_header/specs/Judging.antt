@@ -1,7 +1,8 @@
 -- Header lines are judged in order, and the first faulty one decides (own). Commits and tags share these words.
 use Rattle.std.specs.Prelude.{◌≡◌, ◌≢◌, ℕ, List, [], ◌∷◌, ◌++◌}
 use Rattle.std.specs.List.{flat_map}
-use Rattle.git_header.specs.Line.{Lacks, IsEnding, IsLine, ended}
+use Rattle.git_name.specs.Text.{Lacks, ended}
+use Rattle.git_header.specs.Line.{IsEnding, IsLine}
 
 -- what may stand at each place P of a header, and the faults F of what may not
 pub record Grammar (P F : Type 0) : Type 1 where

@@ -1,15 +1,8 @@
 -- Lines of a header: bytes without a line feed, and one behind them (own: no zero byte in them).
-use Rattle.std.specs.Prelude.{◌≡◌, ◌≢◌, ◌⊎◌, ℕ, List, [], ◌∷◌, ◌++◌, All, Option, None, Some}
+use Rattle.std.specs.Prelude.{◌≡◌, ◌≢◌, ◌⊎◌, ℕ, List, [], ◌∷◌, ◌++◌, Option, None, Some}
+use Rattle.git_name.specs.Text.{Lacks}
 use Rattle.git_header.specs.declared.fault.HeaderFault.{HeaderFault}
 use Rattle.git_header.specs.declared.fault.HeaderFault.TheVariants as fault
-
--- no byte is this one
-abbrev pub Lacks : ℕ → List ℕ → Type 0
-Lacks byte bytes = All (λ b. b ≢ byte) bytes
-
--- a line and its line feed
-abbrev pub ended : List ℕ → List ℕ
-ended line = line ++ 10 ∷ []
 
 -- what may stand behind the lines of a header: nothing, or an empty line and a message
 abbrev pub ending : Option (List ℕ) → List ℕ

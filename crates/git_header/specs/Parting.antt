@@ -2,7 +2,7 @@
 use Rattle.std.specs.Prelude.{ℕ, Bool, true, false, List, [], ◌∷◌, drop, length, get_or, Option, None, Some}
 use Rattle.std.specs.List.{flat_map, take_while}
 use Rattle.git_name.specs.Name.{name_in}
-use Rattle.git_header.specs.Line.{ended}
+use Rattle.git_name.specs.Text.{ended}
 use Rattle.git_header.specs.Row.{lines_in, name_or_none}
 
 -- whether the line holds a byte
@@ -24,8 +24,8 @@ unfoldable pub message_part : List ℕ → Option (List ℕ)
 message_part text = behind_end (drop (length (flat_map ended (header_part text))) text)
 
 -- the line at a place, or an empty one
-abbrev pub line_at : ℕ → List (List ℕ) → List ℕ
-line_at place lines = get_or lines place []
+abbrev pub nth_line : ℕ → List (List ℕ) → List ℕ
+nth_line place lines = get_or lines place []
 
 -- the name behind a word of so many bytes
 abbrev pub name_behind : ℕ → List ℕ → List ℕ

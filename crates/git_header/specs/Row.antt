@@ -3,7 +3,7 @@ use Rattle.std.specs.Prelude.{◌≡◌, ℕ, List, [], ◌∷◌, map, drop, Op
 use Rattle.std.specs.List.{flat_map, AllByRecursion}
 use Rattle.git_name.specs.declared.kind.Kind.{Kind}
 use Rattle.git_header.specs.Header.{HeaderValue, IsHeader, IsPlain, continued, header_lines}
-use Rattle.git_header.specs.Line.{ended}
+use Rattle.git_name.specs.Text.{ended}
 
 -- a byte put before the first line
 abbrev pub before_first : ℕ → List (List ℕ) → List (List ℕ)

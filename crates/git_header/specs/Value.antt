@@ -3,7 +3,8 @@ use Rattle.std.specs.Prelude.{◌≡◌, ◌⊎◌, ℕ, List, ◌++◌}
 use Rattle.hex.specs.Hex.{encode_lower}
 use Rattle.git_name.specs.Name.{IsName}
 use Rattle.git_header.specs.declared.fault.HeaderFault.{HeaderFault}
-use Rattle.git_header.specs.Line.{Lacks, IsLine, IsNoWord}
+use Rattle.git_name.specs.Text.{Lacks}
+use Rattle.git_header.specs.Line.{IsLine, IsNoWord}
 use Rattle.git_header.specs.Ident.{IdentValue, IsIdent, spelled_ident}
 
 -- the text is the digits of a name

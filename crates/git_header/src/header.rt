@@ -3,7 +3,8 @@ ghost use Rattle.std.specs.List.{AllByRecursion, flat_map};
 ghost use Rattle.std.proofs.Props.{props};
 ghost use Rattle.git_header.specs.Header.{IsPlain, IsKey, IsHeader, NoHeader, header_grammar, header_lines, kind_at};
 ghost use Rattle.git_header.specs.Judging.{IsFirstFault};
-ghost use Rattle.git_header.specs.Line.{IsEnding, ended};
+ghost use Rattle.git_name.specs.Text.{ended};
+ghost use Rattle.git_header.specs.Line.{IsEnding};
 ghost use Rattle.git_header.specs.More.{more_of};
 ghost use Rattle.git_header.specs.declared.fault.HeaderFault.TheVariants as fault;
 

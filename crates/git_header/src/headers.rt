@@ -4,7 +4,8 @@ ghost use Rattle.std.specs.Prelude.{◌≡◌, ◌++◌, IfOk, IfErr};
 ghost use Rattle.std.specs.List.{flat_map, AllByRecursion};
 ghost use Rattle.git_header.specs.Header.{IsHeader, NoHeader, header_grammar, header_lines, kind_at};
 ghost use Rattle.git_header.specs.Judging.{IsFirstFault};
-ghost use Rattle.git_header.specs.Line.{IsEnding, ended, ending};
+ghost use Rattle.git_name.specs.Text.{ended};
+ghost use Rattle.git_header.specs.Line.{IsEnding, ending};
 
 use crate::fault::HeaderFault;
 use crate::header::Header;

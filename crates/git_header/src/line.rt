@@ -1,5 +1,6 @@
 ghost use Rattle.std.specs.Prelude.{◌≡◌, ◌≢◌, ◌∷◌, ◌++◌, ◌↔◌, IsTrue, List, ℕ, IfSome, IfNone, IfOk, IfErr};
-ghost use Rattle.git_header.specs.Line.{Lacks, ending, IsEnding, IsLine, IsNoLine, IsNoWord};
+ghost use Rattle.git_name.specs.Text.{Lacks};
+ghost use Rattle.git_header.specs.Line.{ending, IsEnding, IsLine, IsNoLine, IsNoWord};
 ghost use Rattle.git_header.specs.Lent.{message_of};
 
 use crate::fault::HeaderFault;

@@ -1,7 +1,8 @@
 ghost use Rattle.std.specs.Prelude.{◌++◌, IfOk, IfErr};
 ghost use Rattle.hex.specs.Hex.{encode_lower};
 ghost use Rattle.git_name.specs.Name.{IsName};
-ghost use Rattle.git_header.specs.Line.{Lacks, IsLine};
+ghost use Rattle.git_name.specs.Text.{Lacks};
+ghost use Rattle.git_header.specs.Line.{IsLine};
 ghost use Rattle.git_header.specs.Value.{IsNameText, IsIdentLine, IsNoValue};
 ghost use Rattle.git_header.specs.Ident.{IsIdentValue, spelled_ident};
 ghost use Rattle.git_header.specs.View.{ident_of};

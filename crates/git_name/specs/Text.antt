@@ -1,5 +1,13 @@
 -- Lines and words of a text of bytes.
-use Rattle.std.specs.Prelude.{ℕ, ◌==◌, List, [], ◌∷◌, Option, None, Some, if◌then◌else◌, option_map}
+use Rattle.std.specs.Prelude.{◌≢◌, ℕ, ◌==◌, List, [], ◌∷◌, ◌++◌, All, Option, None, Some, if◌then◌else◌, option_map}
+
+-- no byte is this one
+abbrev pub Lacks : ℕ → List ℕ → Type 0
+Lacks byte bytes = All (λ b. b ≢ byte) bytes
+
+-- a line and its LF
+abbrev pub ended : List ℕ → List ℕ
+ended line = line ++ 10 ∷ []
 
 -- what stands before the first such byte, and what stands behind it
 abbrev pub split_once : ℕ → List ℕ → Option (List ℕ × List ℕ)

@@ -26,7 +26,7 @@ use Rattle.git_header.proofs.TestLemmas.{all_decides, name_decides, plain_decide
 use Rattle.git_object.specs.declared.fault.TagFault.{TagFault}
 use Rattle.git_object.specs.Fault.{AtObject, tag_grammar, IsTagFault}
 use Rattle.git_object.specs.Tag.{TagValue, IsTagName, IsTagger, IsTagValue, IsTag, tagger_lines, tag_lines, spelled_tag}
-use Rattle.git_object.specs.TagIn.{is_tag_name, is_right_tagger, is_tag, kind_in, tagger_in, behind_tagger, tag_from, tag_in}
+use Rattle.git_object.specs.TagIn.{is_tag_name, is_right_tagger, is_tag, kind_or_tag, tagger_in, behind_tagger, tag_from, tag_in}
 use Rattle.git_object.proofs.TagLemmas.{sound_tag, no_tagger, header_no_tagger, last_of, tag_right}
 use Rattle.git_object.proofs.WholeLemmas.{kind_back, no_tag}
 
@@ -51,10 +51,10 @@ whole object k name tagger headers message = record { object = object; kind = k;
 tag_again : (v : TagValue) → IsTagValue v → tag_from (tag_lines v) v.message ≡ v
 tag_again v is =
     let rest = tagger_lines v.tagger ++ flat_map header_lines v.headers in
-    ap (λ (t : Option IdentValue). whole (name_or_none (name_in (encode_lower v.object))) (kind_in (type_word v.kind)) v.name t (gather (behind_tagger t rest)).headers v.message) (tagger_again v.tagger v.headers is.tagger is.headers)
-    ∙ ap (λ (ls : List (List ℕ)). whole (name_or_none (name_in (encode_lower v.object))) (kind_in (type_word v.kind)) v.name v.tagger (gather ls).headers v.message) (behind_again v.tagger (flat_map header_lines v.headers))
-    ∙ ap (λ (g : Gathered). whole (name_or_none (name_in (encode_lower v.object))) (kind_in (type_word v.kind)) v.name v.tagger g.headers v.message) (gather_headers kind.Tag v.headers is.headers)
-    ∙ ap (λ x. whole x (kind_in (type_word v.kind)) v.name v.tagger v.headers v.message) (name_again v.object is.object)
+    ap (λ (t : Option IdentValue). whole (name_or_none (name_in (encode_lower v.object))) (kind_or_tag (type_word v.kind)) v.name t (gather (behind_tagger t rest)).headers v.message) (tagger_again v.tagger v.headers is.tagger is.headers)
+    ∙ ap (λ (ls : List (List ℕ)). whole (name_or_none (name_in (encode_lower v.object))) (kind_or_tag (type_word v.kind)) v.name v.tagger (gather ls).headers v.message) (behind_again v.tagger (flat_map header_lines v.headers))
+    ∙ ap (λ (g : Gathered). whole (name_or_none (name_in (encode_lower v.object))) (kind_or_tag (type_word v.kind)) v.name v.tagger g.headers v.message) (gather_headers kind.Tag v.headers is.headers)
+    ∙ ap (λ x. whole x (kind_or_tag (type_word v.kind)) v.name v.tagger v.headers v.message) (name_again v.object is.object)
     ∙ ap (λ x. whole v.object x v.name v.tagger v.headers v.message) (kind_back v.kind)
 
 -- ---- the tests

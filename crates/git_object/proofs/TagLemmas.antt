@@ -10,7 +10,8 @@ use Rattle.git_name.specs.declared.kind.Kind.{Kind}
 use Rattle.git_name.specs.declared.kind.Kind.TheVariants as kind
 use Rattle.git_header.specs.declared.fault.HeaderFault.{HeaderFault}
 use Rattle.git_header.specs.declared.fault.HeaderFault.TheVariants as line
-use Rattle.git_header.specs.Line.{Lacks, IsEnding, IsLine, IsNoWord, Begins, ended}
+use Rattle.git_name.specs.Text.{Lacks, ended}
+use Rattle.git_header.specs.Line.{IsEnding, IsLine, IsNoWord, Begins}
 use Rattle.git_header.specs.Ident.{IdentValue, IsIdentValue, spelled_ident}
 use Rattle.git_header.specs.Header.{HeaderValue, IsHeader, IsHeaderLine, HasOwnWord, HeaderPlace, NoHeader, SomeHeader, header_grammar, header_lines}
 use Rattle.git_header.specs.Value.{ident_line, IsNameText, IsIdentLine, Holds, IsNoValue}

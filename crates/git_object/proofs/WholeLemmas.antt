@@ -8,7 +8,8 @@ use Rattle.git_name.specs.Name.{IsName}
 use Rattle.git_name.specs.declared.kind.Kind.{Kind}
 use Rattle.git_name.specs.declared.kind.Kind.TheVariants as kind
 use Rattle.git_header.specs.declared.fault.HeaderFault.{HeaderFault}
-use Rattle.git_header.specs.Line.{IsLine, ended, ending}
+use Rattle.git_name.specs.Text.{ended}
+use Rattle.git_header.specs.Line.{IsLine, ending}
 use Rattle.git_header.specs.Ident.{IdentValue, spelled_ident}
 use Rattle.git_header.specs.Header.{HeaderValue, NoHeader, IsHeader, header_grammar, header_lines}
 use Rattle.git_header.specs.Value.{name_line, ident_line}
@@ -21,7 +22,7 @@ use Rattle.git_header.proofs.ValueLemmas.{name_same}
 use Rattle.git_header.proofs.ReadLemmas.{IsRead, go_on, same_ending, same_ident}
 use Rattle.git_object.specs.declared.fault.TagFault.{TagFault}
 use Rattle.git_object.specs.Tag.{TagValue, IsTagName, IsTagger, IsTag, type_line, tag_line, tagger_lines, tag_lines}
-use Rattle.git_object.specs.TagIn.{kind_in}
+use Rattle.git_object.specs.TagIn.{kind_or_tag}
 use Rattle.git_object.specs.Fault.{tag_fault, TagPlace, AtObject, AtType, AtName, AtTagger, Further, tag_grammar, IsTagFault}
 use Rattle.git_object.proofs.TagLemmas.{sound_tag, header_no_tagger, further_within, fault_at_tagger, last_of, may_end, tagger_right, tag_right}
 
@@ -76,14 +77,14 @@ read_whole bytes rest v object name tagger read headers parts = record {
 
 -- ---- one value
 
-pub kind_back : (k : Kind) → kind_in (type_word k) ≡ k
+pub kind_back : (k : Kind) → kind_or_tag (type_word k) ≡ k
 kind_back kind.Blob = refl
 kind_back kind.Tree = refl
 kind_back kind.Commit = refl
 kind_back kind.Tag = refl
 
 kind_same : (a b : Kind) → type_word a ≡ type_word b → a ≡ b
-kind_same a b same = sym (kind_back a) ∙ ap kind_in same ∙ kind_back b
+kind_same a b same = sym (kind_back a) ∙ ap kind_or_tag same ∙ kind_back b
 
 first_line : {l m : List ℕ} {ls ms : List (List ℕ)} → l ∷ ls ≡ m ∷ ms → l ≡ m
 first_line e = cc

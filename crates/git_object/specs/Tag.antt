@@ -8,7 +8,8 @@ use Rattle.git_name.specs.declared.kind.Kind.TheVariants.{Tag}
 use Rattle.git_header.specs.Value.{name_line, ident_line}
 use Rattle.git_header.specs.Header.{HeaderValue, IsHeader, IsPlain, header_lines}
 use Rattle.git_header.specs.Ident.{IdentValue, IsIdentValue}
-use Rattle.git_header.specs.Line.{ended, ending}
+use Rattle.git_name.specs.Text.{ended}
+use Rattle.git_header.specs.Line.{ending}
 
 -- a tag, without where it lies in memory; no message and an empty one are two values
 pub record TagValue : Type 0 where

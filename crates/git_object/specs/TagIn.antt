@@ -5,7 +5,7 @@ use Rattle.std.specs.List.{list_all}
 use Rattle.std.specs.Str.{bytes_eq}
 use Rattle.git_name.specs.declared.kind.Kind.{Kind}
 use Rattle.git_name.specs.declared.kind.Kind.TheVariants.{Blob, Tree, Commit, Tag}
-use Rattle.git_header.specs.Parting.{line_at, name_behind, header_part, message_part}
+use Rattle.git_header.specs.Parting.{nth_line, name_behind, header_part, message_part}
 use Rattle.git_header.specs.Ident.{IdentValue}
 use Rattle.git_header.specs.IdentIn.{ident_in}
 use Rattle.git_header.specs.Row.{gather}
@@ -27,8 +27,8 @@ abbrev pub is_tag : TagValue → Bool
 is_tag tag = is_name tag.object && is_tag_name tag.name && is_right_tagger tag.tagger && list_all (is_header Tag) tag.headers
 
 -- the kind of a word, if it is that of one
-abbrev pub kind_in : List ℕ → Kind
-kind_in word =
+abbrev pub kind_or_tag : List ℕ → Kind
+kind_or_tag word =
     if bytes_eq word (codes "blob") then Blob else
     if bytes_eq word (codes "tree") then Tree else
     if bytes_eq word (codes "commit") then Commit else Tag
@@ -45,11 +45,11 @@ behind_tagger (Some ident) lines = drop 1 lines
 -- the parts that lines and a message are, if they are those of a tag at all
 abbrev pub tag_from : List (List ℕ) → Option (List ℕ) → TagValue
 tag_from lines message =
-    let tagger = tagger_in (line_at 3 lines) in
+    let tagger = tagger_in (nth_line 3 lines) in
     record {
-      object = name_behind 7 (line_at 0 lines);
-      kind = kind_in (drop 5 (line_at 1 lines));
-      name = drop 4 (line_at 2 lines);
+      object = name_behind 7 (nth_line 0 lines);
+      kind = kind_or_tag (drop 5 (nth_line 1 lines));
+      name = drop 4 (nth_line 2 lines);
       tagger = tagger;
       headers = (gather (behind_tagger tagger (drop 3 lines))).headers;
       message = message;

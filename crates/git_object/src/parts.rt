@@ -2,7 +2,8 @@ ghost use Rattle.std.specs.Prelude.{◌≡◌, ◌≢◌, ◌++◌, List, ℕ, I
 ghost use Rattle.std.specs.List.{flat_map};
 ghost use Rattle.git_name.specs.Name.{IsName};
 ghost use Rattle.git_header.specs.Value.{name_line};
-ghost use Rattle.git_header.specs.Line.{IsLine, ended};
+ghost use Rattle.git_name.specs.Text.{ended};
+ghost use Rattle.git_header.specs.Line.{IsLine};
 ghost use Rattle.git_header.specs.Judging.{IsFirstFault};
 ghost use Rattle.git_object.specs.Tag.{IsTagName, IsTagger, type_line, tag_line, tagger_lines};
 ghost use Rattle.git_object.specs.Fault.{AtObject, AtType, AtName, AtTagger, tag_grammar};

@@ -7,8 +7,9 @@ use Rattle.std.proofs.lemmas.List.Elements.{recursion_from_All}
 use Rattle.git_tree.specs.declared.mode.Mode.{Mode}
 use Rattle.git_tree.specs.declared.mode.Mode.TheVariants.{Tree, File, Executable, Link, Gitlink}
 use Rattle.git_tree.specs.Mode.{digits}
-use Rattle.git_tree.specs.Entry.{Entry, Lacks, IsEntry, spelled}
-use Rattle.git_tree.specs.Row.{IsRow, before, behind, mode_of, first_entry, after_first, first_entries, entries_in}
+use Rattle.git_name.specs.Text.{Lacks}
+use Rattle.git_tree.specs.Entry.{Entry, IsEntry, spelled}
+use Rattle.git_tree.specs.Row.{IsRow, before_byte, behind_byte, mode_of, first_entry, after_first, first_entries, entries_in}
 use Rattle.git_tree.proofs.ListLemmas.{all_push}
 
 abbrev pub LacksIt : ℕ → List ℕ → Type 0
@@ -20,13 +21,13 @@ tested_false b c x y h = grind (arith, nat_tests)
 tested_true : {A : Type 0} (c : ℕ) (x y : A) → cond (eqb c c) x y ≡ x
 tested_true c x y = grind (arith, nat_tests)
 
-pub before_at : (c : ℕ) (xs ys : List ℕ) → LacksIt c xs → before c (xs ++ c ∷ ys) ≡ xs
-before_at c [] ys lacks = tested_true c [] (c ∷ before c ys)
-before_at c (x ∷ xs) ys lacks = tested_false x c [] (x ∷ before c (xs ++ c ∷ ys)) lacks.0 ∙ ap (λ (r : List ℕ). x ∷ r) (before_at c xs ys lacks.1)
+pub before_at : (c : ℕ) (xs ys : List ℕ) → LacksIt c xs → before_byte c (xs ++ c ∷ ys) ≡ xs
+before_at c [] ys lacks = tested_true c [] (c ∷ before_byte c ys)
+before_at c (x ∷ xs) ys lacks = tested_false x c [] (x ∷ before_byte c (xs ++ c ∷ ys)) lacks.0 ∙ ap (λ (r : List ℕ). x ∷ r) (before_at c xs ys lacks.1)
 
-pub behind_at : (c : ℕ) (xs ys : List ℕ) → LacksIt c xs → behind c (xs ++ c ∷ ys) ≡ ys
-behind_at c [] ys lacks = tested_true c ys (behind c ys)
-behind_at c (x ∷ xs) ys lacks = tested_false x c (xs ++ c ∷ ys) (behind c (xs ++ c ∷ ys)) lacks.0 ∙ behind_at c xs ys lacks.1
+pub behind_at : (c : ℕ) (xs ys : List ℕ) → LacksIt c xs → behind_byte c (xs ++ c ∷ ys) ≡ ys
+behind_at c [] ys lacks = tested_true c ys (behind_byte c ys)
+behind_at c (x ∷ xs) ys lacks = tested_false x c (xs ++ c ∷ ys) (behind_byte c (xs ++ c ∷ ys)) lacks.0 ∙ behind_at c xs ys lacks.1
 
 pub stands : (c : ℕ) (xs ys : List ℕ) → LacksIt c (xs ++ c ∷ ys) → ⊥
 stands c [] ys lacks = lacks.0 refl
@@ -61,13 +62,13 @@ same_entry {m'} {f} {f'} {n} p q r = ap (λ x. made x f n) p ∙ ap (λ x. made 
 -- an entry that was spelled is the first one, and what was put behind it stands behind it
 pub first_is : (e : Entry) (r : List ℕ) → IsEntry e → (first_entry (spelled e ++ r) ≡ e) × (after_first (spelled e ++ r) ≡ r)
 first_is e r is =
-    let head : before 32 (spelled e ++ r) ≡ digits e.mode = ap (before 32) (regrouped e r) ∙ before_at 32 (digits e.mode) (e.file_name ++ 0 ∷ (e.name ++ r)) (digits_lack e.mode) in
-    let tail : behind 32 (spelled e ++ r) ≡ e.file_name ++ 0 ∷ (e.name ++ r) = ap (behind 32) (regrouped e r) ∙ behind_at 32 (digits e.mode) (e.file_name ++ 0 ∷ (e.name ++ r)) (digits_lack e.mode) in
+    let head : before_byte 32 (spelled e ++ r) ≡ digits e.mode = ap (before_byte 32) (regrouped e r) ∙ before_at 32 (digits e.mode) (e.file_name ++ 0 ∷ (e.name ++ r)) (digits_lack e.mode) in
+    let tail : behind_byte 32 (spelled e ++ r) ≡ e.file_name ++ 0 ∷ (e.name ++ r) = ap (behind_byte 32) (regrouped e r) ∙ behind_at 32 (digits e.mode) (e.file_name ++ 0 ∷ (e.name ++ r)) (digits_lack e.mode) in
     let lacks = lacking 0 e.file_name is.file_name.no_zero in
-    let file : before 0 (behind 32 (spelled e ++ r)) ≡ e.file_name = ap (before 0) tail ∙ before_at 0 e.file_name (e.name ++ r) lacks in
-    let last : behind 0 (behind 32 (spelled e ++ r)) ≡ e.name ++ r = ap (behind 0) tail ∙ behind_at 0 e.file_name (e.name ++ r) lacks in
-    let m : mode_of (before 32 (spelled e ++ r)) ≡ e.mode = ap mode_of head ∙ mode_is e.mode in
-    let n : take 32 (behind 0 (behind 32 (spelled e ++ r))) ≡ e.name = ap (take 32) last ∙ take_at e.name r 32 is.name.length in
+    let file : before_byte 0 (behind_byte 32 (spelled e ++ r)) ≡ e.file_name = ap (before_byte 0) tail ∙ before_at 0 e.file_name (e.name ++ r) lacks in
+    let last : behind_byte 0 (behind_byte 32 (spelled e ++ r)) ≡ e.name ++ r = ap (behind_byte 0) tail ∙ behind_at 0 e.file_name (e.name ++ r) lacks in
+    let m : mode_of (before_byte 32 (spelled e ++ r)) ≡ e.mode = ap mode_of head ∙ mode_is e.mode in
+    let n : take 32 (behind_byte 0 (behind_byte 32 (spelled e ++ r))) ≡ e.name = ap (take 32) last ∙ take_at e.name r 32 is.name.length in
     (same_entry m file n, ap (drop 32) last ∙ drop_at e.name r 32 is.name.length)
 
 first_more : (n : ℕ) (bs : List ℕ) → 0 < length bs → first_entries (suc n) bs ≡ first_entry bs ∷ first_entries n (after_first bs)

@@ -12,7 +12,8 @@ use Rattle.std.proofs.lemmas.Grind.{get_or_default_zero}
 use Rattle.std.proofs.lemmas.List.{get_or_past}
 use Rattle.std.proofs.lemmas.Slice.Eq.{bytes_eq-Decides}
 use Rattle.git_name.specs.Name.{name_cmp}
-use Rattle.git_tree.specs.Entry.{Entry, Lacks, IsFileName, IsEntry, spelled, entry_key}
+use Rattle.git_name.specs.Text.{Lacks}
+use Rattle.git_tree.specs.Entry.{Entry, IsFileName, IsEntry, spelled, entry_key}
 use Rattle.git_tree.specs.Tree.{IsBelow, Differ, IsTree}
 use Rattle.git_tree.specs.Row.{entries_in}
 use Rattle.git_tree.specs.TreeIn.{is_file_name, is_entry, is_followed_by, are_in_order, tree_in}

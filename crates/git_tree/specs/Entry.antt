@@ -1,6 +1,7 @@
 -- Entries of trees, and their one spelling (git-mktree(1), git-ls-tree(1); the refused file names: own).
-use Rattle.std.specs.Prelude.{◌≢◌, ℕ, Bool, true, false, List, [], ◌∷◌, ◌++◌, codes, All}
+use Rattle.std.specs.Prelude.{◌≢◌, ℕ, Bool, true, false, List, [], ◌∷◌, ◌++◌, codes}
 use Rattle.git_name.specs.Name.{IsName}
+use Rattle.git_name.specs.Text.{Lacks}
 use Rattle.git_tree.specs.declared.mode.Mode.{Mode}
 use Rattle.git_tree.specs.declared.entry.TreeEntry.{TreeEntry}
 use Rattle.git_tree.specs.Mode.{digits, is_tree}
@@ -18,10 +19,6 @@ entry_with mode file_name name = record { mode = mode; file_name = file_name; na
 -- an entry, without where its file name lies in memory
 abbrev pub entry_of : TreeEntry → Entry
 entry_of entry = record { mode = entry.mode; file_name = entry.file_name.now; name = entry.name }
-
--- no byte is this one
-abbrev pub Lacks : ℕ → List ℕ → Type 0
-Lacks byte bytes = All (λ b. b ≢ byte) bytes
 
 -- bytes, none of them / or zero, and not the names of the folder, the one above it and the repository
 pub record IsFileName (bytes : List ℕ) : Type 0 where

@@ -5,7 +5,8 @@ use Rattle.git_tree.specs.declared.mode.Mode.{Mode}
 use Rattle.git_tree.specs.declared.fault.TreeFault.{TreeFault}
 use Rattle.git_tree.specs.declared.fault.TreeFault.TheVariants as fault
 use Rattle.git_tree.specs.Mode.{digits}
-use Rattle.git_tree.specs.Entry.{Entry, Lacks, IsFileName, IsEntry, spelled}
+use Rattle.git_name.specs.Text.{Lacks}
+use Rattle.git_tree.specs.Entry.{Entry, IsFileName, IsEntry, spelled}
 use Rattle.git_tree.specs.Tree.{IsBelow, AreEntries}
 
 -- what stands before the first space is no mode

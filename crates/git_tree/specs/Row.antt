@@ -6,13 +6,13 @@ use Rattle.git_tree.specs.declared.mode.Mode.TheVariants.{Tree, File, Executable
 use Rattle.git_tree.specs.Entry.{Entry, IsEntry, spelled}
 
 -- the bytes before the first such byte, and those behind it
-abbrev pub before : ℕ → List ℕ → List ℕ
-before byte [] = []
-before byte (b ∷ bytes) = if b == byte then [] else b ∷ before byte bytes
+abbrev pub before_byte : ℕ → List ℕ → List ℕ
+before_byte byte [] = []
+before_byte byte (b ∷ bytes) = if b == byte then [] else b ∷ before_byte byte bytes
 
-abbrev pub behind : ℕ → List ℕ → List ℕ
-behind byte [] = []
-behind byte (b ∷ bytes) = if b == byte then bytes else behind byte bytes
+abbrev pub behind_byte : ℕ → List ℕ → List ℕ
+behind_byte byte [] = []
+behind_byte byte (b ∷ bytes) = if b == byte then bytes else behind_byte byte bytes
 
 -- the mode that digits stand for, told by the digits in which they differ
 abbrev pub mode_of : List ℕ → Mode
@@ -25,13 +25,13 @@ mode_of word =
 -- the entry at the front of bytes, and the bytes behind it
 abbrev pub first_entry : List ℕ → Entry
 first_entry bytes = record {
-  mode = mode_of (before 32 bytes);
-  file_name = before 0 (behind 32 bytes);
-  name = take 32 (behind 0 (behind 32 bytes));
+  mode = mode_of (before_byte 32 bytes);
+  file_name = before_byte 0 (behind_byte 32 bytes);
+  name = take 32 (behind_byte 0 (behind_byte 32 bytes));
 }
 
 abbrev pub after_first : List ℕ → List ℕ
-after_first bytes = drop 32 (behind 0 (behind 32 bytes))
+after_first bytes = drop 32 (behind_byte 0 (behind_byte 32 bytes))
 
 -- the first entries of bytes, so many at the most
 unfoldable pub first_entries : ℕ → List ℕ → List Entry

@@ -1,6 +1,7 @@
 ghost use Rattle.std.specs.Prelude.{◌≡◌, ◌∷◌, ◌++◌, ◌<◌, ◌↔◌, IsTrue, length, IfSome, IfNone, IfOk, IfErr};
 ghost use Rattle.git_name.specs.Name.{IsName};
-ghost use Rattle.git_tree.specs.Entry.{Lacks, IsFileName, IsEntry, spelled, entry_of};
+ghost use Rattle.git_name.specs.Text.{Lacks};
+ghost use Rattle.git_tree.specs.Entry.{IsFileName, IsEntry, spelled, entry_of};
 ghost use Rattle.git_tree.specs.Fault.{IsFormFault};
 ghost use Rattle.git_tree.specs.declared.mode.Mode.{Mode};
 ghost use Rattle.git_tree.specs.Mode.{digits};

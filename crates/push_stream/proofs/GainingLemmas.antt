@@ -15,7 +15,7 @@ use Rattle.push_stream.specs.declared.fault.StreamFault.TheVariants.{TooMany, Ba
 use Rattle.push_stream.specs.declared.record.Head.{Head}
 use Rattle.push_stream.specs.declared.record.TheConstants.{MAX_CONTENT}
 use Rattle.push_stream.specs.Gaining.{TellsBreak, TellsWrong, headed_by, is_cut, is_truncated}
-use Rattle.push_stream.specs.Record.{PartsAt, Parts, Short, Faulty, RecordAt, Taken, Open, Wrong, parts_at, parts_of_line, parts_of_head, ended, head_of_words, record_at, record_of_parts}
+use Rattle.push_stream.specs.Record.{PartsAt, Parts, Short, Faulty, RecordAt, Taken, Open, Wrong, parts_at, parts_of_line, parts_of_head, parts_of_content, head_of_words, record_at, record_of_parts}
 use Rattle.push_stream.specs.Shown.{TellsRecord}
 use Rattle.push_stream.specs.Stream.{Stream, Flows, Breaks, behind, after_record, records_in, after_command, header_in}
 use Rattle.push_stream.proofs.HeaderLemmas.{others_in, step_end, header_step}
@@ -38,7 +38,7 @@ IsApart (Taken object behind) = ⊤
 IsApart Open = ⊤
 IsApart (Wrong fault) = is_truncated fault ≡ false
 
-ended_apart : (head : Head) (content text : List ℕ) → ArePartsApart (ended head content text)
+ended_apart : (head : Head) (content text : List ℕ) → ArePartsApart (parts_of_content head content text)
 ended_apart head content [] = tt
 ended_apart head content (b ∷ behind) = either ArePartsApart (eqb b 10) _ _ tt refl
 

@@ -10,7 +10,7 @@ use Rattle.git_reftx.specs.Line.{LineAt, Whole, Unfinished, TooLong, line_at, li
 use Rattle.push_stream.specs.declared.fault.StreamFault.TheVariants.{Syntax, TooLarge, WrongName, BadObject}
 use Rattle.push_stream.specs.declared.record.Head.{Head}
 use Rattle.push_stream.specs.declared.record.TheConstants.{MAX_CONTENT}
-use Rattle.push_stream.specs.Record.{PartsAt, Parts, Short, Faulty, RecordAt, Taken, Open, Wrong, parts_at, parts_of_line, parts_of_head, content_at, ended, head_of_words, record_at, record_of_parts}
+use Rattle.push_stream.specs.Record.{PartsAt, Parts, Short, Faulty, RecordAt, Taken, Open, Wrong, parts_at, parts_of_line, parts_of_head, content_at, parts_of_content, head_of_words, record_at, record_of_parts}
 
 -- a longer text is parted where its front is, or else behind it
 abbrev split_longer : ℕ → List ℕ → List ℕ → Option (List ℕ × List ℕ) → Option (List ℕ × List ℕ)
@@ -107,10 +107,10 @@ take_longer (suc n) [] ys b behind is = absurd (cc)
 take_longer (suc n) (c ∷ t) ys b behind is = ap (λ (l : List ℕ). c ∷ l) (take_longer n t ys b behind is)
 
 -- a content that is whole stays so
-ended_grows : (head : Head) (n : ℕ) (t ys rest : List ℕ) → drop n t ≡ rest → ended head (take n (t ++ ys)) (drop n (t ++ ys)) ≡ parts_longer ys (ended head (take n t) rest) (ended head (take n (t ++ ys)) (drop n (t ++ ys)))
+ended_grows : (head : Head) (n : ℕ) (t ys rest : List ℕ) → drop n t ≡ rest → parts_of_content head (take n (t ++ ys)) (drop n (t ++ ys)) ≡ parts_longer ys (parts_of_content head (take n t) rest) (parts_of_content head (take n (t ++ ys)) (drop n (t ++ ys)))
 ended_grows head n t ys [] is = refl
 ended_grows head n t ys (b ∷ behind) is =
-    ap₂ (ended head) (take_longer n t ys b behind is) (drop_longer n t ys b behind is) ∙ ended_by ys head (take n t) behind (eqb b 10) _
+    ap₂ (parts_of_content head) (take_longer n t ys b behind is) (drop_longer n t ys b behind is) ∙ ended_by ys head (take n t) behind (eqb b 10) _
 
 -- a size that is too large stays so
 sized_by : (ys : List ℕ) (t : Bool) (wrong cut whole : PartsAt) → wrong ≡ parts_longer ys wrong wrong → whole ≡ parts_longer ys cut whole → cond t wrong whole ≡ parts_longer ys (cond t wrong cut) (cond t wrong whole)
@@ -120,7 +120,7 @@ sized_by ys false wrong cut whole first second = second
 -- the content in the longer text
 content_grows : (head : Head) (t ys : List ℕ) → content_at head (t ++ ys) ≡ parts_longer ys (content_at head t) (content_at head (t ++ ys))
 content_grows head t ys =
-    sized_by ys (nat_lt MAX_CONTENT head.size) (Faulty (TooLarge head.name)) (ended head (take head.size t) (drop head.size t)) (ended head (take head.size (t ++ ys)) (drop head.size (t ++ ys))) refl (ended_grows head head.size t ys (drop head.size t) refl)
+    sized_by ys (nat_lt MAX_CONTENT head.size) (Faulty (TooLarge head.name)) (parts_of_content head (take head.size t) (drop head.size t)) (parts_of_content head (take head.size (t ++ ys)) (drop head.size (t ++ ys))) refl (ended_grows head head.size t ys (drop head.size t) refl)
 
 -- the same, by what the line says
 head_grows : (o : Option Head) (t ys : List ℕ) → parts_of_head o (t ++ ys) ≡ parts_longer ys (parts_of_head o t) (parts_of_head o (t ++ ys))

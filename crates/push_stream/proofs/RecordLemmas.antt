@@ -10,7 +10,7 @@ use Rattle.git_reftx.specs.Line.{LineAt, Whole, Unfinished, TooLong, line_at, li
 use Rattle.push_stream.specs.declared.fault.StreamFault.TheVariants.{BadObject}
 use Rattle.push_stream.specs.declared.record.Head.{Head}
 use Rattle.push_stream.specs.declared.record.TheConstants.{MAX_CONTENT}
-use Rattle.push_stream.specs.Record.{PartsAt, Parts, Short, Faulty, RecordAt, Taken, Open, Wrong, parts_at, parts_of_line, parts_of_head, content_at, ended, head_of_words, record_at, record_of_parts}
+use Rattle.push_stream.specs.Record.{PartsAt, Parts, Short, Faulty, RecordAt, Taken, Open, Wrong, parts_at, parts_of_line, parts_of_head, content_at, parts_of_content, head_of_words, record_at, record_of_parts}
 
 -- what holds of both branches holds of the test
 either : {X : Type 0} (f : X → ℕ) (n : ℕ) (b : Bool) (x y : X) → f x ≤ n → f y ≤ n → f (cond b x y) ≤ n
@@ -47,7 +47,7 @@ in_line text None is = either from_line (length text) (nat_le (length text) 512)
 in_line text (Some (line, behind)) is = either from_line (length text) (nat_le (length line) 512) (Whole line behind) TooLong (behind_line text line behind (split_once-whole 10 text line behind is)) (omega arith)
 
 -- a content ends in the text
-in_ended : (head : Head) (content text : List ℕ) → from_parts (ended head content text) ≤ length text
+in_ended : (head : Head) (content text : List ℕ) → from_parts (parts_of_content head content text) ≤ length text
 in_ended head content [] = omega arith
 in_ended head content (b ∷ behind) = either from_parts (length (b ∷ behind)) (eqb b 10) (Parts head content behind) _ (omega arith) (omega arith)
 

@@ -29,7 +29,7 @@ use Rattle.push_stream.specs.declared.fault.StreamFault.{StreamFault}
 use Rattle.push_stream.specs.declared.record.Head.{Head}
 use Rattle.push_stream.specs.declared.record.TheConstants.{MAX_CONTENT, MAX_REST}
 use Rattle.push_stream.specs.Gaining.{Awaits}
-use Rattle.push_stream.specs.Record.{PartsAt, Parts, Short, Faulty, RecordAt, Taken, Open, Wrong, head_of_words, content_at, ended, parts_of_head, parts_of_line, parts_at, record_of_parts, record_at}
+use Rattle.push_stream.specs.Record.{PartsAt, Parts, Short, Faulty, RecordAt, Taken, Open, Wrong, head_of_words, content_at, parts_of_content, parts_of_head, parts_of_line, parts_at, record_of_parts, record_at}
 use Rattle.push_stream.specs.Reading.{flow_of, reading_of, rest_in}
 use Rattle.push_stream.specs.Stream.{Stream, Flows, Breaks, behind, after_record, records_in, after_command, header_in, stream_of}
 use Rattle.push_stream.proofs.LineLemmas.{IsLineOf, line_is}
@@ -131,7 +131,7 @@ IsShort n (Parts head content behind) = ⊤
 IsShort n Short = n ≤ MAX_REST
 IsShort n (Faulty fault) = ⊤
 
-ended_short : (n : ℕ) (head : Head) (text found : List ℕ) → drop head.size text ≡ found → (length text ≤ head.size → n ≤ MAX_REST) → IsShort n (ended head (take head.size text) found)
+ended_short : (n : ℕ) (head : Head) (text found : List ℕ) → drop head.size text ≡ found → (length text ≤ head.size → n ≤ MAX_REST) → IsShort n (parts_of_content head (take head.size text) found)
 ended_short n head text [] is fits =
     let dropped : length (drop head.size text) ≡ length text - head.size = length-drop head.size text in
     let none : length (drop head.size text) ≡ 0 = ap (λ (l : List ℕ). length l) is in
@@ -191,8 +191,8 @@ fits_too n size low = grind (arith, nat_tests)
 
 content_open : (head : Head) (text : List ℕ) → head.size ≤ MAX_CONTENT → length text ≤ head.size → content_at head text ≡ Short
 content_open head text fits short =
-    ap (λ (t : Bool). cond t (Faulty (TooLarge head.name)) (ended head (take head.size text) (drop head.size text))) (fits_too MAX_CONTENT head.size fits)
-    ∙ ap (ended head (take head.size text)) (drop_all head.size text short)
+    ap (λ (t : Bool). cond t (Faulty (TooLarge head.name)) (parts_of_content head (take head.size text) (drop head.size text))) (fits_too MAX_CONTENT head.size fits)
+    ∙ ap (parts_of_content head (take head.size text)) (drop_all head.size text short)
 
 -- and where it is, the content and its LF are wanted
 pub awaits_content : (text line rest : List ℕ) (head : Head) (n : ℕ) → line_at text ≡ Whole line rest → head_of_words (words_of line) ≡ Some head → head.size ≤ MAX_CONTENT → n ≡ length line + 2 + head.size → Awaits text n

@@ -26,7 +26,7 @@ use Rattle.push_stream.specs.declared.fault.StreamFault.{StreamFault}
 use Rattle.push_stream.specs.declared.fault.StreamFault.TheVariants.{Syntax, TooLarge, TooMany, BadObject, WrongName}
 use Rattle.push_stream.specs.declared.record.Head.{Head}
 use Rattle.push_stream.specs.declared.record.TheConstants.{MAX_CONTENT}
-use Rattle.push_stream.specs.Record.{PartsAt, Parts, Short, Faulty, RecordAt, Taken, Open, Wrong, record_line, record_of, head_of_parts, head_of_words, ended, content_at, parts_of_head, parts_of_line, parts_at, record_of_parts, record_at}
+use Rattle.push_stream.specs.Record.{PartsAt, Parts, Short, Faulty, RecordAt, Taken, Open, Wrong, record_line, record_of, head_of_parts, head_of_words, parts_of_content, content_at, parts_of_head, parts_of_line, parts_at, record_of_parts, record_at}
 use Rattle.push_stream.specs.Spelling.{AreWithin, IsStream, records_of}
 use Rattle.push_stream.specs.Stream.{Stream, Flows, Breaks, AreObjects, behind, after_record, records_in, after_command, header_in, stream_of, finished, sent_in}
 use Rattle.push_stream.proofs.LineLemmas.{IsLineOf, line_is, command_is}
@@ -63,7 +63,7 @@ IsContentOf head text (Parts said content rest) = (said ≡ head) × (text ≡ c
 IsContentOf head text Short = ⊤
 IsContentOf head text (Faulty fault) = ⊤
 
-ended_is : (head : Head) (text found : List ℕ) → head.size ≤ MAX_CONTENT → drop head.size text ≡ found → IsContentOf head text (ended head (take head.size text) found)
+ended_is : (head : Head) (text found : List ℕ) → head.size ≤ MAX_CONTENT → drop head.size text ≡ found → IsContentOf head text (parts_of_content head (take head.size text) found)
 ended_is head text [] fits is = tt
 ended_is head text (b ∷ rest) fits is = by_byte (eqb b 10) refl
   where
@@ -79,7 +79,7 @@ ended_is head text (b ∷ rest) fits is = by_byte (eqb b 10) refl
 content_is : (head : Head) (text : List ℕ) → IsContentOf head text (content_at head text)
 content_is head text = by_size (nat_lt MAX_CONTENT head.size) refl
   where
-    by_size : (t : Bool) → nat_lt MAX_CONTENT head.size ≡ t → IsContentOf head text (cond t (Faulty (TooLarge head.name)) (ended head (take head.size text) (drop head.size text)))
+    by_size : (t : Bool) → nat_lt MAX_CONTENT head.size ≡ t → IsContentOf head text (cond t (Faulty (TooLarge head.name)) (parts_of_content head (take head.size text) (drop head.size text)))
     by_size true large = tt
     by_size false large = ended_is head text (drop head.size text) (grind (arith, nat_tests)) refl
 

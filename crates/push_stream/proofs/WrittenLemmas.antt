@@ -26,7 +26,7 @@ use Rattle.git_reftx.specs.Reading.{command_at, with_command, and_others, comman
 use Rattle.push_stream.specs.declared.fault.StreamFault.TheVariants.{TooLarge, WrongName, BadObject}
 use Rattle.push_stream.specs.declared.record.Head.{Head}
 use Rattle.push_stream.specs.declared.record.TheConstants.{MAX_CONTENT}
-use Rattle.push_stream.specs.Record.{Parts, Faulty, Taken, Wrong, record_line, record_of, head_of_parts, head_of_words, ended, content_at, parts_of_head, parts_of_line, parts_at, right, named, record_of_parts, record_at}
+use Rattle.push_stream.specs.Record.{Parts, Faulty, Taken, Wrong, record_line, record_of, head_of_parts, head_of_words, parts_of_content, content_at, parts_of_head, parts_of_line, parts_at, right, named, record_of_parts, record_at}
 use Rattle.push_stream.specs.Spelling.{AreWithin, IsStream, records_of}
 use Rattle.push_stream.specs.Stream.{Flows, AreObjects, behind, after_record, records_in, after_command, header_in, stream_of}
 use Rattle.push_stream.proofs.HeaderLemmas.{step_end, step_line}
@@ -104,8 +104,8 @@ not_large n fits = grind (arith, nat_tests)
 content_again : (object : Object) (rest : List ℕ) → length object.bytes ≤ MAX_CONTENT → content_at (head_of_object object) (object.bytes ++ 10 ∷ rest) ≡ Parts (head_of_object object) object.bytes rest
 content_again object rest fits =
     let text : List ℕ = object.bytes ++ 10 ∷ rest in
-    ap (λ (t : Bool). cond t (Faulty (TooLarge (object_name object))) (ended (head_of_object object) (take (length object.bytes) text) (drop (length object.bytes) text))) (not_large (length object.bytes) fits)
-    ∙ ap₂ (ended (head_of_object object)) (take-append_seam object.bytes (10 ∷ rest)) (drop-append_seam object.bytes (10 ∷ rest))
+    ap (λ (t : Bool). cond t (Faulty (TooLarge (object_name object))) (parts_of_content (head_of_object object) (take (length object.bytes) text) (drop (length object.bytes) text))) (not_large (length object.bytes) fits)
+    ∙ ap₂ (parts_of_content (head_of_object object)) (take-append_seam object.bytes (10 ∷ rest)) (drop-append_seam object.bytes (10 ∷ rest))
 
 is_found : (o : Option ObjectValue) → o ≢ None → is_some o ≡ true
 is_found None found = absurd (found refl)

@@ -44,14 +44,14 @@ pub data PartsAt : Type 0 where
   Faulty : (fault : StreamFault) → PartsAt
 
 -- a content ends in LF
-abbrev pub ended : Head → List ℕ → List ℕ → PartsAt
-ended head content [] = Short
-ended head content (b ∷ behind) = if b == 10 then Parts head content behind else Faulty Syntax
+abbrev pub parts_of_content : Head → List ℕ → List ℕ → PartsAt
+parts_of_content head content [] = Short
+parts_of_content head content (b ∷ behind) = if b == 10 then Parts head content behind else Faulty Syntax
 
 abbrev pub content_at : Head → List ℕ → PartsAt
 content_at head text =
     if nat_lt MAX_CONTENT head.size then Faulty (TooLarge head.name)
-    else ended head (take head.size text) (drop head.size text)
+    else parts_of_content head (take head.size text) (drop head.size text)
 
 abbrev pub parts_of_head : Option Head → List ℕ → PartsAt
 parts_of_head None behind = Faulty Syntax

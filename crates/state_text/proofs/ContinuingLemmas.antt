@@ -7,7 +7,8 @@ use Rattle.std.proofs.lemmas.List.Elements.{All-from_recursion}
 use Rattle.state_text.specs.Fault.{IsLine}
 use Rattle.state_text.specs.States.{IsStates, States}
 use Rattle.state_text.specs.Taking.{Adds, open_lines}
-use Rattle.state_text.specs.Text.{ended, state_text}
+use Rattle.git_name.specs.Text.{ended}
+use Rattle.state_text.specs.Text.{state_text}
 use Rattle.state_text.proofs.BackLemmas.{back}
 use Rattle.state_text.proofs.BehindLemmas.{each_behind, from_back, length_behind, same_behind}
 use Rattle.state_text.proofs.LineLemmas.{adds_line}

@@ -11,7 +11,8 @@ use Rattle.state_text.specs.declared.fault.StateFault.TheVariants.{Line, Memory}
 use Rattle.state_text.specs.Fault.{Begins, IsCut, IsLine, IsRefused, IsWrongLine, NoneInStateText, OneWrongLine, TellsLine}
 use Rattle.state_text.specs.States.{IsStates, States}
 use Rattle.state_text.specs.Taking.{Adds, IsReadSoFar, open_lines}
-use Rattle.state_text.specs.Text.{IsStateText, ended, state_text}
+use Rattle.git_name.specs.Text.{ended}
+use Rattle.state_text.specs.Text.{IsStateText, state_text}
 use Rattle.state_text.proofs.BehindLemmas.{each_behind, length_behind}
 use Rattle.state_text.proofs.ContinuingLemmas.{continues, end_plain, ended_text, not_whole, plain_lines, text_same}
 use Rattle.state_text.proofs.LineLemmas.{text_ends}

@@ -10,7 +10,8 @@ use Rattle.git_reftx.specs.Transaction.{References}
 use Rattle.state_text.specs.Adding.{fresh, with_repository, with_seen}
 use Rattle.state_text.specs.States.{IsStates, States, TenantState}
 use Rattle.state_text.specs.Taking.{Adds, HasReferenceMore, IsReadSoFar, Tenant, Repository, Reference, Seen, open_lines}
-use Rattle.state_text.specs.Text.{ended, reference_line, repository_line, repository_lines, seen_line, state_text, tenant_line, tenant_lines}
+use Rattle.git_name.specs.Text.{ended}
+use Rattle.state_text.specs.Text.{reference_line, repository_line, repository_lines, seen_line, state_text, tenant_line, tenant_lines}
 use Rattle.state_text.proofs.BehindLemmas.{length_behind, map_behind, nothing_in}
 
 pub open_behind : (before : States) (tenant : TenantState) → open_lines (before ++ tenant ∷ []) ≡ open_lines before ++ tenant_lines tenant

@@ -2,10 +2,9 @@
 use Rattle.std.proofs.Common.{◌≡◌, ◌≢◌, ℕ, List, [], ◌∷◌, ◌++◌, refl, sym, ap, subst, ◌∙◌, length, append_assoc, arith}
 use Rattle.std.specs.List.{AllByRecursion, flat_map}
 use Rattle.std.proofs.lemmas.List.Elements.{All-nil}
-use Rattle.git_name.specs.Text.{split_once}
+use Rattle.git_name.specs.Text.{split_once, ended}
 use Rattle.git_name.proofs.TextLemmas.{split_once-append, split_once-none}
 use Rattle.state_text.specs.Fault.{IsLine}
-use Rattle.state_text.specs.Text.{ended}
 use Rattle.state_text.proofs.PartLemmas.{split_unique}
 
 -- a text without LF has no line

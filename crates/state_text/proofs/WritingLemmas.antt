@@ -7,7 +7,8 @@ use Rattle.hex.specs.Hex.{encode_lower}
 use Rattle.git_reftx.specs.Transaction.{References}
 use Rattle.git_refname.specs.Namespace.{expanded}
 use Rattle.state_text.specs.States.{States}
-use Rattle.state_text.specs.Text.{ended, repository_lines, state_text, tenant_lines}
+use Rattle.git_name.specs.Text.{ended}
+use Rattle.state_text.specs.Text.{repository_lines, state_text, tenant_lines}
 
 four : (o a b c d : List ℕ) → ((((o ++ a) ++ b) ++ c) ++ d) ≡ o ++ (((a ++ b) ++ c) ++ d)
 four o a b c d = simp append_assoc refl

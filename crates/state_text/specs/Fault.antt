@@ -4,7 +4,8 @@ use Rattle.std.specs.List.{AllByRecursion, flat_map}
 use Rattle.state_text.specs.declared.fault.StateFault.{StateFault}
 use Rattle.state_text.specs.declared.fault.StateFault.TheVariants.{Line, Memory}
 use Rattle.state_text.specs.States.{States}
-use Rattle.state_text.specs.Text.{IsStateText, ended}
+use Rattle.git_name.specs.Text.{ended}
+use Rattle.state_text.specs.Text.{IsStateText}
 
 -- some state text begins with these bytes
 pub record Begins (text : List ℕ) : Type 0 where

@@ -13,7 +13,8 @@ use Rattle.state_text.specs.declared.line_fault.LineFault.{LineFault}
 use Rattle.state_text.specs.declared.line_fault.LineFault.TheVariants.{Wrong, Memory}
 use Rattle.state_text.specs.Adding.{fresh, with_repository, with_seen}
 use Rattle.state_text.specs.States.{IsStates, IsTenantState, States, TenantState}
-use Rattle.state_text.specs.Text.{ended, tenant_lines}
+use Rattle.git_name.specs.Text.{ended}
+use Rattle.state_text.specs.Text.{tenant_lines}
 
 -- the lines of the states but the last, which is `end`
 abbrev pub open_lines : States → List (List ℕ)

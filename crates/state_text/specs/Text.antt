@@ -3,13 +3,10 @@ use Rattle.std.specs.Prelude.{◌≡◌, ℕ, List, [], ◌∷◌, ◌++◌, cod
 use Rattle.std.specs.List.{flat_map}
 use Rattle.std.specs.FinMap.{entries}
 use Rattle.hex.specs.Hex.{encode_lower}
+use Rattle.git_name.specs.Text.{ended}
 use Rattle.git_refname.specs.Namespace.{expanded}
 use Rattle.git_reftx.specs.Transaction.{References}
 use Rattle.state_text.specs.States.{TenantState, States, IsStates}
-
--- a line and its LF
-abbrev pub ended : List ℕ → List ℕ
-ended line = line ++ 10 ∷ []
 
 abbrev pub tenant_line : List ℕ → ℕ → List ℕ
 tenant_line name limit = codes "tenant " ++ name ++ codes " " ++ decimal limit

@@ -3,7 +3,8 @@ ghost use Rattle.std.specs.FinMap.{entries};
 ghost use Rattle.std.specs.List.{flat_map};
 ghost use Rattle.hex.specs.Hex.{encode_lower};
 ghost use Rattle.git_refname.specs.Namespace.{expanded};
-ghost use Rattle.state_text.specs.Text.{ended, reference_line, repository_lines, seen_line, state_text, tenant_line, tenant_lines};
+ghost use Rattle.git_name.specs.Text.{ended};
+ghost use Rattle.state_text.specs.Text.{reference_line, repository_lines, seen_line, state_text, tenant_line, tenant_lines};
 
 use crate::states::States;
 use crate::tenant_state::TenantState;

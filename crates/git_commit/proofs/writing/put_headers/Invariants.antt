@@ -1,6 +1,6 @@
 use Rattle.std.proofs.Common.{◌≡◌, ◌++◌, map, take}
 use Rattle.std.specs.List.{flat_map}
-use Rattle.git_header.specs.Line.{ended}
+use Rattle.git_name.specs.Text.{ended}
 use Rattle.git_header.specs.Header.{header_lines}
 use Rattle.git_header.specs.Left.{header_of}
 use Rattle.git_commit.proofs.writing.put_headers.Given as goal

@@ -1,6 +1,6 @@
 use Rattle.std.proofs.Common.{◌≡◌, ◌++◌, map}
 use Rattle.std.specs.List.{flat_map}
-use Rattle.git_header.specs.Line.{ended}
+use Rattle.git_name.specs.Text.{ended}
 use Rattle.git_header.specs.Header.{continued}
 use Rattle.git_header.specs.Left.{more_left}
 use Rattle.git_commit.proofs.writing.put_more.Given as goal

@@ -1,5 +1,5 @@
 use Rattle.std.proofs.Common.{ap, ◌∙◌, ◌++◌, List, ℕ}
-use Rattle.git_header.specs.Line.{ended}
+use Rattle.git_name.specs.Text.{ended}
 use Rattle.git_commit.specs.Commit.{parent_line}
 use Rattle.git_commit.proofs.WritingLemmas.{one_name_more, one_parent_more}
 use Rattle.git_commit.proofs.writing.put_parents.Goals as goal

@@ -1,6 +1,6 @@
 use Rattle.std.proofs.Common.{◌≡◌, ◌++◌, List, ℕ, map, length}
 use Rattle.std.specs.List.{flat_map, AllByRecursion}
-use Rattle.git_header.specs.Line.{ended}
+use Rattle.git_name.specs.Text.{ended}
 use Rattle.git_header.specs.Header.{IsPlain, continued}
 use Rattle.git_header.proofs.continuation.take_more.Given as goal
 

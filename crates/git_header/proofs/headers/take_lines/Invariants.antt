@@ -1,6 +1,6 @@
 use Rattle.std.proofs.Common.{◌≡◌, ◌≢◌, ◌++◌, ◌∷◌, [], List, ℕ, length}
 use Rattle.std.specs.List.{flat_map, AllByRecursion}
-use Rattle.git_header.specs.Line.{ended}
+use Rattle.git_name.specs.Text.{ended}
 use Rattle.git_header.specs.Header.{kind_at, HeaderValue, IsHeader, header_lines}
 use Rattle.git_header.proofs.headers.take_lines.Given as goal
 

@@ -3,7 +3,7 @@ use Rattle.std.specs.List.{flat_map}
 use Rattle.std.proofs.lemmas.Bool.Decides.{Decides-eqb}
 use Rattle.std.proofs.lemmas.Slice.Eq.{slice_eq-Decides}
 use Rattle.state_text.specs.Taking.{open_lines}
-use Rattle.state_text.specs.Text.{ended}
+use Rattle.git_name.specs.Text.{ended}
 use Rattle.state_text.proofs.LineLemmas.{read_more, text_ends}
 use Rattle.state_text.proofs.BehindLemmas.{nothing_in}
 use Rattle.std.proofs.Common.{◌≡◌, true, false, not, refl, sym, subst}

@@ -2,7 +2,7 @@ use Rattle.std.proofs.Common.{◌≡◌, ◌++◌, codes, map}
 use Rattle.std.specs.FinMap.{entries}
 use Rattle.std.specs.List.{flat_map}
 use Rattle.hex.specs.Hex.{encode_lower}
-use Rattle.state_text.specs.Text.{ended}
+use Rattle.git_name.specs.Text.{ended}
 use Rattle.state_text.proofs.writing.put_references.Given as goal
 
 -- with the lines of those that are left the text is whole

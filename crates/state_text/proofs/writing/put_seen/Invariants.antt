@@ -1,6 +1,7 @@
 use Rattle.std.proofs.Common.{◌≡◌, ◌++◌, map, take}
 use Rattle.std.specs.List.{flat_map}
-use Rattle.state_text.specs.Text.{ended, seen_line}
+use Rattle.git_name.specs.Text.{ended}
+use Rattle.state_text.specs.Text.{seen_line}
 use Rattle.state_text.proofs.writing.put_seen.Given as goal
 
 -- the lines of the names so far are written

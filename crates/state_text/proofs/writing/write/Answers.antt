@@ -1,6 +1,7 @@
 use Rattle.std.proofs.Common.{◌++◌, ◌∙◌, ap, codes}
 use Rattle.std.specs.List.{flat_map}
-use Rattle.state_text.specs.Text.{ended, tenant_lines}
+use Rattle.git_name.specs.Text.{ended}
+use Rattle.state_text.specs.Text.{tenant_lines}
 use Rattle.state_text.proofs.WritingLemmas.{text_put}
 use Rattle.state_text.proofs.writing.write.Goals as goal
 

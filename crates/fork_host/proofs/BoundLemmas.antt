@@ -1,5 +1,5 @@
 -- The bounds on host faults, from call to call.
-use Rattle.std.proofs.Common.{◌≡◌, ◌⊎◌, inl, inr, ℕ, false, IsTrue, List, ◌∷◌, None, Some, Result, Ok, Err, arith, refl, sym, ap, subst, ◌∙◌}
+use Rattle.std.proofs.Common.{◌≡◌, ◌≢◌, ◌⊎◌, inl, inr, ℕ, false, IsTrue, List, [], ◌∷◌, None, Some, Result, Ok, Err, arith, refl, sym, ap, subst, ◌∙◌}
 use Rattle.std.specs.Prelude.{Contains, IfErr}
 use Rattle.std.proofs.lemmas.List.Elements.{Contains-append_left, Contains-append_right}
 use Rattle.git_name.specs.Object.{Object, object_name}
@@ -49,6 +49,9 @@ gains_then sent a b c first then = record {
   failures = then.failures ∙ first.failures;
   stored = λ h. more_files sent (first.stored h) (then.stored (first.honest ∙ h));
 }
+
+pub gains_done : (sent : List Object) (a b : VaultState) (text : List ℕ) → IsBounded sent a b (Done text) → Gains sent a b
+gains_done sent a b text bounded = record { honest = bounded.honest; failures = bounded.counted; stored = λ h. bounded.stored h (λ is. cc) (λ is. cc) }
 
 -- and what more objects gain, of which those are some
 more_sent : {old new : Files} (sent more : List Object) → ((object : Object) → Contains sent object → Contains more object) → StoresSent sent old new → StoresSent more old new
@@ -127,6 +130,16 @@ pub bounded_read : (sent : List Object) (a b : VaultState) (fault : SourceFault)
 bounded_read sent a b source.Store read = record { honest = read.honest; counted = read.counted; undamaged = λ h is. cc; collided = λ h is. absurd (cc); stored = λ h no_store _. absurd (no_store refl) }
 bounded_read sent a b source.Damaged read = record { honest = read.honest; counted = read.counted; undamaged = λ h is. read.undamaged h refl; collided = λ h is. absurd (cc); stored = λ h _ _. same_files sent (read.files h) }
 bounded_read sent a b source.Memory read = record { honest = read.honest; counted = read.counted; undamaged = λ h is. cc; collided = λ h is. absurd (cc); stored = λ h _ _. same_files sent (read.files h) }
+
+-- one object was asked for, and it was found, or was not
+pub bounded_found : (a b : VaultState) → AsksStore a b None → (IsTrue a.honest → b.files ≡ a.files) → IsBounded [] a b (Done [])
+bounded_found a b asked same = record { honest = asked.honest; counted = asked.counted; undamaged = λ h is. cc; collided = λ h is. absurd (cc); stored = λ h _ _. same_files [] (same h) }
+
+pub bounded_asked : (a b : VaultState) (fault : VaultFault) → AsksStore a b (Some fault) → (IsTrue a.honest → b.files ≡ a.files) → fault ≢ ledger.Collision → IsBounded [] a b (Failed (vault_told fault))
+bounded_asked a b ledger.Store asked same apart = record { honest = asked.honest; counted = asked.counted; undamaged = λ h is. cc; collided = λ h is. absurd (cc); stored = λ h no_store _. absurd (no_store refl) }
+bounded_asked a b ledger.Memory asked same apart = record { honest = asked.honest; counted = asked.counted; undamaged = λ h is. cc; collided = λ h is. absurd (cc); stored = λ h _ _. same_files [] (same h) }
+bounded_asked a b ledger.Damaged asked same apart = record { honest = asked.honest; counted = asked.counted; undamaged = λ h is. asked.undamaged h refl; collided = λ h is. absurd (cc); stored = λ h _ _. same_files [] (same h) }
+bounded_asked a b ledger.Collision asked same apart = absurd (apart refl)
 
 -- objects that were not staged
 bounded_all : (sent : List Object) (a b : VaultState) (fault : VaultFault) → AsksStore a b (Some fault) → (IsTrue a.honest → fault ≡ ledger.Collision → MeetsAmong sent a.files)

@@ -1,5 +1,6 @@
 -- What opens an upload again is what came, over an honest store.
-use Rattle.std.proofs.Common.{◌≡◌, ℕ, ◌+◌, ◌<◌, Bool, true, IsTrue, List, [], ◌∷◌, ◌++◌, refl, sym, ap, ap₂, append_assoc, subst, ◌∙◌, length, get_or, take, map}
+use Rattle.std.proofs.Common.{◌≡◌, inl, inr, Result, Ok, Err, ℕ, ◌+◌, ◌<◌, Bool, true, IsTrue, List, [], ◌∷◌, ◌++◌, refl, sym, ap, ap₂, append_assoc, subst, ◌∙◌, length, get_or, take, map}
+use Rattle.std.specs.Prelude.{IfErr}
 use Rattle.std.specs.FinMap.{contains_key}
 use Rattle.std.specs.List.{AllByRecursion}
 use Rattle.std.proofs.lemmas.List.{flat_map_more, map-append}
@@ -15,6 +16,10 @@ use Rattle.push_stream.specs.Upload.{upload_of}
 use Rattle.fork_reach.specs.Objects.{measures_of}
 use Rattle.fork_reach.specs.Source.{Objects}
 use Rattle.fork_reach.proofs.MeasureLemmas.{same_there}
+use Rattle.fork_request.specs.declared.host_fault.HostFault.{HostFault}
+use Rattle.fork_request.specs.declared.host_fault.HostFault.TheVariants.{Memory}
+use Rattle.fork_request.specs.declared.reply.Reply.{Reply}
+use Rattle.fork_request.specs.declared.reply.Reply.TheVariants.{Done, Failed}
 use Rattle.fork_ledger.specs.Tenants.{private_of}
 use Rattle.fork_ledger.proofs.BothLemmas.{same_measures}
 use Rattle.fork_model.specs.Uploads.{AreSent, object_at, upload_among}
@@ -22,27 +27,44 @@ use Rattle.fork_model.proofs.ClosedLemmas.{each_of}
 use Rattle.fork_model.proofs.UploadLemmas.{found_again, upload_again}
 use Rattle.fork_host.specs.declared.own.Own.{Own}
 use Rattle.fork_host.specs.Handle.{staged_by}
-use Rattle.fork_host.specs.Opening.{OnlyReads}
+use Rattle.fork_host.specs.Opening.{OnlyReads, reading_told}
 use Rattle.fork_host.specs.Own.{staged_in}
 use Rattle.fork_host.specs.Staged.{Came}
+use Rattle.fork_host.proofs.BoundLemmas.{IsQuiet, bounded_after, bounded_gains, bounded_still, gains_done}
 use Rattle.fork_host.proofs.GatherLemmas.{taken_more}
 use Rattle.fork_host.proofs.HandleLemmas.{same_then}
 
 -- ---- reads, call after call
-pub reads_then : {S : Type 0} (a b c : Own S) → OnlyReads a b → OnlyReads b c → OnlyReads a c
-reads_then a b c first then = record {
-  kept = λ honest. then.kept (first.read ∙ honest) ∙ first.kept honest;
+pub reads_none : {S : Type 0} (own : Own S) → OnlyReads own own (Done [])
+reads_none own = record { kept = λ honest. refl; shape = refl; bounded = bounded_still [] own.vault.now (Done []) (inl refl); same = record { vault = refl; tenant = refl } }
+
+pub reads_then : {S : Type 0} (a b c : Own S) (reply : Reply) → OnlyReads a b (Done []) → OnlyReads b c reply → OnlyReads a c reply
+reads_then a b c reply first then = record {
+  kept = λ honest. then.kept (first.bounded.honest ∙ honest) ∙ first.kept honest;
   shape = then.shape ∙ first.shape;
-  read = then.read ∙ first.read;
+  bounded = bounded_after [] a.vault.now b.vault.now c.vault.now reply (gains_done [] a.vault.now b.vault.now [] first.bounded) then.bounded;
   same = same_then a b c first.same then.same;
 }
 
+-- what was read is told, or memory was wanting behind it
+pub reads_quiet : {S : Type 0} (a b : Own S) (reply : Reply) → OnlyReads a b (Done []) → IsQuiet reply → OnlyReads a b reply
+reads_quiet a b reply reads quiet = record {
+  kept = reads.kept;
+  shape = reads.shape;
+  bounded = bounded_gains [] a.vault.now b.vault.now reply (gains_done [] a.vault.now b.vault.now [] reads.bounded) quiet;
+  same = reads.same;
+}
+
+pub quiet_told : {A : Type 0} (r : Result A HostFault) → IfErr r (λ fault. fault ≡ Memory) → IsQuiet (reading_told r)
+quiet_told (Ok read) is = inl refl
+quiet_told (Err fault) is = inr (ap (λ f. Failed f) is)
+
 -- what is staged stays: over an honest store itself, and over any the names
-pub staged_still : {S : Type 0} (old new : Own S) → OnlyReads old new → IsTrue old.vault.now.honest → staged_by new ≡ staged_by old
-staged_still old new reads honest =
+pub staged_still : {S : Type 0} (old new : Own S) (reply : Reply) → OnlyReads old new reply → IsTrue old.vault.now.honest → staged_by new ≡ staged_by old
+staged_still old new reply reads honest =
     ap (λ r. staged_in new.vault.now r.now) reads.same.tenant ∙ ap (λ tenants. (private_of tenants old.tenant.now).staged) (reads.kept honest)
 
-pub still_there : {S : Type 0} (old new : Own S) (name : List ℕ) → OnlyReads old new → contains_key (staged_by old) name ≡ true → contains_key (staged_by new) name ≡ true
+pub still_there : {S : Type 0} (old new : Own S) (name : List ℕ) → OnlyReads old new (Done []) → contains_key (staged_by old) name ≡ true → contains_key (staged_by new) name ≡ true
 still_there old new name reads there =
     let same : measures_of (staged_in new.vault.now old.tenant.now) ≡ measures_of (staged_by old) =
     ap (λ p. p.1) (same_measures old.vault.now.tenants new.vault.now.tenants old.tenant.now reads.shape) in

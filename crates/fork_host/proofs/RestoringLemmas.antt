@@ -111,7 +111,7 @@ pub record IsAstray (files : Files) (states : States) (target : List ℕ) : Type
   pub astray : OnStore files tenant.seen (λ objects. first_astray tenant.repositories objects ≡ Some (reference, target))
 
 -- the first tenant over its limit
-pub record IsOver (files : Files) (states : States) (name : List ℕ) : Type 0 where
+pub record IsOverLimit (files : Files) (states : States) (name : List ℕ) : Type 0 where
   pub tenant : TenantState
   pub named : tenant.name ≡ name
   pub targets : AllByRecursion (HasTargets files) states
@@ -121,7 +121,7 @@ pub record IsOver (files : Files) (states : States) (name : List ℕ) : Type 0 w
 abbrev pub IsNoted : Files → States → World → Later → Type 0
 IsNoted files states world Nothing = IsFree files states world
 IsNoted files states world (Target target) = IsAstray files states target
-IsNoted files states world (Over name) = IsOver files states name
+IsNoted files states world (Over name) = IsOverLimit files states name
 
 -- how far it is: the objects of the states so far are there, and what stands against them is noted
 pub record Going (files : Files) (states : States) (state : HostState) (later : Later) : Type 0 where
@@ -164,7 +164,7 @@ astray_last files states tenant target r targets =
 targets_met : (files : Files) (tenant : TenantState) → OnStore files tenant.seen (λ objects. (first_bad tenant.seen objects ≡ None) × (first_astray tenant.repositories objects ≡ None) × (tenant.limit < use_of objects)) → HasTargets files tenant
 targets_met files tenant r = record { objects = r.objects; stored = r.stored; is = r.is.1 }
 
-over_more : (files : Files) (states : States) (last : TenantState) (name : List ℕ) → HasTargets files last → IsOver files states name → IsOver files (states ++ last ∷ []) name
+over_more : (files : Files) (states : States) (last : TenantState) (name : List ℕ) → HasTargets files last → IsOverLimit files states name → IsOverLimit files (states ++ last ∷ []) name
 over_more files states last name met noted = record {
   tenant = noted.tenant;
   named = noted.named;

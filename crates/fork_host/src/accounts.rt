@@ -1,4 +1,4 @@
-ghost use Rattle.std.specs.Prelude.{◌≡◌, ◌≢◌, IfOk, IsTrue, List, ℕ, OnOk, OnErr, Some, None, false, option_map};
+ghost use Rattle.std.specs.Prelude.{◌≡◌, ◌≢◌, [], IfOk, IsTrue, List, ℕ, OnOk, OnErr, Some, None, false, option_map};
 ghost use Rattle.push_stream.specs.Upload.{upload_of};
 ghost use Rattle.std.specs.FinMap as map;
 ghost use Rattle.std.specs.BTreeMap.{IsUnchanged, Updates};
@@ -13,6 +13,7 @@ ghost use Rattle.fork_ledger.specs.Tenants.{shape_of};
 ghost use Rattle.fork_host.specs.Adding.{new_account};
 ghost use Rattle.fork_host.specs.Bounds.{IsBounded};
 ghost use Rattle.fork_model.specs.Answer.{answer};
+ghost use Rattle.fork_host.specs.Opening.{reading_told};
 ghost use Rattle.fork_host.specs.Own.{IsOwn, IsReady, staged_in};
 ghost use Rattle.fork_host.specs.Rows.{YieldsOver};
 ghost use Rattle.fork_host.specs.Safe.{IsNamedReply, IsSafe};
@@ -150,7 +151,7 @@ impl Accounts {
         ensures found { IsTrue vault.old.honest → IfOk result (λ found. option_map (λ bytes. upload_of bytes.items) found ≡ upload_at (world_of (state_of self.now vault.old)) name.now) }
         ensures kept { IsTrue vault.old.honest → vault.new.tenants ≡ vault.old.tenants }
         ensures shape { shape_of vault.new.tenants ≡ shape_of vault.old.tenants }
-        ensures honest { vault.new.honest ≡ vault.old.honest }
+        ensures faults { IsBounded [] vault.old vault.new (reading_told result) }
     {
         let Some(tenant) = self.tenants.get(name) else {
             return Ok(None);
@@ -158,10 +159,8 @@ impl Accounts {
         let Some(upload) = tenant.upload() else {
             return Ok(None);
         };
-        match read_upload(alloc, vault, name, upload) {
-            Ok(bytes) => Ok(Some(bytes)),
-            Err(fault) => Err(fault),
-        }
+        let bytes = read_upload(alloc, vault, name, upload)?;
+        Ok(Some(bytes))
     }
 
     // Answers a tenant's request from its account and its own part of the vault.
@@ -201,7 +200,7 @@ fn read_upload<S: LooseFiles>(
     ensures opens { (bytes : List ℕ) → IsTrue vault.old.honest → Came vault.old.honest bytes upload.now.brief (staged_in vault.old name.now) → IfOk result (λ again. upload_of again.items ≡ upload_of bytes) }
     ensures kept { IsTrue vault.old.honest → vault.new.tenants ≡ vault.old.tenants }
     ensures shape { shape_of vault.new.tenants ≡ shape_of vault.old.tenants }
-    ensures honest { vault.new.honest ≡ vault.old.honest }
+    ensures faults { IsBounded [] vault.old vault.new (reading_told result) }
 {
     let mut own = Own::new(vault, name);
     bytes_of(alloc, &mut own, upload)

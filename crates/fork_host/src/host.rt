@@ -14,7 +14,9 @@ ghost use Rattle.state_text.specs.Kept.{states_of};
 ghost use Rattle.fork_ledger.specs.Store.{IsOver, LeavesStore};
 ghost use Rattle.fork_ledger.specs.Tenants.{with_tenant};
 ghost use Rattle.fork_host.specs.Adding.{new_account, new_view, refusal_to_add};
+ghost use Rattle.fork_host.specs.Bounds.{IsBounded};
 ghost use Rattle.fork_host.specs.Faults.{FaultsAlong, FaultsWithin};
+ghost use Rattle.fork_host.specs.Opening.{reading_told};
 ghost use Rattle.fork_host.specs.Safe.{IsNamedReply};
 ghost use Rattle.fork_host.specs.Shape.{SameShape};
 ghost use Rattle.fork_host.specs.Shown.{StagesUploads, Trusted, world_of};
@@ -140,6 +142,8 @@ impl<S: LooseFiles> Host<S> {
 
         // Over any store.
         ensures shape { (tenant : List ℕ) → SameShape tenant (world_of self.old) (world_of self.new) }
+        // Within the bounds of a step in which nothing is sent.
+        ensures faults { IsBounded [] self.old.vault self.new.vault (reading_told result) }
     {
         self.accounts.upload(alloc, &mut self.vault, name)
     }

@@ -1,15 +1,14 @@
 // The bytes that open an upload again. Its objects are read from the store.
-ghost use Rattle.std.specs.Prelude.{◌≡◌, ◌≤◌, ◌++◌, ℕ, List, IfOk, IsTrue, OnOk, Some, map as each, replicate, true};
+ghost use Rattle.std.specs.Prelude.{◌≡◌, ◌≤◌, ◌++◌, ℕ, List, IfOk, IfErr, IsTrue, OnOk, Some, map as each, replicate, true};
 ghost use Rattle.std.specs.FinMap as map;
 ghost use Rattle.std.specs.List.{AllByRecursion};
 ghost use Rattle.push_stream.specs.declared.upload.TheConstants.{MAX_UPLOAD};
 ghost use Rattle.push_stream.specs.Record.{record_of};
 ghost use Rattle.push_stream.specs.Spelling.{records_of};
 ghost use Rattle.push_stream.specs.Upload.{upload_of};
-ghost use Rattle.fork_ledger.specs.Tenants.{shape_of};
 ghost use Rattle.fork_model.specs.Uploads.{object_at};
-ghost use Rattle.fork_host.specs.Handle.{IsSame, staged_by};
-ghost use Rattle.fork_host.specs.Opening.{OnlyReads};
+ghost use Rattle.fork_host.specs.Handle.{staged_by};
+ghost use Rattle.fork_host.specs.Opening.{OnlyReads, reading_told};
 ghost use Rattle.fork_host.specs.Staged.{Came, IsStaged};
 
 use crate::own::Own;
@@ -28,10 +27,7 @@ pub(crate) fn bytes_of<S: LooseFiles>(
 ) -> Result<Vec<u8>, HostFault>
     requires staged { IsStaged own.old.vault.now.honest (Some upload.now.brief) (staged_by own.old) }
     ensures opens { (bytes : List ℕ) → IsTrue own.old.vault.now.honest → Came own.old.vault.now.honest bytes upload.now.brief (staged_by own.old) → IfOk result (λ again. upload_of again.items ≡ upload_of bytes) }
-    ensures kept { IsTrue own.old.vault.now.honest → own.new.vault.now.tenants ≡ own.old.vault.now.tenants }
-    ensures shape { shape_of own.new.vault.now.tenants ≡ shape_of own.old.vault.now.tenants }
-    ensures read { own.new.vault.now.honest ≡ own.old.vault.now.honest }
-    ensures same { IsSame own.old own.new }
+    ensures reads { OnlyReads own.old own.new (reading_told result) }
 {
     streams_hold_objects();
     let _count = upload.count();
@@ -39,10 +35,7 @@ pub(crate) fn bytes_of<S: LooseFiles>(
     let Ok(mut bytes) = again.header.to_vec(alloc) else {
         return Err(HostFault::Memory);
     };
-    match add_records(alloc, own, upload.sent(), &mut bytes) {
-        Ok(()) => {}
-        Err(fault) => return Err(fault),
-    }
+    add_records(alloc, own, upload.sent(), &mut bytes)?;
     match add_end(&mut bytes, again.tail, again.zeros) {
         Ok(()) => Ok(bytes),
         Err(_) => Err(HostFault::Memory),
@@ -58,13 +51,10 @@ fn add_records<S: LooseFiles>(
 ) -> Result<(), HostFault>
     requires there { AllByRecursion (λ one. map.contains_key (staged_by own.old) one.name ≡ true) sent.now }
     ensures added { IsTrue own.old.vault.now.honest → OnOk result (bytes.new.items ≡ bytes.old.items ++ records_of (each (object_at (staged_by own.old)) sent.now)) }
-    ensures reads { OnlyReads own.old own.new }
+    ensures reads { OnlyReads own.old own.new (reading_told result) }
 {
     for one in sent {
-        match add_record(alloc, own, one, bytes) {
-            Ok(()) => {}
-            Err(fault) => return Err(fault),
-        }
+        add_record(alloc, own, one, bytes)?;
     }
     Ok(())
 }
@@ -78,12 +68,10 @@ fn add_record<S: LooseFiles>(
 ) -> Result<(), HostFault>
     requires there { map.contains_key (staged_by own.old) one.now.name ≡ true }
     ensures added { IsTrue own.old.vault.now.honest → OnOk result (bytes.new.items ≡ bytes.old.items ++ record_of (object_at (staged_by own.old) one.now)) }
-    ensures reads { OnlyReads own.old own.new }
+    ensures reads { OnlyReads own.old own.new (reading_told result) }
 {
-    match staged(alloc, own, one.name) {
-        Ok(sealed) => write_behind(alloc, &sealed, bytes),
-        Err(fault) => Err(fault),
-    }
+    let sealed = staged(alloc, own, one.name)?;
+    write_behind(alloc, &sealed, bytes)
 }
 
 // The staged object of this name, which is there.
@@ -94,7 +82,7 @@ fn staged<S: LooseFiles>(
 ) -> Result<Sealed, HostFault>
     requires there { map.contains_key (staged_by own.old) name ≡ true }
     ensures found { IsTrue own.old.vault.now.honest → IfOk result (λ object. map.get (staged_by own.old) name ≡ Some object) }
-    ensures reads { OnlyReads own.old own.new }
+    ensures reads { OnlyReads own.old own.new (reading_told result) }
 {
     match own.get_staged(alloc, name) {
         Ok(Some(sealed)) => Ok(sealed),
@@ -105,7 +93,8 @@ fn staged<S: LooseFiles>(
 
 // Adds the record of an object.
 fn write_behind(alloc: Global, sealed: &Sealed, bytes: &mut Vec<u8>) -> Result<(), HostFault>
-    ensures { OnOk result (bytes.new.items ≡ bytes.old.items ++ record_of sealed.now) }
+    ensures written { OnOk result (bytes.new.items ≡ bytes.old.items ++ record_of sealed.now) }
+    ensures cause { IfErr result (λ fault. fault ≡ HostFault.Memory) }
 {
     let Ok(text) = write_record(alloc, sealed) else {
         return Err(HostFault::Memory);

@@ -25,10 +25,7 @@ pub(crate) fn read_states<S: LooseFiles>(
 {
     let mut readings = Readings::new(alloc);
     for state in states {
-        match read_seen(alloc, files, &mut readings, state.seen()) {
-            Ok(()) => {}
-            Err(error) => return Err(error),
-        }
+        read_seen(alloc, files, &mut readings, state.seen())?;
     }
     Ok(readings)
 }
@@ -45,10 +42,7 @@ fn read_seen<S: LooseFiles>(
     ensures honest { files.new.honest ≡ files.old.honest }
 {
     for name in names {
-        match read_new(alloc, files, readings, *name) {
-            Ok(()) => {}
-            Err(error) => return Err(error),
-        }
+        read_new(alloc, files, readings, *name)?;
     }
     Ok(())
 }

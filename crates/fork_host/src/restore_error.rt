@@ -1,3 +1,6 @@
+ghost use Rattle.fork_host.specs.Restored.{IsFault};
+
+use crate::open_error::OpenError;
 use fork_request::TenantName;
 use git_name::Name;
 use thiserror::Error;
@@ -17,4 +20,16 @@ pub enum RestoreError {
     Store,
     #[error("no memory")]
     Memory,
+}
+
+// A host that is not opened over the store is not restored.
+impl From<OpenError> for RestoreError {
+    ghost from_gives = { λ _ error. IsFault error };
+
+    fn from(error: OpenError) -> RestoreError {
+        match error {
+            OpenError::Store => RestoreError::Store,
+            OpenError::Memory => RestoreError::Memory,
+        }
+    }
 }

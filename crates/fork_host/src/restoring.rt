@@ -9,7 +9,7 @@ ghost use Rattle.fork_host.specs.Own.{Changes, Settles};
 ghost use Rattle.fork_host.specs.Read.{AreRead};
 ghost use Rattle.fork_host.specs.Adding.{new_view, refusal_to_add};
 ghost use Rattle.fork_host.specs.Refilled.{IsBehind, IsJudged, IsRefilled, IsWhy, StandsAgainst};
-ghost use Rattle.fork_host.specs.Restored.{IsFault, IsRefused, IsShownAgain, TellsBad};
+ghost use Rattle.fork_host.specs.Restored.{IsRefused, IsShownAgain, TellsBad};
 ghost use Rattle.fork_host.specs.Shown.{Trusted, world_of};
 ghost use Rattle.state_text.specs.Adding.{AreBefore};
 ghost use Rattle.state_text.specs.States.{Ascend};
@@ -17,7 +17,6 @@ ghost use Rattle.state_text.specs.States.{Ascend};
 use crate::add_error::AddError;
 use crate::host::Host;
 use crate::later::{Bad, Later};
-use crate::open_error::OpenError;
 use crate::own::Own;
 use crate::reading::read_states;
 use crate::repositories::Repositories;
@@ -46,14 +45,8 @@ impl<S: LooseFiles + Drop> Host<S> {
         let Ok(mut files) = CachedStore::new(alloc, files) else {
             return Err(RestoreError::Memory);
         };
-        let readings = match read_states(alloc, &mut files, states.as_slice()) {
-            Ok(readings) => readings,
-            Err(error) => return Err(of_open(error)),
-        };
-        let mut host = match Host::over(alloc, files) {
-            Ok(host) => host,
-            Err(error) => return Err(of_open(error)),
-        };
+        let readings = read_states(alloc, &mut files, states.as_slice())?;
+        let mut host = Host::over(alloc, files)?;
         let mut later = Later::Nothing;
         for state in states.as_slice() {
             let judged = host.restore_tenant(alloc, &readings, state);
@@ -198,14 +191,5 @@ fn why_bad<S: LooseFiles + Drop>(alloc: Global, files: S, name: Name) -> Restore
         Err(StoreFault::Damaged) => RestoreError::Damaged(name),
         Err(StoreFault::Device) => RestoreError::Store,
         Err(StoreFault::Memory) => RestoreError::Memory,
-    }
-}
-
-fn of_open(error: OpenError) -> RestoreError
-    ensures { IsFault result }
-{
-    match error {
-        OpenError::Store => RestoreError::Store,
-        OpenError::Memory => RestoreError::Memory,
     }
 }

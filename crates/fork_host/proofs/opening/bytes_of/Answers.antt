@@ -1,12 +1,13 @@
-use Rattle.std.proofs.Common.{◌≡◌, ◌++◌, ℕ, List, ap, map, rules, sym, ◌∙◌}
+use Rattle.std.proofs.Common.{◌≡◌, ◌++◌, ℕ, List, ap, inr, map, refl, rules, sym, ◌∙◌}
 use Rattle.std.specs.Prelude.{replicate}
+use Rattle.std.proofs.lemmas.Result.{err_from_is_err_and}
 use Rattle.git_name.specs.Object.{Object}
 use Rattle.push_stream.specs.Reading.{reading_of}
 use Rattle.push_stream.specs.Spelling.{records_of}
 use Rattle.push_stream.specs.Stream.{sent_in, stream_of}
 use Rattle.fork_model.specs.Uploads.{object_at}
 use Rattle.fork_host.specs.Handle.{staged_by}
-use Rattle.fork_host.proofs.OpeningLemmas.{same_upload, text_is, told_of, told_records, told_there}
+use Rattle.fork_host.proofs.OpeningLemmas.{reads_none, reads_quiet, same_upload, text_is, told_of, told_records, told_there}
 use Rattle.fork_host.proofs.opening.bytes_of.Goals as goal
 
 pub add_records-requires : goal.add_records-requires
@@ -30,6 +31,17 @@ returns-in-Ok-add_end-clause-opens g c = λ bytes honest came.
     let header : c.in-Ok.bytes.items ≡ again.header.now = search rules in
     let is : text ≡ again.header.now ++ (records_of objects ++ end) =
     text_is c.in-Ok.bytes.items again.header.now (records_of (map (object_at staged) sent)) (records_of objects) end c.add_records.new.bytes.items text
-    header (told_records bytes reading staged sent came.read (came.exact honest) c.sent.ensures) (c.in-Ok-add_records.ensures.added honest) c.in-Ok-add_end.ensures in
+    header (told_records bytes reading staged sent came.read (came.exact honest) c.sent.ensures) (c.in_ok-add_records.ensures.added honest) c.in-Ok-add_end.ensures in
     let read : reading_of text ≡ reading = ap reading_of is ∙ c.again-again.ensures.read objects are within told in
     same_upload text bytes staged (came.exact honest) (read ∙ sym came.read) (ap (λ (l : List ℕ). sent_in (stream_of l)) is ∙ c.again-again.ensures.sent objects are within told)
+
+pub returns-in_default-clause-reads : goal.returns-in_default-clause-reads
+returns-in_default-clause-reads g c = reads_quiet c.args.own.now c.args.own.now _ (reads_none c.args.own.now) (inr refl)
+
+pub returns-in_err-add_records-clause-reads : goal.returns-in_err-add_records-clause-reads
+returns-in_err-add_records-clause-reads g c =
+    let told = err_from_is_err_and c.from_residual.result c.from_residual.ensures.1 in
+    rw (told.1, told.2) c.in_err-add_records.ensures.reads
+
+pub returns-in-Err-clause-reads : goal.returns-in-Err-clause-reads
+returns-in-Err-clause-reads g c = reads_quiet c.args.own.now c.add_records.new.own _ c.in_ok-add_records.ensures.reads (inr refl)

@@ -10,7 +10,7 @@ loop-name-preserved g c =
     let told = c.read_new.ensures in
     record {
       reads = reads_more first.honest mid.honest first.contents mid.contents c.args.names.now c.loop-name.name-index c.name-item.result c.args.readings.now c.loop-name.readings c.read_new.new.readings
-          before.honest before.kept c.loop-name-test.true c.name-item.is c.in-Ok.ensures.reads before.reads;
+          before.honest before.kept c.loop-name-test.true c.name-item.is c.in_ok-read_new.ensures.reads before.reads;
       kept = λ h. told.kept (before.honest ∙ h) ∙ before.kept h;
       honest = told.honest ∙ before.honest;
     }

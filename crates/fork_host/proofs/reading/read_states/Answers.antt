@@ -20,7 +20,7 @@ loop-state-preserved g c =
     record {
       read = states_more first.honest mid.honest first.contents mid.contents c.args.states.now c.loop-state.state-index state c.loop-state.readings c.read_seen.new.readings
           before.honest before.kept c.loop-state-test.true c.state-item.is
-          (subst (λ names. Reads mid.honest mid.contents names c.loop-state.readings c.read_seen.new.readings) c.seen.ensures c.in-Ok.ensures.reads) before.read;
+          (subst (λ names. Reads mid.honest mid.contents names c.loop-state.readings c.read_seen.new.readings) c.seen.ensures c.in_ok-read_seen.ensures.reads) before.read;
       kept = λ h. told.kept (before.honest ∙ h) ∙ before.kept h;
       honest = told.honest ∙ before.honest;
     }

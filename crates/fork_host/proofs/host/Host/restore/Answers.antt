@@ -1,6 +1,7 @@
 use Rattle.std.proofs.Common.{◌≡◌, ◌<◌, ◌≤◌, ◌+◌, ◌++◌, ◌∷◌, [], ℕ, ap, subst, sym, ◌∙◌, arith, drop, get_or, length, take, map as mapped}
 use Rattle.std.specs.Prelude.{Contains}
 use Rattle.std.proofs.lemmas.List.{length-map, take_all}
+use Rattle.std.proofs.lemmas.Result.{err_from_is_err_and}
 use Rattle.std.specs.FinMap as map
 use Rattle.loose_store.specs.Files.{Files}
 use Rattle.state_text.specs.Adding.{AreBefore}
@@ -21,23 +22,27 @@ use Rattle.fork_host.proofs.host.Host.restore.Goals as goal
 pub returns-in_default-clause-refused : goal.returns-in_default-clause-refused
 returns-in_default-clause-refused g c = λ h. WantsMemory
 
-pub returns-in-Err-clause-refused : goal.returns-in-Err-clause-refused
-returns-in-Err-clause-refused g c = λ h. of_fault (g.S.LooseFiles.contents c.args.files) c.args.states c.of_open.result c.of_open.ensures
+pub returns-in_err-readings-clause-refused : goal.returns-in_err-readings-clause-refused
+returns-in_err-readings-clause-refused g c =
+    let told = err_from_is_err_and c.from_residual.result c.from_residual.ensures.1 in
+    rw told.1 (λ h. of_fault (g.S.LooseFiles.contents c.args.files) c.args.states told.0 told.2)
 
-pub returns-in-Err-over-clause-refused : goal.returns-in-Err-over-clause-refused
-returns-in-Err-over-clause-refused g c = λ h. of_fault (g.S.LooseFiles.contents c.args.files) c.args.states c.of_open-in-Err-over.result c.of_open-in-Err-over.ensures
+pub returns-in_err-host-clause-refused : goal.returns-in_err-host-clause-refused
+returns-in_err-host-clause-refused g c =
+    let told = err_from_is_err_and c.from_residual-in_err-host.result c.from_residual-in_err-host.ensures.1 in
+    rw told.1 (λ h. of_fault (g.S.LooseFiles.contents c.args.files) c.args.states told.0 told.2)
 
 pub loop-state-init : goal.loop-state-init
 loop-state-init g c =
     let read = c.read_states.ensures in
-    let told = c.in-Ok-over.ensures in
+    let told = c.in_ok-host.ensures in
     record {
       trusted = λ h. told.trusted (read.honest ∙ c.in-Ok.ensures.honest ∙ h);
       going = λ h.
           let was = c.in-Ok.ensures.honest ∙ h in
-          going_none (g.S.LooseFiles.contents c.args.files) c.in-Ok-over.host told.empty (told.store.files (read.honest ∙ was) ∙ read.kept was ∙ c.in-Ok.ensures.contents);
+          going_none (g.S.LooseFiles.contents c.args.files) c.in_ok-host.host told.empty (told.store.files (read.honest ∙ was) ∙ read.kept was ∙ c.in-Ok.ensures.contents);
       honest = told.store.honest ∙ read.honest ∙ c.in-Ok.ensures.honest;
-      names = no_tenants c.in-Ok-over.host told.empty;
+      names = no_tenants c.in_ok-host.host told.empty;
     }
 
 -- the state that comes next is one of those that are told
@@ -76,8 +81,8 @@ restore_tenant-judged-requires-clause-read g c =
     let before = c.loop-state.invariant in
     let host = c.loop-state.host in
     let store = c.in-Ok.ensures in
-    read_at c.in-Ok.files.honest host.vault.honest c.in-Ok.files.contents host.vault.files tenant.seen c.in-Ok-read_states.readings (before.honest ∙ sym store.honest) (λ h. (before.going (sym store.honest ∙ h)).same ∙ sym store.contents)
-    (c.in-Ok-read_states.ensures.read tenant (subst (λ (ts : States). Contains ts tenant) (sym c.as_slice.ensures.tenants)
+    read_at c.in-Ok.files.honest host.vault.honest c.in-Ok.files.contents host.vault.files tenant.seen c.in_ok-readings.readings (before.honest ∙ sym store.honest) (λ h. (before.going (sym store.honest ∙ h)).same ∙ sym store.contents)
+    (c.in_ok-readings.ensures.read tenant (subst (λ (ts : States). Contains ts tenant) (sym c.as_slice.ensures.tenants)
     (i, inside c.as_slice-state-items.result.now states i same c.loop-state-test.true, sym (next c.as_slice-state-items.result.now states i tenant same c.state-item.is))))
 
 pub returns-in-Some-clause-refused : goal.returns-in-Some-clause-refused

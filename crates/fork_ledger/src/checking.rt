@@ -85,10 +85,7 @@ pub(crate) fn check_all<S: LooseFiles>(
     holdings.held_names_are_catalogued();
     let mut harms = Harms::new(alloc);
     for at in 0..holdings.len() {
-        match check_place(alloc, files, holdings, &mut harms, at) {
-            Ok(()) => {}
-            Err(fault) => return Err(fault),
-        }
+        check_place(alloc, files, holdings, &mut harms, at)?;
     }
     Ok(harms)
 }

@@ -48,10 +48,7 @@ pub(crate) fn sweep<S: LooseFiles>(
         if holdings.len() == 0 {
             return Ok(count);
         }
-        let left = match look_once(alloc, files, holdings) {
-            Ok(left) => left,
-            Err(fault) => return Err(fault),
-        };
+        let left = look_once(alloc, files, holdings)?;
         count += number_of(left);
     }
     Ok(count)
@@ -79,10 +76,7 @@ pub(crate) fn collect<S: LooseFiles>(
     holdings.restart();
     let mut count = 0;
     for done in 0..holdings.len() {
-        let left = match look_once(alloc, files, holdings) {
-            Ok(left) => left,
-            Err(fault) => return Err(fault),
-        };
+        let left = look_once(alloc, files, holdings)?;
         count += number_of(left);
     }
     holdings.restart();

@@ -57,10 +57,7 @@ pub fn check<H: Files<File = File> + AllocGlobal + RandomSource, W: Write>(
         Ok(None) => return Err(Fault::NoState),
         Err(fault) => return Err(of_state(fault)),
     }
-    let count = match replayable(rt, alloc, dir) {
-        Ok(count) => count,
-        Err(fault) => return Err(fault),
-    };
+    let count = replayable(rt, alloc, dir)?;
     let Ok(()) = tell_sound(count, writer) else {
         return Err(Fault::Write);
     };

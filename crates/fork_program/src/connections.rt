@@ -87,14 +87,8 @@ pub fn serve_kept_connections<H: Files<File = File> + AllocGlobal, S: LooseFiles
             Ok((stream, _)) => stream,
             Err(error) => return Err(of_socket(error)),
         };
-        match visit(host, alloc, &mut keep.journal, &stream) {
-            Ok(()) => {}
-            Err(fault) => return Err(fault),
-        }
-        match keep.settle(alloc, host) {
-            Ok(()) => {}
-            Err(fault) => return Err(fault),
-        }
+        visit(host, alloc, &mut keep.journal, &stream)?;
+        keep.settle(alloc, host)?;
     }
     Ok(())
 }

@@ -36,10 +36,8 @@ pub fn read_content<R: Read>(alloc: Global, reader: &mut R) -> Result<Vec<u8>, F
 {
     let mut content = Vec::new(alloc);
     while content.len() <= MAX_CONTENT {
-        match read_onto(reader, &mut content) {
-            Ok(0) => return Ok(content),
-            Ok(_) => {}
-            Err(fault) => return Err(fault),
+        if read_onto(reader, &mut content)? == 0 {
+            return Ok(content);
         }
     }
     Err(Fault::TooLarge)

@@ -43,10 +43,7 @@ pub fn hash_object<R: Read, W: Write>(
     ensures err { IfErr result (IsUnnamed kind (R.remaining reader.old)
         (W.contents writer.old) (W.contents writer.new)) }
 {
-    let content = match read_content(alloc, reader) {
-        Ok(content) => content,
-        Err(fault) => return Err(fault),
-    };
+    let content = read_content(alloc, reader)?;
     if !is_object(kind, content.as_slice()) {
         return Err(Fault::BadObject);
     }

@@ -42,10 +42,7 @@ pub(crate) fn host_in_folder<'a, H: Files<File = File> + AllocGlobal + RandomSou
     ensures ok { IfOk result (IsHostOf hosting.entry) }
     ensures err { IfErr result (IsUnhosted hosting.entry) }
 {
-    let mut host = match kept_host(rt, alloc, dir) {
-        Ok(host) => host,
-        Err(fault) => return Err(fault),
-    };
+    let mut host = kept_host(rt, alloc, dir)?;
     match add_tenants(&mut host, alloc, hosting.tenants) {
         Ok(()) => Ok(host),
         Err(fault) => Err(fault),

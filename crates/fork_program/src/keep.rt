@@ -109,10 +109,7 @@ impl<'a, H: Files<File = File> + AllocGlobal> Keep<'a, H> {
     fn over(rt: &'a H, alloc: Global, dir: &'a str, draft: Draft) -> Result<Keep<'a, H>, Fault>
         ensures { IfErr result (λ fault. fault ≡ Fault.NotSaved) }
     {
-        let (file, bytes) = match put(rt, alloc, dir, draft) {
-            Ok(saved) => saved,
-            Err(fault) => return Err(fault),
-        };
+        let (file, bytes) = put(rt, alloc, dir, draft)?;
         let Ok(journal) = Written::new(alloc, file) else {
             return Err(Fault::NotSaved);
         };

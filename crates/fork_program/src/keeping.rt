@@ -56,10 +56,7 @@ pub fn restored_host<H: Files<File = File> + AllocGlobal, S: LooseFiles + Drop>(
         Ok(state) => state,
         Err(fault) => return Err(of_state(fault)),
     };
-    let (mut host, name) = match saved_host(alloc, state, files) {
-        Ok(saved) => saved,
-        Err(fault) => return Err(fault),
-    };
+    let (mut host, name) = saved_host(alloc, state, files)?;
     match replay(rt, alloc, dir, name, &mut host) {
         Ok(count) => Ok((host, count)),
         Err(fault) => Err(fault),

@@ -54,10 +54,7 @@ fn keep_session<'x, H: Files<File = File> + AllocGlobal, S: LooseFiles, R: Read,
     ensures err { (hosting : Hosting) → IsKeptHostOf hosting host.old → IfErr result (IsUnserved hosting (R.remaining reader.old)
         (R.remaining reader.new) (W.contents writer.old) (W.contents writer.new)) }
 {
-    let mut keep = match Keep::begin(rt, alloc, dir, host) {
-        Ok(keep) => keep,
-        Err(fault) => return Err(fault),
-    };
+    let mut keep = Keep::begin(rt, alloc, dir, host)?;
     let served = session(host, alloc, &mut keep.journal, reader, writer);
     let saved = keep.save(alloc, host);
     match served {
@@ -79,10 +76,7 @@ fn run_in_memory<H: RandomSource, R: Read, W: Write>(
     ensures err { IfErr result (IsUnserved hosting.entry (R.remaining reader.old) (R.remaining reader.new)
         (W.contents writer.old) (W.contents writer.new)) }
 {
-    let mut host = match host_in_memory(rt, alloc, hosting) {
-        Ok(host) => host,
-        Err(fault) => return Err(fault),
-    };
+    let mut host = host_in_memory(rt, alloc, hosting)?;
     session(&mut host, alloc, &mut NoJournal, reader, writer)
 }
 
@@ -101,10 +95,7 @@ fn run_in_folder<'x, H: Files<File = File> + AllocGlobal + RandomSource, R: Read
     ensures err { IfErr result (IsUnserved hosting.entry (R.remaining reader.old) (R.remaining reader.new)
         (W.contents writer.old) (W.contents writer.new)) }
 {
-    let mut host = match host_in_folder(rt, alloc, dir, hosting) {
-        Ok(host) => host,
-        Err(fault) => return Err(fault),
-    };
+    let mut host = host_in_folder(rt, alloc, dir, hosting)?;
     keep_session(rt, alloc, dir, &mut host, reader, writer)
 }
 

@@ -65,10 +65,7 @@ fn serve_host<H: Files<File = File> + Net, S: LooseFiles>(
     ensures ok { (hosting : Hosting) → IsHostOf hosting host.old → OnOk result (IsListened hosting connections) }
     ensures err { (hosting : Hosting) → IsHostOf hosting host.old → IfErr result (IsUnlistened hosting connections) }
 {
-    let listening = match listen(rt, alloc, socket) {
-        Ok(listening) => listening,
-        Err(fault) => return Err(fault),
-    };
+    let listening = listen(rt, alloc, socket)?;
     serve_at(rt, alloc, host, listening, socket, connections)
 }
 
@@ -113,10 +110,7 @@ fn serve_kept_host<'x, H: Files<File = File> + Net + AllocGlobal, S: LooseFiles>
     ensures ok { (hosting : Hosting) → IsKeptHostOf hosting host.old → OnOk result (IsListened hosting connections) }
     ensures err { (hosting : Hosting) → IsKeptHostOf hosting host.old → IfErr result (IsUnlistened hosting connections) }
 {
-    let listening = match listen(rt, alloc, socket) {
-        Ok(listening) => listening,
-        Err(fault) => return Err(fault),
-    };
+    let listening = listen(rt, alloc, socket)?;
     keep_connections(rt, alloc, dir, host, listening, socket, connections)
 }
 
@@ -131,10 +125,7 @@ fn serve_in_memory<H: Files<File = File> + Net + RandomSource>(
     ensures ok { OnOk result (IsListened hosting.entry connections) }
     ensures err { IfErr result (IsUnlistened hosting.entry connections) }
 {
-    let mut host = match host_in_memory(rt, alloc, hosting) {
-        Ok(host) => host,
-        Err(fault) => return Err(fault),
-    };
+    let mut host = host_in_memory(rt, alloc, hosting)?;
     serve_host(rt, alloc, &mut host, socket, connections)
 }
 
@@ -151,10 +142,7 @@ fn serve_in_folder<'x, H: Files<File = File> + Net + AllocGlobal + RandomSource>
     ensures ok { OnOk result (IsListened hosting.entry connections) }
     ensures err { IfErr result (IsUnlistened hosting.entry connections) }
 {
-    let mut host = match host_in_folder(rt, alloc, dir, hosting) {
-        Ok(host) => host,
-        Err(fault) => return Err(fault),
-    };
+    let mut host = host_in_folder(rt, alloc, dir, hosting)?;
     serve_kept_host(rt, alloc, dir, &mut host, socket, connections)
 }
 

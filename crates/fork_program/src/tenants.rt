@@ -40,10 +40,7 @@ pub fn add_tenants<S: LooseFiles>(
     ensures err { IfErr result (AreUngiven (world_of host.old) tenants.items) }
 {
     for grant in tenants {
-        match add(host, alloc, grant) {
-            Ok(()) => {}
-            Err(fault) => return Err(fault),
-        }
+        add(host, alloc, grant)?;
     }
     Ok(())
 }

@@ -27,10 +27,8 @@ pub(crate) fn judge_sent<S: Source>(
 {
     let mut wrong = None;
     for name in names {
-        match judge_object(alloc, source, *name, &mut wrong) {
-            Ok(None) => {}
-            Ok(Some(link)) => return Ok(Some(PushRefusal::Missing(link.name))),
-            Err(fault) => return Err(fault),
+        if let Some(link) = judge_object(alloc, source, *name, &mut wrong)? {
+            return Ok(Some(PushRefusal::Missing(link.name)));
         }
     }
     match wrong {

@@ -28,10 +28,7 @@ fn read_bases<S: Source>(
     ensures asked { IsAsked (S.state source.old) (S.state source.new) (fault_in result) }
 {
     let none = IndexSet::with_hasher(alloc, source.hashing());
-    let history = match read_history(alloc, source, &[a, b], &none) {
-        Ok(history) => history,
-        Err(fault) => return Err(fault),
-    };
+    let history = read_history(alloc, source, &[a, b], &none)?;
     match history.best_common(alloc, a, b) {
         Ok(best) => Ok(best),
         Err(_) => Err(SourceFault::Memory),
@@ -48,14 +45,8 @@ fn best<S: Source>(
     ensures best { IsTrue (S.state source.old).honest → IfOk result (λ best. (name : List ℕ) → contains same_name best name ≡ is_base (S.state source.old).objects a b name) }
     ensures asked { IsAsked (S.state source.old) (S.state source.new) (fault_in result) }
 {
-    match source.learn(alloc, a) {
-        Ok(()) => {}
-        Err(fault) => return Err(fault),
-    }
-    match source.learn(alloc, b) {
-        Ok(()) => {}
-        Err(fault) => return Err(fault),
-    }
+    source.learn(alloc, a)?;
+    source.learn(alloc, b)?;
     match known_bases(alloc, source, a, b) {
         Ok(Some(best)) => Ok(best),
         Ok(None) => read_bases(alloc, source, a, b),
@@ -69,10 +60,7 @@ fn bases<S: Source>(alloc: Global, source: &mut S, a: Name, b: Name) -> Result<V
     ensures listed { IsTrue (S.state source.old).honest → IfOk result (λ text. text.items ≡ name_lines (merge_bases (S.state source.old).objects a b)) }
     ensures asked { IsAsked (S.state source.old) (S.state source.new) (fault_in result) }
 {
-    let best = match best(alloc, source, a, b) {
-        Ok(best) => best,
-        Err(fault) => return Err(fault),
-    };
+    let best = best(alloc, source, a, b)?;
     let Ok(listed) = ascending(alloc, &best) else {
         return Err(SourceFault::Memory);
     };
@@ -98,16 +86,7 @@ pub fn merge_base<S: Source>(
     ensures asked { IsAsked (S.state source.old) (S.state source.new) (fault_told result) }
 {
     let mut followed = Followed::new(alloc);
-    let a = match named_item(alloc, Want::Commit, source, &mut followed, references, a) {
-        Ok(name) => name,
-        Err(error) => return Err(error),
-    };
-    let b = match named_item(alloc, Want::Commit, source, &mut followed, references, b) {
-        Ok(name) => name,
-        Err(error) => return Err(error),
-    };
-    match bases(alloc, source, a, b) {
-        Ok(text) => Ok(text),
-        Err(fault) => Err(QueryError::Failed(fault)),
-    }
+    let a = named_item(alloc, Want::Commit, source, &mut followed, references, a)?;
+    let b = named_item(alloc, Want::Commit, source, &mut followed, references, b)?;
+    Ok(bases(alloc, source, a, b)?)
 }

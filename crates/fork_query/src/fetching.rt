@@ -31,10 +31,8 @@ fn send<S: Source>(
     ensures named { IfOk result (λ longer. AreRecords text.items → AreRecords longer.items) }
     ensures asked { IsAsked (S.state source.old) (S.state source.new) (fault_in result) }
 {
-    let sealed = match source.read(alloc, name) {
-        Ok(Some(sealed)) => sealed,
-        Ok(None) => return Ok(text),
-        Err(fault) => return Err(fault),
+    let Some(sealed) = source.read(alloc, name)? else {
+        return Ok(text);
     };
     match add_record(text, sealed.name(), sealed.kind(), sealed.bytes()) {
         Ok(text) => Ok(text),
@@ -54,10 +52,7 @@ fn send_all<S: Source>(
 {
     let mut text = Vec::new(alloc);
     for name in names {
-        text = match send(alloc, source, name, text) {
-            Ok(text) => text,
-            Err(fault) => return Err(fault),
-        };
+        text = send(alloc, source, name, text)?;
     }
     Ok(text)
 }
@@ -74,10 +69,7 @@ fn read_records<S: Source>(
     ensures named { IfOk result (λ text. AreRecords text.items) }
     ensures asked { IsAsked (S.state source.old) (S.state source.new) (fault_in result) }
 {
-    let names = match reach_past(alloc, source, roots, hidden) {
-        Ok(names) => names,
-        Err(fault) => return Err(fault),
-    };
+    let names = reach_past(alloc, source, roots, hidden)?;
     let Ok(names) = ascending(alloc, &names) else {
         return Err(SourceFault::Memory);
     };
@@ -111,10 +103,7 @@ fn records<S: Source>(alloc: Global, source: &mut S, sides: &Sides) -> Result<Ve
     ensures named { IfOk result (λ text. AreRecords text.items) }
     ensures asked { IsAsked (S.state source.old) (S.state source.new) (fault_in result) }
 {
-    let hidden = match reach(alloc, source, sides.excluded.as_slice()) {
-        Ok(hidden) => hidden,
-        Err(fault) => return Err(fault),
-    };
+    let hidden = reach(alloc, source, sides.excluded.as_slice())?;
     records_past(alloc, source, sides.wanted.as_slice(), &hidden)
 }
 
@@ -133,12 +122,6 @@ pub fn fetch<S: Source>(
     ensures named { IfOk result (λ text. AreRecords text.items) }
     ensures asked { IsAsked (S.state source.old) (S.state source.new) (fault_told result) }
 {
-    let sides = match select(alloc, Want::Object, source, references, items) {
-        Ok(sides) => sides,
-        Err(error) => return Err(error),
-    };
-    match records(alloc, source, &sides) {
-        Ok(text) => Ok(text),
-        Err(fault) => Err(QueryError::Failed(fault)),
-    }
+    let sides = select(alloc, Want::Object, source, references, items)?;
+    Ok(records(alloc, source, &sides)?)
 }

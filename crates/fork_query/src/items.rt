@@ -83,11 +83,7 @@ fn commit_at<S: Source>(
     ensures known { IsTrue (S.state source.old).honest → AreEnds (S.state source.old).objects followed.old → OnOk result (AreEnds (S.state source.old).objects followed.new) }
     ensures asked { IsAsked (S.state source.old) (S.state source.new) (fault_told result) }
 {
-    let end = match peel(alloc, source, followed, name) {
-        Ok(end) => end,
-        Err(fault) => return Err(QueryError::Failed(fault)),
-    };
-    let Some(end) = end else {
+    let Some(end) = peel(alloc, source, followed, name)? else {
         return Err(QueryError::Refused(Refusal::NotACommit(name)));
     };
     if !is_commit(source, end) {
@@ -109,10 +105,7 @@ pub(crate) fn named_item<S: Source>(
     ensures known { IsTrue (S.state source.old).honest → AreEnds (S.state source.old).objects followed.old → OnOk result (AreEnds (S.state source.old).objects followed.new) }
     ensures asked { IsAsked (S.state source.old) (S.state source.new) (fault_told result) }
 {
-    let name = match object_of_item(alloc, source, references, item) {
-        Ok(name) => name,
-        Err(error) => return Err(error),
-    };
+    let name = object_of_item(alloc, source, references, item)?;
     match want {
         Want::Object => Ok(name),
         Want::Commit => commit_at(alloc, source, followed, name),

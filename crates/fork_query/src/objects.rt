@@ -18,12 +18,11 @@ pub fn cat_file<S: Source>(alloc: Global, source: &mut S, name: Name) -> Result<
     ensures named { IfOk result (λ text. IsRecordUnder name text.items) }
     ensures asked { IsAsked (S.state source.old) (S.state source.new) (fault_told result) }
 {
-    match source.read(alloc, name) {
-        Ok(Some(sealed)) => match write_record(alloc, &sealed) {
-            Ok(text) => Ok(text),
-            Err(_) => Err(QueryError::Failed(SourceFault::Memory)),
-        },
-        Ok(None) => Err(QueryError::Refused(Refusal::Missing(name))),
-        Err(fault) => Err(QueryError::Failed(fault)),
+    let Some(sealed) = source.read(alloc, name)? else {
+        return Err(QueryError::Refused(Refusal::Missing(name)));
+    };
+    match write_record(alloc, &sealed) {
+        Ok(text) => Ok(text),
+        Err(_) => Err(QueryError::Failed(SourceFault::Memory)),
     }
 }

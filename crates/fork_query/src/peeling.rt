@@ -85,10 +85,7 @@ fn walk<S: Source>(
         if !is_new {
             return Ok(Trail { tags, end: None });
         }
-        let target = match read_target(alloc, source, at) {
-            Ok(target) => target,
-            Err(fault) => return Err(fault),
-        };
+        let target = read_target(alloc, source, at)?;
         let Some(target) = target else {
             return Ok(Trail {
                 tags,
@@ -129,10 +126,7 @@ pub(crate) fn peel<S: Source>(
     ensures known { IsTrue (S.state source.old).honest → AreEnds (S.state source.old).objects followed.old → OnOk result (AreEnds (S.state source.old).objects followed.new) }
     ensures asked { IsAsked (S.state source.old) (S.state source.new) (fault_in result) }
 {
-    let trail = match walk(alloc, source, followed, name) {
-        Ok(trail) => trail,
-        Err(fault) => return Err(fault),
-    };
+    let trail = walk(alloc, source, followed, name)?;
     match note_all(followed, &trail.tags, &trail.end) {
         Ok(()) => Ok(trail.end),
         Err(_) => Err(SourceFault::Memory),

@@ -1,3 +1,6 @@
+ghost use Rattle.std.specs.Prelude.{◌≡◌};
+ghost use Rattle.fork_query.specs.declared.query_error.QueryError.TheVariants.{Failed};
+
 use fork_reach::SourceFault;
 use fork_request::Refusal;
 
@@ -8,4 +11,12 @@ pub enum QueryError {
     Refused(Refusal),
     /// The source failed, or memory was wanted.
     Failed(SourceFault),
+}
+
+impl From<SourceFault> for QueryError {
+    ghost from_gives = { λ fault error. error ≡ Failed fault };
+
+    fn from(fault: SourceFault) -> QueryError {
+        QueryError::Failed(fault)
+    }
 }

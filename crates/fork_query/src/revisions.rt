@@ -55,14 +55,8 @@ fn revisions<S: Source>(
     ensures listed { IsTrue (S.state source.old).honest → IfOk result (λ text. text.items ≡ name_lines (revision_list (S.state source.old).objects sides.now.wanted.items sides.now.excluded.items)) }
     ensures asked { IsAsked (S.state source.old) (S.state source.new) (fault_in result) }
 {
-    let hidden = match ancestors(alloc, source, sides.excluded.as_slice()) {
-        Ok(hidden) => hidden,
-        Err(fault) => return Err(fault),
-    };
-    let history = match read_history(alloc, source, sides.wanted.as_slice(), &hidden) {
-        Ok(history) => history,
-        Err(fault) => return Err(fault),
-    };
+    let hidden = ancestors(alloc, source, sides.excluded.as_slice())?;
+    let history = read_history(alloc, source, sides.wanted.as_slice(), &hidden)?;
     let Ok(dates) = dates_of(alloc, history) else {
         return Err(SourceFault::Memory);
     };
@@ -86,12 +80,6 @@ pub fn rev_list<S: Source>(
     // Over any source.
     ensures asked { IsAsked (S.state source.old) (S.state source.new) (fault_told result) }
 {
-    let sides = match select(alloc, Want::Commit, source, references, items) {
-        Ok(sides) => sides,
-        Err(error) => return Err(error),
-    };
-    match revisions(alloc, source, &sides) {
-        Ok(text) => Ok(text),
-        Err(fault) => Err(QueryError::Failed(fault)),
-    }
+    let sides = select(alloc, Want::Commit, source, references, items)?;
+    Ok(revisions(alloc, source, &sides)?)
 }

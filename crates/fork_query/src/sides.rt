@@ -61,10 +61,7 @@ fn put_item<S: Source>(
     ensures known { IsTrue (S.state source.old).honest → AreEnds (S.state source.old).objects followed.old → OnOk result (AreEnds (S.state source.old).objects followed.new) }
     ensures asked { IsAsked (S.state source.old) (S.state source.new) (fault_told result) }
 {
-    let name = match named_item(alloc, want, source, followed, references, bare(item)) {
-        Ok(name) => name,
-        Err(error) => return Err(error),
-    };
+    let name = named_item(alloc, want, source, followed, references, bare(item))?;
     match put(name, is_excluded(item), sides) {
         Ok(()) => Ok(()),
         Err(_) => Err(QueryError::Failed(SourceFault::Memory)),
@@ -89,7 +86,7 @@ pub(crate) fn select<S: Source>(
     };
     let mut rest = items;
     'items: while let Some((item, behind)) = first_word(rest) {
-        match put_item(
+        put_item(
             alloc,
             want,
             source,
@@ -97,10 +94,7 @@ pub(crate) fn select<S: Source>(
             references,
             item,
             &mut sides,
-        ) {
-            Ok(()) => {}
-            Err(error) => return Err(error),
-        }
+        )?;
         rest = behind;
     }
     match put_item(

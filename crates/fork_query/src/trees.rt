@@ -150,10 +150,7 @@ fn rows_behind<S: Source>(
     ensures rows { IsTrue (S.state source.old).honest → IfOk result (λ rows. option_map (λ text. text.items) rows ≡ option_map (flat_map entry_row) (entries_at_end (S.state source.old).objects (peeled (S.state source.old).objects name))) }
     ensures asked { IsAsked (S.state source.old) (S.state source.new) (fault_in result) }
 {
-    let end = match peel(alloc, source, &mut Followed::new(alloc), name) {
-        Ok(end) => end,
-        Err(fault) => return Err(fault),
-    };
+    let end = peel(alloc, source, &mut Followed::new(alloc), name)?;
     let Some(end) = end else {
         return Ok(None);
     };
@@ -174,9 +171,8 @@ pub fn ls_tree<S: Source>(alloc: Global, source: &mut S, name: Name) -> Result<V
     if source.kind_of(name).is_none() {
         return Err(QueryError::Refused(Refusal::Missing(name)));
     }
-    match rows_behind(alloc, source, name) {
-        Ok(Some(text)) => Ok(text),
-        Ok(None) => Err(QueryError::Refused(Refusal::NotATree(name))),
-        Err(fault) => Err(QueryError::Failed(fault)),
+    match rows_behind(alloc, source, name)? {
+        Some(text) => Ok(text),
+        None => Err(QueryError::Refused(Refusal::NotATree(name))),
     }
 }

@@ -67,10 +67,7 @@ pub fn read_history<S: Source>(
         return Err(SourceFault::Memory);
     };
     'queued: while let Some(name) = names.get_index(notes.len()).copied() {
-        let noted = match noted(alloc, source, name) {
-            Ok(noted) => noted,
-            Err(fault) => return Err(fault),
-        };
+        let noted = noted(alloc, source, name)?;
         let Ok(()) = queue_open(source, hidden, noted.parents(), &mut names) else {
             return Err(SourceFault::Memory);
         };

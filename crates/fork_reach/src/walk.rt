@@ -36,10 +36,7 @@ pub(crate) fn walk<S: Source>(
         return Err(SourceFault::Memory);
     };
     'waiting: while let Some(name) = waiting.pop() {
-        let mut names = match next_names(alloc, source, along, name) {
-            Ok(names) => names,
-            Err(fault) => return Err(fault),
-        };
+        let mut names = next_names(alloc, source, along, name)?;
         names.reverse();
         let Ok(()) = note_open(
             source,

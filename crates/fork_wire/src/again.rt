@@ -31,6 +31,17 @@ pub enum AgainFault {
     Host(HostFault),
 }
 
+// The fault of a request that is done again.
+impl From<HostFault> for AgainFault {
+    ghost use Rattle.fork_wire.specs.declared.again.AgainFault.{AgainFault};
+
+    ghost from_gives = { λ host fault. fault ≡ AgainFault.Host host };
+
+    fn from(fault: HostFault) -> AgainFault {
+        AgainFault::Host(fault)
+    }
+}
+
 /// Serves frames that were answered before, up to the input's end or to what is no frame, and says how
 /// many there were. Nothing is told to anyone. A host fault stops it, and so does a frame behind one that
 /// is answered as no journal keeps it: what a kill or a loss of power leaves at the end is passed over,
@@ -59,10 +70,7 @@ pub fn serve_again<S: LooseFiles, R: Read>(
         if !is_kept {
             return Err(AgainFault::Altered);
         }
-        match answer_again(host, alloc, frame) {
-            Ok(kept) => is_kept = kept,
-            Err(fault) => return Err(AgainFault::Host(fault)),
-        }
+        is_kept = answer_again(host, alloc, frame)?;
     }
     Err(AgainFault::Read)
 }

@@ -81,10 +81,7 @@ pub fn serve_kept<S: LooseFiles, J: Journal, R: Read, W: Write>(
             Err(fault) => return Err(of_frame(fault)),
         };
         let (reply, kept) = answer_kept(host, alloc, journal, frame);
-        match send_kept(alloc, writer, reply, kept) {
-            Ok(()) => {}
-            Err(fault) => return Err(fault),
-        }
+        send_kept(alloc, writer, reply, kept)?;
     }
     Err(SessionFault::Read)
 }

@@ -63,16 +63,10 @@ fn write_upload<W: Write>(
     // Only for its clause: the bytes are a tenant's name.
     let _name = tenant.as_bytes();
     let mut at = bytes.len().min(MOST);
-    match write_part(writer, alloc, tenant, &bytes[..at]) {
-        Ok(()) => {}
-        Err(fault) => return Err(fault),
-    }
+    write_part(writer, alloc, tenant, &bytes[..at])?;
     while at < bytes.len() {
         let next = (bytes.len() - at).min(MOST);
-        match write_part(writer, alloc, tenant, &bytes[at..at + next]) {
-            Ok(()) => {}
-            Err(fault) => return Err(fault),
-        }
+        write_part(writer, alloc, tenant, &bytes[at..at + next])?;
         at += next;
     }
     Ok(())
@@ -124,10 +118,8 @@ pub fn write_uploads<S: LooseFiles, W: Write>(
     };
     let mut total = 0u64;
     for name in names {
-        match write_upload_of(host, alloc, writer, &name) {
-            Ok(bytes) => total = total.saturating_add(bytes),
-            Err(fault) => return Err(fault),
-        }
+        let bytes = write_upload_of(host, alloc, writer, &name)?;
+        total = total.saturating_add(bytes);
     }
     Ok(total)
 }

@@ -52,10 +52,7 @@ impl RefName {
         ensures found { IfOk result (λ name. (name ≡ text.now) × IsRefName text.now) }
         ensures broken { IfErr result (λ rule. least_broken_rule text.now ≡ Some rule) }
     {
-        match check(text) {
-            Ok(()) => {}
-            Err(rule) => return Err(rule),
-        }
+        check(text)?;
         let mut bytes = [0; MAX_REF_NAME];
         bytes[..text.len()].copy_from_slice(text);
         Ok(RefName {

@@ -20,10 +20,7 @@ pub fn read_commands(alloc: Global, body: &[u8]) -> Result<Vec<Command>, ReadErr
     let mut commands = Vec::new(alloc);
     let mut rest = body;
     while !rest.is_empty() {
-        let (command, behind) = match first_command(alloc, rest) {
-            Ok(taken) => taken,
-            Err(error) => return Err(error),
-        };
+        let (command, behind) = first_command(alloc, rest)?;
         if commands.len() == MAX_COMMANDS {
             return Err(ReadError::Fault(CommandFault::TooMany));
         }

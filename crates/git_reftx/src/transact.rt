@@ -28,10 +28,7 @@ pub(crate) fn transact<K: Known>(
     ensures sound { IfOk result AreSound }
     ensures exact { IfErr result (TellsTransacted (transacted old.now commands.now (K.kinds known.now))) }
 {
-    let orders = match orders_of(alloc, commands) {
-        Ok(orders) => orders,
-        Err(error) => return Err(error),
-    };
+    let orders = orders_of(alloc, commands)?;
     match refused_before(alloc, old, orders.as_slice(), known) {
         Ok(None) => {}
         Ok(Some(refusal)) => return Err(ApplyError::Refused(refusal)),

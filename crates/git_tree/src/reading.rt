@@ -106,14 +106,8 @@ pub(crate) fn take_entry(bytes: &[u8]) -> Result<(TreeEntry<'_>, &[u8]), TreeFau
     ensures parts { IfOk result (λ x. bytes.now ≡ spelled (entry_of x.0) ++ x.1.now) }
     ensures fault { IfErr result (λ fault. IsFormFault fault bytes.now) }
 {
-    let (mode, rest) = match take_mode(bytes) {
-        Ok(taken) => taken,
-        Err(fault) => return Err(fault),
-    };
-    let (file_name, rest) = match take_file_name(rest) {
-        Ok(taken) => taken,
-        Err(fault) => return Err(fault),
-    };
+    let (mode, rest) = take_mode(bytes)?;
+    let (file_name, rest) = take_file_name(rest)?;
     let Some((name, rest)) = take_name(rest) else {
         return Err(TreeFault::Truncated);
     };

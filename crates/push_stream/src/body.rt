@@ -22,10 +22,7 @@ pub fn read_body(alloc: Global, bytes: &[u8]) -> Result<Body, BodyError>
     ensures found { IfOk result (λ body. finished (stream_of bytes.now) ≡ Ok (body.commands.items, body.objects.items)) }
     ensures exact { IfErr result (TellsFault (stream_of bytes.now)) }
 {
-    let (commands, records) = match read_header(alloc, bytes) {
-        Ok(header) => header,
-        Err(error) => return Err(error),
-    };
+    let (commands, records) = read_header(alloc, bytes)?;
     match read_records(alloc, records) {
         Ok(objects) => Ok(Body { commands, objects }),
         Err(error) => Err(error),
@@ -43,10 +40,7 @@ fn read_header(alloc: Global, bytes: &[u8]) -> Result<(Vec<Command>, &[u8]), Bod
         if let Some(records) = behind_empty_line(rest) {
             return Ok((commands, records));
         }
-        let (command, behind) = match take_command(alloc, rest) {
-            Ok(taken) => taken,
-            Err(error) => return Err(error),
-        };
+        let (command, behind) = take_command(alloc, rest)?;
         if commands.len() == MAX_COMMANDS {
             return Err(BodyError::Fault(StreamFault::TooMany));
         }
@@ -100,10 +94,7 @@ fn read_records(alloc: Global, text: &[u8]) -> Result<Vec<Sealed>, BodyError>
     let mut sent = Vec::new(alloc);
     let mut left = text;
     while !left.is_empty() {
-        let (sealed, behind) = match take_record(alloc, left) {
-            Ok(taken) => taken,
-            Err(error) => return Err(error),
-        };
+        let (sealed, behind) = take_record(alloc, left)?;
         let Ok(()) = sent.push(sealed) else {
             return Err(BodyError::Memory);
         };

@@ -46,10 +46,7 @@ pub(crate) fn add(alloc: Global, headed: bool, had: usize, text: &[u8]) -> Resul
     if headed {
         return add_objects(alloc, Vec::new(alloc), Vec::new(alloc), text);
     }
-    let (commands, is_headed, left) = match whole_commands(alloc, had, text) {
-        Ok(found) => found,
-        Err(error) => return Err(error),
-    };
+    let (commands, is_headed, left) = whole_commands(alloc, had, text)?;
     let Ok(header) = before(text, left).to_vec(alloc) else {
         return Err(BodyError::Memory);
     };
@@ -130,10 +127,7 @@ fn add_objects(
     ensures waits { IfOk result (λ added. Awaits added.rest.items added.wanted) }
     ensures exact { IfErr result (TellsBreak (behind commands.items [] (records_in (length text.now) text.now))) }
 {
-    let (objects, left) = match whole_records(alloc, text) {
-        Ok(found) => found,
-        Err(error) => return Err(error),
-    };
+    let (objects, left) = whole_records(alloc, text)?;
     let Ok(rest) = left.to_vec(alloc) else {
         return Err(BodyError::Memory);
     };
@@ -175,10 +169,8 @@ fn whole_commands(
         if let Some(records) = behind_empty_line(left) {
             return Ok((commands, true, records));
         }
-        let (command, others) = match next_command(alloc, left) {
-            Ok(Some(taken)) => taken,
-            Ok(None) => return Ok((commands, false, left)),
-            Err(error) => return Err(error),
+        let Some((command, others)) = next_command(alloc, left)? else {
+            return Ok((commands, false, left));
         };
         if had + commands.len() == MAX_COMMANDS {
             return Err(BodyError::Fault(StreamFault::TooMany));
@@ -201,10 +193,8 @@ fn whole_records(alloc: Global, text: &[u8]) -> Result<(Vec<Sealed>, &[u8]), Bod
     let mut objects = Vec::new(alloc);
     let mut left = text;
     while !left.is_empty() {
-        let (sealed, others) = match next_record(alloc, left) {
-            Ok(Some(taken)) => taken,
-            Ok(None) => return Ok((objects, left)),
-            Err(error) => return Err(error),
+        let Some((sealed, others)) = next_record(alloc, left)? else {
+            return Ok((objects, left));
         };
         let Ok(()) = objects.push(sealed) else {
             return Err(BodyError::Memory);

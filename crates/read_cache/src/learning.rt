@@ -93,10 +93,7 @@ fn begin<S: LooseFiles>(
     if !is_new {
         return Ok(false);
     }
-    let found = match read_parents(alloc, store, name) {
-        Ok(found) => found,
-        Err(fault) => return Err(fault),
-    };
+    let found = read_parents(alloc, store, name)?;
     let Some(parents) = found else {
         return Ok(false);
     };
@@ -171,16 +168,12 @@ pub(crate) fn learn<S: LooseFiles>(
     }
     let mut begun = IndexSet::with_hasher(alloc, store.hashing());
     let mut waiting = Vec::new(alloc);
-    match begin(alloc, store, commit, &mut begun, &mut waiting) {
-        Ok(true) => {}
-        Ok(false) => return Ok(()),
-        Err(fault) => return Err(fault),
+    if !begin(alloc, store, commit, &mut begun, &mut waiting)? {
+        return Ok(());
     }
     'waiting: while let Some(last) = waiting.pop() {
-        match go_on(alloc, store, last, &mut begun, &mut waiting) {
-            Ok(true) => {}
-            Ok(false) => return Ok(()),
-            Err(fault) => return Err(fault),
+        if !go_on(alloc, store, last, &mut begun, &mut waiting)? {
+            return Ok(());
         }
     }
     Ok(())

@@ -11,21 +11,23 @@ pub(crate) enum LineFault {
     Memory,
 }
 
-impl LineFault {
-    // What is not put behind the others makes a wrong line.
-    pub(crate) fn of(error: AddError) -> LineFault
-        ensures { result ≡ fault_of error }
-    {
+// What is not put behind the others makes a wrong line.
+impl From<AddError> for LineFault {
+    ghost from_gives = { λ error fault. fault ≡ fault_of error };
+
+    fn from(error: AddError) -> LineFault {
         match error {
             AddError::Memory => LineFault::Memory,
             _ => LineFault::Wrong,
         }
     }
+}
 
-    // So does a reference.
-    pub(crate) fn of_push(error: PushRefError) -> LineFault
-        ensures { result ≡ fault_of_push error }
-    {
+// So does a reference.
+impl From<PushRefError> for LineFault {
+    ghost from_gives = { λ error fault. fault ≡ fault_of_push error };
+
+    fn from(error: PushRefError) -> LineFault {
         match error {
             PushRefError::Memory => LineFault::Memory,
             _ => LineFault::Wrong,

@@ -44,10 +44,8 @@ fn take_tenant(alloc: Global, states: &mut States, rest: &[u8]) -> Result<(), Li
     };
     // The name tells that the tenant is right.
     let _name = tenant.name();
-    match states.push(tenant) {
-        Ok(()) => Ok(()),
-        Err(error) => Err(LineFault::of(error)),
-    }
+    states.push(tenant)?;
+    Ok(())
 }
 
 // Takes the rest of a repository's line.
@@ -65,10 +63,7 @@ fn take_repository(alloc: Global, states: &mut States, rest: &[u8]) -> Result<()
     let Some(name) = RepositoryName::read(rest) else {
         return Err(LineFault::Wrong);
     };
-    match tenant.add_repository(name, Refs::new(alloc)) {
-        Ok(()) => {}
-        Err(error) => return Err(LineFault::of(error)),
-    }
+    tenant.add_repository(name, Refs::new(alloc))?;
     put_back(states, tenant)
 }
 
@@ -95,10 +90,7 @@ fn take_reference(alloc: Global, states: &mut States, rest: &[u8]) -> Result<(),
     };
     // The bytes tell that the target is a name.
     let _target = target.as_bytes();
-    let next = match tenant.with_reference(name, target) {
-        Ok(next) => next,
-        Err(fault) => return Err(fault),
-    };
+    let next = tenant.with_reference(name, target)?;
     put_back(states, next)
 }
 
@@ -116,10 +108,7 @@ fn take_seen(states: &mut States, rest: &[u8]) -> Result<(), LineFault>
     };
     // The bytes tell that it is a name.
     let _name = name.as_bytes();
-    match tenant.add_seen(name) {
-        Ok(()) => {}
-        Err(error) => return Err(LineFault::of(error)),
-    }
+    tenant.add_seen(name)?;
     put_back(states, tenant)
 }
 

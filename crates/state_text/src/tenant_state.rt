@@ -140,10 +140,7 @@ impl TenantState {
         let Some((repository, mut references)) = repositories.pop() else {
             return Err(LineFault::Wrong);
         };
-        match references.push(name, target) {
-            Ok(()) => {}
-            Err(error) => return Err(LineFault::of_push(error)),
-        }
+        references.push(name, target)?;
         let _count = references.len();
         let Ok(()) = repositories.push((repository, references)) else {
             return Err(LineFault::Memory);

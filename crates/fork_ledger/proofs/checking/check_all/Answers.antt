@@ -31,12 +31,12 @@ loop-at-preserved g c =
     let before = checked_over honest still contents after (checked_until held names c.loop-at.at) c.loop-at.harms c.loop-at.invariant.honest c.loop-at.invariant.kept c.loop-at.invariant.checks in
     record {
       checks = checked_over still honest after contents (checked_until held names (c.loop-at.at + 1)) c.check_place.new.harms (sym c.loop-at.invariant.honest)
-          (λ h. sym (c.loop-at.invariant.kept (sym c.loop-at.invariant.honest ∙ h))) (c.in-Ok.ensures.checks before);
+          (λ h. sym (c.loop-at.invariant.kept (sym c.loop-at.invariant.honest ∙ h))) (c.in_ok-check_place.ensures.checks before);
       asked = subst (λ n. WasAsked n (checked_until held names (c.loop-at.at + 1))) c.loop-at.invariant.failures
-          (c.in-Ok.ensures.asked (subst (λ n. WasAsked n (checked_until held names c.loop-at.at)) (sym c.loop-at.invariant.failures) c.loop-at.invariant.asked));
+          (c.in_ok-check_place.ensures.asked (subst (λ n. WasAsked n (checked_until held names c.loop-at.at)) (sym c.loop-at.invariant.failures) c.loop-at.invariant.asked));
       kept = λ h. c.check_place.ensures.kept (c.loop-at.invariant.honest ∙ h) ∙ c.loop-at.invariant.kept h;
       honest = c.check_place.ensures.honest ∙ c.loop-at.invariant.honest;
-      failures = c.in-Ok.ensures.cause ∙ c.loop-at.invariant.failures;
+      failures = c.in_ok-check_place.ensures.cause ∙ c.loop-at.invariant.failures;
     }
 
 pub returns-clause-checks : goal.returns-clause-checks

@@ -1,17 +1,20 @@
+use Rattle.std.proofs.lemmas.Result.{err_from_is_err_and}
 use Rattle.fork_program.specs.Running.{Cut, Unready, Unsaved}
 use Rattle.fork_program.proofs.HostingLemmas.{if_err_more, on_ok_always, saved_host, untouched}
 use Rattle.fork_program.proofs.run.keep_session.Goals as goal
 
-pub returns-in-Err-clause-err : goal.returns-in-Err-clause-err
-returns-in-Err-clause-err g c hosting host = Unready host.kept c.in-Err.ensures.cause _ host.of (untouched _ _)
+pub returns-in_err-keep-clause-err : goal.returns-in_err-keep-clause-err
+returns-in_err-keep-clause-err g c hosting host =
+    let told = err_from_is_err_and c.from_residual.result c.from_residual.ensures.1 in
+    rw (told.1, told.2) (Unready host.kept c.in_err-keep.ensures.cause _ host.of (untouched _ _))
 
-pub returns-in-Ok-served-clause-ok : goal.returns-in-Ok-served-clause-ok
-returns-in-Ok-served-clause-ok g c hosting host =
-    on_ok_always c.save-saved.result (record { first = c.begin.new.host; last = c.session-served.new.host; host = saved_host hosting _ _ host c.begin.ensures.saved; served = c.in-Ok-served.ensures.ok })
+pub returns-in-Ok-clause-ok : goal.returns-in-Ok-clause-ok
+returns-in-Ok-clause-ok g c hosting host =
+    on_ok_always c.save-saved.result (record { first = c.begin.new.host; last = c.session-served.new.host; host = saved_host hosting _ _ host c.begin.ensures.saved; served = c.in-Ok.ensures.ok })
 
-pub returns-in-Ok-served-clause-err : goal.returns-in-Ok-served-clause-err
-returns-in-Ok-served-clause-err g c hosting host =
-    if_err_more c.save-saved.result (λ fault is. Unsaved host.kept is (record { first = c.begin.new.host; last = c.session-served.new.host; host = saved_host hosting _ _ host c.begin.ensures.saved; served = c.in-Ok-served.ensures.ok })) c.save-saved.ensures.cause
+pub returns-in-Ok-clause-err : goal.returns-in-Ok-clause-err
+returns-in-Ok-clause-err g c hosting host =
+    if_err_more c.save-saved.result (λ fault is. Unsaved host.kept is (record { first = c.begin.new.host; last = c.session-served.new.host; host = saved_host hosting _ _ host c.begin.ensures.saved; served = c.in-Ok.ensures.ok })) c.save-saved.ensures.cause
 
 pub returns-clause-err : goal.returns-clause-err
-returns-clause-err g c hosting host = Cut _ _ (saved_host hosting _ _ host c.begin.ensures.saved) (λ is. host.kept) c.in-Err-served.ensures.err
+returns-clause-err g c hosting host = Cut _ _ (saved_host hosting _ _ host c.begin.ensures.saved) (λ is. host.kept) c.in-Err.ensures.err

@@ -1,5 +1,8 @@
+use Rattle.std.proofs.lemmas.Result.{err_from_is_err_and}
 use Rattle.fork_program.specs.Serving.{Unhosted}
 use Rattle.fork_program.proofs.serve.serve_in_folder.Goals as goal
 
-pub returns-in-Err-clause-err : goal.returns-in-Err-clause-err
-returns-in-Err-clause-err g c = Unhosted c.in-Err.ensures.err
+pub returns-in_err-host-clause-err : goal.returns-in_err-host-clause-err
+returns-in_err-host-clause-err g c =
+    let told = err_from_is_err_and c.from_residual.result c.from_residual.ensures.1 in
+    rw (told.1, told.2) (Unhosted c.in_err-host.ensures.err)

@@ -8,4 +8,4 @@ pub returns-in-Ok-write_names-clause-listed : goal.returns-in-Ok-write_names-cla
 unfolding merge_bases
 returns-in-Ok-write_names-clause-listed g c = λ honest.
     let objects = (g.S.Source.state c.args.source.now).objects in
-    c.in-Ok-write_names.ensures ∙ ap name_lines (c.as_slice.ensures.value ∙ best_names objects c.args.a c.args.b c.in-Ok-ascending.listed.items c.in-Ok-ascending.ensures.order (λ name. c.in-Ok-ascending.ensures.same name ∙ c.in-Ok.ensures.best honest name))
+    c.in-Ok-write_names.ensures ∙ ap name_lines (c.as_slice.ensures.value ∙ best_names objects c.args.a c.args.b c.in-Ok.listed.items c.in-Ok.ensures.order (λ name. c.in-Ok.ensures.same name ∙ c.in_ok-best.ensures.best honest name))

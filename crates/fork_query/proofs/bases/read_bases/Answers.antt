@@ -11,11 +11,11 @@ use Rattle.fork_query.proofs.BaseLemmas.{best_noted}
 use Rattle.fork_query.proofs.BeyondLemmas.{kept_alike}
 use Rattle.fork_query.proofs.bases.read_bases.Goals as goal
 
-pub returns-in-Ok-best_common-clause-best : goal.returns-in-Ok-best_common-clause-best
-returns-in-Ok-best_common-clause-best g c = λ honest name.
+pub returns-in-Ok-clause-best : goal.returns-in-Ok-clause-best
+returns-in-Ok-clause-best g c = λ honest name.
     let objects = (g.S.Source.state c.args.source.now).objects in
     let roots = c.args.a ∷ c.args.b ∷ [] in
     let next = parent_names objects in
     let none = contains same_name c.with_hasher-none.result in
-    let read = c.in-Ok.ensures.found honest ∙ ap (map_values note_of) (kept_alike objects (is_reached next (without objects none) roots) (is_reached next objects roots) (reached_all next objects none roots (hashes_none c.with_hasher-none.result.keys c.with_hasher-none.ensures.empty))) in
-    c.in-Ok-best_common.ensures name ∙ best_noted objects c.args.a c.args.b c.in-Ok.history read name
+    let read = c.in_ok-history.ensures.found honest ∙ ap (map_values note_of) (kept_alike objects (is_reached next (without objects none) roots) (is_reached next objects roots) (reached_all next objects none roots (hashes_none c.with_hasher-none.result.keys c.with_hasher-none.ensures.empty))) in
+    c.in-Ok.ensures name ∙ best_noted objects c.args.a c.args.b c.in_ok-history.history read name

@@ -12,7 +12,7 @@ one_more objects object = sym (flat_map-append record_of objects (object ∷ [])
 
 pub returns-in-Ok-clause-named : goal.returns-in-Ok-clause-named
 returns-in-Ok-clause-named g c = λ so_far.
-    let object = c.in-Ok-Some.sealed in
+    let object = c.in-Some.sealed in
     let written : c.in-Ok.text.items ≡ c.args.text.items ++ record_of object = search rules in (
       so_far.0 ++ object ∷ [],
       written ∙ ap (λ text. text ++ record_of object) so_far.1 ∙ one_more so_far.0 object,

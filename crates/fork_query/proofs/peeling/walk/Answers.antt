@@ -61,7 +61,7 @@ pub returns-in_default-target-clause-led : goal.returns-in_default-target-clause
 returns-in_default-target-clause-led g c = λ honest ends.
     let objects = (g.S.Source.state c.args.source.now).objects in
     let before = c.tags.invariant in
-    let told = c.in-Ok-read_target.ensures.target (subst IsTrue (sym before.asked.honest) honest) in
+    let told = c.in_ok-target.ensures.target (subst IsTrue (sym before.asked.honest) honest) in
     let none = ap (λ all. tag_target all c.tags.at) (sym (before.asked.objects honest)) ∙ sym told ∙ c.in_default-target.is in
     sym (peeled_here objects c.tags.at none) ∙ before.same honest
 
@@ -69,7 +69,7 @@ pub returns-in_default-target-clause-tags : goal.returns-in_default-target-claus
 returns-in_default-target-clause-tags g c = λ honest ends tag met_now.
     let objects = (g.S.Source.state c.args.source.now).objects in
     let before = c.tags.invariant in
-    let told = c.in-Ok-read_target.ensures.target (subst IsTrue (sym before.asked.honest) honest) in
+    let told = c.in_ok-target.ensures.target (subst IsTrue (sym before.asked.honest) honest) in
     let none = ap (λ all. tag_target all c.tags.at) (sym (before.asked.objects honest)) ∙ sym told ∙ c.in_default-target.is in
     let here = sym (peeled_here objects c.tags.at none) in
     elim (found_inserting c.tags.at (contains name_cmp c.tags.tags) (contains name_cmp c.insert.new.self) c.in-Ok.ensures.updates.0 tag met_now) [
@@ -93,7 +93,7 @@ tags-preserved g c =
     let before = c.tags.invariant in
     let at = c.tags.at in
     let target = c.in-Some-target.target in
-    let told = c.in-Ok-read_target.ensures in
+    let told = c.in_ok-target.ensures in
     let is = (λ (honest : IsTrue old.honest). ap (λ all. tag_target all at) (sym (before.asked.objects honest)) ∙ sym (told.target (subst IsTrue (sym before.asked.honest) honest)) ∙ c.in-Some-target.is) in
     record {
       asked = asked_again old mid (g.S.Source.state c.read_target.new.source) None before.asked told.asked;

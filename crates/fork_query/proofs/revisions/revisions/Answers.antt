@@ -18,13 +18,13 @@ unfolding revision_list
 returns-in-Ok-lines_of-clause-listed g c = λ honest.
     let old = g.S.Source.state c.args.source.now in
     let mid = g.S.Source.state c.ancestors.new.source in
-    let first = c.in-Ok.ensures.asked in
-    let hides = contains same_name c.in-Ok.hidden in
+    let first = c.in_ok-hidden.ensures.asked in
+    let hides = contains same_name c.in_ok-hidden.hidden in
     let wants = c.args.sides.now.wanted.items in
     let haves = c.args.sides.now.excluded.items in
-    let history = c.in-Ok-read_history.history in
-    let hidden = subst (λ roots. (name : List ℕ) → hides name ≡ is_reached (parent_names old.objects) old.objects roots name) c.as_slice.ensures.value (c.in-Ok.ensures.found honest) in
-    let past = subst (λ roots. history ≡ map_values note_of (retain_keys mid.objects (is_reached (parent_names mid.objects) (without mid.objects hides) roots))) c.as_slice-2.ensures.value (c.in-Ok-read_history.ensures.found (subst IsTrue (sym first.honest) honest)) in
+    let history = c.in_ok-history.history in
+    let hidden = subst (λ roots. (name : List ℕ) → hides name ≡ is_reached (parent_names old.objects) old.objects roots name) c.as_slice.ensures.value (c.in_ok-hidden.ensures.found honest) in
+    let past = subst (λ roots. history ≡ map_values note_of (retain_keys mid.objects (is_reached (parent_names mid.objects) (without mid.objects hides) roots))) c.as_slice-2.ensures.value (c.in_ok-history.ensures.found (subst IsTrue (sym first.honest) honest)) in
     let read = subst (λ (all : Objects). history ≡ map_values note_of (retain_keys all (is_reached (parent_names all) (without all hides) wants))) (first.objects honest) past in
     c.in-Ok-lines_of.ensures
-    ∙ ap (λ keys. name_lines (map (λ date. date.name) keys)) (c.as_slice-3.ensures.value ∙ c.in-Ok-dates_of.ensures ∙ ap newest_first (dates_beyond (parent_names old.objects) old.objects hides wants haves history hidden read))
+    ∙ ap (λ keys. name_lines (map (λ date. date.name) keys)) (c.as_slice-3.ensures.value ∙ c.in-Ok.ensures ∙ ap newest_first (dates_beyond (parent_names old.objects) old.objects hides wants haves history hidden read))

@@ -16,7 +16,7 @@ loop-count-preserved g c = record {
   right = λ trusted. c.answer_again.ensures.right (c.loop-count.invariant.trusted trusted);
   so_far =
       let frame = rw c.in-Ok-Frame.field-0-is at c.in-Ok-Frame.ensures.next in
-      more_again _ _ _ _ _ _ _ c.in-Ok-Frame.frame c.loop-count.invariant.so_far frame.0 frame.1 c.loop-count.invariant.trusted c.in-Ok.ensures.ok;
+      more_again _ _ _ _ _ _ _ c.in-Ok-Frame.frame c.loop-count.invariant.so_far frame.0 frame.1 c.loop-count.invariant.trusted c.in_ok-is_kept.ensures.ok;
 }
 
 pub returns-in-Ok-End-clause-again : goal.returns-in-Ok-End-clause-again
@@ -29,5 +29,5 @@ returns-in-Ok-Bad-clause-again g c =
     let next = rw c.in-Ok-Bad.field-0-is at c.in-Ok-Bad.ensures.next in
     bad_again _ _ _ _ _ c.loop-count.invariant.so_far next.bad
 
-pub returns-in-Err-clause-right : goal.returns-in-Err-clause-right
-returns-in-Err-clause-right g c trusted = c.answer_again.ensures.right (c.loop-count.invariant.trusted trusted)
+pub returns-in_err-is_kept-clause-right : goal.returns-in_err-is_kept-clause-right
+returns-in_err-is_kept-clause-right g c trusted = c.answer_again.ensures.right (c.loop-count.invariant.trusted trusted)

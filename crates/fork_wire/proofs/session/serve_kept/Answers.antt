@@ -1,4 +1,5 @@
 use Rattle.std.proofs.Common.{refl, ◌∙◌}
+use Rattle.std.proofs.lemmas.Result.{err_from_is_err_and}
 use Rattle.fork_wire.proofs.Ending.{bad_end, clean_end, spent, unread, untold}
 use Rattle.fork_wire.proofs.Going.{going_more, not_yet, unsent, unsent_kept}
 use Rattle.fork_wire.proofs.session.serve_kept.Goals as goal
@@ -19,9 +20,9 @@ loop-preserved g c = record {
   right = λ trusted. c.answer_kept-reply.ensures.right (c.loop.invariant.trusted trusted);
   going =
       let frame = rw c.in-Ok-Frame.field-0-is at c.in-Ok-Frame.ensures.next in
-      going_more _ _ _ _ _ _ _ _ _ _ _ _ c.in-Ok-Frame.frame c.answer_kept-reply.result.0 c.loop.invariant.going frame.0 frame.1 c.loop.invariant.trusted c.answer_kept-reply.ensures.explained c.answer_kept-reply.ensures.faults c.in-Ok.ensures.ok
-      (c.answer_kept-reply.ensures.kept c.in-Ok.ensures.kept);
-  whole = c.answer_kept-reply.ensures.whole c.in-Ok.ensures.kept ∙ c.loop.invariant.whole;
+      going_more _ _ _ _ _ _ _ _ _ _ _ _ c.in-Ok-Frame.frame c.answer_kept-reply.result.0 c.loop.invariant.going frame.0 frame.1 c.loop.invariant.trusted c.answer_kept-reply.ensures.explained c.answer_kept-reply.ensures.faults c.in_ok-send_kept.ensures.ok
+      (c.answer_kept-reply.ensures.kept c.in_ok-send_kept.ensures.kept);
+  whole = c.answer_kept-reply.ensures.whole c.in_ok-send_kept.ensures.kept ∙ c.loop.invariant.whole;
 }
 
 pub returns-in-Ok-End-clause-kept : goal.returns-in-Ok-End-clause-kept
@@ -43,20 +44,22 @@ pub returns-in-Err-clause-kept_so_far : goal.returns-in-Err-clause-kept_so_far
 returns-in-Err-clause-kept_so_far g c other =
     unread _ _ _ _ _ _ _ _ c.of_frame.result c.loop.invariant.going c.of_frame.ensures.read c.of_frame.ensures.kept (λ is. c.in-Err.ensures.memory (c.of_frame.ensures.memory is))
 
-pub returns-in-Err-send_kept-clause-stopped : goal.returns-in-Err-send_kept-clause-stopped
-returns-in-Err-send_kept-clause-stopped g c =
+pub returns-in_err-send_kept-clause-stopped : goal.returns-in_err-send_kept-clause-stopped
+returns-in_err-send_kept-clause-stopped g c =
     let frame = rw c.in-Ok-Frame.field-0-is at c.in-Ok-Frame.ensures.next in
-    unsent _ _ _ _ _ _ _ _ _ _ _ c.in-Ok-Frame.frame c.answer_kept-reply.result.0 c.in-Err-send_kept.fault c.loop.invariant.going frame.0 frame.1 c.loop.invariant.trusted c.answer_kept-reply.ensures.explained c.answer_kept-reply.ensures.faults
-    c.in-Err-send_kept.ensures.sent c.in-Err-send_kept.ensures.unsent
+    let told = err_from_is_err_and c.from_residual.result c.from_residual.ensures.1 in
+    rw (told.1, told.2) (unsent _ _ _ _ _ _ _ _ _ _ _ c.in-Ok-Frame.frame c.answer_kept-reply.result.0 _ c.loop.invariant.going frame.0 frame.1 c.loop.invariant.trusted c.answer_kept-reply.ensures.explained c.answer_kept-reply.ensures.faults
+    c.in_err-send_kept.ensures.sent c.in_err-send_kept.ensures.unsent)
 
-pub returns-in-Err-send_kept-clause-right : goal.returns-in-Err-send_kept-clause-right
-returns-in-Err-send_kept-clause-right g c trusted = c.answer_kept-reply.ensures.right (c.loop.invariant.trusted trusted)
+pub returns-in_err-send_kept-clause-right : goal.returns-in_err-send_kept-clause-right
+returns-in_err-send_kept-clause-right g c trusted = c.answer_kept-reply.ensures.right (c.loop.invariant.trusted trusted)
 
-pub returns-in-Err-send_kept-clause-kept_so_far : goal.returns-in-Err-send_kept-clause-kept_so_far
-returns-in-Err-send_kept-clause-kept_so_far g c other =
+pub returns-in_err-send_kept-clause-kept_so_far : goal.returns-in_err-send_kept-clause-kept_so_far
+returns-in_err-send_kept-clause-kept_so_far g c =
     let frame = rw c.in-Ok-Frame.field-0-is at c.in-Ok-Frame.ensures.next in
-    unsent_kept _ _ _ _ _ _ _ _ _ _ _ _ c.in-Ok-Frame.frame c.answer_kept-reply.result.0 c.in-Err-send_kept.fault c.loop.invariant.going frame.0 frame.1 c.loop.invariant.trusted c.answer_kept-reply.ensures.explained c.answer_kept-reply.ensures.faults
-    c.in-Err-send_kept.ensures.sent c.in-Err-send_kept.ensures.unsent (c.answer_kept-reply.ensures.kept (c.in-Err-send_kept.ensures.was_kept other))
+    let told = err_from_is_err_and c.from_residual.result c.from_residual.ensures.1 in
+    rw (told.1, told.2) (λ other. unsent_kept _ _ _ _ _ _ _ _ _ _ _ _ c.in-Ok-Frame.frame c.answer_kept-reply.result.0 _ c.loop.invariant.going frame.0 frame.1 c.loop.invariant.trusted c.answer_kept-reply.ensures.explained c.answer_kept-reply.ensures.faults
+    c.in_err-send_kept.ensures.sent c.in_err-send_kept.ensures.unsent (c.answer_kept-reply.ensures.kept (c.in_err-send_kept.ensures.was_kept other)))
 
 pub returns-clause-kept_so_far : goal.returns-clause-kept_so_far
 returns-clause-kept_so_far g c other = spent _ _ _ _ _ _ _ _ c.loop.invariant.going

@@ -23,10 +23,10 @@ loop-name-preserved g c =
       done = before.done ++ c.in-Some.name ∷ [];
       parts = append_assoc before.done (c.in-Some.name ∷ []) c.next.new.self.rest.items ∙ ap (λ rest. before.done ++ rest) (sym c.in-Some.ensures.steps.0) ∙ before.parts;
       sent = λ trusted. next_written world before.done c.in-Some.name _ _ _ (before.sent trusted)
-          (subst (λ (shown : World). Written (opened c.in-Some.name (upload_at shown c.in-Some.name)) (g.W.Write.contents c.loop-name.writer) (g.W.Write.contents c.write_upload_of.new.writer)) (before.kept trusted) (c.in-Ok-write_upload_of.ensures.sent (before.trusted trusted)));
-      kept = λ trusted. c.in-Ok-write_upload_of.ensures.kept (before.trusted trusted) ∙ before.kept trusted;
-      trusted = λ trusted. c.in-Ok-write_upload_of.ensures.trusted (before.trusted trusted);
-      shape = λ name. c.in-Ok-write_upload_of.ensures.shape name ∙ before.shape name;
+          (subst (λ (shown : World). Written (opened c.in-Some.name (upload_at shown c.in-Some.name)) (g.W.Write.contents c.loop-name.writer) (g.W.Write.contents c.write_upload_of.new.writer)) (before.kept trusted) (c.in_ok-bytes.ensures.sent (before.trusted trusted)));
+      kept = λ trusted. c.in_ok-bytes.ensures.kept (before.trusted trusted) ∙ before.kept trusted;
+      trusted = λ trusted. c.in_ok-bytes.ensures.trusted (before.trusted trusted);
+      shape = λ name. c.in_ok-bytes.ensures.shape name ∙ before.shape name;
     }
 
 pub returns-clause-sent : goal.returns-clause-sent

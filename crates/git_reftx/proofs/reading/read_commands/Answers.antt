@@ -13,11 +13,11 @@ loop-rest-init c =
     (MAX_COMMANDS, omega arith, read_none c.args.body.now ∙ ap (λ commands. onto commands (commands_in MAX_COMMANDS c.args.body.now)) (sym none))
 
 pub loop-rest-smaller : goal.loop-rest-smaller
-loop-rest-smaller c = command_shorter c.loop-rest.rest.now c.in-Ok.taken.0 c.in-Ok.taken.1.now c.in-Ok.ensures.taken
+loop-rest-smaller c = command_shorter c.loop-rest.rest.now c.in_ok-command.command c.in_ok-command.behind.now c.in_ok-command.ensures.taken
 
 pub loop-rest-preserved : goal.loop-rest-preserved
 loop-rest-preserved c =
     let so_far = c.loop-rest.invariant in
     let some : 0 < length c.loop-rest.rest.now = grind (arith, nat_tests) in
     let few : length c.loop-rest.commands.items < 256 = grind (arith, nat_tests) in
-    read_more _ so_far.0 c.loop-rest.commands.items c.push.new.self.items c.loop-rest.rest.now c.in-Ok.taken.1.now c.in-Ok.taken.0 some so_far.1 few so_far.2 c.in-Ok.ensures.taken c.in-Ok-push.ensures.items
+    read_more _ so_far.0 c.loop-rest.commands.items c.push.new.self.items c.loop-rest.rest.now c.in_ok-command.behind.now c.in_ok-command.command some so_far.1 few so_far.2 c.in_ok-command.ensures.taken c.in-Ok.ensures.items

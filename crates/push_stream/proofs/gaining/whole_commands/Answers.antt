@@ -3,6 +3,7 @@ use Rattle.std.specs.Prelude.{IfNone, IfSome}
 use Rattle.git_reftx.specs.Reading.{command_at}
 use Rattle.git_reftx.specs.declared.fault.CommandFault.TheVariants.{Truncated}
 use Rattle.std.proofs.lemmas.Bool.Decides.{nat_tests}
+use Rattle.std.proofs.lemmas.Result.{err_from_is_err_and}
 use Rattle.git_reftx.specs.declared.reading.TheConstants.{MAX_COMMANDS}
 use Rattle.git_reftx.specs.declared.command.Command.{Command}
 use Rattle.git_reftx.proofs.ReadingLemmas.{command_shorter}
@@ -25,38 +26,39 @@ returns-in-Some-clause-found c =
 pub returns-in-Some-clause-front : goal.returns-in-Some-clause-front
 returns-in-Some-clause-front c = front_ends (MAX_COMMANDS - c.args.had) c.args.text.now c.loop-alloc.left.now c.in-Some.records.now c.loop-alloc.commands.items c.loop-alloc.invariant.3 c.in-Some.ensures.found
 
-pub returns-in-Ok-None-clause-front : goal.returns-in-Ok-None-clause-front
-returns-in-Ok-None-clause-front c = c.loop-alloc.invariant.3
+pub returns-in_default-2-clause-front : goal.returns-in_default-2-clause-front
+returns-in_default-2-clause-front c = c.loop-alloc.invariant.3
 
 pub returns-clause-front : goal.returns-clause-front
 returns-clause-front c = c.loop-alloc.invariant.3
 
-pub returns-in-Ok-None-clause-found : goal.returns-in-Ok-None-clause-found
-returns-in-Ok-None-clause-found c =
+pub returns-in_default-2-clause-found : goal.returns-in_default-2-clause-found
+returns-in_default-2-clause-found c =
     let so_far = c.loop-alloc.invariant in
     let some : 0 < length c.loop-alloc.left.now = grind (arith, nat_tests) in
-    unfinished_left _ so_far.0 c.loop-alloc.commands.items c.loop-alloc.left.now some c.in_default.ensures.none so_far.2 (subst (λ o. IfNone o (command_at c.loop-alloc.left.now ≡ Err Truncated)) c.in-Ok-None.field-0-is c.in-Ok-None.ensures.unfinished)
+    unfinished_left _ so_far.0 c.loop-alloc.commands.items c.loop-alloc.left.now some c.in_default.ensures.none so_far.2 (subst (λ o. IfNone o (command_at c.loop-alloc.left.now ≡ Err Truncated)) c.in_default-2.is c.in_ok-command.ensures.unfinished)
 
-pub returns-in-Ok-None-clause-short : goal.returns-in-Ok-None-clause-short
-returns-in-Ok-None-clause-short c = λ _. cut_short c.loop-alloc.left.now (subst (λ o. IfNone o (command_at c.loop-alloc.left.now ≡ Err Truncated)) c.in-Ok-None.field-0-is c.in-Ok-None.ensures.unfinished)
+pub returns-in_default-2-clause-short : goal.returns-in_default-2-clause-short
+returns-in_default-2-clause-short c = λ _. cut_short c.loop-alloc.left.now (subst (λ o. IfNone o (command_at c.loop-alloc.left.now ≡ Err Truncated)) c.in_default-2.is c.in_ok-command.ensures.unfinished)
 
-pub returns-in-Err-clause-exact : goal.returns-in-Err-clause-exact
-returns-in-Err-clause-exact c =
+pub returns-in_err-command-clause-exact : goal.returns-in_err-command-clause-exact
+returns-in_err-command-clause-exact c =
     let so_far = c.loop-alloc.invariant in
     let some : 0 < length c.loop-alloc.left.now = grind (arith, nat_tests) in
-    breaks_command _ so_far.0 c.loop-alloc.commands.items c.loop-alloc.left.now c.in-Err.error some c.in_default.ensures.none so_far.2 c.in-Err.ensures.exact
+    let told = err_from_is_err_and c.from_residual.result c.from_residual.ensures.1 in
+    rw (told.1, told.2) (breaks_command _ so_far.0 c.loop-alloc.commands.items c.loop-alloc.left.now _ some c.in_default.ensures.none so_far.2 c.in_err-command.ensures.exact)
 
 pub loop-alloc-smaller : goal.loop-alloc-smaller
-loop-alloc-smaller c = command_shorter c.loop-alloc.left.now c.in-Ok-Some.taken.0 c.in-Ok-Some.taken.1.now (subst (λ o. IfSome o (λ p. command_at c.loop-alloc.left.now ≡ Ok (p.0, p.1.now))) c.in-Ok-Some.field-0-is c.in-Ok-Some.ensures.taken)
+loop-alloc-smaller c = command_shorter c.loop-alloc.left.now c.in-Some-2.command c.in-Some-2.others.now (subst (λ o. IfSome o (λ p. command_at c.loop-alloc.left.now ≡ Ok (p.0, p.1.now))) c.in-Some-2.is c.in_ok-command.ensures.taken)
 
 pub loop-alloc-preserved : goal.loop-alloc-preserved
 loop-alloc-preserved c =
     let so_far = c.loop-alloc.invariant in
     let some : 0 < length c.loop-alloc.left.now = grind (arith, nat_tests) in
     let few : length c.loop-alloc.commands.items < MAX_COMMANDS - c.args.had = grind (arith, nat_tests) in
-    let taken = subst (λ o. IfSome o (λ p. command_at c.loop-alloc.left.now ≡ Ok (p.0, p.1.now))) c.in-Ok-Some.field-0-is c.in-Ok-Some.ensures.taken in
-    let next = command_more (MAX_COMMANDS - c.args.had) _ so_far.0 c.loop-alloc.commands.items c.push.new.self.items c.loop-alloc.left.now c.in-Ok-Some.taken.1.now c.in-Ok-Some.taken.0 some c.in_default.ensures.none so_far.1 few so_far.2 taken c.in-Ok.ensures.items in
-    (next.0, next.1, next.2, front_more (MAX_COMMANDS - c.args.had) c.args.text.now c.loop-alloc.left.now c.in-Ok-Some.taken.1.now c.loop-alloc.commands.items c.push.new.self.items c.in-Ok-Some.taken.0 few so_far.3 taken c.in-Ok.ensures.items)
+    let taken = subst (λ o. IfSome o (λ p. command_at c.loop-alloc.left.now ≡ Ok (p.0, p.1.now))) c.in-Some-2.is c.in_ok-command.ensures.taken in
+    let next = command_more (MAX_COMMANDS - c.args.had) _ so_far.0 c.loop-alloc.commands.items c.push.new.self.items c.loop-alloc.left.now c.in-Some-2.others.now c.in-Some-2.command some c.in_default.ensures.none so_far.1 few so_far.2 taken c.in-Ok.ensures.items in
+    (next.0, next.1, next.2, front_more (MAX_COMMANDS - c.args.had) c.args.text.now c.loop-alloc.left.now c.in-Some-2.others.now c.loop-alloc.commands.items c.push.new.self.items c.in-Some-2.command few so_far.3 taken c.in-Ok.ensures.items)
 
 pub returns-clause-found : goal.returns-clause-found
 returns-clause-found c =

@@ -1,7 +1,7 @@
 use Rattle.std.proofs.Common.{◌≡◌, ◌≤◌, ◌++◌, ◌∷◌, ◌-◌, [], ℕ, List, Some, length, sym, ap, subst, ◌∙◌}
 use Rattle.std.specs.List.{slice_get}
 use Rattle.hex.specs.Hex.{encode_lower}
-use Rattle.std.proofs.lemmas.Result.{on_ok_weaker}
+use Rattle.std.proofs.lemmas.Result.{err_from_is_err_and, on_ok_weaker}
 use Rattle.git_refname.specs.Namespace.{expanded}
 use Rattle.git_reftx.specs.Transaction.{References}
 use Rattle.state_text.specs.States.{IsStates}
@@ -15,7 +15,7 @@ use Rattle.state_text.proofs.taking.take_reference.Goals as goal
 
 pub put_back-requires : goal.put_back-requires
 put_back-requires c =
-    tenant_changed c.pop.new.self c.in-Some.tenant c.in-Ok-with_reference.next (subst IsStates c.in-Some.ensures.some c.pop.ensures.sound) c.in-Ok-with_reference.ensures.sound (ap (λ t. t.name) (sym c.in-Ok-with_reference.ensures.ok.added))
+    tenant_changed c.pop.new.self c.in-Some.tenant c.in_ok-next.next (subst IsStates c.in-Some.ensures.some c.pop.ensures.sound) c.in_ok-next.ensures.sound (ap (λ t. t.name) (sym c.in_ok-next.ensures.ok.added))
 
 -- the last repository is the one that has a reference more
 named : (tenant next : TenantState) (name target : List ℕ) (repositories : List (List ℕ × References)) (last : List ℕ × References) → (more : HasReferenceMore tenant name target next) → repositories ≡ tenant.repositories
@@ -25,14 +25,14 @@ named tenant next name target repositories last more are is =
 
 pub returns-clause-ok : goal.returns-clause-ok
 returns-clause-ok c =
-    let more = c.in-Ok-with_reference.ensures.ok in
+    let more = c.in_ok-next.ensures.ok in
     let tenant_is = c.as_bytes.ensures.bytes ∙ c.name.ensures.name in
-    let repository_is = c.as_bytes-2.ensures.bytes ∙ named c.in-Some.tenant c.in-Ok-with_reference.next c.in-Some-reference_of.name c.in-Some-reference_of.target c.repositories.result.now c.in-Some-last.last.now more c.repositories.ensures (sym c.in-Some-last.ensures.value) in
+    let repository_is = c.as_bytes-2.ensures.bytes ∙ named c.in-Some.tenant c.in_ok-next.next c.in-Some-reference_of.name c.in-Some-reference_of.target c.repositories.result.now c.in-Some-last.last.now more c.repositories.ensures (sym c.in-Some-last.ensures.value) in
     let prefix = c.as_slice.ensures.value ∙ c.in-Ok.ensures ∙ (λ i. expanded (tenant_is i ∷ repository_is i ∷ [])) in
     on_ok_weaker c.put_back.result (λ added. record {
       before = c.pop.new.self;
       tenant = c.in-Some.tenant;
-      next = c.in-Ok-with_reference.next;
+      next = c.in_ok-next.next;
       name = c.in-Some-reference_of.name;
       target = c.in-Some-reference_of.target;
       unseen = nothing_in c.in-Some.tenant.seen (subst (λ (s : List (List ℕ)). length s ≤ 0) c.seen.ensures c.if-seen-gt0.false);
@@ -49,8 +49,9 @@ returns-in_default-reference_of-clause-wrong c new right adds =
     c.in_default-reference_of.ensures.none adds.name adds.target known.named known.target_named
     (reference_spelled_so c.args.states.now c.pop.new.self new c.in-Some.tenant c.args.rest.now c.as_slice.result.now c.repositories.result.now c.in-Some-last.last.now c.in-Some.ensures.some c.repositories.ensures (sym c.in-Some-last.ensures.value) prefix_is right adds)
 
-pub returns-in-Err-clause-wrong : goal.returns-in-Err-clause-wrong
-returns-in-Err-clause-wrong c =
+pub returns-in_err-next-clause-wrong : goal.returns-in_err-next-clause-wrong
+returns-in_err-next-clause-wrong c =
     let prefix_is = c.as_slice.ensures.value ∙ c.in-Ok.ensures ∙ (λ i. expanded ((c.as_bytes.ensures.bytes ∙ c.name.ensures.name) i ∷ c.as_bytes-2.ensures.bytes i ∷ [])) in
-    reference_refused c.args.states.now c.pop.new.self c.in-Some.tenant c.args.rest.now c.as_slice.result.now c.repositories.result.now c.in-Some-last.last.now c.in-Some.ensures.some c.repositories.ensures (sym c.in-Some-last.ensures.value) prefix_is
-    c.in-Some-reference_of.name c.in-Some-reference_of.target c.in-Err.fault c.as_bytes-target.ensures.name c.in-Some-reference_of.ensures.found c.in-Err.ensures.wrong
+    let told = err_from_is_err_and c.from_residual.result c.from_residual.ensures.1 in
+    rw (told.1, told.2) (reference_refused c.args.states.now c.pop.new.self c.in-Some.tenant c.args.rest.now c.as_slice.result.now c.repositories.result.now c.in-Some-last.last.now c.in-Some.ensures.some c.repositories.ensures (sym c.in-Some-last.ensures.value) prefix_is
+    c.in-Some-reference_of.name c.in-Some-reference_of.target _ c.as_bytes-target.ensures.name c.in-Some-reference_of.ensures.found c.in_err-next.ensures.wrong)

@@ -1,20 +1,20 @@
 use Rattle.std.proofs.Common.{sym, ap, subst, ◌∙◌}
 use Rattle.std.specs.List.{AllByRecursion}
+use Rattle.std.proofs.lemmas.Result.{err_from_is_err_and}
 use Rattle.state_text.specs.States.{IsRepository, IsTenantState, TenantState}
 use Rattle.state_text.proofs.BehindLemmas.{each_last}
 use Rattle.state_text.proofs.StateLemmas.{repository_changed, targets_more}
-use Rattle.state_text.specs.Taking.{RefusesReference}
 use Rattle.state_text.proofs.WrongLemmas.{push_wrong}
 use Rattle.state_text.proofs.tenant_state.TenantState.with_reference.Goals as goal
 
-right : (c : goal.In-Ok-push) → IsTenantState (record { name = c.self.inside.name; limit = c.self.inside.limit; repositories = c.push-2.new.self.items; seen = c.self.inside.seen.items })
+right : (c : goal.In-Ok) → IsTenantState (record { name = c.self.inside.name; limit = c.self.inside.limit; repositories = c.push-2.new.self.items; seen = c.self.inside.seen.items })
 right c =
     let tenant : TenantState = record { name = c.self.inside.name; limit = c.self.inside.limit; repositories = c.self.inside.repositories.items; seen = c.self.inside.seen.items } in
     let front = c.pop.new.self.items in
     let was : IsRepository (c.in-Some.repository, c.in-Some.references) = each_last IsRepository front (c.in-Some.repository, c.in-Some.references) (subst (AllByRecursion IsRepository) c.in-Some.ensures.items c.self.invariant.repositories) in
-    subst (λ rs. IsTenantState (record { name = c.self.inside.name; limit = c.self.inside.limit; repositories = rs; seen = c.self.inside.seen.items })) (sym c.in-Ok-push.ensures.items)
+    subst (λ rs. IsTenantState (record { name = c.self.inside.name; limit = c.self.inside.limit; repositories = rs; seen = c.self.inside.seen.items })) (sym c.in-Ok.ensures.items)
     (repository_changed tenant front c.in-Some.repository c.in-Some.references c.push.new.self c.self.invariant c.in-Some.ensures.items c.len-count.ensures.sound
-    (targets_more c.in-Some.references c.push.new.self c.args.name c.args.target c.in-Ok.ensures.ok was.targets c.as_bytes-target.ensures.name))
+    (targets_more c.in-Some.references c.push.new.self c.args.name c.args.target c.in_ok-push.ensures.ok was.targets c.as_bytes-target.ensures.name))
 
 pub invariant_of-result : goal.invariant_of-result
 invariant_of-result c = right c
@@ -31,11 +31,11 @@ returns-clause-ok c =
       references = c.in-Some.references;
       more = c.push.new.self;
       was = ap (λ t. t.repositories) (sym same) ∙ c.in-Some.ensures.items;
-      pushed = c.in-Ok.ensures.ok;
-      added = λ i. record { name = (same i).name; limit = (same i).limit; repositories = c.in-Ok-push.ensures.items i; seen = (same i).seen };
+      pushed = c.in_ok-push.ensures.ok;
+      added = λ i. record { name = (same i).name; limit = (same i).limit; repositories = c.in-Ok.ensures.items i; seen = (same i).seen };
     }
 
-pub returns-in-Err-clause-wrong : goal.returns-in-Err-clause-wrong
-returns-in-Err-clause-wrong c =
-    subst (RefusesReference c.args.self c.args.name c.args.target) (sym c.of_push.ensures)
-    (push_wrong c.args.self c.pop.new.self.items c.in-Some.repository c.in-Some.references c.args.name c.args.target c.in-Err.error (ap (λ t. t.repositories) (sym c.self.view_is) ∙ c.in-Some.ensures.items) c.in-Err.ensures.cause)
+pub returns-in_err-push-clause-wrong : goal.returns-in_err-push-clause-wrong
+returns-in_err-push-clause-wrong c =
+    let told = err_from_is_err_and c.from_residual.result c.from_residual.ensures.1 in
+    rw (told.1, told.2) (push_wrong c.args.self c.pop.new.self.items c.in-Some.repository c.in-Some.references c.args.name c.args.target _ (ap (λ t. t.repositories) (sym c.self.view_is) ∙ c.in-Some.ensures.items) c.in_err-push.ensures.cause)

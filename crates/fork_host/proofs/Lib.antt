@@ -20,6 +20,7 @@ pub mod RowLemmas
 pub mod SafeLemmas
 pub mod ShapeLemmas
 pub mod StagedLemmas
+pub mod StepLemmas
 pub mod SweptLemmas
 pub mod TakingLemmas
 pub mod TargetLemmas

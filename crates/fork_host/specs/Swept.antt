@@ -1,5 +1,5 @@
 -- What requests of the host itself do with the store (own): sweeps, collections, the census and the check. They change no view.
-use Rattle.std.specs.Prelude.{◌≡◌, ◌⊎◌, ◌<◌, ◌≤◌, ◌+◌, ◌*◌, ℕ, Bool, true, IsTrue, List, [], ◌∷◌, length, map, sum, ⊤}
+use Rattle.std.specs.Prelude.{◌≡◌, ◌⊎◌, ◌<◌, ◌≤◌, ◌+◌, ◌*◌, ℕ, Bool, true, IsTrue, List, [], length, map, sum, ⊤}
 use Rattle.std.specs.FinMap.{contains_key, get}
 use Rattle.std.specs.List.{AllByRecursion}
 use Rattle.fork_request.specs.Harms.{Harmed, harm_lines}
@@ -91,13 +91,6 @@ pub record Tends (request : HostRequest) (old : VaultState) (reply : Reply) (new
 abbrev pub TendsAt : HostState → Event → Reply → HostState → Type 0
 TendsAt old (Asks tenant ask) reply new = ⊤
 TendsAt old (HostAsks request) reply new = Tends request old.vault reply new.vault
-
--- the same of each step of a run, from state to state
-abbrev pub TendsAlong : HostState → List Event → List Reply → HostState → Type 0
-TendsAlong old [] [] new = new ≡ old
-TendsAlong old (event ∷ events) (reply ∷ replies) new = (mid : HostState) × TendsAt old event reply mid × TendsAlong mid events replies new
-TendsAlong old [] (reply ∷ replies) new = ⊥
-TendsAlong old (event ∷ events) [] new = ⊥
 
 -- sweeps of so many looks at the most, one after another
 abbrev pub sweeps : List ℕ → List Event

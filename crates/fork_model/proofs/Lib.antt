@@ -6,6 +6,7 @@ pub mod HostLemmas
 pub mod Hosts
 pub mod Isolation
 pub mod KeptLemmas
+pub mod Meetings
 pub mod MissingLemmas
 pub mod PrerequisiteLemmas
 pub mod ProvenanceLemmas

@@ -18,7 +18,7 @@ use Rattle.fork_model.specs.Answer.{answer, open_upload}
 use Rattle.fork_model.specs.Provenance.{IsAmong, IsFrom, Seen, Pushed, Uploaded, IsUploadFrom, Stays, Ends, GoesOn, AreParts, WasSent, InPush, InParts, InUpload}
 use Rattle.fork_model.specs.Runs.{Asks, HostAsks, Answered, Unknown, Faulted}
 use Rattle.fork_model.specs.View.{View}
-use Rattle.fork_model.specs.World.{World, Event, Steps, Explains, HostSays, alone, own}
+use Rattle.fork_model.specs.World.{World, Event, Steps, Explains, HostSays, alone, nothing_met, own}
 use Rattle.fork_model.proofs.Isolation.{tied, other_step, own_request}
 use Rattle.fork_model.proofs.KeptLemmas.{here, there}
 use Rattle.fork_model.proofs.ProvenanceLemmas.{object_from, upload_from}
@@ -107,11 +107,11 @@ more_asked view ask asks name object (inr sent) = inr (more_sent view ask asks n
 own_asked : (old mid : World) (t u : List ℕ) (ask : Ask) (reply : Reply) (view : View) (asks : List Ask) (name : List ℕ) (object : Object) → eq_by_cmp name_cmp t u ≡ true → Steps old (Asks u ask) reply mid → get old t ≡ Some view
     → ((next : View) → get mid t ≡ Some next → WasSeen next asks name object) → WasSeen view (ask ∷ asks) name object
 own_asked old mid t u ask reply view asks name object same (Answered other here_is told set) was rest =
-    let is = same_view other view (sym here_is ∙ sym (tied name_cmp name_total answer (Refused UnknownTenant) is_host_fault HostSays old t u same) ∙ was) in
+    let is = same_view other view (sym here_is ∙ sym (tied name_cmp name_total nothing_met (λ _. answer) (Refused UnknownTenant) is_host_fault HostSays old t u same) ∙ was) in
     let next = ap (λ w. get w t) set ∙ get-insert name_total old u (answer other ask).1 t ∙ ap (λ b. cond b (Some (answer other ask).1) (get old t)) same in
     still_seen view ask asks name object (subst (λ v. WasSeen (answer v ask).1 asks name object) is (rest (answer other ask).1 next))
 own_asked old mid t u ask reply view asks name object same (Unknown none told stays) was rest =
-    absurd (no_view view (sym none ∙ sym (tied name_cmp name_total answer (Refused UnknownTenant) is_host_fault HostSays old t u same) ∙ was))
+    absurd (no_view view (sym none ∙ sym (tied name_cmp name_total nothing_met (λ _. answer) (Refused UnknownTenant) is_host_fault HostSays old t u same) ∙ was))
 own_asked old mid t u ask reply view asks name object same (Faulted bad stays) was rest =
     more_asked view ask asks name object (rest view (ap (λ w. get w t) stays ∙ was))
 
@@ -125,10 +125,10 @@ run_seen_or_sent t old new [] (reply ∷ replies) view last name object run was 
 run_seen_or_sent t old new (step ∷ steps) [] view last name object run was is found = absurd run
 run_seen_or_sent t old new (HostAsks ask ∷ steps) (reply ∷ replies) view last name object run was is found =
     run_seen_or_sent t run.0 new steps replies view last name object run.2
-    (ap (λ w. get w t) (own_request name_cmp name_total answer (Refused UnknownTenant) is_host_fault HostSays old run.0 ask reply run.1) ∙ was) is found
+    (ap (λ w. get w t) (own_request name_cmp name_total nothing_met (λ _. answer) (Refused UnknownTenant) is_host_fault HostSays old run.0 ask reply run.1) ∙ was) is found
 run_seen_or_sent t old new (Asks u ask ∷ steps) (reply ∷ replies) view last name object run was is found =
     by (eq_by_cmp name_cmp t u) refl (λ next here_is. run_seen_or_sent t run.0 new steps replies next last name object run.2 here_is is found)
   where
     by : (b : Bool) → eq_by_cmp name_cmp t u ≡ b → ((next : View) → get run.0 t ≡ Some next → WasSeen next (own t steps) name object) → WasSeen view (cond b (ask ∷ own t steps) (own t steps)) name object
     by true same rest = own_asked old run.0 t u ask reply view (own t steps) name object same run.1 was rest
-    by false apart rest = rest view (other_step name_cmp name_total answer (Refused UnknownTenant) is_host_fault HostSays old run.0 t u ask reply apart run.1 ∙ was)
+    by false apart rest = rest view (other_step name_cmp name_total nothing_met (λ _. answer) (Refused UnknownTenant) is_host_fault HostSays old run.0 t u ask reply apart run.1 ∙ was)

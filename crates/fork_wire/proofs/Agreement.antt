@@ -15,6 +15,7 @@ use Rattle.fork_host.specs.Shown.{HostState, Trusted, world_of}
 use Rattle.fork_frame.specs.declared.asker.Asker.{Asker}
 use Rattle.fork_frame.specs.declared.asker.Asker.TheVariants.{Tenant, Host}
 use Rattle.fork_frame.specs.declared.frame.Frame.{Frame}
+use Rattle.fork_wire.proofs.AgainLemmas.{explained_of}
 use Rattle.fork_wire.specs.Sessions.{IsAnswered, event_by, events_of, frames_of, is_of, sent_by, told_to}
 
 asked_once : (payload : List ℕ) (asks : List Ask) (payloads : List (List ℕ)) (b : Bool) → asks ≡ map asked payloads → cond b (asked payload ∷ asks) asks ≡ map asked (cond b (payload ∷ payloads) payloads)
@@ -38,5 +39,5 @@ pub sessions_agree : (tenant : List ℕ) (old new : HostState) (frames : List Fr
 sessions_agree tenant old new frames replies old2 new2 frames2 replies2 one fine other fine2 trusted trusted2 agree same =
     let asks = own_sent tenant frames ∙ ap (map asked) same ∙ sym (own_sent tenant frames2) in
     let both = runs_agree name_cmp name_total answer (Refused UnknownTenant) is_host_fault HostSays tenant (world_of old) (world_of new) (events_of frames) replies (world_of old2) (world_of new2) (events_of frames2) replies2
-    (one.explained trusted) fine (other.explained trusted2) fine2 agree asks in
+    (explained_of old new frames replies one trusted) fine (explained_of old2 new2 frames2 replies2 other trusted2) fine2 agree asks in
     (ap frames_of both.0, both.1)

@@ -32,7 +32,7 @@ served_so old new input left before during after first now ended so_far ends las
   record {
     frames = so_far.frames;
     replies = so_far.replies;
-    answered = answered_so_far old new so_far.frames so_far.replies so_far.explained so_far.faults;
+    answered = answered_so_far old new so_far.frames so_far.replies so_far.ran;
     read = is_stream input left so_far.came so_far.frames ended so_far.taken so_far.right ends;
     written = Appends-trans before during after (frames_of so_far.replies) (last_line ended) so_far.written last;
   },
@@ -62,7 +62,7 @@ unread old new input left before after first now fault so_far unwritten unkept m
   record {
     frames = so_far.frames;
     replies = so_far.replies;
-    answered = answered_so_far old new so_far.frames so_far.replies so_far.explained so_far.faults;
+    answered = answered_so_far old new so_far.frames so_far.replies so_far.ran;
     read = begins_with input left so_far.came so_far.frames so_far.taken so_far.right;
     written = λ is. so_far.written;
     told = λ is. absurd (unwritten is);
@@ -94,13 +94,13 @@ write_journal fault is other = cc
 
 -- writing the last line stopped it
 pub untold : (old new : HostState) (input left before during after first now : Option (List ℕ)) (r : Result Ended SessionFault) → Going old new input left before during first now → IfSome left IsBad → IfErr r (λ fault. fault ≡ Write)
-    → IfErr r (λ fault. fault ≢ Journal → Stopped old new input before after first now fault)
+    → IfErr r (Stopped old new input before after first now)
 untold old new input left before during after first now (Ok ended) so_far bad cause = tt
-untold old new input left before during after first now (Err fault) so_far bad cause = λ other. (
+untold old new input left before during after first now (Err fault) so_far bad cause = (
   record {
     frames = so_far.frames;
     replies = so_far.replies;
-    answered = answered_so_far old new so_far.frames so_far.replies so_far.explained so_far.faults;
+    answered = answered_so_far old new so_far.frames so_far.replies so_far.ran;
     read = begins_with input left so_far.came so_far.frames so_far.taken so_far.right;
     written = λ is. absurd (write_read fault cause is);
     told = λ is. is_telling input left so_far.came so_far.frames so_far.taken so_far.right bad;
@@ -122,3 +122,16 @@ read_memory is = cc
 -- so many frames were served that none more is read
 pub spent : (old new : HostState) (input left before after first now : Option (List ℕ)) → Going old new input left before after first now → Stopped old new input before after first now Read
 spent old new input left before after first now so_far = unread old new input left before after first now Read so_far read_write read_journal (λ is. absurd (read_memory is))
+
+-- the session alone, without what is kept of it
+pub served_alone : (old new : HostState) (input before after first now : Option (List ℕ)) (r : Result Ended SessionFault) → IfOk r (Served old new input before after first now) → IfOk r (IsServed old new input before after)
+served_alone old new input before after first now (Ok ended) both = both.0
+served_alone old new input before after first now (Err fault) both = tt
+
+pub stopped_alone : (old new : HostState) (input before after first now : Option (List ℕ)) (r : Result Ended SessionFault) → IfErr r (Stopped old new input before after first now) → IfErr r (IsStopped old new input before after)
+stopped_alone old new input before after first now (Ok ended) both = tt
+stopped_alone old new input before after first now (Err fault) both = both.0
+
+pub stopped_kept : (old new : HostState) (input before after first now : Option (List ℕ)) (r : Result Ended SessionFault) → IfErr r (Stopped old new input before after first now) → IfErr r (λ fault. fault ≢ Journal → Stopped old new input before after first now fault)
+stopped_kept old new input before after first now (Ok ended) both = tt
+stopped_kept old new input before after first now (Err fault) both = λ other. both

@@ -9,9 +9,9 @@ use Rattle.fork_request.specs.Told.{bytes_of}
 use Rattle.fork_request.specs.declared.reply.Reply.{Reply}
 use Rattle.fork_model.specs.Runs.{Asks, HostAsks}
 use Rattle.fork_model.specs.View.{View}
-use Rattle.fork_model.specs.World.{World, Event, Explains, IsUnfaulted, alone, own, told}
-use Rattle.fork_host.specs.Faults.{FaultsAlong}
+use Rattle.fork_model.specs.World.{World, Event, IsUnfaulted, alone, own, told}
 use Rattle.fork_host.specs.Shown.{HostState, Trusted, world_of}
+use Rattle.fork_host.specs.Step.{IsRun}
 use Rattle.fork_frame.specs.Frame.{AreFrames, IsBad, IsRequestStream}
 use Rattle.fork_frame.specs.Next.{BeginsFrame}
 use Rattle.fork_frame.specs.Reply.{last_line, reply_frame}
@@ -55,12 +55,10 @@ abbrev pub IsPrivateRun : World → List Event → List Reply → World → Type
 IsPrivateRun old events replies new = (tenant : List ℕ) (view : View) → get old tenant ≡ Some view → IsUnfaulted tenant events replies
     → (told tenant events replies ≡ (alone view (own tenant events)).0) × (get new tenant ≡ Some (alone view (own tenant events)).1)
 
--- the replies are one to each frame. Over a store that is trusted they lead from the world that the host showed to the one
--- that it shows, and each tenant's are those of a private host. Of host faults only those that may come are among them
+-- the replies are one to each frame, and lead from state to state. Over a store that is trusted each tenant's are those of a private host
 pub record IsAnswered (old new : HostState) (frames : List Frame) (replies : List Reply) : Type 0 where
-  pub explained : Trusted old → Explains (world_of old) (events_of frames) replies (world_of new)
+  pub ran : IsRun old (events_of frames) replies new
   pub private_run : Trusted old → IsPrivateRun (world_of old) (events_of frames) replies (world_of new)
-  pub faults : FaultsAlong old (events_of frames) replies new
 
 -- a session that reached its end: all frames of the input were answered, and their replies went out, then the last line
 pub record IsServed (old new : HostState) (input before after : Option (List ℕ)) (ended : Ended) : Type 0 where

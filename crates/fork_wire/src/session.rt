@@ -2,9 +2,8 @@ ghost use Rattle.std.specs.Prelude.{◌≡◌, ◌≢◌, ◌++◌, [], ℕ, Lis
 ghost use Rattle.std.specs.Io.KnownBytes.{Appends, Keeps};
 ghost use Rattle.fork_request.specs.Told.{bytes_of};
 ghost use Rattle.fork_model.specs.Sound.{IsOrderlyWorld, IsRightWorld};
-ghost use Rattle.fork_model.specs.World.{Steps};
-ghost use Rattle.fork_host.specs.Faults.{FaultsWithin};
 ghost use Rattle.fork_host.specs.Shown.{Trusted, world_of};
+ghost use Rattle.fork_host.specs.Step.{IsStep};
 ghost use Rattle.fork_frame.specs.Reply.{last_line, reply_frame};
 ghost use Rattle.fork_wire.specs.Kept.{TellsCut, kept_bytes, kept_one};
 ghost use Rattle.fork_wire.specs.Sessions.{IsServed, IsStopped, event_of};
@@ -88,11 +87,7 @@ pub fn serve_kept<S: LooseFiles, J: Journal, R: Read, W: Write>(
 
 // Answers a request as it came.
 pub(crate) fn answer<S: LooseFiles>(host: &mut Host<S>, alloc: Global, frame: &Frame) -> Reply
-    ensures explained { Trusted host.old → Steps (world_of host.old) (event_of frame.now) result (world_of host.new) }
-    ensures trusted { Trusted host.old → Trusted host.new }
-    ensures orderly { IsOrderlyWorld (world_of host.new) }
-    ensures right { Trusted host.old → IsRightWorld (world_of host.new) }
-    ensures faults { FaultsWithin host.old (event_of frame.now) result host.new }
+    ensures { IsStep host.old (event_of frame.now) result host.new }
 {
     let payload = frame.payload.as_bytes();
     match &frame.asker {
@@ -109,11 +104,7 @@ fn answer_kept<S: LooseFiles, J: Journal>(
     journal: &mut J,
     frame: Frame,
 ) -> (Reply, bool)
-    ensures explained { Trusted host.old → Steps (world_of host.old) (event_of frame) result.0 (world_of host.new) }
-    ensures trusted { Trusted host.old → Trusted host.new }
-    ensures orderly { IsOrderlyWorld (world_of host.new) }
-    ensures right { Trusted host.old → IsRightWorld (world_of host.new) }
-    ensures faults { FaultsWithin host.old (event_of frame) result.0 host.new }
+    ensures step { IsStep host.old (event_of frame) result.0 host.new }
     ensures kept { IsTrue result.1 → Appends (J.kept journal.old) (J.kept journal.new) (kept_one frame result.0) }
     ensures cause { result.1 ≡ false → J.can_fail }
     ensures whole { IsTrue result.1 → J.is_cut journal.new ≡ J.is_cut journal.old }

@@ -29,7 +29,7 @@ use Rattle.fork_request.specs.declared.reply.Reply.{Reply}
 use Rattle.fork_request.specs.declared.reply.Reply.TheVariants.{Done, Refused, Failed}
 use Rattle.fork_model.specs.Answer.{answer}
 use Rattle.fork_model.specs.Runs.{Asks, HostAsks, Answered, Unknown, Faulted, TenantStep, OwnStep, HostAnswered, HostFaulted}
-use Rattle.fork_model.specs.World.{Event, Explains, HostSays, Steps, World}
+use Rattle.fork_model.specs.World.{Event, Explains, HostSays, Steps, World, nothing_met}
 
 one_value : {X : Type 0} (o : Option X) (x y : X) → o ≡ Some x → o ≡ Some y → x ≡ y
 one_value o x y is other = cc
@@ -40,7 +40,7 @@ none_value o x is other = cc
 true_false : (b : Bool) → b ≡ true → b ≡ false → ⊥
 true_false b is other = cc
 
-same_answer : (old new new2 : World) (name : List ℕ) (ask : Ask) (reply reply2 : Reply) → TenantStep name_cmp answer (Refused UnknownTenant) is_host_fault old name ask reply new → TenantStep name_cmp answer (Refused UnknownTenant) is_host_fault old name ask reply2 new2
+same_answer : (old new new2 : World) (name : List ℕ) (ask : Ask) (reply reply2 : Reply) → TenantStep name_cmp nothing_met (λ _. answer) (Refused UnknownTenant) is_host_fault old name ask reply new → TenantStep name_cmp nothing_met (λ _. answer) (Refused UnknownTenant) is_host_fault old name ask reply2 new2
     → is_host_fault reply ≡ false → is_host_fault reply2 ≡ false → (reply ≡ reply2) × (new ≡ new2)
 same_answer old new new2 name ask reply reply2 (Answered view here told set) (Answered view2 here2 told2 set2) fine fine2 =
     let same = one_value (get old name) view view2 here here2 in

@@ -5,15 +5,10 @@ use Rattle.std.proofs.lemmas.Grind.{flat_map-append}
 use Rattle.std.proofs.lemmas.List.{append-nil, map-append}
 use Rattle.std.proofs.KnownBytes.{Appends-kept, Appends-nil, Appends-trans, Consumes-nil, Consumes-trans}
 use Rattle.std.specs.Io.KnownBytes.{Appends, Consumes, Keeps}
-use Rattle.git_name.specs.Name.{name_cmp}
-use Rattle.git_name.proofs.Names.{name_total}
-use Rattle.fork_request.specs.Told.{bytes_of, is_host_fault}
-use Rattle.fork_request.specs.declared.refusal.Refusal.TheVariants.{UnknownTenant}
-use Rattle.fork_request.specs.declared.reply.Reply.TheVariants.{Refused}
+use Rattle.fork_request.specs.Told.{bytes_of}
 use Rattle.fork_request.specs.declared.reply.Reply.{Reply}
-use Rattle.fork_model.specs.Answer.{answer}
-use Rattle.fork_model.specs.World.{World, Event, Explains, HostSays}
-use Rattle.fork_model.proofs.Isolation.{run_alone}
+use Rattle.fork_model.specs.World.{World, Event, Explains}
+use Rattle.fork_model.proofs.Meetings.{run_alone}
 use Rattle.fork_host.specs.Shown.{HostState, world_of}
 use Rattle.fork_host.specs.Step.{IsRun, IsStep}
 use Rattle.fork_host.proofs.StepLemmas.{run_explained, run_more}
@@ -85,7 +80,7 @@ begins_with (Some bytes) (Some rest) came frames taken right = (came, rest, righ
 -- a run is private
 private_of : (old new : World) (events : List Event) (replies : List Reply) → Explains old events replies new → IsPrivateRun old events replies new
 private_of old new events replies run tenant view here fine =
-    run_alone name_cmp name_total answer (Refused UnknownTenant) is_host_fault HostSays tenant old new events replies view run fine here
+    run_alone tenant old new events replies view run fine here
 
 memory_apart : (fault : SessionFault) → fault ≡ Memory → fault ≡ Write → ⊥
 memory_apart fault is other = cc

@@ -1,5 +1,5 @@
 -- How a session ends: behind its last frame, at what is no frame, or by a fault.
-use Rattle.std.proofs.Common.{◌≡◌, ◌≢◌, ◌∙◌, Option, Some, None, Result, Ok, Err, IfOk, IfErr, inl, refl, sym, subst, ℕ, List, [], ◌∷◌, ◌++◌}
+use Rattle.std.proofs.Common.{◌≡◌, ◌≢◌, ◌∙◌, Option, Some, None, Result, Ok, Err, IfOk, IfErr, inl, inr, OnErr, refl, sym, subst, ℕ, List, [], ◌∷◌, ◌++◌}
 use Rattle.std.specs.Prelude.{IfSome}
 use Rattle.std.proofs.KnownBytes.{Appends-nil, Appends-trans}
 use Rattle.std.specs.Io.KnownBytes.{Appends, Consumes, IsAtEnd}
@@ -9,7 +9,7 @@ use Rattle.fork_frame.specs.declared.ended.Ended.TheVariants.{Clean, BadFrame}
 use Rattle.fork_frame.specs.declared.frame.Frame.{Frame}
 use Rattle.fork_frame.specs.Frame.{AreFrames, EndsAt, IsBad}
 use Rattle.fork_frame.specs.Next.{BeginsFrame}
-use Rattle.fork_frame.specs.Reply.{last_line}
+use Rattle.fork_frame.specs.Reply.{WritesFront, last_line}
 use Rattle.fork_frame.proofs.StreamLemmas.{ends_clean, is_stream}
 use Rattle.fork_wire.specs.declared.fault.SessionFault.{SessionFault}
 use Rattle.fork_wire.specs.declared.fault.SessionFault.TheVariants.{Read, Write, Memory, Journal}
@@ -55,6 +55,13 @@ payload_comes None left came frames taken right begins = tt
 payload_comes (Some bytes) None came frames taken right begins = absurd taken
 payload_comes (Some bytes) (Some rest) came frames taken right begins = (came, rest, right, taken, begins)
 
+-- what comes behind the frames so far is no frame
+bad_comes : (input left : Option (List ℕ)) (came : List ℕ) (frames : List Frame) → Consumes input left came → AreFrames frames came → IfSome left IsBad
+    → IfSome input (λ bytes. (came : List ℕ) × (rest : List ℕ) × AreFrames frames came × (bytes ≡ came ++ rest) × IsBad rest)
+bad_comes None left came frames taken right bad = tt
+bad_comes (Some bytes) None came frames taken right bad = absurd taken
+bad_comes (Some bytes) (Some rest) came frames taken right bad = (came, rest, right, taken, bad)
+
 -- reading stopped it
 pub unread : (old new : HostState) (input left before after first now : Option (List ℕ)) (fault : SessionFault) → Going old new input left before after first now → fault ≢ Write → fault ≢ Journal → (fault ≡ Memory → IfSome left BeginsFrame)
     → Stopped old new input before after first now fault
@@ -66,6 +73,7 @@ unread old new input left before after first now fault so_far unwritten unkept m
     read = begins_with input left so_far.came so_far.frames so_far.taken so_far.right;
     written = λ is. so_far.written;
     told = λ is. absurd (unwritten is);
+    broken = λ is. absurd (unwritten is);
     memory = λ is. inl (record { comes = payload_comes input left so_far.came so_far.frames so_far.taken so_far.right (memory is); written = so_far.written });
     unkept = λ is. absurd (unkept is);
   },
@@ -93,10 +101,10 @@ write_journal : (fault : SessionFault) → fault ≡ Write → fault ≡ Journal
 write_journal fault is other = cc
 
 -- writing the last line stopped it
-pub untold : (old new : HostState) (input left before during after first now : Option (List ℕ)) (r : Result Ended SessionFault) → Going old new input left before during first now → IfSome left IsBad → IfErr r (λ fault. fault ≡ Write)
+pub untold : (old new : HostState) (input left before during after first now : Option (List ℕ)) (r : Result Ended SessionFault) → Going old new input left before during first now → IfSome left IsBad → IfErr r (λ fault. fault ≡ Write) → OnErr r (WritesFront during after (last_line BadFrame))
     → IfErr r (Stopped old new input before after first now)
-untold old new input left before during after first now (Ok ended) so_far bad cause = tt
-untold old new input left before during after first now (Err fault) so_far bad cause = (
+untold old new input left before during after first now (Ok ended) so_far bad cause broken = tt
+untold old new input left before during after first now (Err fault) so_far bad cause broken = (
   record {
     frames = so_far.frames;
     replies = so_far.replies;
@@ -104,6 +112,7 @@ untold old new input left before during after first now (Err fault) so_far bad c
     read = begins_with input left so_far.came so_far.frames so_far.taken so_far.right;
     written = λ is. absurd (write_read fault cause is);
     told = λ is. is_telling input left so_far.came so_far.frames so_far.taken so_far.right bad;
+    broken = λ is. inr (record { comes = bad_comes input left so_far.came so_far.frames so_far.taken so_far.right bad; mid = during; written = so_far.written; broken = broken });
     memory = λ is. absurd (write_memory fault cause is);
     unkept = λ is. absurd (write_journal fault cause is);
   },

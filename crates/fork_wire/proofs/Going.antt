@@ -1,6 +1,6 @@
 -- A session goes on by one frame, and ends.
 use Rattle.std.specs.Prelude.{IfSome}
-use Rattle.std.proofs.Common.{◌≡◌, ◌≢◌, Option, Some, None, inr, refl, ℕ, List, [], ◌∷◌, ◌++◌, sym, ap, ◌∙◌, subst, length}
+use Rattle.std.proofs.Common.{◌≡◌, ◌≢◌, Option, Some, None, inl, inr, refl, ℕ, List, [], ◌∷◌, ◌++◌, sym, ap, ◌∙◌, subst, length}
 use Rattle.std.proofs.lemmas.Grind.{flat_map-append}
 use Rattle.std.proofs.lemmas.List.{append-nil, map-append}
 use Rattle.std.proofs.KnownBytes.{Appends-kept, Appends-nil, Appends-trans, Consumes-nil, Consumes-trans}
@@ -14,7 +14,7 @@ use Rattle.fork_host.specs.Step.{IsRun, IsStep}
 use Rattle.fork_host.proofs.StepLemmas.{run_explained, run_more}
 use Rattle.fork_frame.specs.declared.frame.Frame.{Frame}
 use Rattle.fork_frame.specs.Frame.{AreFrames, IsFrame, frame_bytes}
-use Rattle.fork_frame.specs.Reply.{reply_frame}
+use Rattle.fork_frame.specs.Reply.{WritesFront, reply_frame}
 use Rattle.fork_frame.proofs.StreamLemmas.{frames_more, no_frames}
 use Rattle.fork_wire.specs.declared.fault.SessionFault.{SessionFault}
 use Rattle.fork_wire.specs.declared.fault.SessionFault.TheVariants.{Read, Write, Memory, Journal}
@@ -82,6 +82,10 @@ private_of : (old new : World) (events : List Event) (replies : List Reply) → 
 private_of old new events replies run tenant view here fine =
     run_alone tenant old new events replies view run fine here
 
+-- nothing was written
+pub none_written : (a : Option (List ℕ)) (bytes : List ℕ) → WritesFront a a bytes
+none_written a bytes = record { front = []; rest = bytes; parts = refl; written = Appends-nil a }
+
 memory_apart : (fault : SessionFault) → fault ≡ Memory → fault ≡ Write → ⊥
 memory_apart fault is other = cc
 
@@ -115,8 +119,8 @@ not_yet host input before first = record {
 
 -- a frame was answered, and its reply did not go out, or not wholly
 pub unsent : (old mid new : HostState) (input left still_left before during after first then : Option (List ℕ)) (frame : Frame) (reply : Reply) (fault : SessionFault) → Going old mid input left before during first then → IsFrame frame → Consumes left still_left (frame_bytes frame)
-    → IsStep mid (event_of frame) reply new → (fault ≡ Read → ⊥) → (fault ≢ Write → Keeps during after) → IsStopped old new input before after fault
-unsent old mid new input left still_left before during after first then frame reply fault so_far right taken step other kept =
+    → IsStep mid (event_of frame) reply new → (fault ≡ Read → ⊥) → (fault ≢ Write → Keeps during after) → WritesFront during after (reply_frame (bytes_of reply)) → IsStopped old new input before after fault
+unsent old mid new input left still_left before during after first then frame reply fault so_far right taken step other kept broken =
     let frames = so_far.frames ++ frame ∷ [] in
     let replies = so_far.replies ++ reply ∷ [] in
     let came = so_far.came ++ frame_bytes frame in
@@ -128,16 +132,17 @@ unsent old mid new input left still_left before during after first then frame re
       read = begins_with input still_left came frames (Consumes-trans input left still_left so_far.came (frame_bytes frame) so_far.taken taken) (frames_more so_far.frames so_far.came frame so_far.right right);
       written = λ is. absurd (other is);
       told = λ is. telling_more so_far.frames frame input;
+      broken = λ is. inl (record { sent = so_far.replies; last = reply; parts = refl; mid = during; written = so_far.written; broken = broken });
       memory = λ is. inr (lacks (λ write. memory_apart fault is write));
       unkept = λ is. lacks (λ write. journal_apart fault is write);
     }
 
 -- and it was kept
 pub unsent_kept : (old mid new : HostState) (input left still_left before during after first then now : Option (List ℕ)) (frame : Frame) (reply : Reply) (fault : SessionFault) (so_far : Going old mid input left before during first then) → IsFrame frame → Consumes left still_left (frame_bytes frame)
-    → IsStep mid (event_of frame) reply new → (fault ≡ Read → ⊥) → (fault ≢ Write → Keeps during after) → Appends then now (kept_one frame reply)
+    → IsStep mid (event_of frame) reply new → (fault ≡ Read → ⊥) → (fault ≢ Write → Keeps during after) → WritesFront during after (reply_frame (bytes_of reply)) → Appends then now (kept_one frame reply)
     → (session : IsStopped old new input before after fault) × Appends first now (kept_bytes session.frames session.replies)
 unfolding unsent
-unsent_kept old mid new input left still_left before during after first then now frame reply fault so_far right taken step other kept more = (
-  unsent old mid new input left still_left before during after first then frame reply fault so_far right taken step other kept,
+unsent_kept old mid new input left still_left before during after first then now frame reply fault so_far right taken step other kept broken more = (
+  unsent old mid new input left still_left before during after first then frame reply fault so_far right taken step other kept broken,
   kept_on first then now so_far.frames so_far.replies frame reply so_far.equal so_far.kept more,
 )

@@ -4,7 +4,7 @@ ghost use Rattle.fork_request.specs.Told.{bytes_of};
 ghost use Rattle.fork_model.specs.Sound.{IsOrderlyWorld, IsRightWorld};
 ghost use Rattle.fork_host.specs.Shown.{Trusted, world_of};
 ghost use Rattle.fork_host.specs.Step.{IsStep};
-ghost use Rattle.fork_frame.specs.Reply.{last_line, reply_frame};
+ghost use Rattle.fork_frame.specs.Reply.{WritesFront, last_line, reply_frame};
 ghost use Rattle.fork_wire.specs.Kept.{TellsCut, kept_bytes, kept_one};
 ghost use Rattle.fork_wire.specs.Sessions.{IsServed, IsStopped, event_of};
 
@@ -126,6 +126,7 @@ fn send_kept<W: Write>(
     ensures kept { OnOk result (IsTrue kept) }
     ensures sent { IfErr result (λ fault. fault ≢ SessionFault.Read) }
     ensures unsent { IfErr result (λ fault. fault ≢ SessionFault.Write → Keeps (W.contents writer.old) (W.contents writer.new)) }
+    ensures broken { OnErr result (WritesFront (W.contents writer.old) (W.contents writer.new) (reply_frame (bytes_of reply))) }
     ensures unkept { IfErr result (λ fault. fault ≡ SessionFault.Journal → kept ≡ false) }
     ensures was_kept { IfErr result (λ fault. fault ≢ SessionFault.Journal → IsTrue kept) }
 {
@@ -142,6 +143,7 @@ fn send_kept<W: Write>(
 fn end_badly<W: Write>(writer: &mut W) -> Result<Ended, SessionFault>
     ensures ok { IfOk result (λ ended. (ended ≡ Ended.BadFrame)
         × Appends (W.contents writer.old) (W.contents writer.new) (last_line ended)) }
+    ensures broken { OnErr result (WritesFront (W.contents writer.old) (W.contents writer.new) (last_line Ended.BadFrame)) }
     ensures cause { IfErr result (λ fault. fault ≡ SessionFault.Write) }
 {
     match send_bad_frame(writer) {

@@ -48,12 +48,12 @@ returns-in-Ok-Bad-clause-served g c =
 pub returns-in-Ok-Bad-clause-stopped : goal.returns-in-Ok-Bad-clause-stopped
 returns-in-Ok-Bad-clause-stopped g c =
     let next = rw c.in-Ok-Bad.field-0-is at c.in-Ok-Bad.ensures.next in
-    stopped_alone _ _ _ _ _ _ _ c.end_badly.result (untold _ _ _ _ _ _ _ _ _ c.end_badly.result c.loop.invariant.going next.bad c.end_badly.ensures.cause)
+    stopped_alone _ _ _ _ _ _ _ c.end_badly.result (untold _ _ _ _ _ _ _ _ _ c.end_badly.result c.loop.invariant.going next.bad c.end_badly.ensures.cause c.end_badly.ensures.broken)
 
 pub returns-in-Ok-Bad-clause-kept_so_far : goal.returns-in-Ok-Bad-clause-kept_so_far
 returns-in-Ok-Bad-clause-kept_so_far g c =
     let next = rw c.in-Ok-Bad.field-0-is at c.in-Ok-Bad.ensures.next in
-    stopped_kept _ _ _ _ _ _ _ c.end_badly.result (untold _ _ _ _ _ _ _ _ _ c.end_badly.result c.loop.invariant.going next.bad c.end_badly.ensures.cause)
+    stopped_kept _ _ _ _ _ _ _ c.end_badly.result (untold _ _ _ _ _ _ _ _ _ c.end_badly.result c.loop.invariant.going next.bad c.end_badly.ensures.cause c.end_badly.ensures.broken)
 
 pub returns-in-Err-clause-kept_so_far : goal.returns-in-Err-clause-kept_so_far
 returns-in-Err-clause-kept_so_far g c other =
@@ -68,7 +68,7 @@ returns-in_err-send_kept-clause-stopped g c =
     let frame = rw c.in-Ok-Frame.field-0-is at c.in-Ok-Frame.ensures.next in
     let told = err_from_is_err_and c.from_residual.result c.from_residual.ensures.1 in
     rw (told.1, told.2) (unsent _ _ _ _ _ _ _ _ _ _ _ c.in-Ok-Frame.frame c.answer_kept-reply.result.0 _ c.loop.invariant.going frame.0 frame.1 c.answer_kept-reply.ensures.step
-    c.in_err-send_kept.ensures.sent c.in_err-send_kept.ensures.unsent)
+    c.in_err-send_kept.ensures.sent c.in_err-send_kept.ensures.unsent c.in_err-send_kept.ensures.broken)
 
 pub returns-in_err-send_kept-clause-right : goal.returns-in_err-send_kept-clause-right
 returns-in_err-send_kept-clause-right g c trusted = c.answer_kept-reply.ensures.step.whole.right (c.answer_kept-reply.ensures.step.honest ∙ c.loop.invariant.trusted trusted)
@@ -78,7 +78,7 @@ returns-in_err-send_kept-clause-kept_so_far g c =
     let frame = rw c.in-Ok-Frame.field-0-is at c.in-Ok-Frame.ensures.next in
     let told = err_from_is_err_and c.from_residual.result c.from_residual.ensures.1 in
     rw (told.1, told.2) (λ other. unsent_kept _ _ _ _ _ _ _ _ _ _ _ _ c.in-Ok-Frame.frame c.answer_kept-reply.result.0 _ c.loop.invariant.going frame.0 frame.1 c.answer_kept-reply.ensures.step
-    c.in_err-send_kept.ensures.sent c.in_err-send_kept.ensures.unsent (c.answer_kept-reply.ensures.kept (c.in_err-send_kept.ensures.was_kept other)))
+    c.in_err-send_kept.ensures.sent c.in_err-send_kept.ensures.unsent c.in_err-send_kept.ensures.broken (c.answer_kept-reply.ensures.kept (c.in_err-send_kept.ensures.was_kept other)))
 
 pub returns-clause-kept_so_far : goal.returns-clause-kept_so_far
 returns-clause-kept_so_far g c other = spent _ _ _ _ _ _ _ _ c.loop.invariant.going

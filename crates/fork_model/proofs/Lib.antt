@@ -8,11 +8,13 @@ pub mod Isolation
 pub mod KeptLemmas
 pub mod Meetings
 pub mod MissingLemmas
+pub mod PartLemmas
 pub mod PrerequisiteLemmas
 pub mod ProvenanceLemmas
 pub mod PushLemmas
 pub mod Refusals
 pub mod Rows
+pub mod SeenLemmas
 pub mod SendableLemmas
 pub mod SentLemmas
 pub mod SoundLemmas

@@ -6,7 +6,9 @@ pub mod HostLemmas
 pub mod Hosts
 pub mod Isolation
 pub mod KeptLemmas
+pub mod LackingLemmas
 pub mod Meetings
+pub mod MissingExamples
 pub mod MissingLemmas
 pub mod PartLemmas
 pub mod PrerequisiteLemmas
@@ -21,6 +23,7 @@ pub mod SoundLemmas
 pub mod SoundWorlds
 pub mod StepLemmas
 pub mod TakenLemmas
+pub mod ToldMissing
 pub mod TransactionLemmas
 pub mod TransferLemmas
 pub mod UploadLemmas

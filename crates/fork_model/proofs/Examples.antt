@@ -21,7 +21,7 @@ parts_are_in_order = record {
   behind = [];
   repository = codes "r";
   parts = refl;
-  unended = (refl, (refl, (refl, tt)));
+  no_end = (refl, (refl, (refl, tt)));
   whole = refl;
 }
 

@@ -23,7 +23,10 @@ pub mod SoundLemmas
 pub mod SoundWorlds
 pub mod StepLemmas
 pub mod TakenLemmas
+pub mod ToldItems
+pub mod ToldLinks
 pub mod ToldMissing
+pub mod ToldTargets
 pub mod TransactionLemmas
 pub mod TransferLemmas
 pub mod UploadLemmas

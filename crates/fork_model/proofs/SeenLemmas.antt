@@ -95,7 +95,7 @@ ended_here view ask asks repository name object is among = (
 -- what was sent into an upload that began behind this end
 begun_here : (view : View) (exchange : Exchange) (exchanges : List Exchange) (after : Option UploadValue) (bodies : List (List ℕ)) (name : List ℕ) (object : Object) → IsUploadFrom view exchange after → ends_upload exchange ≡ true
     → IsAmong (sent_in (stream_of (concat bodies))) name object → IsAmong (sent_in (fed (open_upload after) bodies).stream) name object
-begun_here view exchange exchanges after bodies name object (Stays part unended stays) ended among = (let both : true ≡ false = sym ended ∙ unended in absurd (cc))
+begun_here view exchange exchanges after bodies name object (Stays part no_end stays) ended among = (let both : true ≡ false = sym ended ∙ no_end in absurd (cc))
 begun_here view exchange exchanges after bodies name object (Ends is none) ended among =
     subst (λ (u : UploadValue). IsAmong (sent_in u.stream) name object) (sym (ap (λ o. fed (open_upload o) bodies) none ∙ pieces_join [] bodies)) among
 begun_here view exchange exchanges after bodies name object (GoesOn body part goes) ended among = (let both : true ≡ false = sym ended ∙ part_or_end exchange body part in absurd (cc))
@@ -103,7 +103,7 @@ begun_here view exchange exchanges after bodies name object (GoesOn body part go
 -- what was sent into an upload that goes on behind this exchange
 gone_on_here : (view : View) (exchange : Exchange) (after : Option UploadValue) (bodies later : List (List ℕ)) (name : List ℕ) (object : Object) → IsUploadFrom view exchange after → ends_upload exchange ≡ false → bodies ≡ part_in exchange ++ later
     → IsAmong (sent_in (fed (open_upload view.upload) bodies).stream) name object → IsAmong (sent_in (fed (open_upload after) later).stream) name object
-gone_on_here view exchange after bodies later name object (Stays part unended stays) on whole among =
+gone_on_here view exchange after bodies later name object (Stays part no_end stays) on whole among =
     subst (λ (u : UploadValue). IsAmong (sent_in u.stream) name object)
     (ap (fed (open_upload view.upload)) (whole ∙ ap (λ front. front ++ later) part) ∙ ap (λ o. fed (open_upload o) later) (sym stays)) among
 gone_on_here view exchange after bodies later name object (Ends ended none) on whole among = (let both : true ≡ false = sym ended ∙ on in absurd (cc))
@@ -121,22 +121,22 @@ shown_next view ask asks exchanges name object later (InParts [] behind end bodi
     (begun_here view (ask, (answer view ask).0) exchanges (answer view ask).1.upload bodies name object (upload_from view ask) (ap ends_upload (head_is (ask, (answer view ask).0) end exchanges behind is) ∙ ended) among)))
 shown_next view ask asks exchanges name object later (InParts (x ∷ front) behind end bodies is ended are among) =
     further view ask asks name (later (InParts front behind end bodies (tail_is (ask, (answer view ask).0) x exchanges (front ++ end ∷ behind) is) ended are among))
-shown_next view ask asks exchanges name object later (InUpload bodies are among) = by are.during are.unended are.parts are.whole
+shown_next view ask asks exchanges name object later (InUpload bodies are among) = by are.during are.no_end are.parts are.whole
   where
     by : (during : List Exchange) → AllByRecursion (λ exchange. ends_upload exchange ≡ false) during → (ask, (answer view ask).0) ∷ exchanges ≡ during ++ (EndsParts are.repository, Done []) ∷ are.behind → bodies ≡ parts_in during → WasShown view (ask ∷ asks) name
-    by [] unended is whole =
+    by [] no_end is whole =
         ended_here view ask asks are.repository name object (head_is (ask, (answer view ask).0) (EndsParts are.repository, Done []) exchanges are.behind is)
         (subst (λ all. IsAmong (sent_in (fed (open_upload view.upload) all).stream) name object) whole among)
-    by (x ∷ during) unended is whole =
+    by (x ∷ during) no_end is whole =
         let same = head_is (ask, (answer view ask).0) x exchanges (during ++ (EndsParts are.repository, Done []) ∷ are.behind) is in
         further view ask asks name (later (InUpload (parts_in during) (record {
           during = during;
           behind = are.behind;
           repository = are.repository;
           parts = tail_is (ask, (answer view ask).0) x exchanges (during ++ (EndsParts are.repository, Done []) ∷ are.behind) is;
-          unended = unended.1;
+          no_end = no_end.1;
           whole = refl;
-        }) (gone_on_here view (ask, (answer view ask).0) (answer view ask).1.upload bodies (parts_in during) name object (upload_from view ask) (ap ends_upload same ∙ unended.0) (whole ∙ ap (λ y. part_in y ++ parts_in during) (sym same)) among)))
+        }) (gone_on_here view (ask, (answer view ask).0) (answer view ask).1.upload bodies (parts_in during) name object (upload_from view ask) (ap ends_upload same ∙ no_end.0) (whole ∙ ap (λ y. part_in y ++ parts_in during) (sym same)) among)))
 
 no_exchange : (front behind : List Exchange) (exchange : Exchange) → [] ≡ front ++ exchange ∷ behind → ⊥
 no_exchange [] behind exchange is = cc

@@ -34,7 +34,7 @@ open_within None are = stream_within []
 open_within (Some upload) are = are upload refl
 
 upload_within : (view : View) (exchange : Exchange) (after : Option UploadValue) (upload : UploadValue) → IsSendable view → IsUploadFrom view exchange after → after ≡ Some upload → AreWithin (sent_in upload.stream)
-upload_within view exchange after upload was (Stays part unended stays) is = was.upload upload (sym stays ∙ is)
+upload_within view exchange after upload was (Stays part no_end stays) is = was.upload upload (sym stays ∙ is)
 upload_within view exchange after upload was (Ends ended none) is = absurd (none_open upload (sym is ∙ none))
 upload_within view exchange after upload was (GoesOn body part goes) is =
     subst (λ (u : UploadValue). AreWithin (sent_in u.stream)) (same_upload (continued (open_upload view.upload) body) upload (sym goes ∙ is))

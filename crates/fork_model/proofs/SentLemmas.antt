@@ -29,31 +29,31 @@ abbrev WasSeen : View → List Exchange → List ℕ → Object → Type 0
 WasSeen view exchanges name object = (get view.objects name ≡ Some object) ⊎ WasSent view exchanges name object
 
 -- what a host fault answers is neither a part nor an end
-no_part : (ask : Ask) (reply : Reply) → is_host_fault reply ≡ true → part_in (ask, reply) ≡ []
-no_part (SendsPart body) (Done text) bad = absurd (cc)
-no_part ask reply bad = refl
+fault_no_part : (ask : Ask) (reply : Reply) → is_host_fault reply ≡ true → part_in (ask, reply) ≡ []
+fault_no_part (SendsPart body) (Done text) bad = absurd (cc)
+fault_no_part ask reply bad = refl
 
-no_end : (ask : Ask) (reply : Reply) → is_host_fault reply ≡ true → ends_upload (ask, reply) ≡ false
-no_end (EndsParts repository) reply bad = ap not bad
-no_end DropsParts reply bad = ap not bad
-no_end ask reply bad = refl
+fault_no_end : (ask : Ask) (reply : Reply) → is_host_fault reply ≡ true → ends_upload (ask, reply) ≡ false
+fault_no_end (EndsParts repository) reply bad = ap not bad
+fault_no_end DropsParts reply bad = ap not bad
+fault_no_end ask reply bad = refl
 
 -- an upload that goes on here, with what came before, which is no end
 more_parts : (exchange : Exchange) (exchanges : List Exchange) (front bodies : List (List ℕ)) → part_in exchange ≡ front → ends_upload exchange ≡ false → AreParts exchanges bodies → AreParts (exchange ∷ exchanges) (front ++ bodies)
-more_parts exchange exchanges front bodies part unended are = record {
+more_parts exchange exchanges front bodies part no_end are = record {
   during = exchange ∷ are.during;
   behind = are.behind;
   repository = are.repository;
   parts = ap (λ all. exchange ∷ all) are.parts;
-  unended = (unended, are.unended);
+  no_end = (no_end, are.no_end);
   whole = ap (λ all. front ++ all) are.whole ∙ ap (λ all. all ++ parts_in are.during) (sym part);
 }
 
 -- what was sent into an upload that was open behind an answer
 upload_sent : (view : View) (exchange : Exchange) (exchanges : List Exchange) (after : Option UploadValue) (bodies : List (List ℕ)) (name : List ℕ) (object : Object)
     → IsUploadFrom view exchange after → AreParts exchanges bodies → IsAmong (sent_in (fed (open_upload after) bodies).stream) name object → WasSent view (exchange ∷ exchanges) name object
-upload_sent view exchange exchanges after bodies name object (Stays part unended stays) are among =
-    InUpload bodies (more_parts exchange exchanges [] bodies part unended are)
+upload_sent view exchange exchanges after bodies name object (Stays part no_end stays) are among =
+    InUpload bodies (more_parts exchange exchanges [] bodies part no_end are)
     (subst (λ o. IsAmong (sent_in (fed (open_upload o) bodies).stream) name object) stays among)
 upload_sent view exchange exchanges after bodies name object (Ends ended none) are among =
     InParts [] exchanges exchange bodies refl ended are
@@ -75,7 +75,7 @@ first_seen view exchange exchanges name object (Seen was) = inl was
 first_seen view exchange exchanges name object (Pushed repository body asked among) =
     inr (InPush repository body (subst (λ e. Contains (e ∷ exchanges) (Pushes repository body, Done [])) (sym asked) (here (Pushes repository body, Done []) exchanges)) among)
 first_seen view exchange exchanges name object (Uploaded repository upload asked is among) =
-    inr (InUpload [] (record { during = []; behind = exchanges; repository = repository; parts = ap (λ e. e ∷ exchanges) asked; unended = tt; whole = refl })
+    inr (InUpload [] (record { during = []; behind = exchanges; repository = repository; parts = ap (λ e. e ∷ exchanges) asked; no_end = tt; whole = refl })
     (subst (λ o. IsAmong (sent_in (open_upload o).stream) name object) (sym is) among))
 
 -- what is seen behind an answer and further requests
@@ -101,7 +101,7 @@ more_sent view ask reply exchanges name object bad (InPush repository body asked
 more_sent view ask reply exchanges name object bad (InParts front behind end bodies is ended are among) =
     InParts ((ask, reply) ∷ front) behind end bodies (ap (λ all. (ask, reply) ∷ all) is) ended are among
 more_sent view ask reply exchanges name object bad (InUpload bodies are among) =
-    InUpload bodies (more_parts (ask, reply) exchanges [] bodies (no_part ask reply bad) (no_end ask reply bad) are) among
+    InUpload bodies (more_parts (ask, reply) exchanges [] bodies (fault_no_part ask reply bad) (fault_no_end ask reply bad) are) among
 
 more_asked : (view : View) (ask : Ask) (reply : Reply) (exchanges : List Exchange) (name : List ℕ) (object : Object) → is_host_fault reply ≡ true → WasSeen view exchanges name object → WasSeen view ((ask, reply) ∷ exchanges) name object
 more_asked view ask reply exchanges name object bad (inl was) = inl was

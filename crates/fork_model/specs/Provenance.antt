@@ -57,7 +57,7 @@ pub record AreParts (exchanges : List Exchange) (bodies : List (List ℕ)) : Typ
   pub behind : List Exchange
   pub repository : List ℕ
   pub parts : exchanges ≡ during ++ (EndsParts repository, Done []) ∷ behind
-  pub unended : AllByRecursion (λ exchange. ends_upload exchange ≡ false) during
+  pub no_end : AllByRecursion (λ exchange. ends_upload exchange ≡ false) during
   pub whole : bodies ≡ parts_in during
 
 -- what a tenant sent by its requests, or began to send before them

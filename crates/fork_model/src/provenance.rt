@@ -34,7 +34,7 @@ ghost use Rattle.fork_model.specs.World.{Exchange};
 /// upload adds nothing.
 pub fn an_upload_is_all_its_parts()
     ensures one { (exchanges : List Exchange) (bodies others : List (List ℕ)) → AreParts exchanges bodies → AreParts exchanges others → bodies ≡ others }
-    ensures uncrossed { (front behind : List Exchange) (end : Exchange) (bodies : List (List ℕ)) → ends_upload end ≡ true → AreParts (front ++ end ∷ behind) bodies → AreParts (front ++ end ∷ []) bodies }
+    ensures behind { (front behind : List Exchange) (end : Exchange) (bodies : List (List ℕ)) → ends_upload end ≡ true → AreParts (front ++ end ∷ behind) bodies → AreParts (front ++ end ∷ []) bodies }
 {}
 
 ghost use Rattle.fork_model.specs.Provenance.{WasShown};

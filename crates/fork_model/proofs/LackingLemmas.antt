@@ -3,7 +3,7 @@ use Rattle.std.proofs.Common.{◌≡◌, ℕ, ◌≤◌, true, false, cond, List
 use Rattle.std.specs.Prelude.{nat_lt, map}
 use Rattle.std.specs.List.{AllByRecursion, find}
 use Rattle.std.specs.Option.{option_map, option_or}
-use Rattle.std.specs.FinMap.{get, contains_key}
+use Rattle.std.specs.FinMap.{get, contains_key, insert}
 use Rattle.std.proofs.lemmas.Bool.Decides.{nat_tests}
 use Rattle.git_name.specs.Object.{Object, object_name}
 use Rattle.git_object.specs.declared.link.Link.{Link}
@@ -256,3 +256,10 @@ lacking_step old new t view name ask reply here lacks (Answered other there told
     told ∙ ap (λ v. (answer v ask).0) (some_same other view (sym there ∙ here)) ∙ ap (λ row. row.0) (lacking_answer view name ask lacks)
 lacking_step old new t view name ask reply here lacks (Unknown absent told stays) fine = (let differs : ⊥ = cc (sym absent ∙ here) in absurd differs)
 lacking_step old new t view name ask reply here lacks (Faulted bad stays) fine = (let differs : ⊥ = cc (sym fine ∙ bad) in absurd differs)
+
+-- which leaves the world but for the upload that a refused end takes away
+pub lacking_world : (old new : World) (t : List ℕ) (view : View) (name : List ℕ) (ask : Ask) (reply : Reply) → get old t ≡ Some view → IsMissing view name ask → Steps old (Asks t ask) reply new → is_host_fault reply ≡ false → new ≡ insert old t (left_by view ask)
+lacking_world old new t view name ask reply here lacks (Answered other there told set) fine =
+    set ∙ ap (λ v. insert old t (answer v ask).1) (some_same other view (sym there ∙ here)) ∙ ap (λ row. insert old t row.1) (lacking_answer view name ask lacks)
+lacking_world old new t view name ask reply here lacks (Unknown absent told stays) fine = (let differs : ⊥ = cc (sym absent ∙ here) in absurd differs)
+lacking_world old new t view name ask reply here lacks (Faulted bad stays) fine = (let differs : ⊥ = cc (sym fine ∙ bad) in absurd differs)

@@ -8,7 +8,7 @@ ghost use Rattle.fork_model.specs.Provenance.{WasSent};
 ghost use Rattle.fork_model.specs.Runs.{Asks, HostAsks};
 ghost use Rattle.fork_model.specs.Sound.{IsOrderlyWorld, IsRightWorld};
 ghost use Rattle.fork_model.specs.View.{View};
-ghost use Rattle.fork_model.specs.World.{IsUnfaulted, alone, own, told};
+ghost use Rattle.fork_model.specs.World.{IsUnfaulted, alone, exchanges, own, told};
 ghost use Rattle.state_text.specs.Kept.{states_of};
 ghost use Rattle.fork_ledger.specs.Store.{IsOver, LeavesStore};
 ghost use Rattle.fork_ledger.specs.Tenants.{with_tenant};
@@ -229,7 +229,7 @@ impl<S: LooseFiles> Host<S> {
         // What a tenant sees at the end, it saw at the start, or sent itself.
         ensures provenance { Trusted self.old → IfOk result (λ replies. (tenant : List ℕ) (view last : View) (name : List ℕ) (object : Object)
             → map.get (world_of self.old) tenant ≡ Some view → map.get (world_of self.new) tenant ≡ Some last → map.get last.objects name ≡ Some object
-            → (map.get view.objects name ≡ Some object) ⊎ WasSent view (own tenant (events_of steps.now)) name object) }
+            → (map.get view.objects name ≡ Some object) ⊎ WasSent view (exchanges tenant (events_of steps.now) replies.items) name object) }
     {
         // The census only for its clauses, here and behind the steps.
         let _before = self.vault.census();

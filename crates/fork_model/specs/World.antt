@@ -1,6 +1,7 @@
 -- The world of a host: a view for each tenant, and how runs go from one world to the next.
 use Rattle.std.specs.Prelude.{◌≡◌, ◌≤◌, ◌++◌, ℕ, List, codes, decimal, ⊤}
 use Rattle.std.specs.FinMap.{FinMap, get}
+use Rattle.std.specs.List.{zip}
 use Rattle.git_name.specs.Name.{name_cmp}
 use Rattle.fork_request.specs.Asked.{Ask}
 use Rattle.fork_request.specs.Harms.{Harmed, harm_lines}
@@ -55,6 +56,14 @@ own = Runs.own name_cmp
 abbrev pub told : List ℕ → List Event → List Reply → List Reply
 told = Runs.told name_cmp
 
+-- a tenant's request, and the reply to it
+abbrev pub Exchange : Type 0
+Exchange = Ask × Reply
+
+-- what a tenant asks, each beside what it is told, in order
+abbrev pub exchanges : List ℕ → List Event → List Reply → List Exchange
+exchanges tenant steps replies = zip (own tenant steps) (told tenant steps replies)
+
 -- the replies and the last view of a private host, which has this view and no other tenant
 abbrev pub alone : View → List Ask → List Reply × View
 alone view asks = Runs.alone (λ _. answer) view (Runs.meeting (tt {0}) asks)
@@ -70,3 +79,7 @@ Agree tenant world other = get world tenant ≡ get other tenant
 -- a tenant's own part in a step
 abbrev pub Answers : View → Ask → Reply → View → Type 0
 Answers = Runs.Answers (λ _. answer) is_host_fault (tt {0})
+
+-- what a private host is asked, each beside what it answers, in order
+abbrev pub exchanges_alone : View → List Ask → List Exchange
+exchanges_alone view asks = zip asks (alone view asks).0

@@ -159,10 +159,9 @@ def counted(killed, calls):
 
 
 def show_injected(checks, program, work):
-    """Where strace is there, the process is killed at each call, and each call fails."""
+    """By strace the process is killed at each call, and each call fails."""
     if not shutil.which("strace"):
-        print("no strace here: no calls are injected")
-        return
+        raise OSError("there is no strace, by which calls are injected")
     for swept in (0, 2):
         inject(checks, Killed(checks, program, work, 4, swept))
 

@@ -1,0 +1,67 @@
+"""The crates of a checkout, as the kit's own library reads them, and checks of one with deeds done in a copy."""
+import importlib.machinery
+import importlib.util
+import os
+import shutil
+import subprocess
+import sys
+import tempfile
+from pathlib import Path
+
+from deed import do
+
+PARTS = ("src", "specs", "proofs")
+
+
+def kit_library():
+    """The library of `rt`, which knows how a check is called and of which files a library was made."""
+    page = subprocess.run(["rt", "doc"], capture_output=True, text=True, check=True).stdout.strip()
+    loader = importlib.machinery.SourceFileLoader("rtlib", str(Path(page).parent / "bin/rtlib.py"))
+    module = importlib.util.module_from_spec(importlib.util.spec_from_loader("rtlib", loader))
+    sys.modules["rtlib"] = module
+    loader.exec_module(module)
+    return module
+
+
+rtlib = kit_library()
+# Words before a command, by which it ends when this process does.
+GUARDED = rtlib.guarded()
+
+
+def crates_of(root):
+    """The crates of a checkout by their names, lowest first."""
+    return {it.name: it for it in rtlib.crates_below(str(Path(root).resolve()))}
+
+
+def files_of(crate):
+    """The files that a library of this crate is made of."""
+    return [it for part in PARTS for it in Path(crate.folder, part).rglob("*") if it.is_file()]
+
+
+def unbuilt(crate):
+    """The crates below of which `rt ci` left no library, or which were changed since."""
+
+    def is_built(below):
+        made = Path(below.rlib)
+        return made.is_dir() and all(it.stat().st_ctime <= made.stat().st_ctime for it in files_of(below))
+
+    return [it.name for it in crate.below() if not is_built(it)]
+
+
+def checked(crate, deeds, kept):
+    """What a check says of the functions that the deeds change, or of all where one stands outside them; and the seconds of
+    a processor that it took. What it proves is kept, for the next check of this crate."""
+    functions = sorted(set().union(*(it.functions for it in deeds))) if all(it.functions for it in deeds) else []
+    only = [f"--only={crate.name}::{it}" for it in functions]
+    words = [rtlib.RATTLE, "check", *crate.words(["--jobs", "1"], keeps=False), "--incremental", str(kept), *only]
+    with tempfile.TemporaryDirectory(prefix="wrong-deeds-") as room:
+        for part in PARTS:
+            if os.path.isdir(f"{crate.folder}/{part}"):
+                shutil.copytree(f"{crate.folder}/{part}", f"{room}/{part}")
+        do(deeds, Path(room))
+        how = {"stdin": subprocess.DEVNULL, "stdout": subprocess.PIPE, "stderr": subprocess.STDOUT}
+        ran = subprocess.Popen([*GUARDED, *words], cwd=room, errors="replace", **how)
+        text = ran.stdout.read()
+        _, status, used = os.wait4(ran.pid, 0)
+        ran.returncode = os.waitstatus_to_exitcode(status)
+    return text, used.ru_utime + used.ru_stime

@@ -1,5 +1,5 @@
 -- How the program ends (own), by what `clap` makes of its words: `kinds` are the errors that it finds in them.
-use Rattle.std.specs.Prelude.{◌≡◌, ℕ, ◌≤◌, List, [], ◌∷◌, ◌++◌, codes, Option, ⊤}
+use Rattle.std.specs.Prelude.{◌≡◌, ℕ, ◌≤◌, List, [], ◌∷◌, ◌++◌, codes, Option, Result, Ok, Err, ⊤}
 use Rattle.std.specs.Io.KnownBytes.{Appends, Keeps}
 use Rattle.clap.specs.Words.{IsAmong, Kinds, Row, Text, fault_of, subcommand_of}
 use Rattle.clap.specs.declared.error.kind.ErrorKind.TheVariants.{DisplayHelp}
@@ -61,6 +61,11 @@ IsUndone (HashObject kind) input left before after fault = IsUnnamed kind input 
 IsUndone (Run hosting) input left before after fault = IsUnserved hosting input left before after fault
 IsUndone (Serve socket connections hosting) input left before after fault = IsUnlistened hosting connections fault × IsUntouched input left before after
 IsUndone (Check dir) input left before after fault = IsUnchecked before after fault × Keeps input left
+
+-- a command was done, or a fault came
+abbrev pub ending_of : Result (Unit {0}) Fault → Ending
+ending_of (Ok done) = Done
+ending_of (Err fault) = Failed fault
 
 -- how the command ended
 abbrev pub IsCarriedOut : Command → Option (List ℕ) → Option (List ℕ) → Option (List ℕ) → Option (List ℕ) → Ending → Type 0

@@ -1,7 +1,6 @@
-ghost use Rattle.std.specs.Prelude.{◌≡◌, ◌≢◌, ℕ, IfErr, IfOk, List, OnErr, OnOk, map};
+ghost use Rattle.std.specs.Prelude.{◌≡◌, ◌≢◌, ℕ, IfErr, IfOk, List, OnOk, map};
 ghost use Rattle.std.specs.Io.KnownBytes.{Appends, Keeps};
-ghost use Rattle.fork_program.specs.Program.{Ends, IsCarriedOut, IsEndedAndTold, IsEndedUntold};
-ghost use Rattle.fork_program.specs.declared.ending.Ending.TheVariants as how;
+ghost use Rattle.fork_program.specs.Program.{Ends, IsCarriedOut, IsEndedAndTold, IsEndedUntold, ending_of};
 
 use crate::check::check;
 use crate::ending::Ending;
@@ -26,8 +25,7 @@ pub struct Untold {
 
 // A command was done, or a fault came.
 fn done<'a>(did: Result<(), Fault>) -> Ending<'a>
-    ensures ok { OnOk did (result ≡ how.Done) }
-    ensures err { IfErr did (λ fault. result ≡ how.Failed fault) }
+    ensures { result ≡ ending_of did }
 {
     match did {
         Ok(()) => Ending::Done,

@@ -47,14 +47,14 @@ fn closed<H: Files<File = File> + AllocGlobal, S: LooseFiles>(
     ensures cause { IfErr result (λ fault. fault ≡ Fault.NotSaved) }
     ensures text { IfOk result (λ draft. IsTextOf host.now draft.state.items) }
 {
-    let Ok(state) = fork_state::save(alloc, host) else {
+    let Ok(text) = fork_state::save(alloc, host) else {
         return Err(Fault::NotSaved);
     };
     let Ok(file) = begin_journal(rt, alloc, dir) else {
         return Err(Fault::NotSaved);
     };
     Ok(Draft {
-        state,
+        state: text,
         file,
         uploads: 0,
     })

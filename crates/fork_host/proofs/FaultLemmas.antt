@@ -1,5 +1,5 @@
 -- Which host faults came along a run.
-use Rattle.std.proofs.Common.{◌≡◌, ◌≢◌, ◌⊎◌, inl, inr, ℕ, ◌≤◌, arith, ◌++◌, ◌∷◌, [], List, refl, subst, sym, ap, ◌∙◌}
+use Rattle.std.proofs.Common.{◌≡◌, ◌≢◌, ◌⊎◌, inl, inr, ℕ, ◌≤◌, arith, ◌++◌, ◌∷◌, [], List, sym, ap, ◌∙◌}
 use Rattle.std.specs.Prelude.{Contains}
 use Rattle.std.specs.List.{AllByRecursion}
 use Rattle.std.proofs.lemmas.List.Elements.{Contains-append_left, Contains-append_right}
@@ -19,7 +19,7 @@ use Rattle.fork_host.specs.Shown.{HostState, Trusted}
 use Rattle.fork_host.specs.Step.{IsRun}
 
 -- each step is bounded by what it brings
-bounded : (old mid : HostState) (event : Event) (reply : Reply) → FaultsWithin old event reply mid → IsBounded (sent_at old event) old.vault mid.vault reply
+pub bounded : (old mid : HostState) (event : Event) (reply : Reply) → FaultsWithin old event reply mid → IsBounded (sent_at old event) old.vault mid.vault reply
 bounded old mid (Asks tenant ask) reply within = within
 bounded old mid (HostAsks request) reply within = within.1
 

@@ -1,4 +1,5 @@
 pub mod AddingLemmas
+pub mod BetweenLemmas
 pub mod BoundLemmas
 pub mod FaultLemmas
 pub mod GatherLemmas

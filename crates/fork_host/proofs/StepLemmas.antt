@@ -1,38 +1,32 @@
 -- A step from state to state, as the calls below it make it, and a run of steps.
-use Rattle.std.proofs.Common.{◌≡◌, ◌≢◌, ◌⊎◌, inl, inr, ℕ, false, true, List, [], ◌∷◌, ◌++◌, Some, refl, sym, ap, subst, ◌∙◌}
+use Rattle.std.proofs.Common.{◌≡◌, ◌≢◌, ◌⊎◌, ℕ, false, true, List, [], ◌∷◌, ◌++◌, Some, length, arith, refl, sym, ap, subst, ◌∙◌}
 use Rattle.std.specs.FinMap.{get}
-use Rattle.std.specs.Prelude.{Contains, is_some}
 use Rattle.std.specs.List.{AllByRecursion}
 use Rattle.std.specs.Option.{option_map}
-use Rattle.git_name.specs.Object.{Object}
-use Rattle.loose_store.specs.Stored.{Whole}
+use Rattle.looks.specs.Growth.{GrowsBy}
 use Rattle.fork_request.specs.Asked.{Ask}
 use Rattle.fork_request.specs.Told.{is_done, is_host_fault}
-use Rattle.fork_request.specs.declared.host_fault.HostFault.TheVariants.{Memory, Store}
 use Rattle.fork_request.specs.declared.host_request.HostRequest.{HostRequest}
-use Rattle.fork_request.specs.declared.host_request.HostRequest.TheVariants.{Collect}
 use Rattle.fork_request.specs.declared.reply.Reply.{Reply}
-use Rattle.fork_request.specs.declared.reply.Reply.TheVariants.{Done, Failed}
 use Rattle.fork_model.specs.Runs.{Asks, HostAsks}
 use Rattle.fork_model.specs.World.{Event, Explains, HostSays, Steps}
-use Rattle.fork_ledger.specs.Taken.{is_taken}
 use Rattle.fork_ledger.specs.Tenants.{VaultState, shape_of}
 use Rattle.fork_host.specs.Bounds.{IsBounded}
-use Rattle.fork_host.specs.Faults.{FaultsWithin, HostFaults, sent_at}
+use Rattle.fork_host.specs.Faults.{HostFaults}
 use Rattle.fork_host.specs.Given.{asker_of}
 use Rattle.fork_host.specs.Safe.{IsNamedReply}
-use Rattle.fork_host.specs.Sent.{sent_in_world}
+use Rattle.fork_host.specs.Sent.{sent_in_world, sent_names}
 use Rattle.fork_host.specs.Shape.{SameShape, shape_of as shape_seen}
 use Rattle.fork_host.specs.Shown.{Accounts, HostState, IsWhole, Trusted, state_of, world_of}
 use Rattle.fork_host.specs.Step.{AreNamed, IsRun, IsStep}
-use Rattle.fork_host.specs.Swept.{IsSharp, Tends}
+use Rattle.fork_host.specs.Swept.{Tends}
 use Rattle.fork_host.proofs.TendingLemmas.{own_step, shape_tended, whole_tended, world_tended}
 
 -- a tenant was answered
 pub answered_step : (old new : HostState) (t : List ℕ) (ask : Ask) (reply : Reply) → (Trusted old → Steps (world_of old) (Asks t ask) reply (world_of new)) → IsWhole new → new.vault.honest ≡ old.vault.honest
     → (is_done reply ≡ false → (tenant : List ℕ) → SameShape tenant (world_of old) (world_of new)) → ((tenant : List ℕ) → tenant ≢ t → SameShape tenant (world_of old) (world_of new))
-    → IsNamedReply ask reply → IsBounded (sent_in_world (world_of old) t ask) old.vault new.vault reply → IsStep old (Asks t ask) reply new
-answered_step old new t ask reply explained whole honest kept others named bounded = record {
+    → IsNamedReply ask reply → IsBounded (sent_in_world (world_of old) t ask) old.vault new.vault reply → GrowsBy (sent_names (sent_in_world (world_of old) t ask)) old.vault.places new.vault.places → IsStep old (Asks t ask) reply new
+answered_step old new t ask reply explained whole honest kept others named bounded grows = record {
   explained = explained;
   honest = honest;
   whole = whole;
@@ -40,7 +34,7 @@ answered_step old new t ask reply explained whole honest kept others named bound
   others = λ tenant differs. others tenant (λ same. differs (ap Some (sym same)));
   named = named;
   faults = bounded;
-  tends = tt;
+  tends = grows;
 }
 
 -- the host itself was asked
@@ -113,20 +107,11 @@ run_named old new [] (r ∷ replies) run = absurd run
 run_named old new (e ∷ events) [] run = absurd run
 run_named old new (e ∷ events) (r ∷ replies) run = (run.1.named, run_named run.0 new events replies run.2)
 
--- what a collection leaves on an honest store, whatever came before it, a step behind it finds: no whole object stands there then but
--- of names that were held, or it was sent
-pub swept_between : (old mid new : HostState) (more : Event) (text : List ℕ) (reply : Reply) → Trusted old → IsStep old (HostAsks Collect) (Done text) mid → IsStep mid more reply new
-    → reply ≢ Failed Store → reply ≢ Failed Memory → (name : List ℕ) (object : Object) → Whole new.vault.files name object → (is_taken mid.vault.tenants name ≡ true) ⊎ Contains (sent_at mid more) object
-swept_between old mid new more text reply trusted collect then no_store no_memory name object stands =
-    by (stored more then.faults name object stands)
-  where
-    sharp : IsSharp mid.vault
-    sharp = collect.tends.sharp trusted refl refl
-
-    stored : (event : Event) → FaultsWithin mid event reply new → (name : List ℕ) (object : Object) → Whole new.vault.files name object → Whole mid.vault.files name object ⊎ Contains (sent_at mid event) object
-    stored (Asks tenant ask) within = within.stored (collect.honest ∙ trusted) no_store no_memory
-    stored (HostAsks request) within = within.1.stored (collect.honest ∙ trusted) no_store no_memory
-
-    by : Whole mid.vault.files name object ⊎ Contains (sent_at mid more) object → (is_taken mid.vault.tenants name ≡ true) ⊎ Contains (sent_at mid more) object
-    by (inl stood) = inl (sym (sharp name) ∙ ap is_some stood.file)
-    by (inr sent) = inr sent
+-- and a run is two, parted behind any of its steps
+pub run_parted : (old new : HostState) (front back : List Event) (told after : List Reply) → IsRun old (front ++ back) (told ++ after) new → length told ≡ length front → (mid : HostState) × IsRun old front told mid × IsRun mid back after new
+run_parted old new [] back [] after run same = (old, refl, run)
+run_parted old new [] back (reply ∷ told) after run same = absurd (omega (arith, same))
+run_parted old new (event ∷ front) back [] after run same = absurd (omega (arith, same))
+run_parted old new (event ∷ front) back (reply ∷ told) after run same =
+    let rest = run_parted run.0 new front back told after run.2 (omega (arith, same)) in
+    (rest.0, (run.0, run.1, rest.1), rest.2)

@@ -1,4 +1,5 @@
 pub mod Adding
+pub mod Between
 pub mod Bounds
 pub mod Causes
 pub mod Faults

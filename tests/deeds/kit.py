@@ -11,10 +11,12 @@ from pathlib import Path
 from deed import do
 
 PARTS = ("src", "specs", "proofs")
+# A check may take so many seconds.
+LONGEST = "3600"
 
 
 def kit_library():
-    """The library of `rt`, which knows how a check is called and of which files a library was made."""
+    """The library of `rt`, which knows the crates of a checkout and the words of a check."""
     page = subprocess.run(["rt", "doc"], capture_output=True, text=True, check=True).stdout.strip()
     loader = importlib.machinery.SourceFileLoader("rtlib", str(Path(page).parent / "bin/rtlib.py"))
     module = importlib.util.module_from_spec(importlib.util.spec_from_loader("rtlib", loader))
@@ -39,7 +41,7 @@ def files_of(crate):
 
 
 def unbuilt(crate):
-    """The crates below of which `rt ci` left no library, or which were changed since."""
+    """The crates below of which `rt ci` left no library, or of which a file was written later than it."""
 
     def is_built(below):
         made = Path(below.rlib)
@@ -49,12 +51,12 @@ def unbuilt(crate):
 
 
 def checked(crate, deeds, kept):
-    """What a check says of the functions that the deeds change, or of all where one stands outside them; and the seconds of
-    a processor that it took. What it proves is kept, for the next check of this crate."""
-    functions = sorted(set().union(*(it.functions for it in deeds))) if all(it.functions for it in deeds) else []
+    """What a check says of the functions that the deeds change, and the seconds of a processor that it took. What it proves
+    is kept, for the next check of this crate."""
+    functions = sorted(set().union(*(it.functions for it in deeds)))
     only = [f"--only={crate.name}::{it}" for it in functions]
-    words = [rtlib.RATTLE, "check", *crate.words(["--jobs", "1"], keeps=False), "--incremental", str(kept), *only]
-    with tempfile.TemporaryDirectory(prefix="wrong-deeds-") as room:
+    words = ["timeout", LONGEST, rtlib.RATTLE, "check", *crate.words(["--jobs", "1"], keeps=False), "--incremental", str(kept), *only]
+    with tempfile.TemporaryDirectory() as room:
         for part in PARTS:
             if os.path.isdir(f"{crate.folder}/{part}"):
                 shutil.copytree(f"{crate.folder}/{part}", f"{room}/{part}")
@@ -64,4 +66,5 @@ def checked(crate, deeds, kept):
         text = ran.stdout.read()
         _, status, used = os.wait4(ran.pid, 0)
         ran.returncode = os.waitstatus_to_exitcode(status)
-    return text, used.ru_utime + used.ru_stime
+    # 0 where all is proved, 1 where something is not: whatever else comes is no verdict.
+    return text if ran.returncode in (0, 1) else f"error: the check ended with status {ran.returncode}", used.ru_utime + used.ru_stime

@@ -2,44 +2,55 @@
 import tempfile
 from pathlib import Path
 
-from deed import batches_of, read_deed
+from deed import Deed, batches_of, read_deed
 from kit import checked, unbuilt
 from verdict import REFUSED, SPOILED, UNSETTLED, told_in, verdict_on
 
 FOLDERS = ("wrong", "must-fail")
+NOT_TRIED = "not tried"
 
 
 def edits_of(crate):
     """The files of a crate's wrong deeds."""
-    return sorted(it for folder in FOLDERS for it in Path(crate.folder, folder).glob("*.edit"))
+    return sorted(it for folder in FOLDERS for it in Path(crate.folder, folder).rglob("*") if it.is_file())
 
 
 class Trial:
-    """The trial of a crate's wrong deeds, or of those that are named. What each check said is kept in the folder of logs."""
+    """The trial of these wrong deeds of a crate. What each check said is kept in the folder of logs, where there is one."""
 
-    def __init__(self, crate, names=(), logs=None):
-        self.crate, self.logs, self.passed, self.failed, self.took = crate, logs, 0, 0, []
-        self.files = [it for it in edits_of(crate) if not names or it.stem in names]
+    def __init__(self, crate, files, logs=None):
+        self.crate, self.files, self.logs = crate, files, logs
+        self.passed, self.failed, self.took = 0, 0, []
 
     def tell(self, deed, kind, why):
-        refused = kind == REFUSED
-        self.passed, self.failed = self.passed + refused, self.failed + (not refused)
-        print(f"{self.crate.name}/{deed.name}: {'' if refused else 'FAILED, '}{kind}: {why}")
+        if kind == REFUSED:
+            self.passed += 1
+            print(f"{self.crate.name}/{deed.name}: {kind}: {why}")
+        else:
+            self.failed += 1
+            print(f"{self.crate.name}/{deed.name}: FAILED, {kind}: {why}")
 
-    def run(self):
-        lacking = unbuilt(self.crate)
-        deeds = [read_deed(it, Path(self.crate.folder)) for it in self.files]
-        for deed in deeds:
+    def read(self):
+        """The deeds that can be tried; of each other file it is told why not."""
+        lacking, deeds = unbuilt(self.crate), []
+        for file in self.files:
+            in_place = file.parent.parent == Path(self.crate.folder) and file.suffix == ".edit"
+            deed = read_deed(file, Path(self.crate.folder)) if in_place else Deed(file.name, fault="it is no file NAME.edit right in its folder")
             if lacking:
                 deed.fault = f"there is no library of {', '.join(lacking)} as it stands: `rt ci` makes them"
             if deed.fault:
-                self.tell(deed, "not tried", deed.fault)
-        left = batches_of([it for it in deeds if not it.fault])
-        with tempfile.TemporaryDirectory(prefix="wrong-deeds-kept-") as kept:
+                self.tell(deed, NOT_TRIED, deed.fault)
+            else:
+                deeds.append(deed)
+        return deeds
+
+    def run(self):
+        left = batches_of(self.read())
+        with tempfile.TemporaryDirectory() as kept:
             while left:
                 left += self.batch(left.pop(0), kept)
         took = " + ".join(f"{it:.0f}" for it in self.took)
-        print(f"{self.crate.name}: {len(deeds)} deeds in {len(self.took)} checks: {sum(self.took):.0f} s of a processor ({took or 0})")
+        print(f"{self.crate.name}: {len(self.files)} deeds in {len(self.took)} checks: {sum(self.took):.0f} s of a processor ({took or 0})")
         return self
 
     def batch(self, deeds, kept):

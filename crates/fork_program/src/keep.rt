@@ -54,7 +54,7 @@ fn closed<H: Files<File = File> + AllocGlobal, S: LooseFiles>(
         return Err(Fault::NotSaved);
     };
     Ok(Draft {
-        state: text,
+        state: Vec::new(alloc),
         file,
         uploads: 0,
     })

@@ -54,7 +54,7 @@ fn closed<H: Files<File = File> + AllocGlobal, S: LooseFiles>(
         return Err(Fault::NotSaved);
     };
     Ok(Draft {
-        state: Vec::new(alloc),
+        state: text,
         file,
         uploads: 0,
     })

@@ -155,6 +155,7 @@ impl<'a, S: LooseFiles> Own<'a, S> {
         ensures err { OnErr result (self.new.vault.now.tenants ≡ self.old.vault.now.tenants) }
         ensures files { self.new.vault.now.files ≡ self.old.vault.now.files }
         ensures honest { self.new.vault.now.honest ≡ self.old.vault.now.honest }
+        ensures failures { self.new.vault.now.failures ≡ self.old.vault.now.failures }
         ensures same { IsSame self.old self.new }
     {
         self.vault.recall(self.tenant, name, kind, length)

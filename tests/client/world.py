@@ -8,7 +8,7 @@ import subprocess
 from forkhost_client.connection import Connection
 from forkhost_client.faults import Fatal, Refused
 from live import Serving
-from program import PATIENCE, Ran, done, ended
+from program import PATIENCE, Ran, done, ended, sound
 
 HERE = os.path.dirname(os.path.abspath(__file__))
 CLIENTS = os.path.realpath(os.path.join(HERE, "../../clients"))
@@ -71,9 +71,7 @@ class Host:
 
     def ends_well(self, checks, label):
         checks.same(f"{label}: the host's end", done(), self.end())
-        # Uploads that are open stay in the journal, which `check` counts behind its verdict.
-        found = self.program.checked(self.folder)
-        checks.same(f"{label}: its folder", (0, "sound"), (found.status, found.output.decode().partition("\n")[0]))
+        checks.same(f"{label}: its folder", sound(), self.program.checked(self.folder))
 
     def kill(self):
         self.serving.child.kill()

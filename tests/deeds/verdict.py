@@ -10,8 +10,8 @@ UNSETTLED = "not settled"
 NOTE = re.compile(r"note: src/\S+:\d+:\d+: .*?\(`([^`]*)`\)(.*)")
 ERROR = re.compile(r"(?:\./)?proofs/(\S+?)/\w+\.antt:\d+:\d+: error: ((?:`([^`]*)`: )?.*)")
 VERDICT = re.compile(r"\w+ (\w+)::(\S+): (.*)")
-# An answer by hand that does not fit its goal.
-MISFIT = re.compile(r"two types|expected type|computed as far|`?omega`?:|does not follow|`?grind`? found|found no proof")
+# An error that says nothing of an answer. Any other one says that an answer by hand does not fit its goal, or a lemma beside it.
+ASIDE = re.compile(r"is not used|has two meanings")
 # A proof file names a goal that is gone. What is open may be that goal under a new name, whether it holds or not.
 RENAMED = re.compile(r"`goal\.|Goals` has no `")
 # A proof file names what a deed took away, or rests on what was refused for that.
@@ -55,7 +55,7 @@ def judged(function, told):
     own, false = ([it for it in goals if not SAFETY.match(it)] for goals in (told.goals, told.false))
     errors = [text for goal, text in told.errors if not SAFETY.match(goal)]
     gone = [it for it in errors if GONE.search(it)]
-    misfit = [it for it in errors if it not in gone and MISFIT.search(it)]
+    misfit = [it for it in errors if it not in gone and not ASIDE.search(it)]
     if told.line == "proved":
         return LET_THROUGH, f"{function} is proved"
     if not told.line.startswith(("no proof", "not proved")):

@@ -9,7 +9,7 @@ from folder import Folder
 from forkhost_client.frames import framed, frames
 from live import Live
 from objects import name_of, record, stored
-from program import done, ended, failed
+from program import done, ended, failed, sound
 from state_text import Repository, Tenant, spelled
 
 PUSH = b"push r\ncreate refs/heads/main %s\n\n" % D + b"".join(record(*thing) for thing in OBJECTS.values())
@@ -92,7 +92,7 @@ def show_writes(checks: Checks, program, folder):
     checks.same("its end", done(), live.ended())
     checks.same("its state", SAVED, folder.state())
     checks.same("its files", FILES, folder.files())
-    checks.same("check", done(b"sound\n"), program.checked(folder.path))
+    checks.same("check", sound(), program.checked(folder.path))
 
 
 def show_second_write(checks: Checks, program, folder):
@@ -115,7 +115,7 @@ def show_second_write(checks: Checks, program, folder):
     checks.same("the same push again", b"ok\n", live.asked(ALICE, push))
     checks.same("both are there", sorted([first, second]), sorted(folder.files()))
     checks.same("its end", done(), live.ended())
-    checks.same("check", done(b"sound\n"), program.checked(folder.path))
+    checks.same("check", sound(), program.checked(folder.path))
 
 
 def show_shared(checks: Checks, program, folder):
@@ -153,7 +153,7 @@ def show_reads(checks: Checks, program, folder):
             wanted = b"ok\n" + record(*OBJECTS[name])
             checks.same("what is put back", wanted, live.asked(who, b"cat-file %s\n" % name))
     checks.same("its end", done(), live.ended())
-    checks.same("check", done(b"sound\n"), program.checked(folder.path))
+    checks.same("check", sound(), program.checked(folder.path))
 
 
 def spoil_one(checks, live, folder):
@@ -187,7 +187,7 @@ def show_leftovers(checks: Checks, program, folder):
     checks.same("a push to what lies there", done(framed(b"ok\n") * 2), ran)
     checks.same("its files", FILES, folder.files())
     checks.same("its state", SAVED, folder.state())
-    checks.same("check", done(b"sound\n"), program.checked(folder.path))
+    checks.same("check", sound(), program.checked(folder.path))
 
 
 def show_saves(checks: Checks, program, folder, rest, fault):
@@ -203,7 +203,7 @@ def show_saves(checks: Checks, program, folder, rest, fault):
     checks.same("its end", failed(fault, told), live.ended(rest))
     checks.same("the state stays", old, folder.state())
     os.rmdir(folder.inside("part"))
-    checks.same("check", done(b"sound\njournal 2\n"), program.checked(folder.path))
+    checks.same("check", sound(2), program.checked(folder.path))
     live = Live(program, "--dir", folder.path)
     checks.same("the repository is there", b"no repository-exists r\n", live.asked(ALICE, b"init r\n"))
     checks.same("what was pushed", b"ok\n" + record(*OBJECTS[C]), live.asked(ALICE, b"cat-file %s\n" % C))

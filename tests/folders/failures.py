@@ -7,7 +7,7 @@ from failing import KINDS, Failing
 from folder import Folder
 from live import Live
 from objects import name_of, record
-from program import done
+from program import done, sound
 from sweeps import COUNT, HOST
 
 ALICE, BOB = b"alice", b"bob"
@@ -122,7 +122,7 @@ def show_one(checks, program, folder, label, turns, wanted, fuse):
     checks.same(f"{label}: what is seen at the end", seen, shown(run.live))
     checks.same(f"{label}: what is left", census, run.census())
     checks.same(f"{label}: its end", done(), run.live.ended())
-    checks.same(f"{label}: check", done(b"sound\n"), program.checked(folder.path))
+    checks.same(f"{label}: check", sound(), program.checked(folder.path))
     again = Live(program, "--dir", folder.path)
     checks.same(f"{label}: behind a start", seen, shown(again))
     checks.same(f"{label}: the last end", done(), again.ended())
@@ -180,7 +180,7 @@ def show_starts(checks, given, work):
                 again = Live(program, "--dir", folder.path)
                 checks.same(f"{label}: what is seen", seen, shown(again))
                 checks.same(f"{label}: its end", done(), again.ended())
-                checks.same(f"{label}: check", done(folder.sound()), program.checked(folder.path))
+                checks.same(f"{label}: check", sound(folder.again()), program.checked(folder.path))
                 shutil.rmtree(folder.path)
                 if not met:
                     break

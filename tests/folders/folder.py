@@ -70,10 +70,9 @@ class Folder:
         home = self.inside("journal")
         return sorted(os.listdir(home)) if os.path.exists(home) else []
 
-    def sound(self):
-        """What `check` prints of a sound folder."""
-        count = len(requests_in(self.journal()))
-        return b"sound\n" + (b"journal %d\n" % count if count else b"")
+    def again(self):
+        """How many requests a start does again."""
+        return len(requests_in(self.journal()))
 
     def files(self):
         """The bytes of all that lies where an object's file may lie, by its name."""

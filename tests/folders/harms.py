@@ -9,7 +9,7 @@ from forkhost_client.frames import frame, frames, replies
 from live import Live, Serving
 from loading import verdict
 from objects import name_of, record, stored, whole
-from program import done, failed, of_verdict
+from program import done, failed, of_verdict, sound
 from state_text import read
 
 ALICE, BOB, CAROL, HOST = b"alice", b"bob", b"carol", b"@host"
@@ -108,7 +108,7 @@ def show_alteration(checks, program, work, label, text, is_read):
     checks.same(f"{label}: a check", fault, program.checked(folder.path))
     checks.same(f"{label}: a start", fault, program.ran("run", "--dir", folder.path, given=frame(HOST, FSCK)))
     folder.keep(name, stored(b"blob", text))
-    checks.same(f"{label}: put back", done(folder.sound()), program.checked(folder.path))
+    checks.same(f"{label}: put back", sound(folder.again()), program.checked(folder.path))
     again = program.ran("run", "--dir", folder.path, given=frame(HOST, FSCK))
     checks.same(f"{label}: a start then", ([NOTHING], b""), replies(again.output))
 
@@ -131,7 +131,7 @@ def show_unheld(checks, program, work):
         alter(folder, free, change)
         checks.same(f"{label}: nothing is told", NOTHING, live.asked(HOST, FSCK))
         checks.same(f"{label}: its end", done(), live.ended())
-        checks.same(f"{label}: a check", done(folder.sound()), program.checked(folder.path))
+        checks.same(f"{label}: a check", sound(folder.again()), program.checked(folder.path))
         again = program.ran("run", "--dir", folder.path, given=frame(HOST, FSCK))
         checks.same(f"{label}: a start", ([NOTHING], b""), replies(again.output))
 
@@ -170,7 +170,7 @@ def show_holders(checks, program, work):
     checks.same("the other stays", b"ok\n1\n", live.asked(HOST, b"census\n"))
     checks.same("nothing is told", NOTHING, live.asked(HOST, FSCK))
     checks.same("its end", done(), live.ended())
-    checks.same("a check", done(folder.sound()), program.checked(folder.path))
+    checks.same("a check", sound(folder.again()), program.checked(folder.path))
 
 
 def show_upload(checks, program, work):
@@ -251,7 +251,7 @@ def show_mended(checks, program, work):
     checks.same("a push mends it then", NOTHING, live.asked(ALICE, again))
     checks.same("nothing is told", NOTHING, live.asked(HOST, FSCK))
     checks.same("its end", done(), live.ended())
-    checks.same("a check", done(folder.sound()), program.checked(folder.path))
+    checks.same("a check", sound(folder.again()), program.checked(folder.path))
 
 
 def show_failing(checks, program, work):
@@ -329,6 +329,6 @@ def show_by_chance(checks, program, work):
         checks.same(f"{number}: its end", done(), live.ended())
         checks.same(f"{number}: as a plain reader", told(*harms_of(folder)), said)
         found = verdict(folder.state(), folder.files())
-        checks.same(f"{number}: `check`", of_verdict(found, folder.sound()), program.checked(folder.path))
+        checks.same(f"{number}: `check`", of_verdict(found, folder.again()), program.checked(folder.path))
         checks.same(f"{number}: both find something, or neither", said == NOTHING, found == "sound")
         checks.same(f"{number}: what `check` finds is told", True, found == "sound" or found.encode() in said)

@@ -3,17 +3,17 @@ import os
 import random
 import shutil
 
-from cases import C, D, OBJECTS
+from cases import C, D, OBJECTS, USED
 from clients import ALICE, BOB, PUSH
 from devices import homes
 from folder import Folder, requests_in, write
 from forkhost_client.frames import frame, framed, frames, replies
 from killing import changes
-from live import Live
+from live import Live, Serving
 from objects import name_of, record
-from program import done, failed
+from program import done, failed, sound
 from asking import History, Requests
-from sweeps import COUNT, HOST
+from sweeps import COUNT, HOST, show_collected
 
 INIT = (ALICE, b"init r\n")
 GREAT = (b"blob", bytes(3_000_000))
@@ -45,7 +45,7 @@ def show_journal(checks, program, work):
     checks.same("the journal stays", kept, folder.journal())
     killed(live)
     count = len(requests_in(kept))
-    checks.same("check counts it", done(b"sound\njournal %d\n" % count), program.checked(folder.path))
+    checks.same("check counts it", sound(count), program.checked(folder.path))
     checks.same("check leaves it", kept, folder.journal())
     checks.same("a start that serves nothing", done(), program.ran("run", "--dir", folder.path))
     checks.same("there is one journal behind it", [os.path.basename(folder.journal_path())], folder.journals())
@@ -72,8 +72,7 @@ def show_cuts(checks, program, work):
         write(folder.inside("journal", "0" * 64), frame(ALICE, b"init stale\n"))
         write(folder.inside("journal", "part"), b"torn")
         count = max(at for at, end in enumerate(ends) if row.startswith(whole[:end]))
-        sound = b"sound\n" + (b"journal %d\n" % count if count else b"")
-        checks.same(f"check of {row[-10:]!r}", done(sound), program.checked(folder.path))
+        checks.same(f"check of {row[-10:]!r}", sound(count), program.checked(folder.path))
         asks = [(who, b"for-each-ref %s\n" % place) for who in (ALICE, BOB) for place in (b"r", b"s", b"stale")]
         asks += [(BOB, b"part-drop\n"), (ALICE, b"cat-file %s\n" % C), (ALICE, b"quota\n")]
         ran = program.ran("run", "--dir", folder.path, given=frames(asks))
@@ -112,7 +111,7 @@ def show_altered(checks, program, work):
 
 
 def show_uploads(checks, program, work):
-    """Open uploads outlive a kill and a clean end, however long they are."""
+    """Open uploads outlive kills, however long they are."""
     folder = Folder(os.path.join(work, "kept"))
     body = b"\n" + record(*GREAT)
     cuts = [body[at : at + 900_000] for at in range(0, len(body), 900_000)]
@@ -121,7 +120,7 @@ def show_uploads(checks, program, work):
     checks.same("an upload of no bytes", b"ok\n", live.asked(BOB, b"part\n"))
     for number, piece in enumerate(cuts):
         checks.same(f"piece {number}", b"ok\n", live.asked(ALICE, b"part\n" + piece))
-        killed(live) if number % 2 else checks.same("its end", done(), live.ended())
+        killed(live)
         live = Live(program, "--dir", folder.path)
         checks.same("it is open", b"no upload-open\n", live.asked(ALICE, b"push r\n\n"))
     checks.same("its end", b"ok\n", live.asked(ALICE, b"part-end r\n"))
@@ -129,7 +128,91 @@ def show_uploads(checks, program, work):
     checks.same("the other one", b"ok\n", live.asked(BOB, b"part-drop\n"))
     checks.same("the end", done(), live.ended())
     checks.same("nothing is to be done again", b"", folder.journal())
-    checks.same("check", done(b"sound\n"), program.checked(folder.path))
+    checks.same("check", sound(), program.checked(folder.path))
+
+
+OPENED = [(ALICE, b"part\n" + PUSH.partition(b"\n")[2]), (BOB, b"part\n")]
+LOOKS = [(ALICE, b"push r\n\n"), (ALICE, b"part-end r\n"), (BOB, b"part-drop\n"), (ALICE, b"quota\n"), (BOB, b"for-each-ref s\n")]
+CLOSED = [b"ok\n", b"no no-upload\n", b"no no-upload\n", b"ok\n0 10000\n"]
+OPEN = [b"no upload-open\n", b"ok\n", b"ok\n", b"ok\n%d 10000\n" % USED]
+TENANTS = ["alice=10000", "bob=10000"]
+CHANGE = (BOB, b"init s\n")
+
+
+def opened(checks, program, folder):
+    """A host with open uploads, and nothing else behind its state."""
+    told = program.ran("run", "--dir", folder.path, *TENANTS, given=frame(*INIT))
+    checks.same("init", done(framed(b"ok\n")), told)
+    live = Live(program, "--dir", folder.path)
+    for turn in OPENED:
+        checks.same("a part", b"ok\n", live.asked(*turn))
+    return live
+
+
+def by_its_input(program, live, folder):
+    return done(), live.ended()
+
+
+def by_a_bad_frame(program, live, folder):
+    return failed("bad frame", b"! bad-frame\n"), live.ended(b"alice")
+
+
+def behind_a_change(program, live, folder):
+    return done(framed(b"ok\n")), live.ended(frame(*CHANGE))
+
+
+def over_an_altered_upload(program, live, folder):
+    write(folder.file_of(C), b"")
+    return done(), live.ended()
+
+
+def behind_a_kill(program, live, folder):
+    killed(live)
+    return done(), program.ran("run", "--dir", folder.path)
+
+
+def by_its_last_connection(program, live, folder):
+    killed(live)
+    serving = Serving(program, folder.path + "-socket", 2, "--dir", folder.path)
+    told = [serving.told(frame(*turn)) for turn in ((ALICE, b"push r\n\n"), CHANGE)]
+    return done(framed(b"no upload-open\n") + framed(b"ok\n")), serving.ended()._replace(output=b"".join(told))
+
+
+ENDS = (by_its_input, by_a_bad_frame, behind_a_change, over_an_altered_upload, behind_a_kill, by_its_last_connection)
+
+
+def shown(program, folder):
+    """What a start shows, but whether there is a second repository."""
+    ran = program.ran("run", "--dir", folder.path, given=frames(LOOKS))
+    return ran._replace(output=replies(ran.output)[0][:-1])
+
+
+def show_ends(checks, program, work):
+    """Behind an end no upload is open: nothing is done again, and a start shows what the state shows without a journal."""
+    for end in ENDS:
+        folder, label = Folder(os.path.join(work, end.__name__)), end.__name__.replace("_", " ")
+        live = opened(checks, program, folder)
+        checks.same(f"{label}: its end", *end(program, live, folder))
+        checks.same(f"{label}: check", sound(), program.checked(folder.path))
+        checks.same(f"{label}: the journal", (b"", 1), (folder.journal(), len(folder.journals())))
+        bare = Folder(shutil.copytree(folder.path, folder.path + "-bare"))
+        shutil.rmtree(bare.inside("journal"))
+        for kept in (folder, bare):
+            checks.same(f"{label}: what a start shows", done(CLOSED), shown(program, kept))
+        show_collected(checks, program, folder, label)
+
+
+def show_failed_ends(checks, program, work):
+    """Behind an end that can not be saved all stands that was acknowledged, open uploads too."""
+    for place, turns in ((("journal", "part"), []), (("journal", "part"), [CHANGE]), (("part",), [CHANGE])):
+        folder = Folder(os.path.join(work, "-".join((*place, str(len(turns))))))
+        live = opened(checks, program, folder)
+        os.mkdir(folder.inside(*place))
+        wanted = failed("state not saved", framed(b"ok\n") * len(turns))
+        checks.same("its end", wanted, live.ended(frames(turns)))
+        os.rmdir(folder.inside(*place))
+        checks.same("check", sound(len(OPENED + turns)), program.checked(folder.path))
+        checks.same("what a start shows", done(OPEN), shown(program, folder))
 
 
 def show_faults(checks, program, work):

@@ -12,7 +12,7 @@ from folder import Folder
 from forkhost_client.frames import frames, replies
 from live import to_end
 from objects import whole
-from program import PATIENCE, done, ended
+from program import PATIENCE, done, ended, sound
 from sweeps import COUNT, HOST, collected, plain, show_collected, with_sweeps
 
 TENANTS = [b"alice", b"bob", b"carol", b"dave"]
@@ -258,8 +258,7 @@ class Life:
             host = self.started()
             time.sleep(self.chance.uniform(0, 0.03))
             host.kill()
-        checked = self.program.checked(self.folder.path)
-        self.checks.same(f"{label}: check", (0, b""), (checked.status, checked.fault))
+        self.checks.same(f"{label}: check", sound(self.folder.again()), self.program.checked(self.folder.path))
         self.checks.same(f"{label}: what was being written", [], self.folder.parts())
         host = self.started()
         self.checks.same(f"{label}: it starts", True, host.is_there())

@@ -9,7 +9,7 @@ from asking import History
 from folder import Folder, requests_in
 from forkhost_client.frames import framed, frames, replies
 from objects import whole
-from program import PATIENCE, Ran, done
+from program import PATIENCE, Ran, done, sound
 from sweeps import HOST, of_tenants, plain
 
 KILLS = 150
@@ -90,7 +90,7 @@ class Killed:
             self.checks.same(f"{label}: the replies", self.wanted[: len(came)], came)
         torn = [name for name, file in folder.files().items() if not whole(name, file)]
         self.checks.same(f"{label}: files that are torn", [], torn)
-        self.checks.same(f"{label}: check", done(folder.sound()), self.program.checked(folder.path))
+        self.checks.same(f"{label}: check", sound(folder.again()), self.program.checked(folder.path))
         self.checks.same(f"{label}: what was being written", [], folder.parts())
         self.checks.same(f"{label}: what was swept", [], folder.swept())
         again = self.program.ran("run", "--dir", folder.path, given=frames(self.turns[went:]))
@@ -193,4 +193,4 @@ def judge_failed(killed, label, folder, ran):
     others = plain(kept, [reply for reply in told if reply != HOST_STORE])
     killed.checks.same(f"{label}: the other replies", others, plain(kept, replies(again.output)[0]))
     killed.checks.same(f"{label}: the state", other.state(), folder.state())
-    killed.checks.same(f"{label}: check", done(b"sound\n"), killed.program.checked(folder.path))
+    killed.checks.same(f"{label}: check", sound(), killed.program.checked(folder.path))

@@ -10,7 +10,7 @@ from folder import Folder, content, requests_in, write
 from forkhost_client.frames import frame, framed, frames
 from live import Live, Serving
 from objects import record
-from program import done, failed
+from program import done, failed, sound
 from state_text import Tenant, spelled
 
 
@@ -136,10 +136,10 @@ def show_saved(checks, program, folder):
     checks.same("the end", done(), serving.ended())
     checks.same("the state", alone(OBJECTS, (b"refs/heads/main", D)), kept.state())
     checks.same("the files", FILES, kept.files())
-    checks.same("check", done(b"sound\njournal 1\n"), program.checked(kept.path))
+    checks.same("check", sound(), program.checked(kept.path))
     live = Live(program, "--dir", kept.path, "bob=1000")
     checks.same("what was pushed, in a run", b"ok\n" + record(*OBJECTS[B]), live.asked(ALICE, b"cat-file %s\n" % B))
-    checks.same("the upload is open", b"ok\n", live.asked(ALICE, b"part-drop\n"))
+    checks.same("the upload ended with it", b"no no-upload\n", live.asked(ALICE, b"part-drop\n"))
     checks.same("one tenant more", b"ok\n0 1000\n", live.asked(BOB, b"quota\n"))
     checks.same("the end of the run", done(), live.ended())
     serving = Serving(program, path, 1, "--dir", kept.path)

@@ -9,7 +9,7 @@ from folder import Folder, content, write
 from forkhost_client.frames import frame, framed, frames
 from live import Live, Serving
 from objects import name_of, record, stored
-from program import done
+from program import done, sound
 
 ALICE, BOB, HOST = b"alice", b"bob", b"@host"
 BLOBS = [(b"blob", b"%d more\n" % number * number) for number in range(35)]
@@ -89,19 +89,42 @@ def show_altered(checks, program, work):
 
 
 def show_kept(checks, program, work):
-    """An upload outlives its host with what is staged: behind a start it goes on, and holds what it held."""
+    """An upload outlives a kill with what is staged: behind a start it goes on, and holds what it held."""
     folder = Folder(os.path.join(work, "kept"))
     live = begun(checks, program, folder)
     for at, end in zip((0, *ENDS), ENDS):
         checks.same("a part", b"ok\n", live.asked(ALICE, b"part\n" + BODY[at : end - 1]))
         checks.same("its last byte", b"ok\n", live.asked(ALICE, b"part\n" + BODY[end - 1 : end]))
-        checks.same("the end", done(), live.ended())
+        live.child.kill()
+        live.child.communicate()
         live = Live(program, "--dir", folder.path)
         checks.same("nothing goes", b"ok\n0\n", live.asked(HOST, b"collect\n"))
         checks.same("what came is there", files_of(ENDS.index(end) + 1), folder.files())
     checks.same("its end", b"ok\n", live.asked(ALICE, b"part-end r\n"))
     checks.same("it is seen", b"ok\n" + RECORDS[-1], live.asked(ALICE, b"cat-file %s\n" % D))
     checks.same("the end", done(), live.ended())
+
+
+def show_ended(checks, program, work):
+    """An upload ends with a serving that ends: what it left is held by nobody, and the same objects come again by a push."""
+    for count in (0, 1, 5, len(ORDER)):
+        folder = Folder(os.path.join(work, str(count)))
+        live = begun(checks, program, folder)
+        end = ENDS[count - 1] if count else len(HEAD)
+        checks.same("a part", b"ok\n", live.asked(ALICE, b"part\n" + BODY[:end]))
+        checks.same("the end", done(), live.ended())
+        checks.same("check", sound(), program.checked(folder.path))
+        checks.same("what came stays", files_of(count), folder.files())
+        live = Live(program, "--dir", folder.path)
+        checks.same("nothing is left to end", b"no no-upload\n", live.asked(ALICE, b"part-end r\n"))
+        checks.same("or to drop", b"no no-upload\n", live.asked(ALICE, b"part-drop\n"))
+        if count % 2:
+            checks.same("what came goes", b"ok\n%d\n" % count, live.asked(HOST, b"collect\n"))
+            checks.same("none is left", {}, folder.files())
+        checks.same("a push of all", b"ok\n", live.asked(ALICE, b"push r\n" + BODY))
+        checks.same("it is seen", b"ok\n" + RECORDS[-1], live.asked(ALICE, b"cat-file %s\n" % D))
+        checks.same("nothing goes", b"ok\n0\n", live.asked(HOST, b"collect\n"))
+        checks.same("the last end", done(), live.ended())
 
 
 def show_linear(checks, program, work):
@@ -161,4 +184,4 @@ def show_unreadable(checks, program, work):
     checks.same("the upload's end", ok, serving.told(frame(ALICE, b"part-end r\n")))
     checks.same("it was saved before that", False, folder.state() == state)
     checks.same("the end", done(), serving.ended())
-    checks.same("check", done(b"sound\n"), program.checked(folder.path))
+    checks.same("check", sound(), program.checked(folder.path))

@@ -3,7 +3,7 @@ import itertools
 import re
 
 from forkhost_client.frames import frame, replies
-from program import done
+from program import done, sound
 from state_text import read
 
 HOST = b"@host"
@@ -56,4 +56,4 @@ def show_collected(checks, program, folder, label):
     checks.same(f"{label}: what is left is what tenants see", seen(folder), sorted(folder.files()))
     checks.same(f"{label}: what was swept is let go", [], folder.swept())
     checks.same(f"{label}: another one", (b"ok\n0\n", done()), collected(program, folder))
-    checks.same(f"{label}: check behind it", done(folder.sound()), program.checked(folder.path))
+    checks.same(f"{label}: check behind it", sound(folder.again()), program.checked(folder.path))

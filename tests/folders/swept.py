@@ -9,7 +9,7 @@ from forkhost_client.frames import framed, frames
 from killing import one_told
 from live import Live, Serving
 from objects import record
-from program import done, failed
+from program import done, failed, sound
 
 QUOTA = frames([(ALICE, b"quota\n")])
 OTHERS = ["part", "readme", "0" * 63, "0" * 65, "A" * 64, b"\xff"]
@@ -28,7 +28,7 @@ def show_swept(checks, program, work):
 
 
 def is_back(checks, label, program, folder):
-    checks.same(f"{label}: check", done(folder.sound()), program.checked(folder.path))
+    checks.same(f"{label}: check", sound(folder.again()), program.checked(folder.path))
     checks.same(f"{label}: its files", FILES, folder.files())
     checks.same(f"{label}: none is swept", [], folder.swept())
 
@@ -72,7 +72,7 @@ def show_others(checks, program, folder):
         write(os.path.join(home, os.fsencode(name)), b"x")
     os.mkdir(folder.inside("swept", "folder"))
     there = folder.swept()
-    checks.same("check", done(b"sound\n"), program.checked(folder.path))
+    checks.same("check", sound(), program.checked(folder.path))
     checks.same("a start", done(), program.ran("run", "--dir", folder.path))
     checks.same("others stay", there, folder.swept())
     checks.same("its files", FILES, folder.files())

@@ -6,7 +6,7 @@ from alterations import BYTES, HUGE, THINGS, alter, clear, kinds_of, put_back, w
 from folder import content
 from found import DAMAGED, FOUND, RIGHT, STORE
 from objects import record, whole
-from program import done, failed
+from program import done, failed, sound
 from runs import HANGS, give
 from sessions import NO_REPLY, Session
 from stores import ALICE, BOB, Store
@@ -20,7 +20,7 @@ SINGLE = [kind for kind in PLAIN if kind in BYTES or kind in ("nothing", "longer
 def told_of(word, name):
     """How `check` ends where it finds this of a name."""
     if word == "sound":
-        return done(b"sound\n")
+        return sound()
     return failed(word if word == "store" else f"{word} {name.decode()}")
 
 
@@ -38,7 +38,7 @@ def show_starts(checks, program, work):
     """One file is altered: `check` and a start name it where somebody sees it, and leave the state."""
     store, chance = Store(work), random.Random(21)
     folder = store.copy(os.path.join(work, "folder"))
-    checks.same("all is there", done(b"sound\n"), program.tried("sound", "check", "--dir", folder.path))
+    checks.same("all is there", sound(), program.tried("sound", "check", "--dir", folder.path))
     for number in range(ROUNDS * len(FOUND)):
         name = chance.choice(store.names)
         kind = list(FOUND)[number % len(FOUND)]
@@ -53,7 +53,7 @@ def show_starts(checks, program, work):
             checks.same(f"the state, {label}", store.text, folder.state())
         put_back(folder.file_of(name), store.files[name])
     checks.same("all is put back", store.files, folder.files())
-    checks.same("it is sound", done(b"sound\n"), program.tried("sound", "check", "--dir", folder.path))
+    checks.same("it is sound", sound(), program.tried("sound", "check", "--dir", folder.path))
 
 
 def show_many(checks, program, work):
@@ -66,7 +66,7 @@ def show_many(checks, program, work):
         for name, kind in kinds.items():
             alter(kind, folder.file_of(name), store.files[name], chance)
         first = store.first(kinds)
-        wanted = wanted_of(store, kinds[first], first) if first else [done(b"sound\n")]
+        wanted = wanted_of(store, kinds[first], first) if first else [sound()]
         one_of(checks, f"many, {number}: {list(kinds.values())}", wanted, program.tried("many", "check", "--dir", folder.path))
         for name in kinds:
             put_back(folder.file_of(name), store.files[name])
@@ -82,7 +82,7 @@ def show_swapped(checks, program, work):
         if number % 2:
             write(folder.file_of(other), store.files[one])
         first = store.first({one, other} if number % 2 else {one})
-        wanted = told_of("damaged", first) if first else done(b"sound\n")
+        wanted = told_of("damaged", first) if first else sound()
         checks.same(f"swapped, {number}", wanted, program.tried("swapped", "check", "--dir", folder.path))
         for name in (one, other):
             put_back(folder.file_of(name), store.files[name])
@@ -241,4 +241,4 @@ def show_arrivals(checks, program, work):
             checks.same(f"{label}: it is not seen", b"no missing %s\n" % name, session.asked(BOB, b"cat-file %s\n" % name))
         put_back(path, data)
     checks.same("its end", done(), session.ended())
-    checks.same("check behind it", done(b"sound\n"), program.tried("sound", "check", "--dir", folder.path))
+    checks.same("check behind it", sound(), program.tried("sound", "check", "--dir", folder.path))

@@ -9,7 +9,7 @@ from folder import requests_in
 from forkhost_client.frames import frame, framed, frames
 from loading import verdict
 from objects import record
-from program import done, failed, of_verdict
+from program import done, failed, of_verdict, sound
 from runs import HANGS, give
 from sessions import Session
 from stores import ALICE, BOB, Store
@@ -43,7 +43,7 @@ def show_states(checks, program, work):
             wanted = of_verdict(verdict(text, store.files))
             checks.same(f"state {number}.{way}", wanted, program.tried("state", "check", "--dir", folder.path))
     write(path, store.text)
-    checks.same("the text as it was", done(b"sound\n"), program.tried("state", "check", "--dir", folder.path))
+    checks.same("the text as it was", sound(), program.tried("state", "check", "--dir", folder.path))
 
 
 def show_state_things(checks, program, work):
@@ -51,7 +51,7 @@ def show_state_things(checks, program, work):
     store, chance = Store(work), random.Random(28)
     wanted = {kind: [failed("state unreadable")] for kind in UNREADABLE}
     wanted |= {"longer than memory": [failed("memory"), failed("state unreadable")]}
-    wanted |= {"a link to a copy": [done(b"sound\n"), failed("state unreadable")]}
+    wanted |= {"a link to a copy": [sound(), failed("state unreadable")]}
     wanted |= {"a link to nothing": [failed("no state"), failed("state unreadable")]}
     for number, (kind, ends) in enumerate(wanted.items()):
         folder = store.copy(os.path.join(work, str(number)))
@@ -95,23 +95,23 @@ def show_journals(checks, program, work):
         text = texts[number % len(texts)]
         write(path, text)
         count = len(requests_in(text))
-        ends = [done(b"sound\n" + (b"journal %d\n" % count if count else b""))]
+        ends = [sound(count)]
         ends += [failed("journal unreadable")] if number % len(texts) else []
         one_of(checks, f"journal {number}", ends, program.tried("journal", "check", "--dir", folder.path))
         checks.same(f"journal {number}: the state", store.text, folder.state())
         checks.same(f"journal {number}: it stays", text, folder.journal())
     write(path, whole)
-    checks.same("the journal as it was", done(b"sound\njournal 6\n"), program.tried("journal", "check", "--dir", folder.path))
+    checks.same("the journal as it was", sound(6), program.tried("journal", "check", "--dir", folder.path))
 
 
 def show_journal_things(checks, program, work):
     """Something that is no file stands in the journal's place: it can not be read, or holds no frame; nothing hangs."""
     store, chance = Store(work), random.Random(30)
-    unreadable, empty = failed("journal unreadable"), done(b"sound\n")
+    unreadable, empty = failed("journal unreadable"), sound()
     ends = {kind: [unreadable] for kind in ("a folder", "a folder with its file", "a pipe", "a socket", "a link to a pipe")}
     ends |= {kind: [unreadable] for kind in ("a link to a folder", "without rights", "a link to itself")}
     ends |= {kind: [unreadable, empty] for kind in THINGS if kind not in ends and kind != "a link to a copy"}
-    ends |= {"a link to a copy": [unreadable, done(b"sound\njournal 6\n")]}
+    ends |= {"a link to a copy": [unreadable, sound(6)]}
     for number, (kind, wanted) in enumerate(ends.items()):
         folder, _, _ = journaled(program, store, os.path.join(work, str(number)))
         path = folder.journal_path()
@@ -134,10 +134,10 @@ def show_locks(checks, program, work):
         alter(kind, folder.inside("lock"), b"", chance)
         if os.path.isfile(folder.inside("lock")) and kind != "without rights":
             give(folder.path)
-        wanted = [done(b"sound\n")] if kind in ("one byte too long", "longer than memory") else [failed("store")]
+        wanted = [sound()] if kind in ("one byte too long", "longer than memory") else [failed("store")]
         label = f"{kind} in the lock's place"
         for word in ("check", "run"):
-            ends = wanted if word == "check" or wanted != [done(b"sound\n")] else [done()]
+            ends = wanted if word == "check" or wanted != [sound()] else [done()]
             one_of(checks, f"{word}, {label}", ends, program.tried(f"{word} {label}", word, "--dir", folder.path))
         checks.same(f"the state, {label}", store.text, folder.state())
 
@@ -154,7 +154,7 @@ def show_parts(checks, program, work):
         for kind in kinds:
             alter(kind, folder.inside(*place), b"torn", chance)
             label = f"{kind} in the place of {'/'.join(place)}"
-            checks.same(label, done(b"sound\n"), program.tried(label, "check", "--dir", folder.path))
+            checks.same(label, sound(), program.tried(label, "check", "--dir", folder.path))
             checks.same(f"it is gone, {label}", False, os.path.lexists(folder.inside(*place)))
             put_back(folder.inside(*place), b"")
         clear(folder.inside(*place))

@@ -1,4 +1,5 @@
 ghost use Rattle.std.specs.Prelude.{◌≡◌, ◌≤◌, ◌<◌, ◌+◌, ◌^◌, ◌++◌, ◌∷◌, [], ◌⊎◌, ◌&&◌, ◌||◌, true, false, not, ℕ, List, OnOk, OnErr, IfOk, IfSome, IfNone, Some, length, slice_get, take, IsPermutation};
+ghost use Rattle.looks.specs.Growth.{GrowsBy};
 ghost use Rattle.looks.specs.Places.{is_listed, looked_at, same_name};
 ghost use Rattle.catalogue.specs.Counted.{IsNext, count_of, one_if, places_of};
 
@@ -76,6 +77,7 @@ impl Catalogue {
     pub fn enter(&mut self, name: Name) -> Result<(), AllocError>
         ensures listed { OnOk result ((q : List ℕ) → is_listed (places_of self.new).names q ≡ (same_name name q || is_listed (places_of self.old).names q)) }
         ensures counts { (q : List ℕ) → count_of self.new q ≡ count_of self.old q }
+        ensures grows { GrowsBy (name ∷ []) (places_of self.old) (places_of self.new) }
         ensures place { self.new.place ≡ self.old.place }
         ensures err { OnErr result (self.new ≡ self.old) }
     {

@@ -5,3 +5,4 @@ pub mod LineLemmas
 pub mod ReadingLemmas
 pub mod ReplyLemmas
 pub mod StreamLemmas
+pub mod WritingLemmas

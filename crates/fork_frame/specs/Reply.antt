@@ -1,5 +1,6 @@
 -- What goes out (own): the frames of replies, and a last line where the input went on with no frame.
-use Rattle.std.specs.Prelude.{◌≡◌, ◌≢◌, ℕ, ◌<◌, ◌^◌, List, [], ◌∷◌, ◌++◌, length, codes, decimal}
+use Rattle.std.specs.Prelude.{◌≡◌, ◌≢◌, ℕ, ◌<◌, ◌^◌, List, [], ◌∷◌, ◌++◌, Option, length, codes, decimal}
+use Rattle.std.specs.Io.KnownBytes.{Appends}
 use Rattle.fork_frame.specs.declared.ended.Ended.{Ended}
 use Rattle.fork_frame.specs.declared.ended.Ended.TheVariants.{Clean, BadFrame}
 
@@ -11,6 +12,13 @@ reply_frame bytes = decimal (length bytes) ++ 10 ∷ bytes
 abbrev pub last_line : Ended → List ℕ
 last_line Clean = []
 last_line BadFrame = codes "! bad-frame\n"
+
+-- the known bytes grew by a front of these, and by nothing else
+pub record WritesFront (old new : Option (List ℕ)) (bytes : List ℕ) : Type 0 where
+  pub front : List ℕ
+  pub rest : List ℕ
+  pub parts : bytes ≡ front ++ rest
+  pub written : Appends old new front
 
 -- bytes begin with one reply at most
 abbrev pub OneReply : Type 0

@@ -12,6 +12,6 @@ pub enum FrameFault {
 pub enum ReplyFault {
     /// There was no memory for the reply's bytes; nothing was written.
     Memory,
-    /// The writer failed. Some of the frame may have been written.
+    /// The writer failed. A front of the frame was written.
     Write,
 }

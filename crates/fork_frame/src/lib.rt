@@ -13,6 +13,7 @@ mod reader;
 mod reply;
 mod spelled;
 mod text;
+mod writing;
 
 pub use crate::asker::Asker;
 pub use crate::ended::Ended;

@@ -1,10 +1,11 @@
-ghost use Rattle.std.specs.Prelude.{◌≡◌, ◌++◌, IfErr, OnOk, codes};
+ghost use Rattle.std.specs.Prelude.{◌≡◌, ◌++◌, IfErr, OnErr, OnOk, codes};
 ghost use Rattle.std.specs.Io.KnownBytes.{Appends, Keeps};
 ghost use Rattle.fork_request.specs.Told.{bytes_of};
-ghost use Rattle.fork_frame.specs.Reply.{last_line, reply_frame};
+ghost use Rattle.fork_frame.specs.Reply.{WritesFront, last_line, reply_frame};
 
 use crate::ended::Ended;
 use crate::fault::ReplyFault;
+use crate::writing::{put, put_length};
 use fork_request::Reply;
 use std::alloc::Global;
 use std::io::Write;
@@ -12,11 +13,10 @@ use std::io::Write;
 // Writes all of it, so that the peer has it before more is read.
 fn send<W: Write>(writer: &mut W, bytes: &[u8]) -> Result<(), ReplyFault>
     ensures ok { OnOk result (Appends (W.contents writer.old) (W.contents writer.new) bytes.now) }
+    ensures err { OnErr result (WritesFront (W.contents writer.old) (W.contents writer.new) bytes.now) }
     ensures cause { IfErr result (λ fault. fault ≡ ReplyFault.Write) }
 {
-    let Ok(()) = writer.write_all(bytes) else {
-        return Err(ReplyFault::Write);
-    };
+    put(writer, bytes)?;
     let Ok(()) = writer.flush() else {
         return Err(ReplyFault::Write);
     };
@@ -26,11 +26,10 @@ fn send<W: Write>(writer: &mut W, bytes: &[u8]) -> Result<(), ReplyFault>
 /// Sends the frame of a reply with these bytes, and flushes. It takes no memory.
 pub fn send_bytes<W: Write>(writer: &mut W, bytes: &[u8]) -> Result<(), ReplyFault>
     ensures ok { OnOk result (Appends (W.contents writer.old) (W.contents writer.new) (reply_frame bytes.now)) }
+    ensures err { OnErr result (WritesFront (W.contents writer.old) (W.contents writer.new) (reply_frame bytes.now)) }
     ensures cause { IfErr result (λ fault. fault ≡ ReplyFault.Write) }
 {
-    let Ok(()) = writeln!(writer, "{}", bytes.len()) else {
-        return Err(ReplyFault::Write);
-    };
+    put_length(writer, bytes.len())?;
     send(writer, bytes)
 }
 
@@ -40,20 +39,18 @@ const OK: &[u8] = b"ok\n";
 // Sends the frame of a reply whose data this is, written from where it lies, and flushes.
 fn send_data<W: Write>(writer: &mut W, text: &[u8]) -> Result<(), ReplyFault>
     ensures ok { OnOk result (Appends (W.contents writer.old) (W.contents writer.new) (reply_frame (codes "ok\n" ++ text.now))) }
+    ensures err { OnErr result (WritesFront (W.contents writer.old) (W.contents writer.new) (reply_frame (codes "ok\n" ++ text.now))) }
     ensures cause { IfErr result (λ fault. fault ≡ ReplyFault.Write) }
 {
-    let Ok(()) = writeln!(writer, "{}", OK.len() + text.len()) else {
-        return Err(ReplyFault::Write);
-    };
-    let Ok(()) = writer.write_all(OK) else {
-        return Err(ReplyFault::Write);
-    };
+    put_length(writer, OK.len() + text.len())?;
+    put(writer, OK)?;
     send(writer, text)
 }
 
 /// Sends the frame of a reply, and flushes. Memory is taken for the bytes of a reply that has no data.
 pub fn send_reply<W: Write>(alloc: Global, writer: &mut W, reply: Reply) -> Result<(), ReplyFault>
     ensures ok { OnOk result (Appends (W.contents writer.old) (W.contents writer.new) (reply_frame (bytes_of reply))) }
+    ensures err { OnErr result (WritesFront (W.contents writer.old) (W.contents writer.new) (reply_frame (bytes_of reply))) }
     ensures kept { IfErr result (λ fault. fault ≡ ReplyFault.Memory → Keeps (W.contents writer.old) (W.contents writer.new)) }
 {
     if let Reply::Done(data) = &reply {
@@ -68,6 +65,7 @@ pub fn send_reply<W: Write>(alloc: Global, writer: &mut W, reply: Reply) -> Resu
 /// Tells the peer that what came is no frame, and flushes.
 pub fn send_bad_frame<W: Write>(writer: &mut W) -> Result<(), ReplyFault>
     ensures ok { OnOk result (Appends (W.contents writer.old) (W.contents writer.new) (last_line Ended.BadFrame)) }
+    ensures err { OnErr result (WritesFront (W.contents writer.old) (W.contents writer.new) (last_line Ended.BadFrame)) }
     ensures cause { IfErr result (λ fault. fault ≡ ReplyFault.Write) }
 {
     send(writer, b"! bad-frame\n")

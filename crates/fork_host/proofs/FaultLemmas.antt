@@ -1,5 +1,5 @@
--- Which host faults came along a run: as it goes on by one step, and as a whole.
-use Rattle.std.proofs.Common.{◌≡◌, ◌≢◌, ◌⊎◌, inl, inr, ℕ, ◌≤◌, arith, ◌++◌, ◌∷◌, [], List, refl, subst, sym, ap, ◌∙◌}
+-- Which host faults came along a run.
+use Rattle.std.proofs.Common.{◌≡◌, ◌≢◌, ◌⊎◌, inl, inr, ℕ, ◌≤◌, arith, ◌++◌, ◌∷◌, [], List, sym, ap, ◌∙◌}
 use Rattle.std.specs.Prelude.{Contains}
 use Rattle.std.specs.List.{AllByRecursion}
 use Rattle.std.proofs.lemmas.List.Elements.{Contains-append_left, Contains-append_right}
@@ -13,18 +13,13 @@ use Rattle.fork_request.specs.declared.reply.Reply.TheVariants.{Done, Refused, F
 use Rattle.fork_model.specs.Runs.{Asks, HostAsks}
 use Rattle.fork_model.specs.World.{Event}
 use Rattle.fork_host.specs.Bounds.{CountsReply, IsBounded, IsCollision}
-use Rattle.fork_host.specs.Faults.{FaultsAlong, FaultsWithin, IsCalm, sent_along, sent_at}
+use Rattle.fork_host.specs.Causes.{IsCalm, sent_along}
+use Rattle.fork_host.specs.Faults.{FaultsWithin, sent_at}
 use Rattle.fork_host.specs.Shown.{HostState, Trusted}
-
-pub faults_more : (old mid new : HostState) (events : List Event) (replies : List Reply) (event : Event) (reply : Reply) → FaultsAlong old events replies mid → FaultsWithin mid event reply new
-    → FaultsAlong old (events ++ event ∷ []) (replies ++ reply ∷ []) new
-faults_more old mid new [] [] event reply same within = (new, subst (λ s. FaultsWithin s event reply new) same within, refl)
-faults_more old mid new (e ∷ events) (r ∷ replies) event reply along within = (along.0, along.1, faults_more along.0 mid new events replies event reply along.2 within)
-faults_more old mid new [] (r ∷ replies) event reply along within = absurd along
-faults_more old mid new (e ∷ events) [] event reply along within = absurd along
+use Rattle.fork_host.specs.Step.{IsRun}
 
 -- each step is bounded by what it brings
-bounded : (old mid : HostState) (event : Event) (reply : Reply) → FaultsWithin old event reply mid → IsBounded (sent_at old event) old.vault mid.vault reply
+pub bounded : (old mid : HostState) (event : Event) (reply : Reply) → FaultsWithin old event reply mid → IsBounded (sent_at old event) old.vault mid.vault reply
 bounded old mid (Asks tenant ask) reply within = within
 bounded old mid (HostAsks request) reply within = within.1
 
@@ -47,7 +42,7 @@ met_there here there files after stored c = record { object = c.object; other = 
     by (inl sent) = inl (Contains-append_right here there c.other sent)
     by (inr stands) = stood (stored (object_name c.object) c.other stands)
 
-pub collides : (old new : HostState) (events : List Event) (replies front back : List Reply) (along : FaultsAlong old events replies new) → Trusted old → replies ≡ front ++ Failed Collision ∷ back → AllByRecursion IsCalm front
+pub collides : (old new : HostState) (events : List Event) (replies front back : List Reply) (along : IsRun old events replies new) → Trusted old → replies ≡ front ++ Failed Collision ∷ back → AllByRecursion IsCalm front
     → IsCollision (sent_along old events replies new along) old.vault.files
 collides old new [] [] front back along trusted parts calm = none_of_none front parts
   where
@@ -58,20 +53,20 @@ collides old new [] (reply ∷ replies) front back along trusted parts calm = ab
 collides old new (event ∷ events) [] front back along trusted parts calm = absurd along
 collides old new (event ∷ events) (reply ∷ replies) [] back along trusted parts calm =
     let is : reply ≡ Failed Collision = cc in
-    met_here (sent_at old event) (sent_along along.0 events replies new along.2) old.vault.files ((bounded old along.0 event reply along.1).collided trusted is)
+    met_here (sent_at old event) (sent_along along.0 events replies new along.2) old.vault.files ((bounded old along.0 event reply along.1.faults).collided trusted is)
 collides old new (event ∷ events) (reply ∷ replies) (first ∷ front) back along trusted parts calm =
     let is : reply ≡ first = cc in
     let rest : replies ≡ front ++ Failed Collision ∷ back = cc in
-    let step = bounded old along.0 event reply along.1 in
+    let step = bounded old along.0 event reply along.1.faults in
     met_there (sent_at old event) (sent_along along.0 events replies new along.2) old.vault.files along.0.vault.files (step.stored trusted (λ store. calm.0.store (sym is ∙ store)) (λ memory. calm.0.memory (sym is ∙ memory)))
     (collides along.0 new events replies front back along.2 (step.honest ∙ trusted) rest calm.1)
 
-pub undamaged : (old new : HostState) (events : List Event) (replies : List Reply) → FaultsAlong old events replies new → Trusted old → AllByRecursion (λ reply. reply ≢ Failed Damaged) replies
+pub undamaged : (old new : HostState) (events : List Event) (replies : List Reply) → IsRun old events replies new → Trusted old → AllByRecursion (λ reply. reply ≢ Failed Damaged) replies
 undamaged old new [] [] along trusted = tt
 undamaged old new [] (reply ∷ replies) along trusted = absurd along
 undamaged old new (event ∷ events) [] along trusted = absurd along
 undamaged old new (event ∷ events) (reply ∷ replies) along trusted =
-    let step = bounded old along.0 event reply along.1 in
+    let step = bounded old along.0 event reply along.1.faults in
     (step.undamaged trusted, undamaged along.0 new events replies along.2 (step.honest ∙ trusted))
 
 rises_up : (before now : ℕ) → Rises before now → before ≤ now
@@ -87,12 +82,12 @@ counts_up before now (Failed Store) rises = rises_up before now rises
 counts_up before now (Failed Damaged) is = omega (arith, is)
 counts_up before now (Failed Collision) is = omega (arith, is)
 
-up_along : (old new : HostState) (events : List Event) (replies : List Reply) → FaultsAlong old events replies new → old.vault.failures ≤ new.vault.failures
+up_along : (old new : HostState) (events : List Event) (replies : List Reply) → IsRun old events replies new → old.vault.failures ≤ new.vault.failures
 up_along old new [] [] along = (let same = ap (λ s. s.vault.failures) along in omega (arith, same))
 up_along old new [] (reply ∷ replies) along = absurd along
 up_along old new (event ∷ events) [] along = absurd along
 up_along old new (event ∷ events) (reply ∷ replies) along =
-    let first = counts_up old.vault.failures along.0.vault.failures reply (bounded old along.0 event reply along.1).counted in
+    let first = counts_up old.vault.failures along.0.vault.failures reply (bounded old along.0 event reply along.1.faults).counted in
     let rest = up_along along.0 new events replies along.2 in
     omega (arith, first, rest)
 
@@ -105,13 +100,13 @@ not_counted before now (Failed Store) (inr (most, is)) same least told = least m
 not_counted before now (Failed Damaged) is same least told = absurd (cc)
 not_counted before now (Failed Collision) is same least told = absurd (cc)
 
-pub fails : (old new : HostState) (events : List Event) (replies : List Reply) → FaultsAlong old events replies new → new.vault.failures ≡ old.vault.failures → old.vault.failures ≢ 18446744073709551615
+pub fails : (old new : HostState) (events : List Event) (replies : List Reply) → IsRun old events replies new → new.vault.failures ≡ old.vault.failures → old.vault.failures ≢ 18446744073709551615
     → AllByRecursion (λ reply. reply ≢ Failed Store) replies
 fails old new [] [] along same least = tt
 fails old new [] (reply ∷ replies) along same least = absurd along
 fails old new (event ∷ events) [] along same least = absurd along
 fails old new (event ∷ events) (reply ∷ replies) along same least =
-    let counted = (bounded old along.0 event reply along.1).counted in
+    let counted = (bounded old along.0 event reply along.1.faults).counted in
     let first = counts_up old.vault.failures along.0.vault.failures reply counted in
     let rest = up_along along.0 new events replies along.2 in
     let still : along.0.vault.failures ≡ old.vault.failures = omega (arith, first, rest, same) in

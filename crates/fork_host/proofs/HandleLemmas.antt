@@ -1,5 +1,5 @@
 -- The handle of a tenant's part, call after call.
-use Rattle.std.proofs.Common.{◌≡◌, ℕ, ◌≤◌, IsTrue, List, refl, sym, ap, subst, ◌∙◌}
+use Rattle.std.proofs.Common.{◌≡◌, ℕ, ◌≤◌, IsTrue, List, [], refl, sym, ap, subst, ◌∙◌}
 use Rattle.std.specs.FinMap.{empty}
 use Rattle.git_name.specs.Object.{Object}
 use Rattle.fork_reach.specs.Objects.{with_objects}
@@ -9,15 +9,29 @@ use Rattle.fork_ledger.specs.Private.{Private, both_of}
 use Rattle.fork_ledger.specs.Tenants.{VaultState, private_of}
 use Rattle.fork_ledger.proofs.AllStagedLemmas.{all_staged_seen, both_all}
 use Rattle.fork_ledger.proofs.BothLemmas.{both_quiet}
+use Rattle.looks.proofs.GrowthLemmas.{grows_none, grows_same, none_came}
 use Rattle.fork_host.specs.declared.own.Own.{Own}
-use Rattle.fork_host.specs.Handle.{IsSame, Ready, both_by, staged_by, visible_by}
+use Rattle.fork_host.specs.Handle.{IsSame, Ready, Touches, Uses, both_by, staged_by, visible_by}
 use Rattle.fork_host.specs.Own.{IsOwn, IsReady, KeepsSeen, Turns, both_in, visible_in}
+use Rattle.fork_host.proofs.OwnLemmas.{own_same}
 
 pub same_own : {S : Type 0} (own : Own S) → IsSame own own
 same_own own = record { vault = refl; tenant = refl }
 
 pub same_then : {S : Type 0} (a b c : Own S) → IsSame a b → IsSame b c → IsSame a c
 same_then a b c first then = record { vault = then.vault ∙ first.vault; tenant = then.tenant ∙ first.tenant }
+
+-- it was not used
+pub touched_none : {S : Type 0} (names : List (List ℕ)) (own : Own S) → Touches names own own
+touched_none names own = record { same = same_own own; own = own_same own.vault.now own.tenant.now; grows = grows_none names own.vault.now.places }
+
+-- it was used, and no name came
+pub touched : {S : Type 0} (names : List (List ℕ)) (old new : Own S) → Touches [] old new → Touches names old new
+touched names old new by = record { same = by.same; own = by.own; grows = grows_same names old.vault.now.places new.vault.now.places (none_came old.vault.now.places new.vault.now.places by.grows) }
+
+-- it was used, and what is staged stayed
+pub used : {S : Type 0} (names : List (List ℕ)) (old new : Own S) → Uses names old new → Touches names old new
+used names old new by = record { same = by.same; own = by.own; grows = by.grows }
 
 -- what holds of the tenant after, holds of the tenant before
 pub of_first : {S : Type 0} (first new : Own S) (P : List ℕ → Type 0) → IsSame first new → P new.tenant.now → P first.tenant.now

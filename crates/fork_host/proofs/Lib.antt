@@ -1,4 +1,5 @@
 pub mod AddingLemmas
+pub mod BetweenLemmas
 pub mod BoundLemmas
 pub mod FaultLemmas
 pub mod GatherLemmas
@@ -20,6 +21,7 @@ pub mod RowLemmas
 pub mod SafeLemmas
 pub mod ShapeLemmas
 pub mod StagedLemmas
+pub mod StepLemmas
 pub mod SweptLemmas
 pub mod TakingLemmas
 pub mod TargetLemmas

@@ -1,10 +1,17 @@
 -- Rows of uploads: a piece comes, the upload is at its end, or it goes.
-use Rattle.std.proofs.Common.{◌≡◌, ℕ, ◌+◌, ◌≤◌, Bool, true, false, cond, IsTrue, List, [], ◌++◌, Option, None, Some, Result, Ok, Err, refl, sym, ap, subst, ◌∙◌, is_some, length, length-append, arith}
-use Rattle.std.specs.Prelude.{IfErr, IfOk, nat_lt}
+use Rattle.std.proofs.Common.{◌≡◌, ℕ, ◌+◌, ◌-◌, ◌≤◌, Bool, true, false, cond, IsTrue, List, [], ◌++◌, Option, None, Some, Result, Ok, Err, refl, sym, ap, subst, ◌∙◌, is_some, length, length-append, arith}
+use Rattle.std.specs.Prelude.{Contains, IfErr, IfOk, nat_lt}
 use Rattle.std.proofs.lemmas.Bool.Decides.{nat_tests}
 use Rattle.std.specs.Option.{option_map}
 use Rattle.std.specs.FinMap.{empty}
-use Rattle.git_name.specs.Object.{Object}
+use Rattle.std.proofs.lemmas.List.{map-append}
+use Rattle.std.proofs.lemmas.List.Elements.{Contains-append_right}
+use Rattle.git_name.specs.Object.{Object, object_name}
+use Rattle.git_reftx.specs.declared.command.Command.{Command}
+use Rattle.git_reftx.specs.declared.reading.TheConstants.{MAX_COMMANDS}
+use Rattle.looks.specs.Growth.{GrowsBy}
+use Rattle.looks.specs.Places.{Places}
+use Rattle.looks.proofs.GrowthLemmas.{grows_more}
 use Rattle.push_stream.specs.declared.brief.Brief.{Brief}
 use Rattle.push_stream.specs.declared.fault.BodyError.{BodyError}
 use Rattle.push_stream.specs.declared.fault.BodyError.TheVariants.{Fault, Memory}
@@ -12,9 +19,9 @@ use Rattle.push_stream.specs.declared.fault.StreamFault.{StreamFault}
 use Rattle.push_stream.specs.declared.upload.TheConstants.{MAX_UPLOAD}
 use Rattle.push_stream.specs.Brief.{brief_of}
 use Rattle.push_stream.specs.Incoming.{TellsEnd}
-use Rattle.push_stream.specs.Reading.{Reading, finished_flow, reading_of}
-use Rattle.push_stream.specs.Stream.{finished, sent_in, stream_of}
-use Rattle.push_stream.specs.Upload.{UploadValue, continued, upload_of}
+use Rattle.push_stream.specs.Reading.{Broken, Flow, Going, Reading, finished_flow, flow_of, gained, reading_of}
+use Rattle.push_stream.specs.Stream.{Breaks, Flows, Stream, behind, finished, header_in, records_in, sent_in, stream_of}
+use Rattle.push_stream.specs.Upload.{UploadValue, continued, stream_with, upload_of}
 use Rattle.push_stream.proofs.PieceLemmas.{piece_joins}
 use Rattle.push_stream.proofs.ReadingLemmas.{finished_is}
 use Rattle.fork_request.specs.Told.{is_done, is_host_fault}
@@ -25,7 +32,7 @@ use Rattle.fork_reach.specs.Source.{Objects}
 use Rattle.fork_ledger.specs.Tenants.{VaultState}
 use Rattle.fork_model.specs.Answer.{Held, upload_ended, open_upload, part_answer, part_drop_answer, without_upload}
 use Rattle.fork_model.specs.Sound.{IsOrderly}
-use Rattle.fork_model.specs.Uploads.{upload_among}
+use Rattle.fork_model.specs.Uploads.{stream_among, upload_among}
 use Rattle.fork_model.specs.View.{View, Repositories}
 use Rattle.fork_host.specs.Bounds.{IsBounded, IsCollision, StoresSent}
 use Rattle.fork_host.specs.Fed.{IsFed, Fed, Full, Unfed}
@@ -33,6 +40,7 @@ use Rattle.fork_host.specs.Own.{KeepsSeen, KeepsStaged, staged_in, visible_in}
 use Rattle.fork_host.specs.Pushed.{TellsBrief, view_of}
 use Rattle.fork_host.specs.Rows.{Gives, Given, Yields, Yielded, Lacking, Faulted}
 use Rattle.fork_host.specs.Safe.{IsSafe}
+use Rattle.fork_host.specs.Sent.{sent_names}
 use Rattle.fork_host.specs.Shown.{Account, shown}
 use Rattle.fork_host.specs.Staged.{Came, IsStaged}
 use Rattle.fork_host.proofs.SafeLemmas.{count_in, orderly_measured, shape_measured}
@@ -311,3 +319,42 @@ failed_not_done (Failed fault) is = refl
 -- a safe answer keeps wider bounds too
 pub safe_within : (Within Over : Reply → Type 0) (old : View) (reply : Reply) (new : View) → (Within reply → Over reply) → IsSafe Within old reply new → IsSafe Over old reply new
 safe_within Within Over old reply new over safe = record { orderly = safe.orderly; kept = safe.kept; faults = over safe.faults }
+
+-- ---- the catalogue
+-- what a piece adds stands behind what came, whichever objects these are
+behind_front : (commands : List Command) (objects : List Object) (s : Stream) → (front : List Object) × (sent_in (behind commands objects s) ≡ front ++ sent_in s)
+behind_front commands objects (Flows others more headed rest) = (objects, refl)
+behind_front commands objects (Breaks fault) = ([], refl)
+
+added_front : (s : Stream) (piece : List ℕ) → (front : List Object) × (sent_in (stream_with s piece) ≡ front ++ gained (flow_of s) piece)
+added_front (Flows commands objects true rest) piece = behind_front commands objects (records_in (length (rest ++ piece)) (rest ++ piece))
+added_front (Flows commands objects false rest) piece = behind_front commands objects (header_in (MAX_COMMANDS - length commands) (rest ++ piece))
+added_front (Breaks fault) piece = ([], refl)
+
+gained_alike : (objects : Objects) (flow : Flow) (piece : List ℕ) → gained (flow_of (stream_among objects flow)) piece ≡ gained flow piece
+gained_alike objects (Going commands sent headed rest) piece = refl
+gained_alike objects (Broken fault) piece = refl
+
+-- so the names of what it adds are among those of what the upload then has
+grown : (upload : UploadValue) (flow : Flow) (body : List ℕ) (a b : Places) → gained (flow_of upload.stream) body ≡ gained flow body → GrowsBy (sent_names (gained flow body)) a b → GrowsBy (sent_names (sent_in (continued upload body).stream)) a b
+unfolding continued
+grown upload flow body a b same grows =
+    let parts = added_front upload.stream body in
+    let names : sent_names (sent_in (stream_with upload.stream body)) ≡ sent_names parts.0 ++ sent_names (gained flow body) =
+    ap sent_names (parts.1 ∙ ap (λ objects. parts.0 ++ objects) same) ∙ map-append object_name parts.0 (gained flow body) in
+    grows_more (sent_names (gained flow body)) (sent_names (sent_in (stream_with upload.stream body))) a b
+    (λ name is. subst (λ all. Contains all name) (sym names) (Contains-append_right (sent_names parts.0) (sent_names (gained flow body)) name is)) grows
+
+-- of one that is open
+pub part_grows : (staged : Objects) (waits : Option Reading) (old : Reading) (body : List ℕ) (a b : Places) → waits ≡ Some old → GrowsBy (sent_names (gained old.flow body)) a b
+    → GrowsBy (sent_names (sent_in (continued (open_upload (option_map (upload_among staged) waits)) body).stream)) a b
+part_grows staged waits old body a b is grows =
+    subst (λ upload. GrowsBy (sent_names (sent_in (continued (open_upload (option_map (upload_among staged) upload)) body).stream)) a b) (sym is)
+    (grown (upload_among staged old) old.flow body a b (gained_alike staged old.flow body) grows)
+
+-- and of one that begins
+pub begun_grows : (staged : Objects) (waits : Option Reading) (old : Reading) (body : List ℕ) (a b : Places) → waits ≡ None → old ≡ reading_of [] → GrowsBy (sent_names (gained old.flow body)) a b
+    → GrowsBy (sent_names (sent_in (continued (open_upload (option_map (upload_among staged) waits)) body).stream)) a b
+begun_grows staged waits old body a b is begins grows =
+    subst (λ upload. GrowsBy (sent_names (sent_in (continued (open_upload (option_map (upload_among staged) upload)) body).stream)) a b) (sym is)
+    (grown (upload_of []) old.flow body a b (ap (λ (reading : Reading). gained reading.flow body) (sym begins)) grows)

@@ -25,13 +25,13 @@ use Rattle.fork_host.proofs.BoundLemmas.{bounded_gains, bounded_read, gains_read
 use Rattle.fork_host.proofs.SafeLemmas.{read_safe, read_uses}
 
 -- a source that is asked is a handle that was used
-pub asked_uses : {S : Type 0} (old new : Own S) (fault : Option SourceFault) → IsAsked (own_state old) (own_state new) fault → Uses old new
+pub asked_uses : {S : Type 0} (old new : Own S) (fault : Option SourceFault) → IsAsked (own_state old) (own_state new) fault → Uses [] old new
 asked_uses old new fault asked =
-    read_uses old new (ap (λ base. base.1) asked.base) (λ h. ap (λ rest. rest.0) (asked.rest h)) asked.honest (record { vault = ap (λ base. base.0.0) asked.base; tenant = ap (λ base. base.0.1) asked.base })
+    read_uses old new (ap (λ base. base.1) asked.base) (λ h. ap (λ rest. rest.0) (asked.rest h)) asked.honest (ap (λ base. base.2) asked.base) (record { vault = ap (λ base. base.0.0) asked.base; tenant = ap (λ base. base.0.1) asked.base })
 
 -- and a vault that was read
 pub asked_read : {S : Type 0} (old new : Own S) (fault : Option SourceFault) → IsAsked (own_state old) (own_state new) fault → IsRead old.vault.now new.vault.now fault
-asked_read old new fault asked = record { honest = asked.honest; counted = asked.counted; files = λ h. ap (λ rest. rest.1) (asked.rest h); undamaged = asked.undamaged }
+asked_read old new fault asked = record { honest = asked.honest; counted = asked.counted; files = λ h. ap (λ rest. rest.1) (asked.rest h); places = ap (λ base. base.2) asked.base; undamaged = asked.undamaged }
 
 bounded_told : {S B : Type 0} (view : B → List ℕ) (old new : Own S) (found : Result B QueryError) → IsRead old.vault.now new.vault.now (fault_of found) → IsBounded [] old.vault.now new.vault.now (query_told view found)
 bounded_told view old new (Ok text) read = bounded_gains [] old.vault.now new.vault.now _ (gains_read [] old.vault.now new.vault.now read) (inl refl)

@@ -1,5 +1,5 @@
 -- What names, kinds and lengths decide of an answer.
-use Rattle.std.proofs.Common.{◌≡◌, ℕ, ◌≤◌, Bool, true, IsTrue, List, Option, None, Some, refl, sym, ap, subst, ◌∙◌}
+use Rattle.std.proofs.Common.{◌≡◌, ℕ, ◌≤◌, Bool, true, IsTrue, List, [], Option, None, Some, refl, sym, ap, subst, ◌∙◌}
 use Rattle.std.specs.Option.{option_map}
 use Rattle.std.specs.FinMap.{contains_key, get, insert, retain_keys}
 use Rattle.std.specs.Prelude.{Contains}
@@ -25,6 +25,7 @@ use Rattle.fork_model.proofs.SoundLemmas.{orderly_answer}
 use Rattle.fork_model.proofs.StepLemmas.{left_but_upload, undone}
 use Rattle.fork_ledger.specs.Tenants.{shape_of as vault_shape}
 use Rattle.fork_ledger.proofs.BothLemmas.{same_measures}
+use Rattle.looks.proofs.GrowthLemmas.{grows_same}
 use Rattle.fork_host.specs.declared.own.Own.{Own}
 use Rattle.fork_host.specs.Handle.{IsSame, Uses, shown_by}
 use Rattle.fork_host.specs.Own.{staged_in, visible_in}
@@ -154,10 +155,11 @@ safe_taken Within repositories now seen both objects upload limit name old new r
 
 -- a vault that is read alone: the handle was used, and the answer is safe
 pub read_uses : {S : Type 0} (old new : Own S) → vault_shape new.vault.now.tenants ≡ vault_shape old.vault.now.tenants → (IsTrue old.vault.now.honest → new.vault.now.tenants ≡ old.vault.now.tenants)
-    → new.vault.now.honest ≡ old.vault.now.honest → IsSame old new → Uses old new
-read_uses old new shape kept honest same = record {
+    → new.vault.now.honest ≡ old.vault.now.honest → new.vault.now.places ≡ old.vault.now.places → IsSame old new → Uses [] old new
+read_uses old new shape kept honest places same = record {
   same = same;
   own = own_read old.vault.now new.vault.now old.tenant.now shape kept honest;
+  grows = grows_same [] old.vault.now.places new.vault.now.places places;
   staged = staged_read old.vault.now new.vault.now old.tenant.now shape kept;
 }
 

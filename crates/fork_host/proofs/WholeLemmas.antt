@@ -22,7 +22,7 @@ use Rattle.fork_model.specs.Runs.{Asks, Unknown}
 use Rattle.fork_request.specs.Names.{IsTenantName}
 use Rattle.fork_model.specs.Sound.{IsOrderly, IsOrderlyWorld, IsRightWorld}
 use Rattle.fork_model.specs.View.{View}
-use Rattle.fork_model.specs.World.{HostSays, Steps}
+use Rattle.fork_model.specs.World.{HostSays, Steps, nothing_met}
 use Rattle.fork_model.proofs.SoundWorlds.{right_step}
 use Rattle.fork_model.proofs.Worlds.{answered}
 use Rattle.fork_host.specs.Adding.{new_account, new_view}
@@ -121,7 +121,7 @@ ready state t account whole here =
 pub answered_step : (old new : HostState) (t : List ℕ) (ask : Ask) (account after : Account) (reply : Reply) → get old.accounts t ≡ Some account → new.accounts ≡ insert old.accounts t after
     → Yields (answer (shown account old.vault t) ask) (shown account old.vault t) reply (shown after new.vault t) → IsOwn t old.vault new.vault → Trusted old → Steps (world_of old) (Asks t ask) reply (world_of new)
 answered_step old new t ask account after reply here set gives own trusted =
-    answered name_cmp name_total name_exact answer (Refused UnknownTenant) is_host_fault HostSays (world_of old) (world_of new) t ask (shown account old.vault t) reply (shown after new.vault t)
+    answered name_cmp name_total name_exact nothing_met (λ _. answer) (Refused UnknownTenant) is_host_fault HostSays (world_of old) (world_of new) t ask (shown account old.vault t) reply (shown after new.vault t)
     (get_world old t ∙ ap (option_map (λ a. shown a old.vault t)) here) (answers_of (shown account old.vault t) (shown after new.vault t) ask reply gives)
     (world_set old new t after set (own.others trusted))
 

@@ -50,9 +50,10 @@ pub record Gains (sent : List Object) (old new : VaultState) : Type 0 where
   pub failures : new.failures ≡ old.failures
   pub stored : IsTrue old.honest → StoresSent sent old.files new.files
 
--- the store was read, with this fault or none
+-- the store was read, with this fault or none, and the catalogue stayed
 pub record IsRead (old new : VaultState) (fault : Option SourceFault) : Type 0 where
   pub honest : new.honest ≡ old.honest
   pub counted : CountsFault old.failures new.failures fault
   pub files : IsTrue old.honest → new.files ≡ old.files
+  pub places : new.places ≡ old.places
   pub undamaged : IsTrue old.honest → fault ≢ Some source.Damaged

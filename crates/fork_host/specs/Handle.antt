@@ -3,6 +3,8 @@ use Rattle.std.specs.Prelude.{◌≡◌, ℕ, List}
 use Rattle.std.specs.Borrow.{Bor}
 use Rattle.std.specs.FinMap.{FinMap}
 use Rattle.git_name.specs.Name.{name_cmp}
+use Rattle.looks.specs.Growth.{GrowsBy}
+use Rattle.looks.specs.Places.{Places}
 use Rattle.loose_store.specs.Files.{Files}
 use Rattle.fork_reach.specs.Objects.{Measures}
 use Rattle.fork_reach.specs.Source.{Objects, SourceState}
@@ -30,9 +32,9 @@ staged_by own = staged_in own.vault.now own.tenant.now
 abbrev pub shown_by : {S : Type 0} → Account → Own S → View
 shown_by account own = shown account own.vault.now own.tenant.now
 
--- what it stands on that stays over any store: the vault that it lends, the tenant, and the shape of all private maps
+-- what it stands on that stays over any store: the vault that it lends, the tenant, the shape of all private maps, and the catalogue
 abbrev pub Base : Type 0
-Base = (ℕ × Bor (List ℕ)) × FinMap name_cmp (Measures × Measures)
+Base = (ℕ × Bor (List ℕ)) × FinMap name_cmp (Measures × Measures) × Places
 
 -- and over an honest store: all private maps, and the files of the store
 abbrev pub Rest : Type 0
@@ -44,7 +46,7 @@ own_state own = record {
   objects = visible_by own;
   honest = own.vault.now.honest;
   failures = own.vault.now.failures;
-  base = ((own.vault.ghost_name, own.tenant), shape_of own.vault.now.tenants);
+  base = ((own.vault.ghost_name, own.tenant), shape_of own.vault.now.tenants, own.vault.now.places);
   rest = (own.vault.now.tenants, own.vault.now.files);
 }
 
@@ -57,13 +59,15 @@ pub record IsSame {S : Type 0} (old new : Own S) : Type 0 where
   pub vault : new.vault.ghost_name ≡ old.vault.ghost_name
   pub tenant : new.tenant ≡ old.tenant
 
--- it was used for a request: of the vault the tenant's part alone changed
-pub record Touches {S : Type 0} (old new : Own S) : Type 0 where
+-- it was used for a request: of the vault the tenant's part alone changed, and to the catalogue names of these alone came
+pub record Touches {S : Type 0} (names : List (List ℕ)) (old new : Own S) : Type 0 where
   pub same : IsSame old new
   pub own : IsOwn old.tenant.now old.vault.now new.vault.now
+  pub grows : GrowsBy names old.vault.now.places new.vault.now.places
 
 -- and what is staged stayed
-pub record Uses {S : Type 0} (old new : Own S) : Type 0 where
+pub record Uses {S : Type 0} (names : List (List ℕ)) (old new : Own S) : Type 0 where
   pub same : IsSame old new
   pub own : IsOwn old.tenant.now old.vault.now new.vault.now
+  pub grows : GrowsBy names old.vault.now.places new.vault.now.places
   pub staged : KeepsStaged old.tenant.now old.vault.now new.vault.now

@@ -1,5 +1,7 @@
 pub mod Adding
+pub mod Between
 pub mod Bounds
+pub mod Causes
 pub mod Faults
 pub mod Fed
 pub mod Given
@@ -17,5 +19,6 @@ pub mod Sent
 pub mod Shape
 pub mod Shown
 pub mod Staged
+pub mod Step
 pub mod Swept
 pub mod Uploads

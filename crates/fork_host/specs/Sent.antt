@@ -1,7 +1,7 @@
 -- The objects that a request brings with it, those of the upload that is open among them.
-use Rattle.std.specs.Prelude.{ℕ, List, [], Option, None, Some}
+use Rattle.std.specs.Prelude.{ℕ, List, [], Option, None, Some, map}
 use Rattle.std.specs.FinMap.{get}
-use Rattle.git_name.specs.Object.{Object}
+use Rattle.git_name.specs.Object.{Object, object_name}
 use Rattle.push_stream.specs.Stream.{sent_in, stream_of}
 use Rattle.push_stream.specs.Upload.{continued}
 use Rattle.fork_request.specs.Asked.{Ask, Inits, Drops, Forks, Pushes, SendsPart, EndsParts, DropsParts, Updates, AsksObject, AsksTree, AsksRevisions, AsksBases, AsksReferences, Fetches, AsksUse, Prunes, NoRequest}
@@ -37,3 +37,7 @@ sent_of (Some view) ask = sent_by view ask
 -- those of a tenant of a world
 abbrev pub sent_in_world : World → List ℕ → Ask → List Object
 sent_in_world world tenant ask = sent_of (get world tenant) ask
+
+-- the names of what is sent
+abbrev pub sent_names : List Object → List (List ℕ)
+sent_names objects = map object_name objects

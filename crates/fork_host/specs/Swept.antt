@@ -1,5 +1,6 @@
--- What requests of the host itself do with the store (own): sweeps, collections, the census and the check. They change no view.
-use Rattle.std.specs.Prelude.{◌≡◌, ◌⊎◌, ◌<◌, ◌≤◌, ◌+◌, ◌*◌, ℕ, Bool, true, IsTrue, List, [], ◌∷◌, length, map, sum, ⊤}
+-- What becomes of the catalogue and the store (own): requests of the host itself, which are sweeps, collections, the census and the
+-- check, change no view; those of tenants let the catalogue grow, and no more.
+use Rattle.std.specs.Prelude.{◌≡◌, ◌⊎◌, ◌<◌, ◌≤◌, ◌+◌, ◌*◌, ℕ, Bool, true, IsTrue, List, [], length, map, sum}
 use Rattle.std.specs.FinMap.{contains_key, get}
 use Rattle.std.specs.List.{AllByRecursion}
 use Rattle.fork_request.specs.Harms.{Harmed, harm_lines}
@@ -11,13 +12,15 @@ use Rattle.fork_request.specs.declared.reply.Reply.{Reply}
 use Rattle.fork_request.specs.declared.reply.Reply.TheVariants.{Done, Refused, Failed}
 use Rattle.fork_model.specs.Runs.{Asks, HostAsks}
 use Rattle.fork_model.specs.World.{Event, number_line}
+use Rattle.looks.specs.Growth.{GrowsBy}
 use Rattle.looks.specs.Looks.{Looks, Walks}
 use Rattle.looks.specs.Places.{Places, at_start}
 use Rattle.looks.specs.Slices.{Collects, Sweeps}
 use Rattle.fork_ledger.specs.Harms.{AreFound}
 use Rattle.fork_ledger.specs.Taken.{is_taken}
 use Rattle.fork_ledger.specs.Tenants.{VaultState}
-use Rattle.fork_host.specs.Shown.{HostState}
+use Rattle.fork_host.specs.Sent.{sent_in_world, sent_names}
+use Rattle.fork_host.specs.Shown.{HostState, world_of}
 
 -- the store has files of just the names of which some tenant has an object
 abbrev pub IsSharp : VaultState → Type 0
@@ -87,17 +90,10 @@ pub record Tends (request : HostRequest) (old : VaultState) (reply : Reply) (new
   pub sharp : IsTrue old.honest → request ≡ Collect → is_done reply ≡ true → IsSharp new
   pub sound : IsTrue old.honest → request ≡ Fsck → is_done reply ≡ true → reply ≡ Done []
 
--- the same of a step, where the host itself is asked
+-- the same of a step; a tenant's lets the catalogue's place stay, and the catalogue grow by names of what is sent alone
 abbrev pub TendsAt : HostState → Event → Reply → HostState → Type 0
-TendsAt old (Asks tenant ask) reply new = ⊤
+TendsAt old (Asks tenant ask) reply new = GrowsBy (sent_names (sent_in_world (world_of old) tenant ask)) old.vault.places new.vault.places
 TendsAt old (HostAsks request) reply new = Tends request old.vault reply new.vault
-
--- the same of each step of a run, from state to state
-abbrev pub TendsAlong : HostState → List Event → List Reply → HostState → Type 0
-TendsAlong old [] [] new = new ≡ old
-TendsAlong old (event ∷ events) (reply ∷ replies) new = (mid : HostState) × TendsAt old event reply mid × TendsAlong mid events replies new
-TendsAlong old [] (reply ∷ replies) new = ⊥
-TendsAlong old (event ∷ events) [] new = ⊥
 
 -- sweeps of so many looks at the most, one after another
 abbrev pub sweeps : List ℕ → List Event

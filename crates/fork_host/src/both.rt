@@ -19,12 +19,13 @@ impl<S: LooseFiles> Source for Both<'_, S> {
     ghost use Rattle.std.specs.Borrow.{Bor};
     ghost use Rattle.std.specs.FinMap.{FinMap};
     ghost use Rattle.git_name.specs.Name.{name_cmp};
+    ghost use Rattle.looks.specs.Places.{Places};
     ghost use Rattle.fork_reach.specs.Objects.{Measures};
     ghost use Rattle.fork_ledger.specs.Private.{both_of};
     ghost use Rattle.fork_ledger.specs.Tenants.{private_of, shape_of};
     ghost use Rattle.fork_host.specs.Handle.{Rest};
 
-    ghost Base = { (ℕ × Bor (List ℕ)) × FinMap name_cmp (Measures × Measures) };
+    ghost Base = { (ℕ × Bor (List ℕ)) × FinMap name_cmp (Measures × Measures) × Places };
 
     ghost Rest = { Rest };
 
@@ -32,7 +33,7 @@ impl<S: LooseFiles> Source for Both<'_, S> {
       objects = both_of (private_of both.vault.now.tenants both.tenant.now);
       honest = both.vault.now.honest;
       failures = both.vault.now.failures;
-      base = ((both.vault.ghost_name, both.tenant), shape_of both.vault.now.tenants);
+      base = ((both.vault.ghost_name, both.tenant), shape_of both.vault.now.tenants, both.vault.now.places);
       rest = (both.vault.now.tenants, both.vault.now.files);
     } };
 

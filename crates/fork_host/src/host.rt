@@ -1,26 +1,24 @@
-ghost use Rattle.std.specs.Prelude.{◌≡◌, ◌≢◌, ◌⊎◌, IsTrue, IfOk, IfErr, OnOk, OnErr, List, [], ℕ, Some, None, false, option_map, true, map as each};
+ghost use Rattle.std.specs.Prelude.{◌≡◌, ◌≢◌, ◌⊎◌, IsTrue, IfOk, IfErr, OnOk, OnErr, List, [], ℕ, Some, None, false, option_map, map as each};
 ghost use Rattle.push_stream.specs.Upload.{upload_of};
 ghost use Rattle.fork_host.specs.Uploads.{upload_at, uploads_of};
 ghost use Rattle.std.specs.FinMap as map;
 ghost use Rattle.fork_request.specs.Asked.{ask_of};
-ghost use Rattle.fork_request.specs.Told.{is_done};
 ghost use Rattle.git_name.specs.Object.{Object};
 ghost use Rattle.fork_model.specs.Provenance.{WasSent};
 ghost use Rattle.fork_model.specs.Runs.{Asks, HostAsks};
 ghost use Rattle.fork_model.specs.Sound.{IsOrderlyWorld, IsRightWorld};
 ghost use Rattle.fork_model.specs.View.{View};
-ghost use Rattle.fork_model.specs.World.{Steps, Explains, IsUnfaulted, alone, own, told};
+ghost use Rattle.fork_model.specs.World.{IsUnfaulted, alone, exchanges, own, told};
 ghost use Rattle.state_text.specs.Kept.{states_of};
 ghost use Rattle.fork_ledger.specs.Store.{IsOver, LeavesStore};
 ghost use Rattle.fork_ledger.specs.Tenants.{with_tenant};
 ghost use Rattle.fork_host.specs.Adding.{new_account, new_view, refusal_to_add};
 ghost use Rattle.fork_host.specs.Bounds.{IsBounded};
-ghost use Rattle.fork_host.specs.Faults.{FaultsAlong, FaultsWithin};
 ghost use Rattle.fork_host.specs.Opening.{reading_told};
-ghost use Rattle.fork_host.specs.Safe.{IsNamedReply};
 ghost use Rattle.fork_host.specs.Shape.{SameShape};
 ghost use Rattle.fork_host.specs.Shown.{StagesUploads, Trusted, world_of};
-ghost use Rattle.fork_host.specs.Swept.{IsSharp, KeepsTaken, SharpAfterSweeps, Tends, TendsAlong, TendsAt};
+ghost use Rattle.fork_host.specs.Step.{IsRun, IsStep};
+ghost use Rattle.fork_host.specs.Swept.{SharpAfterSweeps};
 
 use crate::accounts::Accounts;
 use crate::add_error::AddError;
@@ -182,18 +180,7 @@ impl<S: LooseFiles> Host<S> {
 
     /// Answers a tenant's request from that tenant's view.
     pub fn answer(&mut self, alloc: Global, name: &TenantName, request: Request<'_>) -> Reply
-        ensures explained { Trusted self.old → Steps (world_of self.old) (Asks name.now (ask_of request.entry)) result (world_of self.new) }
-        ensures trusted { Trusted self.old → Trusted self.new }
-        ensures orderly { IsOrderlyWorld (world_of self.new) }
-        ensures right { Trusted self.old → IsRightWorld (world_of self.new) }
-
-        // What is refused or failed and what others see keep their shape.
-        ensures kept { is_done result ≡ false → (tenant : List ℕ) → SameShape tenant (world_of self.old) (world_of self.new) }
-        ensures others { (tenant : List ℕ) → tenant ≢ name.now → SameShape tenant (world_of self.old) (world_of self.new) }
-
-        // Over any store too: what is answered under a name has that name, and which host faults may come.
-        ensures named { IsNamedReply (ask_of request.entry) result }
-        ensures faults { FaultsWithin self.old (Asks name.now (ask_of request.entry)) result self.new }
+        ensures { IsStep self.old (Asks name.now (ask_of request.entry)) result self.new }
     {
         self.accounts.answer(alloc, &mut self.vault, name, request)
     }
@@ -201,40 +188,16 @@ impl<S: LooseFiles> Host<S> {
     /// Answers a request of the host's own, which changes no view. What a sweep or a collection took
     /// away before a fault is away.
     pub fn host_answer(&mut self, alloc: Global, request: HostRequest) -> Reply
-        ensures explained { Trusted self.old → Steps (world_of self.old) (HostAsks request) result (world_of self.new) }
-        ensures trusted { Trusted self.old → Trusted self.new }
-        ensures orderly { IsOrderlyWorld (world_of self.new) }
-        ensures right { Trusted self.old → IsRightWorld (world_of self.new) }
-        ensures kept { (tenant : List ℕ) → SameShape tenant (world_of self.old) (world_of self.new) }
-        ensures faults { FaultsWithin self.old (HostAsks request) result self.new }
-
-        // A collection leaves the files of just the names of which some tenant has an object, and
-        // nothing takes one of these files away.
-        ensures sharp { Trusted self.old → request ≡ HostRequest.Collect → is_done result ≡ true → IsSharp self.new.vault }
-        ensures stays { Trusted self.old → KeepsTaken self.old.vault self.new.vault }
-
-        // Over an honest store a check finds nothing.
-        ensures sound { Trusted self.old → request ≡ HostRequest.Fsck → is_done result ≡ true → result ≡ Reply.Done [] }
-
-        // Over any store too: how many looks at the catalogue, and by how many names it shrank; and which
-        // harms a check tells.
-        ensures tends { Tends request self.old.vault result self.new.vault }
+        ensures { IsStep self.old (HostAsks request) result self.new }
     {
         tend(alloc, &mut self.vault, request)
     }
 
-    ghost use Rattle.fork_host.specs.Given.{asker_of, event_of, events_of};
+    ghost use Rattle.fork_host.specs.Given.{event_of, events_of};
 
     /// Answers one step: a tenant's request or one of the host's own.
     pub fn step(&mut self, alloc: Global, step: HostStep<'_>) -> Reply
-        ensures explained { Trusted self.old → Steps (world_of self.old) (event_of step.entry) result (world_of self.new) }
-        ensures trusted { Trusted self.old → Trusted self.new }
-        ensures orderly { IsOrderlyWorld (world_of self.new) }
-        ensures right { Trusted self.old → IsRightWorld (world_of self.new) }
-        ensures kept { is_done result ≡ false → (tenant : List ℕ) → SameShape tenant (world_of self.old) (world_of self.new) }
-        ensures others { (tenant : List ℕ) → asker_of (event_of step.entry) ≢ Some tenant → SameShape tenant (world_of self.old) (world_of self.new) }
-        ensures faults { FaultsWithin self.old (event_of step.entry) result self.new }
-        ensures tends { TendsAt self.old (event_of step.entry) result self.new }
+        ensures { IsStep self.old (event_of step.entry) result self.new }
     {
         match step {
             HostStep::Tenant(name, request) => self.answer(alloc, name, request),
@@ -244,14 +207,10 @@ impl<S: LooseFiles> Host<S> {
 
     /// Answers the steps in turn. Memory for the replies is asked for before the first step.
     pub fn run(&mut self, alloc: Global, steps: &[HostStep<'_>]) -> Result<Vec<Reply>, NoMemory>
-        ensures explained { Trusted self.old → IfOk result (λ replies.
-            Explains (world_of self.old) (events_of steps.now) replies.items (world_of self.new)) }
-        ensures trusted { Trusted self.old → Trusted self.new }
+        ensures ran { IfOk result (λ replies. IsRun self.old (events_of steps.now) replies.items self.new) }
+        ensures err { OnErr result (self.new ≡ self.old) }
         ensures orderly { IsOrderlyWorld (world_of self.new) }
         ensures right { Trusted self.old → IsRightWorld (world_of self.new) }
-        ensures err { OnErr result (self.new ≡ self.old) }
-        ensures faults { IfOk result (λ replies. FaultsAlong self.old (events_of steps.now) replies.items self.new) }
-        ensures tends { IfOk result (λ replies. TendsAlong self.old (events_of steps.now) replies.items self.new) }
 
         // After sweeps alone that add up to at least twice the number of names that were catalogued, the
         // store has files of just the names of which some tenant has an object.
@@ -270,7 +229,7 @@ impl<S: LooseFiles> Host<S> {
         // What a tenant sees at the end, it saw at the start, or sent itself.
         ensures provenance { Trusted self.old → IfOk result (λ replies. (tenant : List ℕ) (view last : View) (name : List ℕ) (object : Object)
             → map.get (world_of self.old) tenant ≡ Some view → map.get (world_of self.new) tenant ≡ Some last → map.get last.objects name ≡ Some object
-            → (map.get view.objects name ≡ Some object) ⊎ WasSent view (own tenant (events_of steps.now)) name object) }
+            → (map.get view.objects name ≡ Some object) ⊎ WasSent view (exchanges tenant (events_of steps.now) replies.items) name object) }
     {
         // The census only for its clauses, here and behind the steps.
         let _before = self.vault.census();

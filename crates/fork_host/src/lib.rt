@@ -35,7 +35,10 @@ mod visible;
 
 pub use crate::add_error::AddError;
 pub use crate::host::{Host, NoMemory};
-pub use crate::laws::faults_of_a_run_have_a_cause;
+pub use crate::laws::{
+    a_census_tells_what_stood, a_collection_leaves_what_is_held, a_run_is_its_steps,
+    faults_of_a_run_have_a_cause,
+};
 pub use crate::open_error::OpenError;
 pub use crate::restore_error::RestoreError;
 pub use crate::step::HostStep;

@@ -4,6 +4,7 @@ ghost use Rattle.std.specs.HashSet.{contains};
 ghost use Rattle.git_name.specs.Object.{object_name};
 ghost use Rattle.git_name.specs.Same.{same_name};
 ghost use Rattle.git_reftx.specs.Transaction.{References};
+ghost use Rattle.looks.specs.Growth.{GrowsBy};
 ghost use Rattle.push_stream.specs.Brief.{brief_shown};
 ghost use Rattle.fork_reach.specs.Faults.{fault_in as source_fault_in};
 ghost use Rattle.fork_reach.specs.Known.{AreParents};
@@ -18,6 +19,7 @@ ghost use Rattle.fork_ledger.specs.Used.{capped};
 ghost use Rattle.fork_push.specs.Push.{judged};
 ghost use Rattle.fork_push.specs.Verdict.{IfAccepted, IsOrderly, TellsJudged, fault_of_verdict};
 ghost use Rattle.fork_host.specs.Bounds.{IsRead};
+ghost use Rattle.fork_host.specs.Sent.{sent_names};
 ghost use Rattle.std.specs.Prelude.{ℕ, List, Contains, Some, true};
 ghost use Rattle.std.specs.List.{AllByRecursion};
 
@@ -74,6 +76,7 @@ impl<'a, S: LooseFiles> Own<'a, S> {
         ensures named { IfOk result (λ found. IfSome found (λ object. object_name object ≡ name)) }
         ensures shape { shape_of self.new.vault.now.tenants ≡ shape_of self.old.vault.now.tenants }
         ensures store { AsksStore self.old.vault.now self.new.vault.now (fault_in result) }
+        ensures places { self.new.vault.now.places ≡ self.old.vault.now.places }
         ensures apart { IfErr result (λ fault. fault ≢ VaultFault.Collision) }
         ensures same { IsSame self.old self.new }
     {
@@ -101,6 +104,7 @@ impl<'a, S: LooseFiles> Own<'a, S> {
         ensures files { IsTrue self.old.vault.now.honest → self.new.vault.now.files ≡ self.old.vault.now.files }
         ensures shape { shape_of self.new.vault.now.tenants ≡ shape_of self.old.vault.now.tenants }
         ensures store { AsksStore self.old.vault.now self.new.vault.now (fault_in result) }
+        ensures places { self.new.vault.now.places ≡ self.old.vault.now.places }
         ensures apart { IfErr result (λ fault. fault ≢ VaultFault.Collision) }
         ensures same { IsSame self.old self.new }
     {
@@ -120,6 +124,7 @@ impl<'a, S: LooseFiles> Own<'a, S> {
         ensures named { IfOk result (λ found. IfSome found (λ object. object_name object ≡ name)) }
         ensures shape { shape_of self.new.vault.now.tenants ≡ shape_of self.old.vault.now.tenants }
         ensures store { AsksStore self.old.vault.now self.new.vault.now (fault_in result) }
+        ensures places { self.new.vault.now.places ≡ self.old.vault.now.places }
         ensures apart { IfErr result (λ fault. fault ≢ VaultFault.Collision) }
         ensures same { IsSame self.old self.new }
     {
@@ -142,6 +147,7 @@ impl<'a, S: LooseFiles> Own<'a, S> {
         // Over any store.
         ensures shape { OnOk result (shape_of self.new.vault.now.tenants ≡ shape_of (at_tenant self.old.vault.now.tenants self.old.tenant.now (with_all_staged objects.items))) }
         ensures kept { OnErr result (shape_of self.new.vault.now.tenants ≡ shape_of self.old.vault.now.tenants) }
+        ensures grows { GrowsBy (sent_names objects.items) self.old.vault.now.places self.new.vault.now.places }
         ensures store { AsksStore self.old.vault.now self.new.vault.now (fault_in result) }
         ensures same { IsSame self.old self.new }
     {
@@ -155,6 +161,7 @@ impl<'a, S: LooseFiles> Own<'a, S> {
         ensures err { OnErr result (self.new.vault.now.tenants ≡ self.old.vault.now.tenants) }
         ensures files { self.new.vault.now.files ≡ self.old.vault.now.files }
         ensures honest { self.new.vault.now.honest ≡ self.old.vault.now.honest }
+        ensures failures { self.new.vault.now.failures ≡ self.old.vault.now.failures }
         ensures same { IsSame self.old self.new }
     {
         self.vault.recall(self.tenant, name, kind, length)

@@ -24,7 +24,7 @@ pub(crate) fn keep_reached<S: LooseFiles>(
     // Over any store.
     ensures pruned { IsPruned roots.now (visible_by own.old) result (visible_in own.new.vault.now own.old.tenant.now) }
     ensures bounds { IsBounded [] own.old.vault.now own.new.vault.now result }
-    ensures own { Uses own.old own.new }
+    ensures own { Uses [] own.old own.new }
 {
     match own.reached(alloc, roots) {
         Ok(names) => {

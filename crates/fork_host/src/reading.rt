@@ -22,6 +22,7 @@ pub(crate) fn read_states<S: LooseFiles>(
     ensures read { IfOk result (λ readings. (state : State) → Contains states.now state → AreRead files.old.honest files.old.contents state.seen readings) }
     ensures kept { IsTrue files.old.honest → files.new.contents ≡ files.old.contents }
     ensures honest { files.new.honest ≡ files.old.honest }
+    ensures failures { IfOk result (λ _. files.new.failures ≡ files.old.failures) }
 {
     let mut readings = Readings::new(alloc);
     for state in states {
@@ -40,6 +41,7 @@ fn read_seen<S: LooseFiles>(
     ensures reads { OnOk result (Reads files.old.honest files.old.contents names.now readings.old readings.new) }
     ensures kept { IsTrue files.old.honest → files.new.contents ≡ files.old.contents }
     ensures honest { files.new.honest ≡ files.old.honest }
+    ensures failures { OnOk result (files.new.failures ≡ files.old.failures) }
 {
     for name in names {
         read_new(alloc, files, readings, *name)?;
@@ -57,6 +59,7 @@ fn read_new<S: LooseFiles>(
     ensures reads { OnOk result (Reads files.old.honest files.old.contents (name ∷ []) readings.old readings.new) }
     ensures kept { IsTrue files.old.honest → files.new.contents ≡ files.old.contents }
     ensures honest { files.new.honest ≡ files.old.honest }
+    ensures failures { OnOk result (files.new.failures ≡ files.old.failures) }
 {
     if readings.contains(name) {
         return Ok(());
@@ -74,6 +77,7 @@ fn read_one<S: LooseFiles>(
     ensures reads { OnOk result (Reads files.old.honest files.old.contents (name ∷ []) readings.old readings.new) }
     ensures kept { IsTrue files.old.honest → files.new.contents ≡ files.old.contents }
     ensures honest { files.new.honest ≡ files.old.honest }
+    ensures failures { OnOk result (files.new.failures ≡ files.old.failures) }
 {
     match files.survey(alloc, name) {
         Ok(Some(sealed)) => keep(alloc, readings, name, &sealed),

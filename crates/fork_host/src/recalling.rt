@@ -26,6 +26,7 @@ pub(crate) fn recall_all<S: LooseFiles>(
     ensures err { OnErr result (Changes (Settles own.old.tenant.now (visible_by own.old)) own.old.vault.now own.new.vault.now) }
     ensures files { own.new.vault.now.files ≡ own.old.vault.now.files }
     ensures honest { own.new.vault.now.honest ≡ own.old.vault.now.honest }
+    ensures failures { own.new.vault.now.failures ≡ own.old.vault.now.failures }
     ensures same { IsSame own.old own.new }
 {
     for name in names {
@@ -51,6 +52,7 @@ fn recall_read<S: LooseFiles>(
     ensures err { OnErr result (own.new.vault.now.tenants ≡ own.old.vault.now.tenants) }
     ensures files { own.new.vault.now.files ≡ own.old.vault.now.files }
     ensures honest { own.new.vault.now.honest ≡ own.old.vault.now.honest }
+    ensures failures { own.new.vault.now.failures ≡ own.old.vault.now.failures }
     ensures same { IsSame own.old own.new }
 {
     let Some(reading) = readings.get(name) else {

@@ -2,7 +2,7 @@
 ghost use Rattle.std.specs.Prelude.{◌≡◌, ◌<◌, IfErr, IfOk, IsTrue, OnErr, OnOk, None, Some, true};
 ghost use Rattle.std.specs.FinMap as map;
 ghost use Rattle.fork_ledger.specs.Private.{nothing};
-ghost use Rattle.fork_ledger.specs.Store.{LeavesStore};
+ghost use Rattle.fork_ledger.specs.Store.{IsOver, LeavesStore};
 ghost use Rattle.fork_ledger.specs.Tenants.{private_of};
 ghost use Rattle.fork_model.specs.declared.limits.TheConstants.{MAX_TENANTS};
 ghost use Rattle.fork_host.specs.Own.{Changes, Settles};
@@ -41,6 +41,7 @@ impl<S: LooseFiles + Drop> Host<S> {
         ensures trusted { IfOk result (λ host. IsTrue (S.honest files) → Trusted host) }
         ensures shown { IfOk result (λ host. IsTrue (S.honest files) → IsShownAgain (S.contents files) states (world_of host)) }
         ensures refused { IfErr result (λ error. IsTrue (S.honest files) → IsRefused (S.contents files) states error) }
+        ensures store { IfOk result (λ host. IsOver (S.contents files) (S.honest files) (S.failures files) host.vault) }
     {
         let Ok(mut files) = CachedStore::new(alloc, files) else {
             return Err(RestoreError::Memory);
@@ -86,6 +87,7 @@ impl<S: LooseFiles> Host<S> {
         ensures trusted { Trusted self.old → Trusted self.new }
         ensures files { Trusted self.old → self.new.vault.files ≡ self.old.vault.files }
         ensures honest { self.new.vault.honest ≡ self.old.vault.honest }
+        ensures failures { self.new.vault.failures ≡ self.old.vault.failures }
         ensures behind { IsBehind state.now.name (map.keys self.old.accounts) (map.keys self.new.accounts) result }
     {
         let Ok(()) = self.add_behind(alloc, state.name().copy(), state.limit()) else {
@@ -121,6 +123,7 @@ impl<S: LooseFiles> Host<S> {
         ensures trusted { Trusted self.old → Trusted self.new }
         ensures files { Trusted self.old → self.new.vault.files ≡ self.old.vault.files }
         ensures honest { self.new.vault.honest ≡ self.old.vault.honest }
+        ensures failures { self.new.vault.failures ≡ self.old.vault.failures }
         ensures keys { map.keys self.new.accounts ≡ map.keys self.old.accounts }
     {
         // For its clause too: the state is in order.
@@ -165,6 +168,7 @@ pub(crate) fn see_in<S: LooseFiles>(
     ensures against { IsTrue vault.old.honest → IfErr result (StandsAgainst vault.old.files seen.now repositories.now limit) }
     ensures files { vault.new.files ≡ vault.old.files }
     ensures honest { vault.new.honest ≡ vault.old.honest }
+    ensures failures { vault.new.failures ≡ vault.old.failures }
 {
     let mut own = Own::new(vault, name);
     see_again(alloc, &mut own, readings, seen, repositories, limit)

@@ -58,6 +58,7 @@ pub(crate) fn see_again<S: LooseFiles>(
     ensures against { IsTrue own.old.vault.now.honest → IfErr result (StandsAgainst own.old.vault.now.files seen.now repositories.now limit) }
     ensures files { own.new.vault.now.files ≡ own.old.vault.now.files }
     ensures honest { own.new.vault.now.honest ≡ own.old.vault.now.honest }
+    ensures failures { own.new.vault.now.failures ≡ own.old.vault.now.failures }
     ensures same { IsSame own.old own.new }
 {
     let Ok(names) = set_of(alloc, seen) else {

@@ -3,6 +3,7 @@ ghost use Rattle.std.specs.Prelude.{◌≡◌, IfErr, IsTrue, OnOk, OnErr, Some,
 ghost use Rattle.std.specs.FinMap as map;
 ghost use Rattle.std.specs.List.{AllByRecursion};
 ghost use Rattle.git_name.specs.Object.{object_name};
+ghost use Rattle.looks.specs.Growth.{GrowsBy};
 ghost use Rattle.fork_reach.specs.Source.{Objects};
 ghost use Rattle.fork_request.specs.declared.reply.Reply.TheVariants.{Failed};
 ghost use Rattle.fork_ledger.specs.AllStaged.{with_all_staged};
@@ -13,6 +14,7 @@ ghost use Rattle.fork_host.specs.Bounds.{Gains, IsBounded};
 ghost use Rattle.fork_host.specs.Handle.{IsSame};
 ghost use Rattle.fork_host.specs.Own.{Changes, Settles, Stages, Turns, both_in, staged_in, visible_in};
 ghost use Rattle.fork_host.specs.Rows.{vault_told};
+ghost use Rattle.fork_host.specs.Sent.{sent_names};
 
 use crate::own::Own;
 use fork_ledger::VaultFault;
@@ -32,6 +34,7 @@ pub(crate) fn stage_all<S: LooseFiles>(
     ensures came { IsTrue own.old.vault.now.honest → OnOk result (AllByRecursion (λ object. map.get (staged_in own.new.vault.now own.old.tenant.now) (object_name object) ≡ Some object) sent.items) }
     ensures gains { OnOk result (Gains sent.items own.old.vault.now own.new.vault.now) }
     ensures bounds { IfErr result (λ fault. IsBounded sent.items own.old.vault.now own.new.vault.now (Failed (vault_told fault))) }
+    ensures grows { GrowsBy (sent_names sent.items) own.old.vault.now.places own.new.vault.now.places }
     ensures same { IsSame own.old own.new }
 {
     own.stage_all(alloc, sent)

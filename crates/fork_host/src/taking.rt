@@ -19,6 +19,7 @@ ghost use Rattle.fork_host.specs.Own.{IsOwn, KeepsStaged, visible_in};
 ghost use Rattle.fork_host.specs.Rows.{Yields};
 ghost use Rattle.fork_host.specs.Safe.{IsSafe};
 ghost use Rattle.fork_host.specs.Pushed.{IsTaken, Sends, TellsBrief, TellsHeld, view_of};
+ghost use Rattle.fork_host.specs.Sent.{sent_names};
 
 use crate::own::Own;
 use crate::replies::{done, host_fault, push_refusal, stream_refusal, vault_fault};
@@ -51,7 +52,7 @@ pub(crate) fn take_body<S: LooseFiles>(
     // Over any store.
     ensures safe { (upload : Option UploadValue) (sent : List Object) → Sends sent finished → IsSafe (IsBounded sent own.old.vault.now own.new.vault.now) (view_of repositories.old (visible_by own.old) upload limit)
         result (view_of repositories.new (visible_in own.new.vault.now own.old.tenant.now) upload limit) }
-    ensures own { Uses own.old own.new }
+    ensures own { (sent : List Object) → Sends sent finished → Uses (sent_names sent) own.old own.new }
 {
     match finished {
         Ok(body) => take(alloc, repositories, own, limit, name, body),
@@ -78,7 +79,7 @@ fn take<S: LooseFiles>(
     // Over any store.
     ensures safe { (upload : Option UploadValue) → IsSafe (IsBounded body.objects.items own.old.vault.now own.new.vault.now) (view_of repositories.old (visible_by own.old) upload limit)
         result (view_of repositories.new (visible_in own.new.vault.now own.old.tenant.now) upload limit) }
-    ensures own { Uses own.old own.new }
+    ensures own { Uses (sent_names body.objects.items) own.old own.new }
 {
     let Body {
         commands,
@@ -128,6 +129,7 @@ pub(crate) fn settle_upload<S: LooseFiles>(
         result (view_of repositories.new (visible_in own.new.vault.now own.old.tenant.now) upload limit) }
     ensures own { IsOwn own.old.tenant.now own.old.vault.now own.new.vault.now }
     ensures kept { is_done result ≡ false → KeepsStaged own.old.tenant.now own.old.vault.now own.new.vault.now }
+    ensures places { own.new.vault.now.places ≡ own.old.vault.now.places }
     ensures same { IsSame own.old own.new }
 {
     match finished {
@@ -158,6 +160,7 @@ fn settle<S: LooseFiles>(
         result (view_of repositories.new (visible_in own.new.vault.now own.old.tenant.now) upload limit) }
     ensures own { IsOwn own.old.tenant.now own.old.vault.now own.new.vault.now }
     ensures kept { is_done result ≡ false → KeepsStaged own.old.tenant.now own.old.vault.now own.new.vault.now }
+    ensures places { own.new.vault.now.places ≡ own.old.vault.now.places }
     ensures same { IsSame own.old own.new }
 {
     let finished = Ok(brief);

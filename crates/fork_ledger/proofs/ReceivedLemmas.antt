@@ -1,10 +1,13 @@
 -- Objects that are received one after another.
 use Rattle.std.proofs.Common.{◌≡◌, ◌⊎◌, inl, inr, ℕ, List, [], ◌∷◌, ◌++◌, ◌||◌, Bool, true, false, None, map, refl, sym, ap, subst, ◌∙◌, arith}
 use Rattle.std.specs.Prelude.{Contains, slice_index_or}
+use Rattle.std.proofs.lemmas.List.{map-append}
 use Rattle.std.proofs.lemmas.List.Elements.{All-nil, All-push, Contains-append_left, Contains-append_right}
 use Rattle.std.specs.FinMap.{get}
 use Rattle.git_name.specs.Object.{Object, object_name}
+use Rattle.looks.specs.Growth.{GrowsBy}
 use Rattle.looks.specs.Places.{Places, is_listed, same_name}
+use Rattle.looks.proofs.GrowthLemmas.{grows_more, grows_then}
 use Rattle.ledgers.specs.AllStaged.{AreListed}
 use Rattle.ledgers.specs.Told.{entry_of}
 use Rattle.ledgers.specs.declared.entry.Entry.{Entry}
@@ -73,6 +76,17 @@ pub listed_more : (entries : List Entry) (entry : Entry) (old new : Places) → 
 listed_more entries entry old new listed before = All-push (λ x. is_listed new.names x.name ≡ true) entries entry
     (λ k d inside. listed (slice_index_or entries k d).name ∙ ap (λ b. same_name entry.name (slice_index_or entries k d).name || b) (before k d inside) ∙ or_true (same_name entry.name (slice_index_or entries k d).name))
     (listed entry.name ∙ ap (λ b. b || is_listed old.names entry.name) (own_name entry.name))
+
+-- one more of these objects, whose name comes to the catalogue
+pub grows_on : (objects front : List Object) (object : Object) (back : List Object) (first old new : Places) → objects ≡ front ++ object ∷ back → GrowsBy (map object_name objects) first old → GrowsBy (object_name object ∷ []) old new
+    → GrowsBy (map object_name objects) first new
+grows_on objects front object back first old new order before one = grows_then (map object_name objects) first old new before (grows_more (object_name object ∷ []) (map object_name objects) old new there one)
+  where
+    parts : map object_name objects ≡ map object_name front ++ object_name object ∷ map object_name back
+    parts = ap (map object_name) order ∙ map-append object_name front (object ∷ back)
+
+    there : (name : List ℕ) → Contains (object_name object ∷ []) name → Contains (map object_name objects) name
+    there name is = subst (λ names. Contains names name) (sym parts) (Contains-append_right (map object_name front) (object_name object ∷ map object_name back) name (Contains-append_left (object_name object ∷ []) (map object_name back) name is))
 
 -- ---- objects that are left
 -- one more of the front, and one less of what is left

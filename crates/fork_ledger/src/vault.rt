@@ -1,9 +1,10 @@
-ghost use Rattle.std.specs.Prelude.{◌≡◌, ◌≢◌, ◌⊎◌, ◌≤◌, ◌<◌, ◌+◌, ℕ, List, [], true, length, IsTrue, OnOk, OnErr, IfOk, IfErr, IfSome, Some, is_some, nat_le};
+ghost use Rattle.std.specs.Prelude.{◌≡◌, ◌≢◌, ◌⊎◌, ◌≤◌, ◌<◌, ◌+◌, ◌∷◌, ℕ, List, [], true, length, map as map_list, IsTrue, OnOk, OnErr, IfOk, IfErr, IfSome, Some, is_some, nat_le};
 ghost use Rattle.std.specs.FinMap as map;
 ghost use Rattle.std.specs.List.{AllByRecursion};
 ghost use Rattle.git_name.specs.Object.{object_name};
 ghost use Rattle.fork_reach.specs.Known.{AreParents};
 ghost use Rattle.fork_reach.specs.Objects.{use_of};
+ghost use Rattle.looks.specs.Growth.{GrowsBy};
 ghost use Rattle.looks.specs.Looks.{Looks, Walks};
 ghost use Rattle.looks.specs.Places.{at_start, is_listed};
 ghost use Rattle.looks.specs.Slices.{Collects, Sweeps};
@@ -268,6 +269,7 @@ impl<S: LooseFiles> Vault<S> {
         ensures exact { IsTrue self.old.honest → OnOk result (IsExact self.old.files self.old.places → IsExact self.new.files self.new.places) }
 
         // Over any store.
+        ensures grows { GrowsBy (object_name sealed ∷ []) self.old.places self.new.places }
         ensures shape { OnOk result (shape_of self.new.tenants ≡ shape_of (at_tenant self.old.tenants tenant.now (with_staged sealed))) }
         ensures kept { OnErr result (shape_of self.new.tenants ≡ shape_of self.old.tenants) }
         ensures store { AsksStore self.old self.new (fault_in result) }
@@ -293,6 +295,7 @@ impl<S: LooseFiles> Vault<S> {
         ensures exact { IsTrue self.old.honest → OnOk result (IsExact self.old.files self.old.places → IsExact self.new.files self.new.places) }
 
         // Over any store.
+        ensures grows { GrowsBy (map_list object_name objects.items) self.old.places self.new.places }
         ensures shape { OnOk result (shape_of self.new.tenants ≡ shape_of (at_tenant self.old.tenants tenant.now (with_all_staged objects.items))) }
         ensures kept { OnErr result (shape_of self.new.tenants ≡ shape_of self.old.tenants) }
         ensures store { AsksStore self.old self.new (fault_in result) }
@@ -311,6 +314,7 @@ impl<S: LooseFiles> Vault<S> {
     ) -> Result<(), RecallFault>
         ensures recalls { OnOk result (Recalls self.old.honest tenant.now name self.old.files self.old.tenants self.new.tenants) }
         ensures err { OnErr result (self.new.tenants ≡ self.old.tenants) }
+        ensures grows { GrowsBy (name ∷ []) self.old.places self.new.places }
         ensures exact { IsTrue self.old.honest → IsExact self.old.files self.old.places → IsExact self.new.files self.new.places }
         ensures files { self.new.files ≡ self.old.files }
         ensures honest { self.new.honest ≡ self.old.honest }

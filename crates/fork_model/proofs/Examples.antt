@@ -1,44 +1,35 @@
 -- What some requests send, and what a clone needs, by the definitions.
-use Rattle.std.proofs.Common.{◌≡◌, ℕ, List, [], ◌∷◌, ◌++◌, None, Some, arith, codes, refl, subst, sym, ◌∙◌}
+use Rattle.std.proofs.Common.{◌≡◌, ℕ, List, [], ◌∷◌, None, Some, ap, arith, codes, refl, sym, ◌∙◌}
 use Rattle.std.specs.FinMap.{empty, get, get-empty}
 use Rattle.git_name.specs.Name.{name_cmp}
 use Rattle.git_name.specs.Object.{Object}
-use Rattle.push_stream.specs.Stream.{sent_in, stream_of}
-use Rattle.push_stream.specs.Upload.{UploadValue}
 use Rattle.fork_reach.specs.Source.{Objects}
-use Rattle.fork_request.specs.Asked.{Ask, Prunes, SendsPart}
-use Rattle.fork_model.specs.Provenance.{AreParts, IsAmong, IsFrom, Seen, Pushed, Uploaded, WasSent, InPush, InParts, InUpload}
+use Rattle.fork_request.specs.Asked.{DropsParts, EndsParts, Prunes, Pushes, SendsPart}
+use Rattle.fork_request.specs.declared.host_fault.HostFault.TheVariants.{Memory}
+use Rattle.fork_request.specs.declared.reply.Reply.{Reply}
+use Rattle.fork_request.specs.declared.reply.Reply.TheVariants.{Done, Failed}
+use Rattle.fork_model.specs.Provenance.{AreParts, IsFrom, Seen, Pushed, Uploaded}
 use Rattle.fork_model.specs.Transfer.{HasPrerequisites}
 use Rattle.fork_model.specs.View.{View}
+use Rattle.fork_model.specs.World.{Exchange}
 use Rattle.fork_model.proofs.PrerequisiteLemmas.{prerequisites}
 
--- parts stand in their order, and other requests may stand between
-parts_are_in_order : AreParts (SendsPart (codes "a") ∷ Prunes ∷ SendsPart (codes "b") ∷ []) (codes "a" ∷ codes "b" ∷ [])
-parts_are_in_order = ([], Prunes ∷ SendsPart (codes "b") ∷ [], refl, (Prunes ∷ [], [], refl, tt))
+-- parts stand in their order, and requests may stand between that are no end, or met a host fault
+parts_are_in_order : AreParts ((SendsPart (codes "a"), Done []) ∷ (DropsParts, Failed Memory) ∷ (SendsPart (codes "b"), Done []) ∷ (EndsParts (codes "r"), Done []) ∷ []) (codes "a" ∷ codes "b" ∷ [])
+parts_are_in_order = record {
+  during = (SendsPart (codes "a"), Done []) ∷ (DropsParts, Failed Memory) ∷ (SendsPart (codes "b"), Done []) ∷ [];
+  behind = [];
+  repository = codes "r";
+  parts = refl;
+  no_end = (refl, (refl, (refl, tt)));
+  whole = refl;
+}
 
 -- a prune shows nothing that was not seen
-a_prune_sends_nothing : (view : View) (name : List ℕ) (object : Object) → IsFrom view Prunes name object → get view.objects name ≡ Some object
-a_prune_sends_nothing view name object (Seen is) = is
-a_prune_sends_nothing view name object (Pushed repository body asked among) = absurd (cc)
-a_prune_sends_nothing view name object (Uploaded repository upload asked is among) = absurd (cc)
-
-nothing_in_nothing : (name : List ℕ) (object : Object) → IsAmong (sent_in (stream_of [])) name object → ⊥
-unfolding stream_of
-nothing_in_nothing name object among = (let at = among.sent in omega arith)
-
-no_request : (front behind : List Ask) (ask : Ask) → [] ≡ front ++ ask ∷ behind → ⊥
-no_request [] behind ask is = cc
-no_request (first ∷ front) behind ask is = cc
-
-none_open : (upload : UploadValue) → None ≡ Some upload → ⊥
-none_open upload is = cc
-
--- who asks nothing, with no upload open, sent nothing
-silence_sends_nothing : (view : View) (name : List ℕ) (object : Object) → view.upload ≡ None → WasSent view [] name object → ⊥
-silence_sends_nothing view name object none (InPush repository body (k, few, is) among) = omega arith
-silence_sends_nothing view name object none (InParts [] are among) = nothing_in_nothing name object among
-silence_sends_nothing view name object none (InParts (body ∷ bodies) are among) = no_request are.0 are.1 (SendsPart body) are.2
-silence_sends_nothing view name object none (InUpload upload bodies is are among) = none_open upload (subst (λ o. o ≡ Some upload) none is)
+a_prune_sends_nothing : (view : View) (reply : Reply) (name : List ℕ) (object : Object) → IsFrom view (Prunes, reply) name object → get view.objects name ≡ Some object
+a_prune_sends_nothing view reply name object (Seen is) = is
+a_prune_sends_nothing view reply name object (Pushed repository body asked among) = (let same : Prunes ≡ Pushes repository body = ap (λ (x : Exchange). x.0) asked in absurd (cc))
+a_prune_sends_nothing view reply name object (Uploaded repository upload asked is among) = (let same : Prunes ≡ EndsParts repository = ap (λ (x : Exchange). x.0) asked in absurd (cc))
 
 none_absent : (object : Object) → None ≡ Some object → ⊥
 none_absent object is = cc

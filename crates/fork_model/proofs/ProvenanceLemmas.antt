@@ -1,6 +1,6 @@
 -- What a tenant sees, it saw before or sent itself: answer by answer.
 use Rattle.std.proofs.Common.{◌≡◌, ℕ, ◌+◌, Bool, true, false, cond, List, [], ◌∷◌, Option, Some, None, Result, Ok, Err, refl, sym, ap, ◌∙◌, arith, is_some, inl, inr, ◌⊎◌, length}
-use Rattle.std.specs.Prelude.{nat_le, nat_lt}
+use Rattle.std.specs.Prelude.{nat_le, nat_lt, not}
 use Rattle.std.specs.FinMap.{get, insert, remove, contains_key, len, empty}
 use Rattle.git_name.specs.Object.{Object, object_name}
 use Rattle.git_reftx.specs.declared.command.Command.{Command}
@@ -18,14 +18,16 @@ use Rattle.fork_reach.specs.Reach.{is_reached, linked_names}
 use Rattle.fork_reach.specs.Source.{Objects, kind_in}
 use Rattle.fork_request.specs.Asked.{Ask, Inits, Drops, Forks, Pushes, SendsPart, EndsParts, DropsParts, Updates, AsksObject, AsksTree, AsksRevisions, AsksBases, AsksReferences, Fetches, AsksUse, Prunes, NoRequest}
 use Rattle.fork_request.specs.Names.{is_plain_name}
+use Rattle.fork_request.specs.Told.{is_host_fault}
 use Rattle.fork_request.specs.declared.refusal.Refusal.TheVariants.{BadName, NoRepository, NoUpload, RepositoryExists, StagedTooLong, TooMany, UploadOpen}
 use Rattle.fork_request.specs.declared.reply.Reply.{Reply}
 use Rattle.fork_request.specs.declared.reply.Reply.TheVariants.{Done, Refused}
 use Rattle.fork_model.specs.Answer.{answer, both, without_upload, init_answer, drop_answer, fork_answer, push_answer, part_answer, part_end_answer, part_drop_answer, update_answer, cat_file_answer, ls_tree_answer, rev_list_answer, merge_base_answer, fetch_answer, references_answer, quota_answer, prune_answer, targets_of, named_repository, new_repository, dropped, copied, push_into, pushed, taken, open_upload, upload_into, end_in, upload_ended, update_in, carried_out, with_references, transaction_refusal, command_refusal, push_refusal}
-use Rattle.fork_model.specs.Provenance.{IsAmong, IsFrom, Seen, Pushed, Uploaded, IsUploadFrom, Stays, Ends, GoesOn}
+use Rattle.fork_model.specs.Provenance.{IsAmong, IsFrom, Seen, Pushed, Uploaded, IsUploadFrom, Stays, Ends, GoesOn, part_in, ends_upload}
 use Rattle.fork_model.specs.View.{View}
 use Rattle.fork_model.proofs.ClosedLemmas.{of_one}
 use Rattle.fork_model.proofs.KeptLemmas.{found_kept, there}
+use Rattle.fork_model.proofs.StepLemmas.{answer_tells}
 
 -- what is found beside objects that came was there before, or is one of them
 pub among_both : (objects : Objects) (sent : List Object) (name : List ℕ) (object : Object) → get (with_objects objects sent) name ≡ Some object
@@ -56,16 +58,25 @@ record IsQuiet (view : View) (row : Reply × View) : Type 0 where
 quiet : (view : View) (reply : Reply) → IsQuiet view (reply, view)
 quiet view reply = record { objects = refl; upload = refl }
 
--- a row of which all that is seen behind it is known to come from somewhere
+-- a row of which all that is seen behind it is known to come from somewhere, and which leaves the upload
 record IsKnown (view : View) (ask : Ask) (row : Reply × View) : Type 0 where
-  objects : (name : List ℕ) (object : Object) → get row.1.objects name ≡ Some object → IsFrom view ask name object
-  upload : IsUploadFrom view ask row.1.upload
+  objects : (name : List ℕ) (object : Object) → get row.1.objects name ≡ Some object → IsFrom view (ask, row.0) name object
+  upload : row.1.upload ≡ view.upload
 
 known : (view : View) (ask : Ask) (row : Reply × View) → IsQuiet view row → IsKnown view ask row
 known view ask row is = record {
   objects = λ name object found. Seen (ap (λ objects. get objects name) (sym is.objects) ∙ found);
-  upload = Stays is.upload;
+  upload = is.upload;
 }
+
+-- a row of which the upload is known too
+record IsTold (view : View) (ask : Ask) (row : Reply × View) : Type 0 where
+  objects : (name : List ℕ) (object : Object) → get row.1.objects name ≡ Some object → IsFrom view (ask, row.0) name object
+  upload : IsUploadFrom view (ask, row.0) row.1.upload
+
+-- a request that is no part and no end leaves it
+plain : (view : View) (ask : Ask) (row : Reply × View) → part_in (ask, row.0) ≡ [] → ends_upload (ask, row.0) ≡ false → IsKnown view ask row → IsTold view ask row
+plain view ask row part end is = record { objects = is.objects; upload = Stays part end is.upload }
 
 -- what holds of both branches holds of the test
 either : (P : Reply × View → Type 0) (b : Bool) (x y : Reply × View) → P x → P y → P (cond b x y)
@@ -103,12 +114,12 @@ update_row view word body (Some old) = carried_row view word old (commands_of bo
 
 -- a push of a stream: what is seen behind it was seen, or stands in the stream
 taken_row : (view : View) (ask : Ask) (word : List ℕ) (objects : Objects) (value : Result References PushRefusal)
-    → ((name : List ℕ) (object : Object) → get objects name ≡ Some object → IsFrom view ask name object) → IsKnown view ask (taken view word objects value)
-taken_row view ask word objects (Ok new) all = record { objects = all; upload = Stays refl }
+    → ((name : List ℕ) (object : Object) → get objects name ≡ Some object → IsFrom view (ask, Done []) name object) → IsKnown view ask (taken view word objects value)
+taken_row view ask word objects (Ok new) all = record { objects = all; upload = refl }
 taken_row view ask word objects (Err refusal) all = known view ask _ (quiet view (Refused (push_refusal refusal)))
 
 pushed_row : (view : View) (ask : Ask) (word : List ℕ) (old : References) (s : Stream)
-    → ((name : List ℕ) (object : Object) → IsAmong (sent_in s) name object → IsFrom view ask name object) → IsKnown view ask (pushed view word old (finished s))
+    → ((name : List ℕ) (object : Object) → IsAmong (sent_in s) name object → IsFrom view (ask, Done []) name object) → IsKnown view ask (pushed view word old (finished s))
 pushed_row view ask word old s sent =
     taken_row view ask word (both view (finished s)) (judged (both view (finished s)) old view.limit (brief_of (finished s))) (λ name object found.
     elim (among_held view s name object found) [
@@ -117,73 +128,87 @@ pushed_row view ask word old s sent =
     ])
 
 into_row : (view : View) (ask : Ask) (word body : List ℕ) (o : Option References)
-    → ((name : List ℕ) (object : Object) → IsAmong (sent_in (stream_of body)) name object → IsFrom view ask name object) → IsKnown view ask (push_into view word body o)
+    → ((name : List ℕ) (object : Object) → IsAmong (sent_in (stream_of body)) name object → IsFrom view (ask, Done []) name object) → IsKnown view ask (push_into view word body o)
 into_row view ask word body None sent = known view ask _ (quiet view (Refused (NoRepository word)))
 into_row view ask word body (Some old) sent =
     either (IsKnown view ask) (is_some view.upload) (Refused UploadOpen, view) (pushed view word old (finished (stream_of body)))
     (known view ask _ (quiet view (Refused UploadOpen))) (pushed_row view ask word old (stream_of body) sent)
 
 upload_row : (view : View) (ask : Ask) (word : List ℕ) (old : References) (o : Option UploadValue) → view.upload ≡ o
-    → ((upload : UploadValue) → view.upload ≡ Some upload → (name : List ℕ) (object : Object) → IsAmong (sent_in upload.stream) name object → IsFrom view ask name object)
+    → ((upload : UploadValue) → view.upload ≡ Some upload → (name : List ℕ) (object : Object) → IsAmong (sent_in upload.stream) name object → IsFrom view (ask, Done []) name object)
     → IsKnown view ask (upload_into view word old o)
 upload_row view ask word old None is sent = known view ask _ (quiet view (Refused NoUpload))
 upload_row view ask word old (Some upload) is sent = pushed_row view ask word old upload.stream (sent upload is)
 
 end_row : (view : View) (ask : Ask) (word : List ℕ) (o : Option References)
-    → ((upload : UploadValue) → view.upload ≡ Some upload → (name : List ℕ) (object : Object) → IsAmong (sent_in upload.stream) name object → IsFrom view ask name object)
+    → ((upload : UploadValue) → view.upload ≡ Some upload → (name : List ℕ) (object : Object) → IsAmong (sent_in upload.stream) name object → IsFrom view (ask, Done []) name object)
     → IsKnown view ask (end_in view word o)
 end_row view ask word None sent = known view ask _ (quiet view (Refused (NoRepository word)))
 end_row view ask word (Some old) sent = upload_row view ask word old view.upload refl sent
 
--- a row that ends the upload whatever it answers
-ended_row : (view : View) (ask : Ask) (row : Reply × View) → IsKnown view ask row → IsKnown view ask (upload_ended row)
-ended_row view ask row is = record { objects = is.objects; upload = Ends refl }
+-- `part-end` ends the upload whatever it answers
+ended_row : (view : View) (word : List ℕ) (row : Reply × View) → is_host_fault row.0 ≡ false → IsKnown view (EndsParts word) row → IsTold view (EndsParts word) (upload_ended row)
+ended_row view word row fine is = record { objects = is.objects; upload = Ends (ap not fine) refl }
 
-part_row : (view : View) (body : List ℕ) → IsKnown view (SendsPart body) (part_answer view body)
+-- what holds of both branches, each where it is taken, holds of the test
+by_test : (P : Reply × View → Type 0) (b : Bool) (x y : Reply × View) → (b ≡ true → P x) → (b ≡ false → P y) → P (cond b x y)
+by_test P true x y left right = left refl
+by_test P false x y left right = right refl
+
+part_row : (view : View) (body : List ℕ) → IsTold view (SendsPart body) (part_answer view body)
 unfolding part_answer
 part_row view body =
-    either (IsKnown view (SendsPart body)) (nat_lt 33554432 ((open_upload view.upload).count + length body)) (Refused StagedTooLong, view) _
-    (known view (SendsPart body) _ (quiet view (Refused StagedTooLong)))
+    either (IsTold view (SendsPart body)) (nat_lt 33554432 ((open_upload view.upload).count + length body)) (Refused StagedTooLong, view) _
+    (plain view (SendsPart body) _ refl refl (known view (SendsPart body) _ (quiet view (Refused StagedTooLong))))
     (record { objects = λ name object found. Seen found; upload = GoesOn body refl refl })
 
-part_drop_row : (view : View) → IsKnown view DropsParts (part_drop_answer view)
+none_there : {A : Type 0} (o : Option A) → is_some o ≡ false → o ≡ None
+none_there None is = refl
+none_there (Some x) is = absurd (cc)
+
+part_drop_row : (view : View) → IsTold view DropsParts (part_drop_answer view)
 unfolding part_drop_answer
 part_drop_row view =
-    either (IsKnown view DropsParts) (is_some view.upload) (Done [], without_upload view) (Refused NoUpload, view)
-    (record { objects = λ name object found. Seen found; upload = Ends refl }) (known view DropsParts _ (quiet view (Refused NoUpload)))
+    by_test (IsTold view DropsParts) (is_some view.upload) (Done [], without_upload view) (Refused NoUpload, view)
+    (λ there. record { objects = λ name object found. Seen found; upload = Ends refl refl })
+    (λ absent. record { objects = λ name object found. Seen found; upload = Ends refl (none_there view.upload absent) })
 
 -- each answer is such a row
-known_row : (view : View) (ask : Ask) → IsKnown view ask (answer view ask)
+told_row : (view : View) (ask : Ask) → IsTold view ask (answer view ask)
 unfolding answer init_answer drop_answer fork_answer push_answer part_end_answer update_answer cat_file_answer ls_tree_answer rev_list_answer merge_base_answer fetch_answer references_answer quota_answer prune_answer
-known_row view (Inits word) = known view (Inits word) _ (named_row (IsQuiet view) view word _ (quiet view (Refused (BadName word))) (new_row view word empty))
-known_row view (Drops word) = known view (Drops word) _ (named_row (IsQuiet view) view word _ (quiet view (Refused (BadName word))) (dropped_row view word))
-known_row view (Forks source copy) =
-    known view (Forks source copy) _ (named_row (IsQuiet view) view source _ (quiet view (Refused (BadName source)))
-    (named_row (IsQuiet view) view copy _ (quiet view (Refused (BadName copy))) (copied_row view source copy (get view.repositories source))))
-known_row view (Pushes word body) =
-    named_row (IsKnown view (Pushes word body)) view word _ (known view (Pushes word body) _ (quiet view (Refused (BadName word))))
-    (into_row view (Pushes word body) word body (get view.repositories word) (λ name object came. Pushed word body refl came))
-known_row view (SendsPart body) = part_row view body
-known_row view (EndsParts word) =
-    ended_row view (EndsParts word) _ (named_row (IsKnown view (EndsParts word)) view word _ (known view (EndsParts word) _ (quiet view (Refused (BadName word))))
+told_row view (Inits word) = plain view (Inits word) _ refl refl (known view (Inits word) _ (named_row (IsQuiet view) view word _ (quiet view (Refused (BadName word))) (new_row view word empty)))
+told_row view (Drops word) = plain view (Drops word) _ refl refl (known view (Drops word) _ (named_row (IsQuiet view) view word _ (quiet view (Refused (BadName word))) (dropped_row view word)))
+told_row view (Forks source copy) =
+    plain view (Forks source copy) _ refl refl
+    (known view (Forks source copy) _ (named_row (IsQuiet view) view source _ (quiet view (Refused (BadName source)))
+    (named_row (IsQuiet view) view copy _ (quiet view (Refused (BadName copy))) (copied_row view source copy (get view.repositories source)))))
+told_row view (Pushes word body) =
+    plain view (Pushes word body) _ refl refl
+    (named_row (IsKnown view (Pushes word body)) view word _ (known view (Pushes word body) _ (quiet view (Refused (BadName word))))
+    (into_row view (Pushes word body) word body (get view.repositories word) (λ name object came. Pushed word body refl came)))
+told_row view (SendsPart body) = part_row view body
+told_row view (EndsParts word) =
+    ended_row view word _ (answer_tells view (EndsParts word)) (named_row (IsKnown view (EndsParts word)) view word _ (known view (EndsParts word) _ (quiet view (Refused (BadName word))))
     (end_row view (EndsParts word) word (get view.repositories word) (λ upload is name object came. Uploaded word upload refl is came)))
-known_row view DropsParts = part_drop_row view
-known_row view (Updates word body) = known view (Updates word body) _ (named_row (IsQuiet view) view word _ (quiet view (Refused (BadName word))) (update_row view word body (get view.repositories word)))
-known_row view (AsksObject name) = known view (AsksObject name) _ (quiet view _)
-known_row view (AsksTree name) = known view (AsksTree name) _ (quiet view _)
-known_row view (AsksRevisions word items) = known view (AsksRevisions word items) _ (named_row (IsQuiet view) view word _ (quiet view (Refused (BadName word))) (quiet view _))
-known_row view (AsksBases word first second) = known view (AsksBases word first second) _ (named_row (IsQuiet view) view word _ (quiet view (Refused (BadName word))) (quiet view _))
-known_row view (Fetches word items) = known view (Fetches word items) _ (named_row (IsQuiet view) view word _ (quiet view (Refused (BadName word))) (quiet view _))
-known_row view (AsksReferences word prefix) = known view (AsksReferences word prefix) _ (named_row (IsQuiet view) view word _ (quiet view (Refused (BadName word))) (quiet view _))
-known_row view AsksUse = known view AsksUse _ (quiet view _)
-known_row view Prunes = record {
+told_row view DropsParts = part_drop_row view
+told_row view (Updates word body) =
+    plain view (Updates word body) _ refl refl
+    (known view (Updates word body) _ (named_row (IsQuiet view) view word _ (quiet view (Refused (BadName word))) (update_row view word body (get view.repositories word))))
+told_row view (AsksObject name) = plain view (AsksObject name) _ refl refl (known view (AsksObject name) _ (quiet view _))
+told_row view (AsksTree name) = plain view (AsksTree name) _ refl refl (known view (AsksTree name) _ (quiet view _))
+told_row view (AsksRevisions word items) = plain view (AsksRevisions word items) _ refl refl (known view (AsksRevisions word items) _ (named_row (IsQuiet view) view word _ (quiet view (Refused (BadName word))) (quiet view _)))
+told_row view (AsksBases word first second) = plain view (AsksBases word first second) _ refl refl (known view (AsksBases word first second) _ (named_row (IsQuiet view) view word _ (quiet view (Refused (BadName word))) (quiet view _)))
+told_row view (Fetches word items) = plain view (Fetches word items) _ refl refl (known view (Fetches word items) _ (named_row (IsQuiet view) view word _ (quiet view (Refused (BadName word))) (quiet view _)))
+told_row view (AsksReferences word prefix) = plain view (AsksReferences word prefix) _ refl refl (known view (AsksReferences word prefix) _ (named_row (IsQuiet view) view word _ (quiet view (Refused (BadName word))) (quiet view _)))
+told_row view AsksUse = plain view AsksUse _ refl refl (known view AsksUse _ (quiet view _))
+told_row view Prunes = record {
   objects = λ name object found. Seen (found_kept view.objects (is_reached (linked_names view.objects) view.objects (targets_of view.repositories)) name object found).1;
-  upload = Stays refl;
+  upload = Stays refl refl refl;
 }
-known_row view NoRequest = known view NoRequest _ (quiet view _)
+told_row view NoRequest = plain view NoRequest _ refl refl (known view NoRequest _ (quiet view _))
 
-pub object_from : (view : View) (ask : Ask) (name : List ℕ) (object : Object) → get (answer view ask).1.objects name ≡ Some object → IsFrom view ask name object
-object_from view ask name object found = (known_row view ask).objects name object found
+pub object_from : (view : View) (ask : Ask) (name : List ℕ) (object : Object) → get (answer view ask).1.objects name ≡ Some object → IsFrom view (ask, (answer view ask).0) name object
+object_from view ask name object found = (told_row view ask).objects name object found
 
-pub upload_from : (view : View) (ask : Ask) → IsUploadFrom view ask (answer view ask).1.upload
-upload_from view ask = (known_row view ask).upload
+pub upload_from : (view : View) (ask : Ask) → IsUploadFrom view (ask, (answer view ask).0) (answer view ask).1.upload
+upload_from view ask = (told_row view ask).upload

@@ -21,15 +21,15 @@ module _ {K X : Type 0} {R : K → K → Ordering} (total : IsTotalOrder R) (exa
       at q true e = sym here ∙ get_tied total m q k (is_equal _ e)
       at q false e = refl
 
-module _ {Tenant View Ask HostAsk Reply : Type 0} (cmp : Tenant → Tenant → Ordering) (total : IsTotalOrder cmp) (exact : IsAntisymmetric cmp) (answer : View → Ask → Reply × View) (unknown : Reply) (is_fault : Reply → Bool) (HostSays : HostAsk → Reply → Type 0) where
+module _ {Tenant View Context Ask HostAsk Reply : Type 0} (cmp : Tenant → Tenant → Ordering) (total : IsTotalOrder cmp) (exact : IsAntisymmetric cmp) (meets : FinMap cmp View → Tenant → Context) (answer : Context → View → Ask → Reply × View) (unknown : Reply) (is_fault : Reply → Bool) (HostSays : HostAsk → Reply → Type 0) where
   -- a tenant that is answered from its view, and whose view alone is set, makes a step
-  pub answered : (old new : FinMap cmp View) (t : Tenant) (ask : Ask) (view : View) (reply : Reply) (view' : View) → get old t ≡ Some view → Answers answer is_fault view ask reply view' → new ≡ insert old t view' → TenantStep cmp answer unknown is_fault old t ask reply new
+  pub answered : (old new : FinMap cmp View) (t : Tenant) (ask : Ask) (view : View) (reply : Reply) (view' : View) → get old t ≡ Some view → Answers answer is_fault (meets old t) view ask reply view' → new ≡ insert old t view' → TenantStep cmp meets answer unknown is_fault old t ask reply new
   answered old new t ask view reply view' here (Told told is) set = Answered view here told (set ∙ ap (insert old t) is)
   answered old new t ask view reply view' here (Failed bad stays) set = Faulted bad (set ∙ (ap (insert old t) stays ∙ insert_same total exact old t view here))
 
   -- a run goes on by one step
-  pub explains_more : (old mid new : FinMap cmp View) (steps : List (Event Tenant Ask HostAsk)) (replies : List Reply) (step : Event Tenant Ask HostAsk) (reply : Reply) → Explains cmp answer unknown is_fault HostSays old steps replies mid → Steps cmp answer unknown is_fault HostSays mid step reply new → Explains cmp answer unknown is_fault HostSays old (steps ++ step ∷ []) (replies ++ reply ∷ []) new
-  explains_more old mid new [] [] step reply run more = (new, subst (λ w. Steps cmp answer unknown is_fault HostSays w step reply new) run more, refl)
+  pub explains_more : (old mid new : FinMap cmp View) (steps : List (Event Tenant Ask HostAsk)) (replies : List Reply) (step : Event Tenant Ask HostAsk) (reply : Reply) → Explains cmp meets answer unknown is_fault HostSays old steps replies mid → Steps cmp meets answer unknown is_fault HostSays mid step reply new → Explains cmp meets answer unknown is_fault HostSays old (steps ++ step ∷ []) (replies ++ reply ∷ []) new
+  explains_more old mid new [] [] step reply run more = (new, subst (λ w. Steps cmp meets answer unknown is_fault HostSays w step reply new) run more, refl)
   explains_more old mid new [] (r ∷ replies) step reply run more = absurd run
   explains_more old mid new (e ∷ steps) [] step reply run more = absurd run
   explains_more old mid new (e ∷ steps) (r ∷ replies) step reply run more = (run.0, run.1, explains_more run.0 mid new steps replies step reply run.2 more)

@@ -1,4 +1,5 @@
 pub mod Answer
+pub mod Missing
 pub mod Provenance
 pub mod Runs
 pub mod Sound

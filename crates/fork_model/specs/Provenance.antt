@@ -1,13 +1,16 @@
 -- Where objects come from (own): what a tenant sees, it saw before or sent itself.
-use Rattle.std.specs.Prelude.{◌≡◌, ℕ, List, [], ◌∷◌, ◌++◌, Option, None, Some, Contains, ⊤}
-use Rattle.std.specs.FinMap.{get}
-use Rattle.std.specs.List.{concat}
+use Rattle.std.specs.Prelude.{◌≡◌, ℕ, Bool, false, true, not, List, [], ◌∷◌, ◌++◌, Option, None, Some, Contains}
+use Rattle.std.specs.FinMap.{contains_key, get}
+use Rattle.std.specs.List.{AllByRecursion, concat, flat_map}
 use Rattle.git_name.specs.Object.{Object, object_name}
 use Rattle.push_stream.specs.Stream.{sent_in, stream_of}
 use Rattle.push_stream.specs.Upload.{UploadValue, continued, fed}
-use Rattle.fork_request.specs.Asked.{Ask, Pushes, SendsPart, EndsParts}
+use Rattle.fork_request.specs.Asked.{Ask, Pushes, SendsPart, EndsParts, DropsParts}
+use Rattle.fork_request.specs.Told.{is_host_fault}
+use Rattle.fork_request.specs.declared.reply.Reply.TheVariants.{Done}
 use Rattle.fork_model.specs.Answer.{open_upload}
 use Rattle.fork_model.specs.View.{View}
+use Rattle.fork_model.specs.World.{Exchange, alone}
 
 -- the object is one of those that were sent, and this is its name
 pub record IsAmong (objects : List Object) (name : List ℕ) (object : Object) : Type 0 where
@@ -15,33 +18,57 @@ pub record IsAmong (objects : List Object) (name : List ℕ) (object : Object) :
   pub named : object_name object ≡ name
 
 -- where an object comes from that is seen behind an answer
-pub data IsFrom (view : View) (ask : Ask) (name : List ℕ) (object : Object) : Type 0 where
+pub data IsFrom (view : View) (exchange : Exchange) (name : List ℕ) (object : Object) : Type 0 where
   -- it was seen before
-  Seen : get view.objects name ≡ Some object → IsFrom view ask name object
-  -- it stands in the body of this push
-  Pushed : (repository body : List ℕ) → ask ≡ Pushes repository body → IsAmong (sent_in (stream_of body)) name object → IsFrom view ask name object
-  -- it stands in the upload that ends here
-  Uploaded : (repository : List ℕ) (upload : UploadValue) → ask ≡ EndsParts repository → view.upload ≡ Some upload → IsAmong (sent_in upload.stream) name object → IsFrom view ask name object
+  Seen : get view.objects name ≡ Some object → IsFrom view exchange name object
+  -- it stands in the body of this push, which is answered `ok`
+  Pushed : (repository body : List ℕ) → exchange ≡ (Pushes repository body, Done []) → IsAmong (sent_in (stream_of body)) name object → IsFrom view exchange name object
+  -- it stands in the upload that ends here, and its end is answered `ok`
+  Uploaded : (repository : List ℕ) (upload : UploadValue) → exchange ≡ (EndsParts repository, Done []) → view.upload ≡ Some upload → IsAmong (sent_in upload.stream) name object → IsFrom view exchange name object
+
+-- the body of a part that is answered `ok`
+abbrev pub part_in : Exchange → List (List ℕ)
+part_in (SendsPart body, Done text) = body ∷ []
+part_in exchange = []
+
+-- the bodies of all such parts, in their order
+abbrev pub parts_in : List Exchange → List (List ℕ)
+parts_in exchanges = flat_map part_in exchanges
+
+-- no upload is open behind `part-end` and `part-drop`, whatever is answered but a host fault
+abbrev pub ends_upload : Exchange → Bool
+ends_upload (EndsParts repository, reply) = not (is_host_fault reply)
+ends_upload (DropsParts, reply) = not (is_host_fault reply)
+ends_upload exchange = false
 
 -- where an upload comes from that is open behind an answer
-pub data IsUploadFrom (view : View) (ask : Ask) (upload : Option UploadValue) : Type 0 where
-  -- it is the one that was open, or none was
-  Stays : upload ≡ view.upload → IsUploadFrom view ask upload
-  -- none is open
-  Ends : upload ≡ None → IsUploadFrom view ask upload
+pub data IsUploadFrom (view : View) (exchange : Exchange) (upload : Option UploadValue) : Type 0 where
+  -- no part came, and no end: it is the one that was open, or none was
+  Stays : part_in exchange ≡ [] → ends_upload exchange ≡ false → upload ≡ view.upload → IsUploadFrom view exchange upload
+  -- none is open behind an end
+  Ends : ends_upload exchange ≡ true → upload ≡ None → IsUploadFrom view exchange upload
   -- it is the one that was open, or a new one, and goes on by the body of this part
-  GoesOn : (body : List ℕ) → ask ≡ SendsPart body → upload ≡ Some (continued (open_upload view.upload) body) → IsUploadFrom view ask upload
+  GoesOn : (body : List ℕ) → part_in exchange ≡ body ∷ [] → upload ≡ Some (continued (open_upload view.upload) body) → IsUploadFrom view exchange upload
 
--- these are bodies of parts among the requests, in their order
-abbrev pub AreParts : List Ask → List (List ℕ) → Type 0
-AreParts asks [] = ⊤
-AreParts asks (body ∷ bodies) = (front behind : List Ask) × (asks ≡ front ++ SendsPart body ∷ behind) × AreParts behind bodies
+-- these are the bodies of all parts of the upload that goes on here, up to the `part-end` that publishes it, with none left out and
+-- no other end between
+pub record AreParts (exchanges : List Exchange) (bodies : List (List ℕ)) : Type 0 where
+  pub during : List Exchange
+  pub behind : List Exchange
+  pub repository : List ℕ
+  pub parts : exchanges ≡ during ++ (EndsParts repository, Done []) ∷ behind
+  pub no_end : AllByRecursion (λ exchange. ends_upload exchange ≡ false) during
+  pub whole : bodies ≡ parts_in during
 
 -- what a tenant sent by its requests, or began to send before them
-pub data WasSent (view : View) (asks : List Ask) (name : List ℕ) (object : Object) : Type 0 where
-  -- it stands in the body of a push
-  InPush : (repository body : List ℕ) → Contains asks (Pushes repository body) → IsAmong (sent_in (stream_of body)) name object → WasSent view asks name object
-  -- it stands in parts, which began an upload
-  InParts : (bodies : List (List ℕ)) → AreParts asks bodies → IsAmong (sent_in (stream_of (concat bodies))) name object → WasSent view asks name object
-  -- it stands in the upload that was open before, and in the parts by which it went on
-  InUpload : (upload : UploadValue) (bodies : List (List ℕ)) → view.upload ≡ Some upload → AreParts asks bodies → IsAmong (sent_in (fed upload bodies).stream) name object → WasSent view asks name object
+pub data WasSent (view : View) (exchanges : List Exchange) (name : List ℕ) (object : Object) : Type 0 where
+  -- it stands in the body of a push that was answered `ok`
+  InPush : (repository body : List ℕ) → Contains exchanges (Pushes repository body, Done []) → IsAmong (sent_in (stream_of body)) name object → WasSent view exchanges name object
+  -- it stands in the bytes of one upload, which began behind the end of another: in all its parts
+  InParts : (front behind : List Exchange) (end : Exchange) (bodies : List (List ℕ)) → exchanges ≡ front ++ end ∷ behind → ends_upload end ≡ true → AreParts behind bodies → IsAmong (sent_in (stream_of (concat bodies))) name object → WasSent view exchanges name object
+  -- it stands in the upload that was open at first, or in one of no bytes where none was, and in all parts by which that one went on
+  InUpload : (bodies : List (List ℕ)) → AreParts exchanges bodies → IsAmong (sent_in (fed (open_upload view.upload) bodies).stream) name object → WasSent view exchanges name object
+
+-- at some moment of what a private host is asked it sees an object of this name
+abbrev pub WasShown : View → List Ask → List ℕ → Type 0
+WasShown view asks name = (front behind : List Ask) × (asks ≡ front ++ behind) × (contains_key (alone view front).1.objects name ≡ true)

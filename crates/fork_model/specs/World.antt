@@ -1,6 +1,7 @@
 -- The world of a host: a view for each tenant, and how runs go from one world to the next.
-use Rattle.std.specs.Prelude.{◌≡◌, ◌≤◌, ◌++◌, ℕ, List, codes, decimal}
+use Rattle.std.specs.Prelude.{◌≡◌, ◌≤◌, ◌++◌, ℕ, List, codes, decimal, ⊤}
 use Rattle.std.specs.FinMap.{FinMap, get}
+use Rattle.std.specs.List.{zip}
 use Rattle.git_name.specs.Name.{name_cmp}
 use Rattle.fork_request.specs.Asked.{Ask}
 use Rattle.fork_request.specs.Harms.{Harmed, harm_lines}
@@ -35,13 +36,17 @@ HostSays Census reply = (n : ℕ) × (reply ≡ Done (number_line n))
 HostSays Fsck reply = (harms : Harmed) × (reply ≡ Done (harm_lines harms))
 HostSays Bad reply = reply ≡ Refused BadRequest
 
+-- a tenant meets nothing of the world beside its requests
+abbrev pub nothing_met : World → List ℕ → ⊤
+nothing_met world tenant = tt
+
 -- one step may go from the old world to the new one with this reply
 abbrev pub Steps : World → Event → Reply → World → Type 0
-Steps = Runs.Steps name_cmp answer (Refused UnknownTenant) is_host_fault HostSays
+Steps = Runs.Steps name_cmp nothing_met (λ _. answer) (Refused UnknownTenant) is_host_fault HostSays
 
 -- these replies, one to each step, lead from the old world to the new one
 abbrev pub Explains : World → List Event → List Reply → World → Type 0
-Explains = Runs.Explains name_cmp answer (Refused UnknownTenant) is_host_fault HostSays
+Explains = Runs.Explains name_cmp nothing_met (λ _. answer) (Refused UnknownTenant) is_host_fault HostSays
 
 -- what a tenant asks, in order
 abbrev pub own : List ℕ → List Event → List Ask
@@ -51,9 +56,17 @@ own = Runs.own name_cmp
 abbrev pub told : List ℕ → List Event → List Reply → List Reply
 told = Runs.told name_cmp
 
+-- a tenant's request, and the reply to it
+abbrev pub Exchange : Type 0
+Exchange = Ask × Reply
+
+-- what a tenant asks, each beside what it is told, in order
+abbrev pub exchanges : List ℕ → List Event → List Reply → List Exchange
+exchanges tenant steps replies = zip (own tenant steps) (told tenant steps replies)
+
 -- the replies and the last view of a private host, which has this view and no other tenant
 abbrev pub alone : View → List Ask → List Reply × View
-alone = Runs.alone answer
+alone view asks = Runs.alone (λ _. answer) view (Runs.meeting (tt {0}) asks)
 
 -- no reply to the tenant is a host fault
 abbrev pub IsUnfaulted : List ℕ → List Event → List Reply → Type 0
@@ -65,4 +78,8 @@ Agree tenant world other = get world tenant ≡ get other tenant
 
 -- a tenant's own part in a step
 abbrev pub Answers : View → Ask → Reply → View → Type 0
-Answers = Runs.Answers answer is_host_fault
+Answers = Runs.Answers (λ _. answer) is_host_fault (tt {0})
+
+-- what a private host is asked, each beside what it answers, in order
+abbrev pub exchanges_alone : View → List Ask → List Exchange
+exchanges_alone view asks = zip asks (alone view asks).0

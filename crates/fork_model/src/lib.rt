@@ -5,6 +5,7 @@
 #![tactic(auto)]
 
 mod limits;
+mod missing;
 mod provenance;
 mod transfer;
 mod uploads;
@@ -16,7 +17,11 @@ ghost use Rattle.fork_model.specs.View.{View};
 ghost use Rattle.fork_model.specs.World.{World, Event, Explains, IsUnfaulted, Agree, own, told, alone};
 
 pub use crate::limits::{MAX_ITEMS, MAX_REPOSITORIES, MAX_TENANTS};
-pub use crate::provenance::{what_is_seen_was_seen_or_sent, what_runs_show_was_seen_or_sent};
+pub use crate::missing::what_is_lacking_is_missing;
+pub use crate::provenance::{
+    an_upload_is_all_its_parts, what_is_seen_was_seen_or_sent, what_runs_show_was_seen_or_sent,
+    what_was_sent_was_seen,
+};
 pub use crate::transfer::{
     answers_keep_views_sendable, excluded_objects_are_enough, what_is_fetched_can_be_pushed,
     what_is_fetched_is_a_stream, what_is_fetched_is_enough, what_is_fetched_is_taken,

@@ -1,4 +1,5 @@
 pub mod TakenLemmas
 pub mod GivenLemmas
 pub mod HostingLemmas
+pub mod EntryLemmas
 pub mod VisitLemmas

@@ -3,6 +3,8 @@ use Rattle.std.specs.Prelude.{◌≡◌, ℕ, ◌==◌, List, [], ◌++◌, code
 use Rattle.std.specs.Io.KnownBytes.{Keeps}
 use Rattle.fork_host.specs.Shape.{SameShape}
 use Rattle.fork_host.specs.Shown.{HostState, Trusted, world_of}
+use Rattle.state_text.specs.Kept.{states_of}
+use Rattle.state_text.specs.Text.{IsStateText}
 use Rattle.fork_program.specs.declared.fault.Fault.{Fault}
 use Rattle.fork_program.specs.declared.fault.Fault.TheVariants.{Write, Memory, Store, NoState, Unreadable, Journal, Line, Lost, Damaged, Unsound, OverLimit}
 
@@ -31,11 +33,19 @@ pub record IsSaved (old new : HostState) : Type 0 where
   pub trusted : Trusted old → Trusted new
   pub shows : Trusted old → world_of new ≡ world_of old
 
--- what `check` prints: a line, and another where requests of the journal are to be done again, with their number
-abbrev pub sound_lines : ℕ → List ℕ
-sound_lines count = codes "sound\n" ++ (if count == 0 then [] else codes "journal " ++ decimal count ++ codes "\n")
+-- what is saved of a host is the text of its states, in which no open upload is
+abbrev pub IsTextOf : HostState → List ℕ → Type 0
+IsTextOf host text = IsStateText (states_of (world_of host)) text
 
--- why `check` did not print them, or not the whole of them
+-- what `check` prints of a sound folder
+abbrev pub sound_line : List ℕ
+sound_line = codes "sound\n"
+
+-- what it tells on standard error: how many requests a start would do again, where it would do any
+abbrev pub again_line : ℕ → List ℕ
+again_line count = if count == 0 then [] else codes "journal " ++ decimal count ++ codes "\n"
+
+-- why `check` did not print its line, or not the whole of it
 abbrev pub IsUnchecked : Option (List ℕ) → Option (List ℕ) → Fault → Type 0
 IsUnchecked before after Write = ⊤
 IsUnchecked before after NoState = Keeps before after

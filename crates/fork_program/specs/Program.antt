@@ -1,5 +1,5 @@
 -- How the program ends (own), by what `clap` makes of its words: `kinds` are the errors that it finds in them.
-use Rattle.std.specs.Prelude.{◌≡◌, ℕ, List, [], ◌∷◌, ◌++◌, codes, Option}
+use Rattle.std.specs.Prelude.{◌≡◌, ℕ, ◌≤◌, List, [], ◌∷◌, ◌++◌, codes, Option, Result, Ok, Err, ⊤}
 use Rattle.std.specs.Io.KnownBytes.{Appends, Keeps}
 use Rattle.clap.specs.Words.{IsAmong, Kinds, Row, Text, fault_of, subcommand_of}
 use Rattle.clap.specs.declared.error.kind.ErrorKind.TheVariants.{DisplayHelp}
@@ -11,17 +11,18 @@ use Rattle.fork_command.specs.declared.error.CommandError.TheVariants as refusal
 use Rattle.fork_frame.specs.declared.ended.Ended.TheVariants.{Clean}
 use Rattle.fork_program.specs.Fault.{fault_line}
 use Rattle.fork_program.specs.Hashing.{IsNamed, IsUnnamed}
-use Rattle.fork_program.specs.Keeping.{IsUnchecked, IsUntouched, sound_lines}
+use Rattle.fork_program.specs.Keeping.{IsUnchecked, IsUntouched, again_line, sound_line}
 use Rattle.fork_program.specs.Running.{IsRun, IsUnserved}
 use Rattle.fork_program.specs.Serving.{IsListened, IsUnlistened}
 use Rattle.fork_program.specs.declared.ending.Ending.{Ending}
-use Rattle.fork_program.specs.declared.ending.Ending.TheVariants.{Done, Failed, Misused, BadTenant}
+use Rattle.fork_program.specs.declared.ending.Ending.TheVariants.{Done, Sound, Failed, Misused, BadTenant}
 use Rattle.fork_program.specs.declared.fault.Fault.{Fault}
 use Rattle.fork_program.specs.declared.fault.Fault.TheVariants as fault
 
 -- the exit status
 abbrev pub status_of : Ending → ℕ
 status_of Done = 0
+status_of (Sound count) = 0
 status_of (Failed fault) = 1
 status_of (Misused error) = 2
 status_of (BadTenant word) = 2
@@ -29,23 +30,53 @@ status_of (BadTenant word) = 2
 -- what belongs on standard error; of `clap`'s text nothing is said
 abbrev pub IsTold : Ending → Option (List ℕ) → Option (List ℕ) → Type 0
 IsTold Done before after = Keeps before after
+IsTold (Sound count) before after = Appends before after (again_line count)
 IsTold (Failed fault) before after = Appends before after (fault_line fault)
 IsTold (Misused error) before after = (text : List ℕ) × Appends before after text
 IsTold (BadTenant word) before after = Appends before after (codes "forkhost: bad tenant " ++ word.now ++ 10 ∷ [])
 
--- the command was done
+-- something belongs on standard error
+abbrev pub IsToTell : Ending → Type 0
+IsToTell Done = ⊥
+IsToTell (Sound count) = 1 ≤ count
+IsToTell (Failed fault) = ⊤
+IsToTell (Misused error) = ⊤
+IsToTell (BadTenant word) = ⊤
+
+-- the command, which is no check, was done
 abbrev pub IsDone : Command → Option (List ℕ) → Option (List ℕ) → Option (List ℕ) → Type 0
 IsDone (HashObject kind) input before after = IsNamed kind input before after
 IsDone (Run hosting) input before after = IsRun hosting input before after Clean
 IsDone (Serve socket connections hosting) input before after = IsListened hosting connections × Keeps before after
-IsDone (Check dir) input before after = (count : ℕ) × Appends before after (sound_lines count)
+IsDone (Check dir) input before after = ⊥
 
--- why it was not
+-- a check found the folder sound
+abbrev pub IsSound : Command → Option (List ℕ) → Option (List ℕ) → Option (List ℕ) → Option (List ℕ) → Type 0
+IsSound (Check dir) input left before after = Keeps input left × Appends before after sound_line
+IsSound command input left before after = ⊥
+
+-- why the command was not done
 abbrev pub IsUndone : Command → Option (List ℕ) → Option (List ℕ) → Option (List ℕ) → Option (List ℕ) → Fault → Type 0
 IsUndone (HashObject kind) input left before after fault = IsUnnamed kind input before after fault
 IsUndone (Run hosting) input left before after fault = IsUnserved hosting input left before after fault
 IsUndone (Serve socket connections hosting) input left before after fault = IsUnlistened hosting connections fault × IsUntouched input left before after
 IsUndone (Check dir) input left before after fault = IsUnchecked before after fault × Keeps input left
+
+-- a command was done, or a fault came
+abbrev pub ending_of : Result (Unit {0}) Fault → Ending
+ending_of (Ok done) = Done
+ending_of (Err fault) = Failed fault
+
+-- how the command ended
+abbrev pub IsCarriedOut : Command → Option (List ℕ) → Option (List ℕ) → Option (List ℕ) → Option (List ℕ) → Ending → Type 0
+IsCarriedOut command input left before after Done = IsDone command input before after
+IsCarriedOut command input left before after (Sound count) = IsSound command input left before after
+IsCarriedOut command input left before after (Failed fault) = IsUndone command input left before after fault
+IsCarriedOut command input left before after ending = ⊥
+
+-- the words ask for a check, and the folder is sound
+pub data IsChecked (kinds : Kinds) (met : Option (Text × List Row)) (input left before after : Option (List ℕ)) : Type 0 where
+  Checked : (command : Command) → kinds ≡ [] → Asks met command → IsSound command input left before after → IsChecked kinds met input left before after
 
 -- all is well
 pub data IsWell (kinds : Kinds) (met : Option (Text × List Row)) (input left before after : Option (List ℕ)) : Type 0 where
@@ -66,17 +97,19 @@ pub data IsFault (kinds : Kinds) (met : Option (Text × List Row)) (input left b
 -- words that end the program so
 abbrev pub Ends : List Text → Option (List ℕ) → Option (List ℕ) → Option (List ℕ) → Option (List ℕ) → Ending → Type 0
 Ends texts input left before after Done = IsWell (fault_of table_app texts) (subcommand_of table_app texts) input left before after
+Ends texts input left before after (Sound count) = IsChecked (fault_of table_app texts) (subcommand_of table_app texts) input left before after
 Ends texts input left before after (Failed fault) = IsFault (fault_of table_app texts) (subcommand_of table_app texts) input left before after fault
 Ends texts input left before after (Misused error) = IsRefused (fault_of table_app texts) (subcommand_of table_app texts) (refusal.Usage error) × IsUntouched input left before after
 Ends texts input left before after (BadTenant word) = IsRefused (fault_of table_app texts) (subcommand_of table_app texts) (refusal.BadTenant word) × IsUntouched input left before after
 
--- the status is that of a right ending
-pub record IsEnded (texts : List Text) (input left before after : Option (List ℕ)) (status : ℕ) : Type 0 where
+-- the status is that of a right ending, of which something belongs on standard error
+pub record IsEndedUntold (texts : List Text) (input left before after : Option (List ℕ)) (status : ℕ) : Type 0 where
   pub how : Ending
   pub right : Ends texts input left before after how
   pub answered : status ≡ status_of how
+  pub telling : IsToTell how
 
--- and what belongs on standard error is there
+-- the status is that of a right ending, and what belongs on standard error is there
 pub record IsEndedAndTold (texts : List Text) (input left before after untold told : Option (List ℕ)) (status : ℕ) : Type 0 where
   pub how : Ending
   pub right : Ends texts input left before after how

@@ -1,14 +1,14 @@
-ghost use Rattle.std.specs.Prelude.{◌≡◌, ℕ, IfErr, IfOk, OnOk};
+ghost use Rattle.std.specs.Prelude.{◌≡◌, IfErr, IfOk};
 ghost use Rattle.std.specs.Io.KnownBytes.{Appends};
-ghost use Rattle.fork_program.specs.Keeping.{IsUnchecked, IsUnkept, sound_lines};
+ghost use Rattle.fork_program.specs.Keeping.{IsUnchecked, IsUnkept, sound_line};
 
 use crate::fault::Fault;
 use crate::keeping::restored_host;
+use crate::send::send;
 use crate::telling::{of_state, of_store};
 use loose_store::{Folder, read_state};
 use std::alloc::Global;
 use std::fs::{File, Files};
-use std::io;
 use std::io::Write;
 use std::random::RandomSource;
 
@@ -30,26 +30,15 @@ fn replayable<'x, H: Files<File = File> + AllocGlobal + RandomSource>(
     }
 }
 
-// Writes what is told of a sound folder, and flushes.
-fn tell_sound<W: Write>(count: u64, writer: &mut W) -> io::Result<()>
-    ensures { OnOk result (Appends (W.contents writer.old) (W.contents writer.new) (sound_lines count)) }
-{
-    writer.write_all(b"sound\n")?;
-    if count > 0 {
-        writeln!(writer, "journal {count}")?;
-    }
-    writer.flush()
-}
-
-/// Reads all that a folder keeps, and prints `sound`, and how many requests of the journal a start would
-/// do again. A folder without a state is left as it is, or left out where it is not there.
+/// Reads all that a folder keeps, prints `sound`, and answers how many requests of the journal a start
+/// would do again. A folder without a state is left as it is, or left out where it is not there.
 pub fn check<H: Files<File = File> + AllocGlobal + RandomSource, W: Write>(
     rt: &H,
     alloc: Global,
     dir: &str,
     writer: &mut W,
-) -> Result<(), Fault>
-    ensures ok { OnOk result ((count : ℕ) × Appends (W.contents writer.old) (W.contents writer.new) (sound_lines count)) }
+) -> Result<u64, Fault>
+    ensures ok { IfOk result (λ _. Appends (W.contents writer.old) (W.contents writer.new) sound_line) }
     ensures err { IfErr result (IsUnchecked (W.contents writer.old) (W.contents writer.new)) }
 {
     match read_state(rt, alloc, dir) {
@@ -58,8 +47,8 @@ pub fn check<H: Files<File = File> + AllocGlobal + RandomSource, W: Write>(
         Err(fault) => return Err(of_state(fault)),
     }
     let count = replayable(rt, alloc, dir)?;
-    let Ok(()) = tell_sound(count, writer) else {
-        return Err(Fault::Write);
-    };
-    Ok(())
+    match send(b"sound\n", writer) {
+        Ok(()) => Ok(count),
+        Err(fault) => Err(fault),
+    }
 }

@@ -1,6 +1,7 @@
 ghost use Rattle.std.specs.Prelude.{◌≡◌, ℕ, ◌≤◌, List, OnErr, OnOk};
 ghost use Rattle.std.specs.Io.KnownBytes.{Appends};
-ghost use Rattle.fork_program.specs.Program.{IsTold, status_of};
+ghost use Rattle.fork_program.specs.Keeping.{again_line};
+ghost use Rattle.fork_program.specs.Program.{IsTold, IsToTell, status_of};
 
 use crate::fault::Fault;
 use clap::Error;
@@ -13,6 +14,9 @@ use std::io::Write;
 pub enum Ending<'a> {
     /// The command was done, or help was given. Status 0.
     Done,
+    /// The folder that was to be checked is sound, and a start would do so many requests of its journal
+    /// again. Status 0.
+    Sound(u64),
     /// A fault came. Status 1.
     Failed(Fault),
     /// The words are a faulty command line; the text is `clap`'s. Status 2.
@@ -27,7 +31,7 @@ impl Ending<'_> {
         ensures { result ≡ status_of self.now }
     {
         match self {
-            Ending::Done => 0,
+            Ending::Done | Ending::Sound(_) => 0,
             Ending::Failed(_) => 1,
             Ending::Misused(_) | Ending::BadTenant(_) => 2,
         }
@@ -36,15 +40,27 @@ impl Ending<'_> {
     /// Writes what belongs on standard error.
     pub fn tell<F: Write>(&self, alloc: Global, faults: &mut F) -> io::Result<()>
         ensures ok { OnOk result (IsTold self.now (F.contents faults.old) (F.contents faults.new)) }
-        ensures cause { OnErr result (1 ≤ status_of self.now) }
+        ensures cause { OnErr result (IsToTell self.now) }
     {
         match self {
             Ending::Done => Ok(()),
+            Ending::Sound(count) => write_again(*count, faults),
             Ending::Failed(fault) => fault.write(faults),
             Ending::Misused(error) => write_text(alloc, error, faults),
             Ending::BadTenant(word) => writeln!(faults, "forkhost: bad tenant {word}"),
         }
     }
+}
+
+// Writes how many requests a start would do again, where it would do any.
+fn write_again<F: Write>(count: u64, faults: &mut F) -> io::Result<()>
+    ensures ok { OnOk result (Appends (F.contents faults.old) (F.contents faults.new) (again_line count)) }
+    ensures cause { OnErr result (1 ≤ count) }
+{
+    if count == 0 {
+        return Ok(());
+    }
+    writeln!(faults, "journal {count}")
 }
 
 // Writes `clap`'s text.

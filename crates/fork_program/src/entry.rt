@@ -1,6 +1,6 @@
-ghost use Rattle.std.specs.Prelude.{◌≡◌, ◌≢◌, ◌≤◌, ℕ, IfErr, IfOk, List, OnOk, map};
+ghost use Rattle.std.specs.Prelude.{◌≡◌, ◌≢◌, ℕ, IfErr, IfOk, List, OnOk, map};
 ghost use Rattle.std.specs.Io.KnownBytes.{Appends, Keeps};
-ghost use Rattle.fork_program.specs.Program.{Ends, IsDone, IsEnded, IsEndedAndTold, IsUndone};
+ghost use Rattle.fork_program.specs.Program.{Ends, IsCarriedOut, IsEndedAndTold, IsEndedUntold, ending_of};
 
 use crate::check::check;
 use crate::ending::Ending;
@@ -23,28 +23,39 @@ pub struct Untold {
     pub status: u8,
 }
 
+// A command was done, or a fault came.
+fn done<'a>(did: Result<(), Fault>) -> Ending<'a>
+    ensures { result ≡ ending_of did }
+{
+    match did {
+        Ok(()) => Ending::Done,
+        Err(fault) => Ending::Failed(fault),
+    }
+}
+
 // Carries the command out.
-fn carried_out<H: Files<File = File> + Net + AllocGlobal + RandomSource, R: Read, W: Write>(
+fn carried_out<'a, H: Files<File = File> + Net + AllocGlobal + RandomSource, R: Read, W: Write>(
     rt: &H,
     alloc: Global,
     command: Command<'_>,
     reader: &mut R,
     writer: &mut W,
-) -> Result<(), Fault>
-    ensures ok { OnOk result (IsDone command.entry (R.remaining reader.old)
-        (W.contents writer.old) (W.contents writer.new)) }
-    ensures err { IfErr result (IsUndone command.entry (R.remaining reader.old) (R.remaining reader.new)
-        (W.contents writer.old) (W.contents writer.new)) }
+) -> Ending<'a>
+    ensures { IsCarriedOut command.entry (R.remaining reader.old) (R.remaining reader.new)
+        (W.contents writer.old) (W.contents writer.new) result }
 {
     match command {
-        Command::HashObject { kind } => hash_object(alloc, kind, reader, writer),
-        Command::Run { hosting } => run(rt, alloc, hosting, reader, writer),
+        Command::HashObject { kind } => done(hash_object(alloc, kind, reader, writer)),
+        Command::Run { hosting } => done(run(rt, alloc, hosting, reader, writer)),
         Command::Serve {
             socket,
             connections,
             hosting,
-        } => serve(rt, alloc, socket, connections, hosting),
-        Command::Check { dir } => check(rt, alloc, dir, writer),
+        } => done(serve(rt, alloc, socket, connections, hosting)),
+        Command::Check { dir } => match check(rt, alloc, dir, writer) {
+            Ok(count) => Ending::Sound(count),
+            Err(fault) => Ending::Failed(fault),
+        },
     }
 }
 
@@ -71,10 +82,7 @@ fn ending<'a, H: Files<File = File> + Net + AllocGlobal + RandomSource, R: Read,
         (W.contents writer.old) (W.contents writer.new) result }
 {
     match command_of(alloc, words) {
-        Ok(command) => match carried_out(rt, alloc, command, reader, writer) {
-            Ok(()) => Ending::Done,
-            Err(fault) => Ending::Failed(fault),
-        },
+        Ok(command) => carried_out(rt, alloc, command, reader, writer),
         Err(CommandError::Help(error)) => match help(alloc, error, writer) {
             Ok(()) => Ending::Done,
             Err(fault) => Ending::Failed(fault),
@@ -96,9 +104,8 @@ pub fn program<
     ensures ok { IfOk result (IsEndedAndTold (map (λ word. word.now) words.entry.now)
         (R.remaining reader.old) (R.remaining reader.new) (W.contents writer.old) (W.contents writer.new)
         (F.contents faults.old) (F.contents faults.new)) }
-    ensures err { IfErr result (λ untold. IsEnded (map (λ word. word.now) words.entry.now)
+    ensures err { IfErr result (λ untold. IsEndedUntold (map (λ word. word.now) words.entry.now)
         (R.remaining reader.old) (R.remaining reader.new) (W.contents writer.old) (W.contents writer.new) untold.status) }
-    ensures cause { IfErr result (λ untold. 1 ≤ untold.status) }
 {
     let alloc = rt.alloc();
     let how = ending(rt, alloc, words, reader, writer);

@@ -1,9 +1,10 @@
-ghost use Rattle.std.specs.Prelude.{◌≡◌, IfErr};
-ghost use Rattle.fork_program.specs.Keeping.{IsSaved};
+ghost use Rattle.std.specs.Prelude.{◌≡◌, IfErr, IfOk, IsTrue, OnOk};
+ghost use Rattle.fork_program.specs.Keeping.{IsSaved, IsTextOf};
 
 use crate::fault::Fault;
 use fork_host::Host;
 use fork_wire::{Written, write_uploads};
+use git_name::Name;
 use loose_store::{
     LooseFiles, begin_journal, clear_journals, empty_swept, has_swept, journal_name,
     settle_journal, write_state,
@@ -21,11 +22,13 @@ pub struct Keep<'a, H> {
     rt: &'a H,
     dir: &'a str,
     pub(crate) journal: Written<File>,
-    // How many bytes the state has, and the uploads at the journal's beginning.
+    // The journal's name, which is that of the state that stands there.
+    name: Name,
+    // How many bytes that state has, and the uploads at the journal's beginning.
     saved: u64,
 }
 
-// A state that is to come, and the journal that begins behind it with the open uploads.
+// A state that is to come, and the journal behind it, which may begin with the open uploads.
 #[derive(Drop)]
 struct Draft {
     state: Vec<u8>,
@@ -33,7 +36,31 @@ struct Draft {
     uploads: u64,
 }
 
-// Drafts the host's state, and a journal behind it. The folder has its old state still, and its journal.
+// Drafts the host's state, and behind it a journal of nothing. The folder has its old state still, and its
+// journal.
+fn closed<H: Files<File = File> + AllocGlobal, S: LooseFiles>(
+    rt: &H,
+    alloc: Global,
+    dir: &str,
+    host: &Host<S>,
+) -> Result<Draft, Fault>
+    ensures cause { IfErr result (λ fault. fault ≡ Fault.NotSaved) }
+    ensures text { IfOk result (λ draft. IsTextOf host.now draft.state.items) }
+{
+    let Ok(text) = fork_state::save(alloc, host) else {
+        return Err(Fault::NotSaved);
+    };
+    let Ok(file) = begin_journal(rt, alloc, dir) else {
+        return Err(Fault::NotSaved);
+    };
+    Ok(Draft {
+        state: text,
+        file,
+        uploads: 0,
+    })
+}
+
+// The same, but that the journal begins with the open uploads.
 fn drafted<H: Files<File = File> + AllocGlobal, S: LooseFiles>(
     rt: &H,
     alloc: Global,
@@ -42,13 +69,13 @@ fn drafted<H: Files<File = File> + AllocGlobal, S: LooseFiles>(
 ) -> Result<Draft, Fault>
     ensures cause { IfErr result (λ fault. fault ≡ Fault.NotSaved) }
     ensures saved { IsSaved host.old host.new }
+    ensures text { IfOk result (λ draft. IsTextOf host.old draft.state.items) }
 {
-    let Ok(state) = fork_state::save(alloc, host) else {
-        return Err(Fault::NotSaved);
-    };
-    let Ok(mut file) = begin_journal(rt, alloc, dir) else {
-        return Err(Fault::NotSaved);
-    };
+    let Draft {
+        state,
+        mut file,
+        ..
+    } = closed(rt, alloc, dir, host)?;
     let Ok(uploads) = write_uploads(host, alloc, &mut file) else {
         return Err(Fault::NotSaved);
     };
@@ -59,14 +86,24 @@ fn drafted<H: Files<File = File> + AllocGlobal, S: LooseFiles>(
     })
 }
 
+// A drafted state that has its place.
+#[derive(Drop)]
+struct Settled {
+    file: File,
+    name: Name,
+    saved: u64,
+}
+
 // Puts a drafted state in its place: the journal first, under the name of the state that is to come, and
-// then the state, so that at each moment the state that stands there has its journal.
+// then the state, unless it is the one that stands there. So at each moment the state that stands there has
+// its journal, and one step, of the state's name or of the journal's, takes the old ones away.
 fn put<H: Files<File = File> + AllocGlobal>(
     rt: &H,
     alloc: Global,
     dir: &str,
+    standing: Option<Name>,
     draft: Draft,
-) -> Result<(File, u64), Fault>
+) -> Result<Settled, Fault>
     ensures { IfErr result (λ fault. fault ≡ Fault.NotSaved) }
 {
     let Draft {
@@ -78,13 +115,27 @@ fn put<H: Files<File = File> + AllocGlobal>(
     let Ok(()) = settle_journal(rt, alloc, dir, name, &file) else {
         return Err(Fault::NotSaved);
     };
-    let Ok(()) = write_state(rt, alloc, dir, state.as_slice()) else {
-        return Err(Fault::NotSaved);
-    };
+    if standing != Some(name) {
+        let Ok(()) = write_state(rt, alloc, dir, state.as_slice()) else {
+            return Err(Fault::NotSaved);
+        };
+    }
     // What is left of older journals, and of what was swept, does no harm, and goes at the next saving.
     let _cleared = clear_journals(&rt, alloc, dir, name);
     let _emptied = empty_swept(&rt, alloc, dir);
-    Ok((file, uploads.saturating_add(state.len() as u64)))
+    Ok(Settled {
+        file,
+        name,
+        saved: uploads.saturating_add(state.len() as u64),
+    })
+}
+
+// A tenant has an upload open, or there is no memory to tell.
+fn is_uploading<S: LooseFiles>(alloc: Global, host: &Host<S>) -> bool {
+    match host.uploading(alloc) {
+        Ok(names) => !names.is_empty(),
+        Err(_) => true,
+    }
 }
 
 impl<'a, H: Files<File = File> + AllocGlobal> Keep<'a, H> {
@@ -100,16 +151,22 @@ impl<'a, H: Files<File = File> + AllocGlobal> Keep<'a, H> {
         ensures saved { IsSaved host.old host.new }
     {
         match drafted(rt, alloc, dir, host) {
-            Ok(draft) => Keep::over(rt, alloc, dir, draft),
+            Ok(draft) => Keep::over(rt, alloc, dir, None, draft),
             Err(fault) => Err(fault),
         }
     }
 
     // The folder with a drafted state in its place.
-    fn over(rt: &'a H, alloc: Global, dir: &'a str, draft: Draft) -> Result<Keep<'a, H>, Fault>
+    fn over(
+        rt: &'a H,
+        alloc: Global,
+        dir: &'a str,
+        standing: Option<Name>,
+        draft: Draft,
+    ) -> Result<Keep<'a, H>, Fault>
         ensures { IfErr result (λ fault. fault ≡ Fault.NotSaved) }
     {
-        let (file, bytes) = put(rt, alloc, dir, draft)?;
+        let Settled { file, name, saved } = put(rt, alloc, dir, standing, draft)?;
         let Ok(journal) = Written::new(alloc, file) else {
             return Err(Fault::NotSaved);
         };
@@ -117,25 +174,32 @@ impl<'a, H: Files<File = File> + AllocGlobal> Keep<'a, H> {
             rt,
             dir,
             journal,
-            saved: bytes,
+            name,
+            saved,
         })
     }
 
-    /// Saves the host's state, where anything was done since it was saved last, and lets go of what was
-    /// swept. After an `Err` nothing more is to be kept.
-    pub fn save<S: LooseFiles>(&mut self, alloc: Global, host: &mut Host<S>) -> Result<(), Fault>
-        ensures cause { IfErr result (λ fault. fault ≡ Fault.NotSaved) }
-        ensures saved { IsSaved host.old host.new }
+    /// Saves the host's state behind the end of serving, with a journal of nothing, so that no open upload
+    /// outlives it, and lets go of what was swept. Where serving ended as the folder could not be written,
+    /// the folder stays as it is, as behind a kill. After an `Err` the folder has what it had, or this state.
+    pub fn end<S: LooseFiles>(
+        &self,
+        alloc: Global,
+        host: &Host<S>,
+        served: &Result<(), Fault>,
+    ) -> Result<(), Fault>
+        ensures { IfErr result (λ fault. fault ≡ Fault.NotSaved) }
     {
-        if self.journal.bytes() == 0 {
+        if let Err(Fault::NotKept | Fault::NotSaved) = served {
+            return Ok(());
+        }
+        if self.journal.bytes() == 0 && !is_uploading(alloc, host) {
             let _emptied = empty_swept(&self.rt, alloc, self.dir);
             return Ok(());
         }
-        match Keep::begin(self.rt, alloc, self.dir, host) {
-            Ok(keep) => {
-                *self = keep;
-                Ok(())
-            }
+        let draft = closed(self.rt, alloc, self.dir, host)?;
+        match put(self.rt, alloc, self.dir, Some(self.name), draft) {
+            Ok(_settled) => Ok(()),
             Err(fault) => Err(fault),
         }
     }
@@ -158,7 +222,7 @@ impl<'a, H: Files<File = File> + AllocGlobal> Keep<'a, H> {
         let Ok(draft) = drafted(self.rt, alloc, self.dir, host) else {
             return Ok(());
         };
-        match Keep::over(self.rt, alloc, self.dir, draft) {
+        match Keep::over(self.rt, alloc, self.dir, Some(self.name), draft) {
             Ok(keep) => {
                 *self = keep;
                 Ok(())

@@ -56,7 +56,7 @@ fn keep_session<'x, H: Files<File = File> + AllocGlobal, S: LooseFiles, R: Read,
 {
     let mut keep = Keep::begin(rt, alloc, dir, host)?;
     let served = session(host, alloc, &mut keep.journal, reader, writer);
-    let saved = keep.save(alloc, host);
+    let saved = keep.end(alloc, host, &served);
     match served {
         Ok(()) => saved,
         Err(fault) => Err(fault),
@@ -100,7 +100,8 @@ fn run_in_folder<'x, H: Files<File = File> + AllocGlobal + RandomSource, R: Read
 }
 
 /// Serves one session of the host that has these tenants too. What was served is saved where a folder
-/// keeps the host, also after a fault of the session.
+/// keeps the host, also after a fault of the session, but for open uploads, which end with it; where the
+/// folder could not be written, it keeps all that was answered, open uploads too.
 pub fn run<H: Files<File = File> + AllocGlobal + RandomSource, R: Read, W: Write>(
     rt: &H,
     alloc: Global,

@@ -91,7 +91,7 @@ fn keep_connections<'x, H: Files<File = File> + AllocGlobal, S: LooseFiles>(
         }
     };
     let served = serve_kept_at(rt, alloc, host, &mut keep, listening, socket, connections);
-    let saved = keep.save(alloc, host);
+    let saved = keep.end(alloc, host, &served);
     match served {
         Ok(()) => saved,
         Err(fault) => Err(fault),
@@ -147,7 +147,8 @@ fn serve_in_folder<'x, H: Files<File = File> + Net + AllocGlobal + RandomSource>
 }
 
 /// Serves so many connections to a socket, each a session of the host that has these tenants too.
-/// What was served is saved where a folder keeps the host.
+/// What was served is saved where a folder keeps the host, but for open uploads, which end with the last
+/// connection; where the folder could not be written, it keeps all that was answered, open uploads too.
 pub fn serve<H: Files<File = File> + Net + AllocGlobal + RandomSource>(
     rt: &H,
     alloc: Global,

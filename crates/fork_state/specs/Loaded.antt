@@ -27,6 +27,16 @@ load_fault (restore.OverLimit tenant) = OverLimit tenant
 load_fault restore.Store = Store
 load_fault restore.Memory = Memory
 
+-- the text is a state text
+abbrev pub IsText : List ℕ → Type 0
+IsText text = (states : States) × IsStateText states text
+
+-- what a text settles of a fault, over any store: its first wrong line, or that it is a state text, where memory was not wanted
+abbrev pub IsTextFault : List ℕ → LoadFault → Type 0
+IsTextFault text (Line number) = IsWrongLine text number
+IsTextFault text Memory = ⊤
+IsTextFault text fault = IsText text
+
 -- the text is a state text, and its states are refused so
 pub record IsRefusedText (files : Files) (text : List ℕ) (error : RestoreError) : Type 0 where
   pub states : States
@@ -40,7 +50,7 @@ IsLoadFault files text (Lost name) = IsRefusedText files text (restore.Lost name
 IsLoadFault files text (Damaged name) = IsRefusedText files text (restore.Damaged name)
 IsLoadFault files text (Unsound name) = IsRefusedText files text (restore.Unsound name)
 IsLoadFault files text (OverLimit tenant) = IsRefusedText files text (restore.OverLimit tenant)
-IsLoadFault files text Store = ⊤
+IsLoadFault files text Store = IsRefusedText files text restore.Store
 IsLoadFault files text Memory = ⊤
 
 -- the text is a state text, and the world is the one that it tells

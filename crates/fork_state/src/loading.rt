@@ -1,9 +1,7 @@
-ghost use Rattle.std.specs.Prelude.{◌≡◌, IfErr, IfOk, IsTrue, ℕ};
-ghost use Rattle.state_text.specs.Fault.{IsWrongLine};
-ghost use Rattle.state_text.specs.States.{States};
-ghost use Rattle.state_text.specs.Text.{IsStateText};
+ghost use Rattle.std.specs.Prelude.{◌≡◌, IfErr, IfOk, IsTrue};
+ghost use Rattle.fork_ledger.specs.Store.{IsOver};
 ghost use Rattle.fork_host.specs.Shown.{Trusted, world_of};
-ghost use Rattle.fork_state.specs.Loaded.{IsLoadFault, IsLoaded, load_fault};
+ghost use Rattle.fork_state.specs.Loaded.{IsLoadFault, IsLoaded, IsText, IsTextFault, load_fault};
 
 use crate::fault::LoadFault;
 use fork_host::{Host, RestoreError};
@@ -11,8 +9,8 @@ use loose_store::LooseFiles;
 use state_text::{StateFault, read};
 use std::alloc::Global;
 
-/// The host of this state, over the store that holds its objects. The text is judged first, then what it
-/// tells.
+/// The host of this state, over the store that holds its objects. The text is judged first, whatever the
+/// store does, then what it tells.
 pub fn load<S: LooseFiles + Drop>(
     alloc: Global,
     text: &[u8],
@@ -22,9 +20,10 @@ pub fn load<S: LooseFiles + Drop>(
     ensures refused { IsTrue (S.honest files) → IfErr result (IsLoadFault (S.contents files) text.now) }
 
     // Over any store.
-    ensures text { IfOk result (λ host. (states : States) × IsStateText states text.now) }
-    ensures line { IfErr result (λ fault. (number : ℕ) → fault ≡ LoadFault.Line number → IsWrongLine text.now number) }
+    ensures text { IfOk result (λ host. IsText text.now) }
+    ensures judged { IfErr result (IsTextFault text.now) }
     ensures trusted { IfOk result (λ host. IsTrue (S.honest files) → Trusted host) }
+    ensures store { IfOk result (λ host. IsOver (S.contents files) (S.honest files) (S.failures files) host.vault) }
 {
     let states = match read(alloc, text) {
         Ok(states) => states,

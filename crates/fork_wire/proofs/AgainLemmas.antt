@@ -10,8 +10,9 @@ use Rattle.fork_frame.specs.declared.asker.Asker.TheVariants.{Tenant, Host}
 use Rattle.fork_frame.specs.declared.ended.Ended.{Ended}
 use Rattle.fork_frame.specs.declared.ended.Ended.TheVariants.{Clean}
 use Rattle.fork_frame.specs.declared.frame.Frame.{Frame}
-use Rattle.fork_host.specs.Faults.{FaultsAlong}
 use Rattle.fork_host.specs.Shown.{HostState, Trusted, world_of}
+use Rattle.fork_host.specs.Step.{IsRun}
+use Rattle.fork_host.proofs.StepLemmas.{run_explained, run_joined as states_joined}
 use Rattle.fork_wire.specs.Again.{AreFine, AreSettled, is_settled, is_settled_host, settled}
 use Rattle.fork_wire.specs.Kept.{is_kept, is_kept_of, kept_of, replies_kept}
 use Rattle.fork_wire.specs.Sessions.{IsAnswered, event_of, events_of}
@@ -28,7 +29,7 @@ use Rattle.fork_request.specs.declared.reply.Reply.{Reply}
 use Rattle.fork_request.specs.declared.reply.Reply.TheVariants.{Done, Refused, Failed}
 use Rattle.fork_model.specs.Answer.{answer}
 use Rattle.fork_model.specs.Runs.{Asks, HostAsks, Answered, Unknown, Faulted, TenantStep, OwnStep, HostAnswered, HostFaulted}
-use Rattle.fork_model.specs.World.{Event, Explains, HostSays, Steps, World}
+use Rattle.fork_model.specs.World.{Event, Explains, HostSays, Steps, World, nothing_met}
 
 one_value : {X : Type 0} (o : Option X) (x y : X) → o ≡ Some x → o ≡ Some y → x ≡ y
 one_value o x y is other = cc
@@ -39,7 +40,7 @@ none_value o x is other = cc
 true_false : (b : Bool) → b ≡ true → b ≡ false → ⊥
 true_false b is other = cc
 
-same_answer : (old new new2 : World) (name : List ℕ) (ask : Ask) (reply reply2 : Reply) → TenantStep name_cmp answer (Refused UnknownTenant) is_host_fault old name ask reply new → TenantStep name_cmp answer (Refused UnknownTenant) is_host_fault old name ask reply2 new2
+same_answer : (old new new2 : World) (name : List ℕ) (ask : Ask) (reply reply2 : Reply) → TenantStep name_cmp nothing_met (λ _. answer) (Refused UnknownTenant) is_host_fault old name ask reply new → TenantStep name_cmp nothing_met (λ _. answer) (Refused UnknownTenant) is_host_fault old name ask reply2 new2
     → is_host_fault reply ≡ false → is_host_fault reply2 ≡ false → (reply ≡ reply2) × (new ≡ new2)
 same_answer old new new2 name ask reply reply2 (Answered view here told set) (Answered view2 here2 told2 set2) fine fine2 =
     let same = one_value (get old name) view view2 here here2 in
@@ -146,18 +147,14 @@ right_kept (f ∷ frames) [] all = All-nil IsFrame
 right_kept (f ∷ frames) (r ∷ replies) all = right_front f (kept_of frames replies) (is_kept f r) (All-head IsFrame f frames all) (right_kept frames replies (All-tail IsFrame f frames all))
 
 -- two sessions of host states
-pub faults_joined : (old mid new : HostState) (events more : List Event) (replies others : List Reply) → FaultsAlong old events replies mid → FaultsAlong mid more others new → FaultsAlong old (events ++ more) (replies ++ others) new
-faults_joined old mid new [] more [] others along rest = subst (λ s. FaultsAlong s more others new) along rest
-faults_joined old mid new [] more (r ∷ replies) others along rest = absurd along
-faults_joined old mid new (e ∷ events) more [] others along rest = absurd along
-faults_joined old mid new (e ∷ events) more (r ∷ replies) others along rest = (along.0, along.1, faults_joined along.0 mid new events more replies others along.2 rest)
-
-pub joined : (old mid new : HostState) (frames others : List Frame) (replies more : List Reply) → IsAnswered old mid frames replies → (Trusted old → Trusted mid) → IsAnswered mid new others more → IsAnswered old new (frames ++ others) (replies ++ more)
-joined old mid new frames others replies more one still other =
-    let events = map-append event_of frames others in
+pub joined : (old mid new : HostState) (frames others : List Frame) (replies more : List Reply) → IsAnswered old mid frames replies → IsAnswered mid new others more → IsAnswered old new (frames ++ others) (replies ++ more)
+joined old mid new frames others replies more one other =
     answered_so_far old new (frames ++ others) (replies ++ more)
-    (λ trusted. subst (λ es. Explains (world_of old) es (replies ++ more) (world_of new)) (sym events) (run_joined (world_of old) (world_of mid) (world_of new) (events_of frames) (events_of others) replies more (one.explained trusted) (other.explained (still trusted))))
-    (subst (λ es. FaultsAlong old es (replies ++ more) new) (sym events) (faults_joined old mid new (events_of frames) (events_of others) replies more one.faults other.faults))
+    (subst (λ es. IsRun old es (replies ++ more) new) (sym (map-append event_of frames others)) (states_joined old mid new (events_of frames) (events_of others) replies more one.ran other.ran))
+
+-- what was answered over an honest store is a run of the world
+pub explained_of : (old new : HostState) (frames : List Frame) (replies : List Reply) → IsAnswered old new frames replies → Trusted old → Explains (world_of old) (events_of frames) replies (world_of new)
+explained_of old new frames replies one trusted = run_explained old new (events_of frames) replies one.ran trusted
 
 -- two streams, of which the first ends behind a whole frame
 pub streams_joined : (input more : List ℕ) (frames others : List Frame) (ended : Ended) → IsRequestStream input frames Clean → IsRequestStream more others ended → IsRequestStream (input ++ more) (frames ++ others) ended
@@ -175,15 +172,15 @@ streams_joined input more frames others ended one other = record {
 pub served_again : (old new : HostState) (frames : List Frame) (replies : List Reply) (old2 new2 : HostState) (replies2 : List Reply) → IsAnswered old new frames replies → AreFine replies → IsAnswered old2 new2 frames replies2 → AreFine replies2
     → Trusted old → Trusted old2 → world_of old ≡ world_of old2 → (settled (events_of frames) replies ≡ settled (events_of frames) replies2) × (AreSettled (events_of frames) → replies ≡ replies2)
 served_again old new frames replies old2 new2 replies2 one fine other fine2 trusted trusted2 same =
-    same_run (world_of old) (world_of new) (world_of old2) (world_of new2) (events_of frames) replies replies2 same (one.explained trusted) (other.explained trusted2) fine fine2
+    same_run (world_of old) (world_of new) (world_of old2) (world_of new2) (events_of frames) replies replies2 same (explained_of old new frames replies one trusted) (explained_of old2 new2 frames replies2 other trusted2) fine fine2
 
 pub worlds_again : (old new : HostState) (frames : List Frame) (replies : List Reply) (old2 new2 : HostState) (replies2 : List Reply) → IsAnswered old new frames replies → AreFine replies → IsAnswered old2 new2 frames replies2 → AreFine replies2
     → Trusted old → Trusted old2 → world_of old ≡ world_of old2 → world_of new ≡ world_of new2
 worlds_again old new frames replies old2 new2 replies2 one fine other fine2 trusted trusted2 same =
-    same_world_run (world_of old) (world_of new) (world_of old2) (world_of new2) (events_of frames) replies replies2 same (one.explained trusted) (other.explained trusted2) fine fine2
+    same_world_run (world_of old) (world_of new) (world_of old2) (world_of new2) (events_of frames) replies replies2 same (explained_of old new frames replies one trusted) (explained_of old2 new2 frames replies2 other trusted2) fine fine2
 
 pub kept_again : (old new : HostState) (frames : List Frame) (replies : List Reply) (old2 new2 : HostState) (replies2 : List Reply) → IsAnswered old new frames replies → IsAnswered old2 new2 (kept_of frames replies) replies2 → AreFine replies2
     → Trusted old → Trusted old2 → world_of old ≡ world_of old2 → world_of new ≡ world_of new2
 kept_again old new frames replies old2 new2 replies2 one other fine2 trusted trusted2 same =
     same_world_run (world_of old) (world_of new) (world_of old2) (world_of new2) (events_of (kept_of frames replies)) (replies_kept frames replies) replies2 same
-    (kept_run (world_of old) (world_of new) frames replies (one.explained trusted)) (other.explained trusted2) (fine_kept frames replies) fine2
+    (kept_run (world_of old) (world_of new) frames replies (explained_of old new frames replies one trusted)) (explained_of old2 new2 (kept_of frames replies) replies2 other trusted2) (fine_kept frames replies) fine2

@@ -2,19 +2,15 @@
 use Rattle.std.proofs.Common.{◌≡◌, ◌∙◌, Bool, true, false, cond, ℕ, List, [], ◌∷◌, map, refl, sym, ap}
 use Rattle.std.specs.Ordering.{eq_by_cmp}
 use Rattle.git_name.specs.Name.{name_cmp}
-use Rattle.git_name.proofs.Names.{name_total}
 use Rattle.fork_request.specs.Asked.{Ask, asked}
-use Rattle.fork_request.specs.Told.{is_host_fault}
-use Rattle.fork_request.specs.declared.refusal.Refusal.TheVariants.{UnknownTenant}
 use Rattle.fork_request.specs.declared.reply.Reply.{Reply}
-use Rattle.fork_request.specs.declared.reply.Reply.TheVariants.{Refused}
-use Rattle.fork_model.specs.Answer.{answer}
-use Rattle.fork_model.specs.World.{Agree, HostSays, IsUnfaulted, own}
-use Rattle.fork_model.proofs.Isolation.{runs_agree}
+use Rattle.fork_model.specs.World.{Agree, IsUnfaulted, own}
+use Rattle.fork_model.proofs.Meetings.{runs_agree}
 use Rattle.fork_host.specs.Shown.{HostState, Trusted, world_of}
 use Rattle.fork_frame.specs.declared.asker.Asker.{Asker}
 use Rattle.fork_frame.specs.declared.asker.Asker.TheVariants.{Tenant, Host}
 use Rattle.fork_frame.specs.declared.frame.Frame.{Frame}
+use Rattle.fork_wire.proofs.AgainLemmas.{explained_of}
 use Rattle.fork_wire.specs.Sessions.{IsAnswered, event_by, events_of, frames_of, is_of, sent_by, told_to}
 
 asked_once : (payload : List ℕ) (asks : List Ask) (payloads : List (List ℕ)) (b : Bool) → asks ≡ map asked payloads → cond b (asked payload ∷ asks) asks ≡ map asked (cond b (payload ∷ payloads) payloads)
@@ -37,6 +33,6 @@ pub sessions_agree : (tenant : List ℕ) (old new : HostState) (frames : List Fr
     → (told_to tenant frames replies ≡ told_to tenant frames2 replies2) × Agree tenant (world_of new) (world_of new2)
 sessions_agree tenant old new frames replies old2 new2 frames2 replies2 one fine other fine2 trusted trusted2 agree same =
     let asks = own_sent tenant frames ∙ ap (map asked) same ∙ sym (own_sent tenant frames2) in
-    let both = runs_agree name_cmp name_total answer (Refused UnknownTenant) is_host_fault HostSays tenant (world_of old) (world_of new) (events_of frames) replies (world_of old2) (world_of new2) (events_of frames2) replies2
-    (one.explained trusted) fine (other.explained trusted2) fine2 agree asks in
+    let both = runs_agree tenant (world_of old) (world_of new) (events_of frames) replies (world_of old2) (world_of new2) (events_of frames2) replies2
+    (explained_of old new frames replies one trusted) fine (explained_of old2 new2 frames2 replies2 other trusted2) fine2 agree asks in
     (ap frames_of both.0, both.1)

@@ -1,5 +1,5 @@
 -- How a session ends: behind its last frame, at what is no frame, or by a fault.
-use Rattle.std.proofs.Common.{◌≡◌, ◌≢◌, ◌∙◌, Option, Some, None, Result, Ok, Err, IfOk, IfErr, inl, refl, sym, subst, ℕ, List, [], ◌∷◌, ◌++◌}
+use Rattle.std.proofs.Common.{◌≡◌, ◌≢◌, ◌∙◌, Option, Some, None, Result, Ok, Err, IfOk, IfErr, inl, inr, OnErr, refl, sym, subst, ℕ, List, [], ◌∷◌, ◌++◌}
 use Rattle.std.specs.Prelude.{IfSome}
 use Rattle.std.proofs.KnownBytes.{Appends-nil, Appends-trans}
 use Rattle.std.specs.Io.KnownBytes.{Appends, Consumes, IsAtEnd}
@@ -9,7 +9,7 @@ use Rattle.fork_frame.specs.declared.ended.Ended.TheVariants.{Clean, BadFrame}
 use Rattle.fork_frame.specs.declared.frame.Frame.{Frame}
 use Rattle.fork_frame.specs.Frame.{AreFrames, EndsAt, IsBad}
 use Rattle.fork_frame.specs.Next.{BeginsFrame}
-use Rattle.fork_frame.specs.Reply.{last_line}
+use Rattle.fork_frame.specs.Reply.{WritesFront, last_line}
 use Rattle.fork_frame.proofs.StreamLemmas.{ends_clean, is_stream}
 use Rattle.fork_wire.specs.declared.fault.SessionFault.{SessionFault}
 use Rattle.fork_wire.specs.declared.fault.SessionFault.TheVariants.{Read, Write, Memory, Journal}
@@ -32,7 +32,7 @@ served_so old new input left before during after first now ended so_far ends las
   record {
     frames = so_far.frames;
     replies = so_far.replies;
-    answered = answered_so_far old new so_far.frames so_far.replies so_far.explained so_far.faults;
+    answered = answered_so_far old new so_far.frames so_far.replies so_far.ran;
     read = is_stream input left so_far.came so_far.frames ended so_far.taken so_far.right ends;
     written = Appends-trans before during after (frames_of so_far.replies) (last_line ended) so_far.written last;
   },
@@ -55,6 +55,13 @@ payload_comes None left came frames taken right begins = tt
 payload_comes (Some bytes) None came frames taken right begins = absurd taken
 payload_comes (Some bytes) (Some rest) came frames taken right begins = (came, rest, right, taken, begins)
 
+-- what comes behind the frames so far is no frame
+bad_comes : (input left : Option (List ℕ)) (came : List ℕ) (frames : List Frame) → Consumes input left came → AreFrames frames came → IfSome left IsBad
+    → IfSome input (λ bytes. (came : List ℕ) × (rest : List ℕ) × AreFrames frames came × (bytes ≡ came ++ rest) × IsBad rest)
+bad_comes None left came frames taken right bad = tt
+bad_comes (Some bytes) None came frames taken right bad = absurd taken
+bad_comes (Some bytes) (Some rest) came frames taken right bad = (came, rest, right, taken, bad)
+
 -- reading stopped it
 pub unread : (old new : HostState) (input left before after first now : Option (List ℕ)) (fault : SessionFault) → Going old new input left before after first now → fault ≢ Write → fault ≢ Journal → (fault ≡ Memory → IfSome left BeginsFrame)
     → Stopped old new input before after first now fault
@@ -62,10 +69,11 @@ unread old new input left before after first now fault so_far unwritten unkept m
   record {
     frames = so_far.frames;
     replies = so_far.replies;
-    answered = answered_so_far old new so_far.frames so_far.replies so_far.explained so_far.faults;
+    answered = answered_so_far old new so_far.frames so_far.replies so_far.ran;
     read = begins_with input left so_far.came so_far.frames so_far.taken so_far.right;
     written = λ is. so_far.written;
     told = λ is. absurd (unwritten is);
+    broken = λ is. absurd (unwritten is);
     memory = λ is. inl (record { comes = payload_comes input left so_far.came so_far.frames so_far.taken so_far.right (memory is); written = so_far.written });
     unkept = λ is. absurd (unkept is);
   },
@@ -93,17 +101,18 @@ write_journal : (fault : SessionFault) → fault ≡ Write → fault ≡ Journal
 write_journal fault is other = cc
 
 -- writing the last line stopped it
-pub untold : (old new : HostState) (input left before during after first now : Option (List ℕ)) (r : Result Ended SessionFault) → Going old new input left before during first now → IfSome left IsBad → IfErr r (λ fault. fault ≡ Write)
-    → IfErr r (λ fault. fault ≢ Journal → Stopped old new input before after first now fault)
-untold old new input left before during after first now (Ok ended) so_far bad cause = tt
-untold old new input left before during after first now (Err fault) so_far bad cause = λ other. (
+pub untold : (old new : HostState) (input left before during after first now : Option (List ℕ)) (r : Result Ended SessionFault) → Going old new input left before during first now → IfSome left IsBad → IfErr r (λ fault. fault ≡ Write) → OnErr r (WritesFront during after (last_line BadFrame))
+    → IfErr r (Stopped old new input before after first now)
+untold old new input left before during after first now (Ok ended) so_far bad cause broken = tt
+untold old new input left before during after first now (Err fault) so_far bad cause broken = (
   record {
     frames = so_far.frames;
     replies = so_far.replies;
-    answered = answered_so_far old new so_far.frames so_far.replies so_far.explained so_far.faults;
+    answered = answered_so_far old new so_far.frames so_far.replies so_far.ran;
     read = begins_with input left so_far.came so_far.frames so_far.taken so_far.right;
     written = λ is. absurd (write_read fault cause is);
     told = λ is. is_telling input left so_far.came so_far.frames so_far.taken so_far.right bad;
+    broken = λ is. inr (record { comes = bad_comes input left so_far.came so_far.frames so_far.taken so_far.right bad; mid = during; written = so_far.written; broken = broken });
     memory = λ is. absurd (write_memory fault cause is);
     unkept = λ is. absurd (write_journal fault cause is);
   },
@@ -122,3 +131,16 @@ read_memory is = cc
 -- so many frames were served that none more is read
 pub spent : (old new : HostState) (input left before after first now : Option (List ℕ)) → Going old new input left before after first now → Stopped old new input before after first now Read
 spent old new input left before after first now so_far = unread old new input left before after first now Read so_far read_write read_journal (λ is. absurd (read_memory is))
+
+-- the session alone, without what is kept of it
+pub served_alone : (old new : HostState) (input before after first now : Option (List ℕ)) (r : Result Ended SessionFault) → IfOk r (Served old new input before after first now) → IfOk r (IsServed old new input before after)
+served_alone old new input before after first now (Ok ended) both = both.0
+served_alone old new input before after first now (Err fault) both = tt
+
+pub stopped_alone : (old new : HostState) (input before after first now : Option (List ℕ)) (r : Result Ended SessionFault) → IfErr r (Stopped old new input before after first now) → IfErr r (IsStopped old new input before after)
+stopped_alone old new input before after first now (Ok ended) both = tt
+stopped_alone old new input before after first now (Err fault) both = both.0
+
+pub stopped_kept : (old new : HostState) (input before after first now : Option (List ℕ)) (r : Result Ended SessionFault) → IfErr r (Stopped old new input before after first now) → IfErr r (λ fault. fault ≢ Journal → Stopped old new input before after first now fault)
+stopped_kept old new input before after first now (Ok ended) both = tt
+stopped_kept old new input before after first now (Err fault) both = λ other. both

@@ -1,26 +1,20 @@
 -- A session goes on by one frame, and ends.
 use Rattle.std.specs.Prelude.{IfSome}
-use Rattle.std.proofs.Common.{◌≡◌, ◌≢◌, Option, Some, None, inr, refl, ℕ, List, [], ◌∷◌, ◌++◌, sym, ap, ◌∙◌, subst, length}
+use Rattle.std.proofs.Common.{◌≡◌, ◌≢◌, Option, Some, None, inl, inr, refl, ℕ, List, [], ◌∷◌, ◌++◌, sym, ap, ◌∙◌, subst, length}
 use Rattle.std.proofs.lemmas.Grind.{flat_map-append}
 use Rattle.std.proofs.lemmas.List.{append-nil, map-append}
 use Rattle.std.proofs.KnownBytes.{Appends-kept, Appends-nil, Appends-trans, Consumes-nil, Consumes-trans}
 use Rattle.std.specs.Io.KnownBytes.{Appends, Consumes, Keeps}
-use Rattle.git_name.specs.Name.{name_cmp}
-use Rattle.git_name.proofs.Names.{name_total}
-use Rattle.fork_request.specs.Told.{bytes_of, is_host_fault}
-use Rattle.fork_request.specs.declared.refusal.Refusal.TheVariants.{UnknownTenant}
-use Rattle.fork_request.specs.declared.reply.Reply.TheVariants.{Refused}
+use Rattle.fork_request.specs.Told.{bytes_of}
 use Rattle.fork_request.specs.declared.reply.Reply.{Reply}
-use Rattle.fork_model.specs.Answer.{answer}
-use Rattle.fork_model.specs.World.{World, Event, Explains, HostSays, Steps}
-use Rattle.fork_model.proofs.Isolation.{run_alone}
-use Rattle.fork_model.proofs.Hosts.{run_more}
-use Rattle.fork_host.specs.Faults.{FaultsAlong, FaultsWithin}
-use Rattle.fork_host.specs.Shown.{HostState, Trusted, world_of}
-use Rattle.fork_host.proofs.FaultLemmas.{faults_more}
+use Rattle.fork_model.specs.World.{World, Event, Explains}
+use Rattle.fork_model.proofs.Meetings.{run_alone}
+use Rattle.fork_host.specs.Shown.{HostState, world_of}
+use Rattle.fork_host.specs.Step.{IsRun, IsStep}
+use Rattle.fork_host.proofs.StepLemmas.{run_explained, run_more}
 use Rattle.fork_frame.specs.declared.frame.Frame.{Frame}
 use Rattle.fork_frame.specs.Frame.{AreFrames, IsFrame, frame_bytes}
-use Rattle.fork_frame.specs.Reply.{reply_frame}
+use Rattle.fork_frame.specs.Reply.{WritesFront, reply_frame}
 use Rattle.fork_frame.proofs.StreamLemmas.{frames_more, no_frames}
 use Rattle.fork_wire.specs.declared.fault.SessionFault.{SessionFault}
 use Rattle.fork_wire.specs.declared.fault.SessionFault.TheVariants.{Read, Write, Memory, Journal}
@@ -35,8 +29,7 @@ pub record Going (old new : HostState) (input left before after first now : Opti
   pub came : List ℕ
   pub right : AreFrames frames came
   pub taken : Consumes input left came
-  pub explained : Trusted old → Explains (world_of old) (events_of frames) replies (world_of new)
-  pub faults : FaultsAlong old (events_of frames) replies new
+  pub ran : IsRun old (events_of frames) replies new
   pub written : Appends before after (frames_of replies)
   pub equal : length frames ≡ length replies
   pub kept : Appends first now (kept_bytes frames replies)
@@ -51,22 +44,10 @@ events_more : (frames : List Frame) (frame : Frame) → events_of (frames ++ fra
 events_more frames frame = map-append event_of frames (frame ∷ [])
 
 -- a frame more was answered
-pub explained_more : (old mid new : World) (frames : List Frame) (replies : List Reply) (frame : Frame) (reply : Reply) → Explains old (events_of frames) replies mid → Steps mid (event_of frame) reply new
-    → Explains old (events_of (frames ++ frame ∷ [])) (replies ++ reply ∷ []) new
-explained_more old mid new frames replies frame reply so_far step =
-    subst (λ events. Explains old events (replies ++ reply ∷ []) new) (sym (events_more frames frame)) (run_more old mid new (events_of frames) replies (event_of frame) reply so_far step)
-
--- over a store that was trusted at first
-pub explained_on : (old mid new : HostState) (frames : List Frame) (replies : List Reply) (frame : Frame) (reply : Reply) → (Trusted old → Trusted mid)
-    → (Trusted old → Explains (world_of old) (events_of frames) replies (world_of mid)) → (Trusted mid → Steps (world_of mid) (event_of frame) reply (world_of new))
-    → Trusted old → Explains (world_of old) (events_of (frames ++ frame ∷ [])) (replies ++ reply ∷ []) (world_of new)
-explained_on old mid new frames replies frame reply still so_far step trusted =
-    explained_more (world_of old) (world_of mid) (world_of new) frames replies frame reply (so_far trusted) (step (still trusted))
-
-pub faults_on : (old mid new : HostState) (frames : List Frame) (replies : List Reply) (frame : Frame) (reply : Reply) → FaultsAlong old (events_of frames) replies mid → FaultsWithin mid (event_of frame) reply new
-    → FaultsAlong old (events_of (frames ++ frame ∷ [])) (replies ++ reply ∷ []) new
-faults_on old mid new frames replies frame reply so_far within =
-    subst (λ events. FaultsAlong old events (replies ++ reply ∷ []) new) (sym (events_more frames frame)) (faults_more old mid new (events_of frames) replies (event_of frame) reply so_far within)
+pub run_on : (old mid new : HostState) (frames : List Frame) (replies : List Reply) (frame : Frame) (reply : Reply) → IsRun old (events_of frames) replies mid → IsStep mid (event_of frame) reply new
+    → IsRun old (events_of (frames ++ frame ∷ [])) (replies ++ reply ∷ []) new
+run_on old mid new frames replies frame reply so_far step =
+    subst (λ events. IsRun old events (replies ++ reply ∷ []) new) (sym (events_more frames frame)) (run_more old mid new (events_of frames) replies (event_of frame) reply so_far step)
 
 -- and kept
 pub kept_on : (first then now : Option (List ℕ)) (frames : List Frame) (replies : List Reply) (frame : Frame) (reply : Reply) → length frames ≡ length replies → Appends first then (kept_bytes frames replies) → Appends then now (kept_one frame reply)
@@ -76,16 +57,15 @@ kept_on first then now frames replies frame reply equal kept more =
 
 -- and its reply went out
 unfoldable pub going_more : (old mid new : HostState) (input left still_left before during after first then now : Option (List ℕ)) (frame : Frame) (reply : Reply) → Going old mid input left before during first then → IsFrame frame → Consumes left still_left (frame_bytes frame)
-    → (Trusted old → Trusted mid) → (Trusted mid → Steps (world_of mid) (event_of frame) reply (world_of new)) → FaultsWithin mid (event_of frame) reply new → Appends during after (reply_frame (bytes_of reply)) → Appends then now (kept_one frame reply)
+    → IsStep mid (event_of frame) reply new → Appends during after (reply_frame (bytes_of reply)) → Appends then now (kept_one frame reply)
     → Going old new input still_left before after first now
-going_more old mid new input left still_left before during after first then now frame reply so_far right taken still step within written kept = record {
+going_more old mid new input left still_left before during after first then now frame reply so_far right taken step written kept = record {
   frames = so_far.frames ++ frame ∷ [];
   replies = so_far.replies ++ reply ∷ [];
   came = so_far.came ++ frame_bytes frame;
   right = frames_more so_far.frames so_far.came frame so_far.right right;
   taken = Consumes-trans input left still_left so_far.came (frame_bytes frame) so_far.taken taken;
-  explained = explained_on old mid new so_far.frames so_far.replies frame reply still so_far.explained step;
-  faults = faults_on old mid new so_far.frames so_far.replies frame reply so_far.faults within;
+  ran = run_on old mid new so_far.frames so_far.replies frame reply so_far.ran step;
   written = subst (Appends before after) (sym (replies_more so_far.replies reply)) (Appends-trans before during after (frames_of so_far.replies) (reply_frame (bytes_of reply)) so_far.written written);
   equal = one_longer so_far.frames so_far.replies frame reply so_far.equal;
   kept = kept_on first then now so_far.frames so_far.replies frame reply so_far.equal so_far.kept kept;
@@ -100,7 +80,11 @@ begins_with (Some bytes) (Some rest) came frames taken right = (came, rest, righ
 -- a run is private
 private_of : (old new : World) (events : List Event) (replies : List Reply) → Explains old events replies new → IsPrivateRun old events replies new
 private_of old new events replies run tenant view here fine =
-    run_alone name_cmp name_total answer (Refused UnknownTenant) is_host_fault HostSays tenant old new events replies view run fine here
+    run_alone tenant old new events replies view run fine here
+
+-- nothing was written
+pub none_written : (a : Option (List ℕ)) (bytes : List ℕ) → WritesFront a a bytes
+none_written a bytes = record { front = []; rest = bytes; parts = refl; written = Appends-nil a }
 
 memory_apart : (fault : SessionFault) → fault ≡ Memory → fault ≡ Write → ⊥
 memory_apart fault is other = cc
@@ -113,12 +97,10 @@ telling_more [] frame input = tt
 telling_more (first ∷ frames) frame input = tt
 
 -- what was answered so far
-pub answered_so_far : (old new : HostState) (frames : List Frame) (replies : List Reply) → (Trusted old → Explains (world_of old) (events_of frames) replies (world_of new)) → FaultsAlong old (events_of frames) replies new
-    → IsAnswered old new frames replies
-answered_so_far old new frames replies run faults = record {
-  explained = run;
-  private_run = λ trusted. private_of (world_of old) (world_of new) (events_of frames) replies (run trusted);
-  faults = faults;
+pub answered_so_far : (old new : HostState) (frames : List Frame) (replies : List Reply) → IsRun old (events_of frames) replies new → IsAnswered old new frames replies
+answered_so_far old new frames replies ran = record {
+  ran = ran;
+  private_run = λ trusted. private_of (world_of old) (world_of new) (events_of frames) replies (run_explained old new (events_of frames) replies ran trusted);
 }
 
 -- nothing was answered yet
@@ -129,8 +111,7 @@ not_yet host input before first = record {
   came = [];
   right = no_frames;
   taken = Consumes-nil input;
-  explained = λ trusted. refl;
-  faults = refl;
+  ran = refl;
   written = Appends-nil before;
   equal = refl;
   kept = Appends-nil first;
@@ -138,8 +119,8 @@ not_yet host input before first = record {
 
 -- a frame was answered, and its reply did not go out, or not wholly
 pub unsent : (old mid new : HostState) (input left still_left before during after first then : Option (List ℕ)) (frame : Frame) (reply : Reply) (fault : SessionFault) → Going old mid input left before during first then → IsFrame frame → Consumes left still_left (frame_bytes frame)
-    → (Trusted old → Trusted mid) → (Trusted mid → Steps (world_of mid) (event_of frame) reply (world_of new)) → FaultsWithin mid (event_of frame) reply new → (fault ≡ Read → ⊥) → (fault ≢ Write → Keeps during after) → IsStopped old new input before after fault
-unsent old mid new input left still_left before during after first then frame reply fault so_far right taken still step within other kept =
+    → IsStep mid (event_of frame) reply new → (fault ≡ Read → ⊥) → (fault ≢ Write → Keeps during after) → WritesFront during after (reply_frame (bytes_of reply)) → IsStopped old new input before after fault
+unsent old mid new input left still_left before during after first then frame reply fault so_far right taken step other kept broken =
     let frames = so_far.frames ++ frame ∷ [] in
     let replies = so_far.replies ++ reply ∷ [] in
     let came = so_far.came ++ frame_bytes frame in
@@ -147,20 +128,21 @@ unsent old mid new input left still_left before during after first then frame re
     record {
       frames = frames;
       replies = replies;
-      answered = answered_so_far old new frames replies (explained_on old mid new so_far.frames so_far.replies frame reply still so_far.explained step) (faults_on old mid new so_far.frames so_far.replies frame reply so_far.faults within);
+      answered = answered_so_far old new frames replies (run_on old mid new so_far.frames so_far.replies frame reply so_far.ran step);
       read = begins_with input still_left came frames (Consumes-trans input left still_left so_far.came (frame_bytes frame) so_far.taken taken) (frames_more so_far.frames so_far.came frame so_far.right right);
       written = λ is. absurd (other is);
       told = λ is. telling_more so_far.frames frame input;
+      broken = λ is. inl (record { sent = so_far.replies; last = reply; parts = refl; mid = during; written = so_far.written; broken = broken });
       memory = λ is. inr (lacks (λ write. memory_apart fault is write));
       unkept = λ is. lacks (λ write. journal_apart fault is write);
     }
 
 -- and it was kept
 pub unsent_kept : (old mid new : HostState) (input left still_left before during after first then now : Option (List ℕ)) (frame : Frame) (reply : Reply) (fault : SessionFault) (so_far : Going old mid input left before during first then) → IsFrame frame → Consumes left still_left (frame_bytes frame)
-    → (Trusted old → Trusted mid) → (Trusted mid → Steps (world_of mid) (event_of frame) reply (world_of new)) → FaultsWithin mid (event_of frame) reply new → (fault ≡ Read → ⊥) → (fault ≢ Write → Keeps during after) → Appends then now (kept_one frame reply)
+    → IsStep mid (event_of frame) reply new → (fault ≡ Read → ⊥) → (fault ≢ Write → Keeps during after) → WritesFront during after (reply_frame (bytes_of reply)) → Appends then now (kept_one frame reply)
     → (session : IsStopped old new input before after fault) × Appends first now (kept_bytes session.frames session.replies)
 unfolding unsent
-unsent_kept old mid new input left still_left before during after first then now frame reply fault so_far right taken still step within other kept more = (
-  unsent old mid new input left still_left before during after first then frame reply fault so_far right taken still step within other kept,
+unsent_kept old mid new input left still_left before during after first then now frame reply fault so_far right taken step other kept broken more = (
+  unsent old mid new input left still_left before during after first then frame reply fault so_far right taken step other kept broken,
   kept_on first then now so_far.frames so_far.replies frame reply so_far.equal so_far.kept more,
 )

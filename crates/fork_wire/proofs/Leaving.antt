@@ -13,7 +13,7 @@ use Rattle.std.specs.FinMap.{insert}
 use Rattle.fork_model.specs.Answer.{answer, left_by, cat_file_answer, ls_tree_answer, rev_list_answer, merge_base_answer, references_answer, fetch_answer, quota_answer}
 use Rattle.fork_model.specs.Runs.{Answered, Unknown, Faulted, TenantStep}
 use Rattle.fork_model.specs.View.{View}
-use Rattle.fork_model.specs.World.{HostSays, Steps, World}
+use Rattle.fork_model.specs.World.{HostSays, Steps, World, nothing_met}
 use Rattle.fork_model.proofs.Isolation.{own_request}
 use Rattle.fork_model.proofs.Refusals.{refusal_keeps}
 use Rattle.fork_model.proofs.StepLemmas.{answer_tells}
@@ -79,7 +79,7 @@ told_true : (b : Bool) → not b ≡ false → b ≡ true
 told_true true is = refl
 told_true false is = absurd (cc)
 
-tenant_leaves : (old new : World) (name : List ℕ) (ask : Ask) (reply : Reply) → TenantStep name_cmp answer (Refused UnknownTenant) is_host_fault old name ask reply new → leaves ask reply ≡ true → new ≡ old
+tenant_leaves : (old new : World) (name : List ℕ) (ask : Ask) (reply : Reply) → TenantStep name_cmp nothing_met (λ _. answer) (Refused UnknownTenant) is_host_fault old name ask reply new → leaves ask reply ≡ true → new ≡ old
 tenant_leaves old new name ask reply (Answered view here told set) is =
     set ∙ ap (λ v. insert old name v) (answer_leaves view ask reply told is) ∙ insert_same name_total name_exact old name view here
 tenant_leaves old new name ask reply (Unknown none told stays) is = stays
@@ -88,4 +88,4 @@ tenant_leaves old new name ask reply (Faulted bad stays) is = stays
 -- a step by a frame that is not kept leaves the world
 pub step_leaves : (old new : World) (asker : Asker) (payload : List ℕ) (reply : Reply) → Steps old (event_by asker payload) reply new → is_kept_of asker payload reply ≡ false → new ≡ old
 step_leaves old new (Tenant name) payload reply step is = tenant_leaves old new name (asked payload) reply step (told_true (leaves (asked payload) reply) is)
-step_leaves old new Host payload reply step is = own_request name_cmp name_total answer (Refused UnknownTenant) is_host_fault HostSays old new (asked_host payload) reply step
+step_leaves old new Host payload reply step is = own_request name_cmp name_total nothing_met (λ _. answer) (Refused UnknownTenant) is_host_fault HostSays old new (asked_host payload) reply step

@@ -4,7 +4,7 @@ use Rattle.std.specs.Prelude.{IfSome}
 use Rattle.std.specs.Io.KnownBytes.{Consumes, IsAtEnd}
 use Rattle.fork_request.specs.Told.{is_host_fault}
 use Rattle.fork_request.specs.declared.reply.Reply.{Reply}
-use Rattle.fork_host.specs.Shown.{HostState, Trusted}
+use Rattle.fork_host.specs.Shown.{HostState}
 use Rattle.fork_frame.specs.Frame.{EndsAt, IsBad, IsFrame, IsRequestStream, frame_bytes}
 use Rattle.fork_frame.specs.declared.ended.Ended.{Ended}
 use Rattle.fork_frame.specs.declared.ended.Ended.TheVariants.{Clean, BadFrame}
@@ -30,11 +30,11 @@ fine_more (r ∷ replies) reply fine last = (fine.0, fine_more replies reply fin
 one_more : (frames : List Frame) (frame : Frame) (count : ℕ) → length frames ≡ count → length (frames ++ frame ∷ []) ≡ count + 1
 one_more frame_list frame count is = omega (arith, length-append frame_list (frame ∷ []))
 
-pub more_again : (old mid new : HostState) (input left still_left : Option (List ℕ)) (count : ℕ) (frame : Frame) → Reserving old mid input left count → IsFrame frame → Consumes left still_left (frame_bytes frame) → (Trusted old → Trusted mid) → IsAnsweredAgain mid new frame
+pub more_again : (old mid new : HostState) (input left still_left : Option (List ℕ)) (count : ℕ) (frame : Frame) → Reserving old mid input left count → IsFrame frame → Consumes left still_left (frame_bytes frame) → IsAnsweredAgain mid new frame
     → Reserving old new input still_left (count + 1)
 unfolding going_more
-more_again old mid new input left still_left count frame so_far right taken still again = record {
-  going = going_more old mid new input left still_left None None None None None None frame again.reply so_far.going right taken still again.explained again.faults tt tt;
+more_again old mid new input left still_left count frame so_far right taken again = record {
+  going = going_more old mid new input left still_left None None None None None None frame again.reply so_far.going right taken again.step tt tt;
   fine = fine_more so_far.going.replies again.reply so_far.fine again.fine;
   number = one_more so_far.going.frames frame count so_far.number;
 }
@@ -48,7 +48,7 @@ ended_again : (old new : HostState) (input left : Option (List ℕ)) (count : �
 ended_again old new input left count ended so_far ends = record {
   frames = so_far.going.frames;
   replies = so_far.going.replies;
-  answered = answered_so_far old new so_far.going.frames so_far.going.replies so_far.going.explained so_far.going.faults;
+  answered = answered_so_far old new so_far.going.frames so_far.going.replies so_far.going.ran;
   fine = so_far.fine;
   number = so_far.number;
   read = stream_of_input input left so_far.going.came so_far.going.frames ended (is_stream input left so_far.going.came so_far.going.frames ended so_far.going.taken so_far.going.right ends);

@@ -29,7 +29,7 @@ use Rattle.fork_frame.specs.declared.frame.Frame.{Frame}
 use Rattle.fork_wire.specs.Again.{AreFine}
 use Rattle.fork_wire.specs.Reopening.{Reopens, with_upload}
 use Rattle.fork_wire.specs.Sessions.{IsAnswered, event_of, events_of}
-use Rattle.fork_wire.proofs.AgainLemmas.{run_joined, same_world_run}
+use Rattle.fork_wire.proofs.AgainLemmas.{explained_of, run_joined, same_world_run}
 use Rattle.fork_wire.proofs.OpeningLemmas.{opened_again}
 
 -- whether this is one of these names
@@ -175,7 +175,7 @@ pub all_served : (world : World) (frames : List Frame) (old new : HostState) (re
     → world_of old ≡ closed_world world → world_of new ≡ world
 all_served world frames old new replies orderly opens answered fine trusted same =
     let told = all_opened world frames orderly opens in
-    same_world_run (world_of old) (world_of new) (closed_world world) world (events_of frames) replies told.0 same (answered.explained trusted) told.1 fine told.2
+    same_world_run (world_of old) (world_of new) (closed_world world) world (events_of frames) replies told.0 same (explained_of old new frames replies answered trusted) told.1 fine told.2
 
 -- the uploads that these tenants have open
 abbrev pub uploads_by : World → List (List ℕ) → List (List ℕ × UploadValue)

@@ -6,9 +6,9 @@ use Rattle.fork_request.specs.declared.host_request.HostRequest.{HostRequest}
 use Rattle.fork_request.specs.declared.host_request.HostRequest.TheVariants.{Sweep, Collect, Census, Fsck, Bad}
 use Rattle.fork_request.specs.declared.reply.Reply.{Reply}
 use Rattle.fork_model.specs.Runs.{Asks, HostAsks}
-use Rattle.fork_model.specs.World.{Event, Steps}
-use Rattle.fork_host.specs.Faults.{FaultsWithin}
-use Rattle.fork_host.specs.Shown.{HostState, Trusted, world_of}
+use Rattle.fork_model.specs.World.{Event}
+use Rattle.fork_host.specs.Shown.{HostState}
+use Rattle.fork_host.specs.Step.{IsStep}
 use Rattle.fork_frame.specs.Frame.{IsRequestStream}
 use Rattle.fork_frame.specs.declared.ended.Ended.{Ended}
 use Rattle.fork_frame.specs.declared.frame.Frame.{Frame}
@@ -45,8 +45,7 @@ AreSettled events = AllByRecursion (λ event. is_settled event ≡ true) events
 pub record IsAnsweredAgain (old new : HostState) (frame : Frame) : Type 0 where
   pub reply : Reply
   pub fine : is_host_fault reply ≡ false
-  pub explained : Trusted old → Steps (world_of old) (event_of frame) reply (world_of new)
-  pub faults : FaultsWithin old (event_of frame) reply new
+  pub step : IsStep old (event_of frame) reply new
 
 -- so many frames, which are all that the input begins with, were answered, and none by a host fault
 pub record IsServedAgain (old new : HostState) (input : Option (List ℕ)) (count : ℕ) : Type 0 where

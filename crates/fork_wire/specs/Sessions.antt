@@ -9,15 +9,16 @@ use Rattle.fork_request.specs.Told.{bytes_of}
 use Rattle.fork_request.specs.declared.reply.Reply.{Reply}
 use Rattle.fork_model.specs.Runs.{Asks, HostAsks}
 use Rattle.fork_model.specs.View.{View}
-use Rattle.fork_model.specs.World.{World, Event, Explains, IsUnfaulted, alone, own, told}
-use Rattle.fork_host.specs.Faults.{FaultsAlong}
+use Rattle.fork_model.specs.World.{World, Event, IsUnfaulted, alone, own, told}
 use Rattle.fork_host.specs.Shown.{HostState, Trusted, world_of}
+use Rattle.fork_host.specs.Step.{IsRun}
 use Rattle.fork_frame.specs.Frame.{AreFrames, IsBad, IsRequestStream}
 use Rattle.fork_frame.specs.Next.{BeginsFrame}
-use Rattle.fork_frame.specs.Reply.{last_line, reply_frame}
+use Rattle.fork_frame.specs.Reply.{WritesFront, last_line, reply_frame}
 use Rattle.fork_frame.specs.declared.asker.Asker.{Asker}
 use Rattle.fork_frame.specs.declared.asker.Asker.TheVariants.{Tenant, Host}
 use Rattle.fork_frame.specs.declared.ended.Ended.{Ended}
+use Rattle.fork_frame.specs.declared.ended.Ended.TheVariants.{BadFrame}
 use Rattle.fork_frame.specs.declared.frame.Frame.{Frame}
 use Rattle.fork_wire.specs.declared.fault.SessionFault.{SessionFault}
 use Rattle.fork_wire.specs.declared.fault.SessionFault.TheVariants.{Read, Write, Memory, Journal}
@@ -55,12 +56,10 @@ abbrev pub IsPrivateRun : World → List Event → List Reply → World → Type
 IsPrivateRun old events replies new = (tenant : List ℕ) (view : View) → get old tenant ≡ Some view → IsUnfaulted tenant events replies
     → (told tenant events replies ≡ (alone view (own tenant events)).0) × (get new tenant ≡ Some (alone view (own tenant events)).1)
 
--- the replies are one to each frame. Over a store that is trusted they lead from the world that the host showed to the one
--- that it shows, and each tenant's are those of a private host. Of host faults only those that may come are among them
+-- the replies are one to each frame, and lead from state to state. Over a store that is trusted each tenant's are those of a private host
 pub record IsAnswered (old new : HostState) (frames : List Frame) (replies : List Reply) : Type 0 where
-  pub explained : Trusted old → Explains (world_of old) (events_of frames) replies (world_of new)
+  pub ran : IsRun old (events_of frames) replies new
   pub private_run : Trusted old → IsPrivateRun (world_of old) (events_of frames) replies (world_of new)
-  pub faults : FaultsAlong old (events_of frames) replies new
 
 -- a session that reached its end: all frames of the input were answered, and their replies went out, then the last line
 pub record IsServed (old new : HostState) (input before after : Option (List ℕ)) (ended : Ended) : Type 0 where
@@ -91,8 +90,24 @@ pub record LacksReply (replies : List Reply) (before after : Option (List ℕ)) 
   pub parts : replies ≡ sent ++ last ∷ []
   pub written : Appends before after (frames_of sent)
 
+-- of the last reply's frame a front went out; those before it went out whole
+pub record BreaksReply (replies : List Reply) (before after : Option (List ℕ)) : Type 0 where
+  pub sent : List Reply
+  pub last : Reply
+  pub parts : replies ≡ sent ++ last ∷ []
+  pub mid : Option (List ℕ)
+  pub written : Appends before mid (frames_of sent)
+  pub broken : WritesFront mid after (reply_frame (bytes_of last))
+
+-- all replies so far went out, what comes behind the frames so far is no frame, and of the line that tells it a front went out
+pub record BreaksEnd (frames : List Frame) (replies : List Reply) (input before after : Option (List ℕ)) : Type 0 where
+  pub comes : IfSome input (λ bytes. (came : List ℕ) × (rest : List ℕ) × AreFrames frames came × (bytes ≡ came ++ rest) × IsBad rest)
+  pub mid : Option (List ℕ)
+  pub written : Appends before mid (frames_of replies)
+  pub broken : WritesFront mid after (last_line BadFrame)
+
 -- a session that a fault stopped: the first frames of the input were answered; where reading failed all their replies went out,
--- and writing fails only where something is to be told; memory is wanted for a payload that comes or for the bytes of a reply;
+-- and writing fails only where something is to be told, of which a front went out, behind all before it; memory is wanted for a payload that comes or for the bytes of a reply;
 -- where the last frame could not be kept, its reply did not go out
 pub record IsStopped (old new : HostState) (input before after : Option (List ℕ)) (fault : SessionFault) : Type 0 where
   pub frames : List Frame
@@ -101,5 +116,6 @@ pub record IsStopped (old new : HostState) (input before after : Option (List �
   pub read : IfSome input (BeginsWith frames)
   pub written : fault ≡ Read → Appends before after (frames_of replies)
   pub told : fault ≡ Write → IsTelling frames input
+  pub broken : fault ≡ Write → BreaksReply replies before after ⊎ BreaksEnd frames replies input before after
   pub memory : fault ≡ Memory → LacksPayload frames replies input before after ⊎ LacksReply replies before after
   pub unkept : fault ≡ Journal → LacksReply replies before after

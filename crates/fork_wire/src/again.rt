@@ -1,9 +1,8 @@
 ghost use Rattle.std.specs.Prelude.{◌≡◌, IfErr, IfOk};
 ghost use Rattle.fork_request.specs.Told.{is_host_fault};
 ghost use Rattle.fork_model.specs.Sound.{IsOrderlyWorld, IsRightWorld};
-ghost use Rattle.fork_model.specs.World.{Steps};
-ghost use Rattle.fork_host.specs.Faults.{FaultsWithin};
 ghost use Rattle.fork_host.specs.Shown.{Trusted, world_of};
+ghost use Rattle.fork_host.specs.Step.{IsStep};
 ghost use Rattle.fork_wire.specs.Again.{IsAnsweredAgain, IsServedAgain};
 ghost use Rattle.fork_wire.specs.Sessions.{event_of};
 

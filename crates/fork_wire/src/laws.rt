@@ -68,7 +68,7 @@ pub fn a_session_in_two_halves_is_the_whole()
     ensures stream { (input more : List ℕ) (frames others : List Frame) (ended : Ended)
         → IsRequestStream input frames Clean → IsRequestStream more others ended → IsRequestStream (input ++ more) (frames ++ others) ended }
     ensures answered { (old mid new : HostState) (frames others : List Frame) (replies more : List Reply)
-        → IsAnswered old mid frames replies → (Trusted old → Trusted mid) → IsAnswered mid new others more → IsAnswered old new (frames ++ others) (replies ++ more) }
+        → IsAnswered old mid frames replies → IsAnswered mid new others more → IsAnswered old new (frames ++ others) (replies ++ more) }
     ensures told { (replies more : List Reply) → frames_of (replies ++ more) ≡ frames_of replies ++ frames_of more }
 {}
 

@@ -2,10 +2,9 @@ ghost use Rattle.std.specs.Prelude.{◌≡◌, ◌≢◌, ◌++◌, [], ℕ, Lis
 ghost use Rattle.std.specs.Io.KnownBytes.{Appends, Keeps};
 ghost use Rattle.fork_request.specs.Told.{bytes_of};
 ghost use Rattle.fork_model.specs.Sound.{IsOrderlyWorld, IsRightWorld};
-ghost use Rattle.fork_model.specs.World.{Steps};
-ghost use Rattle.fork_host.specs.Faults.{FaultsWithin};
 ghost use Rattle.fork_host.specs.Shown.{Trusted, world_of};
-ghost use Rattle.fork_frame.specs.Reply.{last_line, reply_frame};
+ghost use Rattle.fork_host.specs.Step.{IsStep};
+ghost use Rattle.fork_frame.specs.Reply.{WritesFront, last_line, reply_frame};
 ghost use Rattle.fork_wire.specs.Kept.{TellsCut, kept_bytes, kept_one};
 ghost use Rattle.fork_wire.specs.Sessions.{IsServed, IsStopped, event_of};
 
@@ -88,11 +87,7 @@ pub fn serve_kept<S: LooseFiles, J: Journal, R: Read, W: Write>(
 
 // Answers a request as it came.
 pub(crate) fn answer<S: LooseFiles>(host: &mut Host<S>, alloc: Global, frame: &Frame) -> Reply
-    ensures explained { Trusted host.old → Steps (world_of host.old) (event_of frame.now) result (world_of host.new) }
-    ensures trusted { Trusted host.old → Trusted host.new }
-    ensures orderly { IsOrderlyWorld (world_of host.new) }
-    ensures right { Trusted host.old → IsRightWorld (world_of host.new) }
-    ensures faults { FaultsWithin host.old (event_of frame.now) result host.new }
+    ensures { IsStep host.old (event_of frame.now) result host.new }
 {
     let payload = frame.payload.as_bytes();
     match &frame.asker {
@@ -109,11 +104,7 @@ fn answer_kept<S: LooseFiles, J: Journal>(
     journal: &mut J,
     frame: Frame,
 ) -> (Reply, bool)
-    ensures explained { Trusted host.old → Steps (world_of host.old) (event_of frame) result.0 (world_of host.new) }
-    ensures trusted { Trusted host.old → Trusted host.new }
-    ensures orderly { IsOrderlyWorld (world_of host.new) }
-    ensures right { Trusted host.old → IsRightWorld (world_of host.new) }
-    ensures faults { FaultsWithin host.old (event_of frame) result.0 host.new }
+    ensures step { IsStep host.old (event_of frame) result.0 host.new }
     ensures kept { IsTrue result.1 → Appends (J.kept journal.old) (J.kept journal.new) (kept_one frame result.0) }
     ensures cause { result.1 ≡ false → J.can_fail }
     ensures whole { IsTrue result.1 → J.is_cut journal.new ≡ J.is_cut journal.old }
@@ -135,6 +126,7 @@ fn send_kept<W: Write>(
     ensures kept { OnOk result (IsTrue kept) }
     ensures sent { IfErr result (λ fault. fault ≢ SessionFault.Read) }
     ensures unsent { IfErr result (λ fault. fault ≢ SessionFault.Write → Keeps (W.contents writer.old) (W.contents writer.new)) }
+    ensures broken { OnErr result (WritesFront (W.contents writer.old) (W.contents writer.new) (reply_frame (bytes_of reply))) }
     ensures unkept { IfErr result (λ fault. fault ≡ SessionFault.Journal → kept ≡ false) }
     ensures was_kept { IfErr result (λ fault. fault ≢ SessionFault.Journal → IsTrue kept) }
 {
@@ -151,6 +143,7 @@ fn send_kept<W: Write>(
 fn end_badly<W: Write>(writer: &mut W) -> Result<Ended, SessionFault>
     ensures ok { IfOk result (λ ended. (ended ≡ Ended.BadFrame)
         × Appends (W.contents writer.old) (W.contents writer.new) (last_line ended)) }
+    ensures broken { OnErr result (WritesFront (W.contents writer.old) (W.contents writer.new) (last_line Ended.BadFrame)) }
     ensures cause { IfErr result (λ fault. fault ≡ SessionFault.Write) }
 {
     match send_bad_frame(writer) {

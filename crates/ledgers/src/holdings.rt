@@ -1,6 +1,7 @@
 ghost use Rattle.std.specs.Prelude.{◌≡◌, ◌<◌, ◌≤◌, ◌+◌, ◌⊎◌, ◌++◌, ◌∷◌, [], ◌||◌, ◌&&◌, not, ℕ, List, Some, length, slice_get, take, OnOk, OnErr, IfOk, IfSome, IfNone, false, true, nat_le, IsPermutation};
 ghost use Rattle.std.specs.FinMap as map;
 ghost use Rattle.std.specs.Option.{option_map_or};
+ghost use Rattle.looks.specs.Growth.{GrowsBy};
 ghost use Rattle.looks.specs.Places.{at_start, is_listed, looked_at, same_name};
 ghost use Rattle.catalogue.specs.Counted.{IsNext, count_of, places_of};
 ghost use Rattle.ledgers.specs.Holders.{IsCounting, holders_of, is_held_in};
@@ -184,6 +185,7 @@ impl Holdings {
     /// Enters a name in the catalogue, unless it is there.
     pub fn enter(&mut self, name: Name) -> Result<(), AllocError>
         ensures listed { OnOk result ((q : List ℕ) → is_listed (places_of self.new.catalogue).names q ≡ (same_name name q || is_listed (places_of self.old.catalogue).names q)) }
+        ensures grows { GrowsBy (name ∷ []) (places_of self.old.catalogue) (places_of self.new.catalogue) }
         ensures ledgers { self.new.ledgers ≡ self.old.ledgers }
         ensures err { OnErr result (places_of self.new.catalogue ≡ places_of self.old.catalogue) }
     {

@@ -1,3 +1,4 @@
+pub mod Growth
 pub mod Looks
 pub mod Places
 pub mod Slices

@@ -31,7 +31,7 @@ impl Tenant {
         requires ready { Ready own.old self.now.limit }
         ensures row { IsTrue own.old.vault.now.honest → Yields (prune_answer (shown_by self.now own.old)) (shown_by self.now own.old) result (shown self.now own.new.vault.now own.old.tenant.now) }
         ensures safe { IsSafe (IsBounded [] own.old.vault.now own.new.vault.now) (shown_by self.now own.old) result (shown self.now own.new.vault.now own.old.tenant.now) }
-        ensures own { Uses own.old own.new }
+        ensures own { Uses [] own.old own.new }
     {
         let Ok(targets) = self.repositories.targets(alloc) else {
             return Reply::Failed(HostFault::Memory);

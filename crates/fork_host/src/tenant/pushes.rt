@@ -1,5 +1,5 @@
 // Rows of pushes, in one body and in parts.
-ghost use Rattle.std.specs.Prelude.{◌≡◌, IsTrue, false};
+ghost use Rattle.std.specs.Prelude.{◌≡◌, [], IsTrue, false};
 ghost use Rattle.std.specs.FinMap as map;
 ghost use Rattle.push_stream.specs.Stream.{sent_in, stream_of};
 ghost use Rattle.push_stream.specs.Upload.{continued};
@@ -12,6 +12,7 @@ ghost use Rattle.fork_host.specs.Own.{KeepsStaged, staged_in, visible_in};
 ghost use Rattle.fork_host.specs.Pushed.{view_of};
 ghost use Rattle.fork_host.specs.Rows.{Gives, Yields};
 ghost use Rattle.fork_host.specs.Safe.{IsSafe};
+ghost use Rattle.fork_host.specs.Sent.{sent_names};
 ghost use Rattle.fork_host.specs.Shown.{shown};
 ghost use Rattle.fork_host.specs.Staged.{IsStaged};
 
@@ -41,7 +42,7 @@ impl Tenant {
         ensures row { IsTrue own.old.vault.now.honest → Yields (push_answer (shown_by self.old own.old) word.now body.now) (shown_by self.old own.old) result (shown self.new own.new.vault.now own.old.tenant.now) }
         ensures safe { IsSafe (IsBounded (sent_in (stream_of body.now)) own.old.vault.now own.new.vault.now) (shown_by self.old own.old) result (shown self.new own.new.vault.now own.old.tenant.now) }
         ensures upload { self.new.upload ≡ self.old.upload }
-        ensures own { Uses own.old own.new }
+        ensures own { Uses (sent_names (sent_in (stream_of body.now))) own.old own.new }
     {
         let Some(name) = RepositoryName::read(word) else {
             return bad_name(alloc, word);
@@ -68,7 +69,7 @@ impl Tenant {
         ensures row { IsTrue own.old.vault.now.honest → Yields (part_answer (shown_by self.old own.old) body.now) (shown_by self.old own.old) result (shown self.new own.new.vault.now own.old.tenant.now) }
         ensures safe { IsSafe (IsBounded (sent_in (continued (open_upload (shown_by self.old own.old).upload) body.now).stream) own.old.vault.now own.new.vault.now) (shown_by self.old own.old) result (shown self.new own.new.vault.now own.old.tenant.now) }
         ensures staged { IsStaged own.old.vault.now.honest self.new.upload (staged_in own.new.vault.now own.old.tenant.now) }
-        ensures own { Touches own.old own.new }
+        ensures own { Touches (sent_names (sent_in (continued (open_upload (shown_by self.old own.old).upload) body.now).stream)) own.old own.new }
     {
         if let Some(upload) = &mut self.upload {
             return feed(alloc, own, upload, body);
@@ -94,7 +95,7 @@ impl Tenant {
         ensures row { IsTrue own.old.vault.now.honest → Yields (part_end_answer (shown_by self.old own.old) word.now) (shown_by self.old own.old) result (shown self.new own.new.vault.now own.old.tenant.now) }
         ensures safe { IsSafe (IsBounded (sent_in (open_upload (shown_by self.old own.old).upload).stream) own.old.vault.now own.new.vault.now) (shown_by self.old own.old) result (shown self.new own.new.vault.now own.old.tenant.now) }
         ensures staged { IsStaged own.old.vault.now.honest self.new.upload (staged_in own.new.vault.now own.old.tenant.now) }
-        ensures own { Touches own.old own.new }
+        ensures own { Touches [] own.old own.new }
     {
         let reply = self.end_upload(alloc, own, word);
         if !is_failed(&reply) {
@@ -120,7 +121,7 @@ impl Tenant {
         ensures kept { is_done result ≡ false → KeepsStaged own.old.tenant.now own.old.vault.now own.new.vault.now }
         ensures upload { self.new.upload ≡ self.old.upload }
         ensures limit { self.new.limit ≡ self.old.limit }
-        ensures own { Touches own.old own.new }
+        ensures own { Touches [] own.old own.new }
     {
         let Some(name) = RepositoryName::read(word) else {
             return bad_name(alloc, word);
@@ -149,7 +150,7 @@ impl Tenant {
         ensures row { Gives (part_drop_answer (shown_by self.old own.old)) (shown_by self.old own.old) result (shown self.new own.new.vault.now own.old.tenant.now) }
         ensures store { LeavesStore own.old.vault.now own.new.vault.now }
         ensures staged { IsStaged own.old.vault.now.honest self.new.upload (staged_in own.new.vault.now own.old.tenant.now) }
-        ensures own { Touches own.old own.new }
+        ensures own { Touches [] own.old own.new }
     {
         if self.upload.is_none() {
             return Reply::Refused(Refusal::NoUpload);

@@ -32,7 +32,7 @@ impl Tenant {
         ensures row { IsTrue own.old.vault.now.honest → Yields (cat_file_answer (shown_by self.now own.old) name) (shown_by self.now own.old) result (shown self.now own.new.vault.now own.old.tenant.now) }
         ensures named { IsNamedReply (AsksObject name) result }
         ensures safe { IsSafe (IsBounded [] own.old.vault.now own.new.vault.now) (shown_by self.now own.old) result (shown self.now own.new.vault.now own.old.tenant.now) }
-        ensures own { Uses own.old own.new }
+        ensures own { Uses [] own.old own.new }
     {
         told(cat_file(alloc, own, name))
     }
@@ -48,7 +48,7 @@ impl Tenant {
         requires ready { Ready own.old self.now.limit }
         ensures row { IsTrue own.old.vault.now.honest → Yields (ls_tree_answer (shown_by self.now own.old) name) (shown_by self.now own.old) result (shown self.now own.new.vault.now own.old.tenant.now) }
         ensures safe { IsSafe (IsBounded [] own.old.vault.now own.new.vault.now) (shown_by self.now own.old) result (shown self.now own.new.vault.now own.old.tenant.now) }
-        ensures own { Uses own.old own.new }
+        ensures own { Uses [] own.old own.new }
     {
         told(ls_tree(alloc, own, name))
     }
@@ -65,7 +65,7 @@ impl Tenant {
         requires ready { Ready own.old self.now.limit }
         ensures row { IsTrue own.old.vault.now.honest → Yields (rev_list_answer (shown_by self.now own.old) word.now (words_of items.now)) (shown_by self.now own.old) result (shown self.now own.new.vault.now own.old.tenant.now) }
         ensures safe { IsSafe (IsBounded [] own.old.vault.now own.new.vault.now) (shown_by self.now own.old) result (shown self.now own.new.vault.now own.old.tenant.now) }
-        ensures own { Uses own.old own.new }
+        ensures own { Uses [] own.old own.new }
     {
         let Some(name) = RepositoryName::read(word) else {
             return bad_name(alloc, word);
@@ -92,7 +92,7 @@ impl Tenant {
         requires ready { Ready own.old self.now.limit }
         ensures row { IsTrue own.old.vault.now.honest → Yields (merge_base_answer (shown_by self.now own.old) word.now first.now second.now) (shown_by self.now own.old) result (shown self.now own.new.vault.now own.old.tenant.now) }
         ensures safe { IsSafe (IsBounded [] own.old.vault.now own.new.vault.now) (shown_by self.now own.old) result (shown self.now own.new.vault.now own.old.tenant.now) }
-        ensures own { Uses own.old own.new }
+        ensures own { Uses [] own.old own.new }
     {
         let Some(name) = RepositoryName::read(word) else {
             return bad_name(alloc, word);
@@ -116,7 +116,7 @@ impl Tenant {
         ensures row { IsTrue own.old.vault.now.honest → Yields (fetch_answer (shown_by self.now own.old) word.now (words_of items.now)) (shown_by self.now own.old) result (shown self.now own.new.vault.now own.old.tenant.now) }
         ensures named { IsNamedReply (Fetches word.now (words_of items.now)) result }
         ensures safe { IsSafe (IsBounded [] own.old.vault.now own.new.vault.now) (shown_by self.now own.old) result (shown self.now own.new.vault.now own.old.tenant.now) }
-        ensures own { Uses own.old own.new }
+        ensures own { Uses [] own.old own.new }
     {
         let Some(name) = RepositoryName::read(word) else {
             return bad_name(alloc, word);

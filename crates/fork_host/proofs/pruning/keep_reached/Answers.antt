@@ -8,6 +8,7 @@ use Rattle.fork_request.specs.declared.reply.Reply.TheVariants.{Failed}
 use Rattle.fork_ledger.specs.Private.{with_kept}
 use Rattle.fork_ledger.specs.Tenants.{at_tenant, private_of}
 use Rattle.fork_ledger.proofs.BothLemmas.{same_measures}
+use Rattle.looks.proofs.GrowthLemmas.{grows_same}
 use Rattle.fork_host.specs.Bounds.{IsBounded}
 use Rattle.fork_host.specs.Handle.{visible_by}
 use Rattle.fork_host.specs.Rows.{Kept, Unkept, Pruned, Unpruned, fault_told}
@@ -52,6 +53,7 @@ returns-in-Ok-clause-own g c =
     record {
       same = same_then first mid new told.same c.keep_only.ensures.same;
       own = own_of first.vault.now new.vault.now first.tenant.now (retain_keys (visible_by first) names) changes;
+      grows = grows_same [] first.vault.now.places new.vault.now.places (c.keep_only.ensures.store.places ∙ told.read.places);
       staged = staged_kept first.vault.now new.vault.now first.tenant.now (retain_keys (visible_by first) names) changes;
     }
 
@@ -63,7 +65,7 @@ returns-in-Err-clause-pruned g c =
     (ap (λ (p : Measures × Measures). p.0) (same_measures first.vault.now.tenants mid.vault.now.tenants first.tenant.now c.in-Err.ensures.shape))
 
 pub returns-in-Err-clause-own : goal.returns-in-Err-clause-own
-returns-in-Err-clause-own g c = (let told = c.in-Err.ensures in read_uses c.args.own.now c.reached.new.self told.shape told.kept told.read.honest told.same)
+returns-in-Err-clause-own g c = (let told = c.in-Err.ensures in read_uses c.args.own.now c.reached.new.self told.shape told.kept told.read.honest told.read.places told.same)
 
 pub returns-in-Ok-clause-bounds : goal.returns-in-Ok-clause-bounds
 returns-in-Ok-clause-bounds g c =

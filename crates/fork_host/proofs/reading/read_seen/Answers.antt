@@ -13,4 +13,5 @@ loop-name-preserved g c =
           before.honest before.kept c.loop-name-test.true c.name-item.is c.in_ok-read_new.ensures.reads before.reads;
       kept = λ h. told.kept (before.honest ∙ h) ∙ before.kept h;
       honest = told.honest ∙ before.honest;
+      failures = c.in_ok-read_new.ensures.failures ∙ before.failures;
     }

@@ -8,4 +8,5 @@ invariant-loop-name g l = record {
   reads : Reads l.fn.files.honest l.fn.files.contents (take l.name-index l.fn.names) l.fn.readings l.readings;
   kept : IsTrue l.fn.files.honest → l.files.contents ≡ l.fn.files.contents;
   honest : l.files.honest ≡ l.fn.files.honest;
+  failures : l.files.failures ≡ l.fn.files.failures;
 }

@@ -8,6 +8,7 @@ loop-state-init g c = record {
   read = states_none c.args.files.now.honest c.args.files.now.contents c.new-readings.result c.new-readings.ensures;
   kept = λ h. refl;
   honest = refl;
+  failures = refl;
 }
 
 pub loop-state-preserved : goal.loop-state-preserved
@@ -23,6 +24,7 @@ loop-state-preserved g c =
           (subst (λ names. Reads mid.honest mid.contents names c.loop-state.readings c.read_seen.new.readings) c.seen.ensures c.in_ok-read_seen.ensures.reads) before.read;
       kept = λ h. told.kept (before.honest ∙ h) ∙ before.kept h;
       honest = told.honest ∙ before.honest;
+      failures = c.in_ok-read_seen.ensures.failures ∙ before.failures;
     }
 
 pub returns-clause-read : goal.returns-clause-read

@@ -8,4 +8,5 @@ invariant-loop-state g l = record {
   read : StatesRead l.fn.files.honest l.fn.files.contents (take l.state-index l.fn.states) l.readings;
   kept : IsTrue l.fn.files.honest → l.files.contents ≡ l.fn.files.contents;
   honest : l.files.honest ≡ l.fn.files.honest;
+  failures : l.files.failures ≡ l.fn.files.failures;
 }

@@ -1,4 +1,4 @@
-use Rattle.std.proofs.Common.{arith, ap, subst, sym, ◌∙◌}
+use Rattle.std.proofs.Common.{arith, ap, refl, subst, sym, ◌∙◌}
 use Rattle.std.specs.FinMap as map
 use Rattle.fork_reach.specs.Objects.{with_objects}
 use Rattle.fork_ledger.specs.Tenants.{shape_of}
@@ -16,6 +16,7 @@ loop-name-init g c =
     record {
       same = same_own first;
       so_far = came_none first.tenant.now c.args.names.now (both_by first) first.vault.now (changes_none (Stages first.tenant.now (both_by first)) first.vault.now (stages_none first.vault.now.tenants first.tenant.now));
+      failures = refl;
     }
 
 pub loop-name-preserved : goal.loop-name-preserved
@@ -29,6 +30,7 @@ loop-name-preserved g c =
       so_far = came_read first.tenant.now c.name-item.result c.args.names.now c.loop-name.name-index (both_by first) first.vault.now old.vault.now new.vault.now c.args.readings.now c.requires.there c.loop-name-test.true c.name-item.is c.recall_read.ensures.honest
           c.recall_read.ensures.files c.requires.read
           (subst (λ r. RecallsRead old.vault.now.honest r.now c.name-item.result old.vault.now.files old.vault.now.tenants new.vault.now.tenants (map.get c.args.readings.now c.name-item.result)) before.same.tenant c.in-Ok.ensures.recalls) before.so_far;
+      failures = c.recall_read.ensures.failures ∙ before.failures;
     }
 
 pub discard-requires : goal.discard-requires

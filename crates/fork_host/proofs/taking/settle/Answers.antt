@@ -120,3 +120,6 @@ returns-clause-kept g c not_done = staged_read c.args.own.now.vault.now c.verdic
 
 pub returns-clause-same : goal.returns-clause-same
 returns-clause-same g c = c.verdict.ensures.same
+
+pub returns-in-Accepted-clause-places : goal.returns-in-Accepted-clause-places
+returns-in-Accepted-clause-places g c = c.accept.ensures.store.places ∙ c.in-Accepted.ensures.read.places

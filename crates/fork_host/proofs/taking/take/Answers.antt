@@ -5,12 +5,14 @@ use Rattle.fork_reach.specs.Objects.{measures_of}
 use Rattle.fork_request.specs.declared.reply.Reply.TheVariants.{Failed}
 use Rattle.fork_ledger.specs.AllStaged.{with_all_staged}
 use Rattle.fork_ledger.proofs.AllStagedLemmas.{all_staged_seen}
+use Rattle.looks.proofs.GrowthLemmas.{grows_same, grows_then}
 use Rattle.fork_host.specs.Bounds.{IsBounded}
 use Rattle.fork_host.specs.Handle.{visible_by}
 use Rattle.fork_host.specs.Own.{IsOwn, staged_in, visible_in}
 use Rattle.fork_host.specs.Pushed.{view_of}
 use Rattle.fork_host.specs.Rows.{vault_told}
 use Rattle.fork_host.specs.Safe.{IsSafe}
+use Rattle.fork_host.specs.Sent.{sent_names}
 use Rattle.fork_host.proofs.BoundLemmas.{bounded_after, bounded_left}
 use Rattle.fork_host.proofs.HandleLemmas.{of_first, ready_still, same_then, sent_beside}
 use Rattle.fork_host.proofs.OwnLemmas.{own_then, seen_turned, staged_turned, still_none}
@@ -38,7 +40,7 @@ pub returns-in-Err-clause-own : goal.returns-in-Err-clause-own
 returns-in-Err-clause-own g c =
     let first = c.args.own.now in
     let new = c.stage_all.new.own in
-    record { same = c.in-Err.ensures.same; own = c.in-Err.ensures.err.own; staged = staged_turned first.tenant.now first.vault.now new.vault.now c.in-Err.ensures.err }
+    record { same = c.in-Err.ensures.same; own = c.in-Err.ensures.err.own; grows = c.stage_all.ensures.grows; staged = staged_turned first.tenant.now first.vault.now new.vault.now c.in-Err.ensures.err }
 
 pub settle-reply-requires : goal.settle-reply-requires
 settle-reply-requires g c =
@@ -110,10 +112,12 @@ returns-clause-own g c =
     let same = c.in_default-stage_all.ensures.same in
     let both = same_then first staged mid same c.settle-reply.ensures.same in
     let t = first.tenant.now in
+    let names = sent_names c.args.body.objects.items in
     record {
       same = same_then first mid new both c.discard.ensures.same;
       own = own_then t first.vault.now staged.vault.now new.vault.now turns.own
           (own_then t staged.vault.now mid.vault.now new.vault.now (of_first first staged (λ t. IsOwn t staged.vault.now mid.vault.now) same c.settle-reply.ensures.own)
           (of_first first mid (λ t. IsOwn t mid.vault.now new.vault.now) both c.discard.ensures.turns.own));
+      grows = grows_then names first.vault.now.places staged.vault.now.places new.vault.now.places c.stage_all.ensures.grows (grows_same names staged.vault.now.places new.vault.now.places (c.discard.ensures.store.places ∙ c.settle-reply.ensures.places));
       staged = still_none first.vault.now new.vault.now t c.requires.quiet (of_first first mid (λ t. staged_in new.vault.now t ≡ empty) both c.discard.ensures.none);
     }

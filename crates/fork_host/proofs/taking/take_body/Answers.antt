@@ -1,11 +1,12 @@
 use Rattle.std.proofs.Common.{subst, sym}
 use Rattle.fork_model.specs.Answer.{pushed}
 use Rattle.fork_host.specs.Bounds.{IsBounded}
-use Rattle.fork_host.specs.Handle.{visible_by}
+use Rattle.fork_host.specs.Handle.{Uses, visible_by}
 use Rattle.fork_host.specs.Own.{visible_in}
 use Rattle.fork_host.specs.Pushed.{Sends, TellsHeld, view_of}
 use Rattle.fork_host.specs.Rows.{Yields}
 use Rattle.fork_host.specs.Safe.{IsSafe}
+use Rattle.fork_host.specs.Sent.{sent_names}
 use Rattle.fork_host.proofs.taking.take_body.Goals as goal
 
 pub returns-in-Ok-clause-row : goal.returns-in-Ok-clause-row
@@ -19,3 +20,6 @@ returns-in-Ok-clause-safe g c upload sent sends =
     let old = view_of c.args.repositories.now (visible_by c.args.own.now) upload c.args.limit in
     let new = view_of c.take.new.repositories (visible_in c.take.new.own.vault.now c.args.own.now.tenant.now) upload c.args.limit in
     subst (λ objects. IsSafe (IsBounded objects c.args.own.now.vault.now c.take.new.own.vault.now) old c.take.result new) (subst (Sends sent) c.in-Ok.is sends) (c.take.ensures.safe upload)
+
+pub returns-in-Ok-clause-own : goal.returns-in-Ok-clause-own
+returns-in-Ok-clause-own g c sent sends = subst (λ objects. Uses (sent_names objects) c.args.own.now c.take.new.own) (subst (Sends sent) c.in-Ok.is sends) c.take.ensures.own

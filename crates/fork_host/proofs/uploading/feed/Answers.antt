@@ -8,11 +8,14 @@ use Rattle.fork_request.specs.declared.host_fault.HostFault.TheVariants.{Memory}
 use Rattle.fork_request.specs.declared.reply.Reply.TheVariants.{Failed}
 use Rattle.fork_ledger.specs.AllStaged.{with_all_staged}
 use Rattle.fork_ledger.proofs.AllStagedLemmas.{all_staged_seen}
+use Rattle.looks.specs.Growth.{GrowsBy}
+use Rattle.looks.proofs.GrowthLemmas.{grows_same}
 use Rattle.fork_host.specs.Bounds.{IsBounded}
 use Rattle.fork_host.specs.Fed.{Fed, Unfed}
 use Rattle.fork_host.specs.Handle.{staged_by}
 use Rattle.fork_host.specs.Own.{staged_in}
 use Rattle.fork_host.specs.Rows.{vault_told}
+use Rattle.fork_host.specs.Sent.{sent_names}
 use Rattle.fork_host.proofs.BoundLemmas.{bounded_gains, bounded_more, gains_more}
 use Rattle.fork_host.proofs.OwnLemmas.{seen_turned, staged_same, staged_turned}
 use Rattle.fork_host.proofs.StagedLemmas.{came_broken, came_more, gained_among}
@@ -61,3 +64,14 @@ returns-clause-bounds g c bytes came =
 pub returns-clause-seen : goal.returns-clause-seen
 returns-clause-seen g c =
     seen_turned c.args.own.now.tenant.now (with_all_staged c.in-Ok.step.objects.items) c.args.own.now.vault.now c.stage_all.new.own.vault.now (all_staged_seen c.in-Ok.step.objects.items) c.in_default-stage_all.ensures.ok
+
+pub returns-then-step-clause-grows : goal.returns-then-step-clause-grows
+returns-then-step-clause-grows g c = grows_same _ c.args.own.now.vault.now.places c.discard.new.own.vault.now.places c.discard.ensures.store.places
+
+pub returns-in-Err-clause-grows : goal.returns-in-Err-clause-grows
+returns-in-Err-clause-grows g c =
+    subst (λ objects. GrowsBy (sent_names objects) c.args.own.now.vault.now.places c.stage_all.new.own.vault.now.places) c.in-Ok.ensures.gained c.stage_all.ensures.grows
+
+pub returns-clause-grows : goal.returns-clause-grows
+returns-clause-grows g c =
+    subst (λ objects. GrowsBy (sent_names objects) c.args.own.now.vault.now.places c.stage_all.new.own.vault.now.places) c.in-Ok.ensures.gained c.stage_all.ensures.grows

@@ -1,10 +1,29 @@
-use Rattle.std.proofs.Common.{rules, ◌≡◌, [], ◌∷◌, ◌++◌, ap, map, subst, sym, ◌∙◌}
+use Rattle.std.proofs.Common.{rules, ◌≡◌, [], ◌∷◌, ◌++◌, ap, map, refl, subst, sym, true, ◌∙◌}
+use Rattle.std.proofs.lemmas.List.Elements.{All-nil}
+use Rattle.git_name.specs.Object.{object_name}
+use Rattle.looks.specs.Places.{is_listed}
+use Rattle.looks.proofs.GrowthLemmas.{grows_none}
 use Rattle.catalogue.specs.Counted.{places_of}
 use Rattle.ledgers.specs.AllStaged.{AreListed}
 use Rattle.ledgers.specs.Told.{entry_of}
+use Rattle.ledgers.specs.declared.entry.Entry.{Entry}
 use Rattle.fork_ledger.specs.AllStaged.{StoresAmong}
-use Rattle.fork_ledger.proofs.ReceivedLemmas.{among_front, listed_more, meets_among, receives_more, regroup, told_more}
+use Rattle.fork_ledger.proofs.ReceivedLemmas.{among_front, grows_on, listed_more, meets_among, receives_more, receives_none, regroup, told_more}
 use Rattle.fork_ledger.proofs.receiving.receive_all.Goals as goal
+
+pub loop-sealed-init : goal.loop-sealed-init
+loop-sealed-init g c = (
+  [],
+  record {
+    order = search rules;
+    ledgers = refl;
+    listed = All-nil (λ (entry : Entry). is_listed (places_of c.args.holdings.now.catalogue).names entry.name ≡ true);
+    grows = grows_none (map object_name c.args.objects.items) (places_of c.args.holdings.now.catalogue);
+    receives = λ h. receives_none c.args.files.now.contents (places_of c.args.holdings.now.catalogue);
+    honest = refl;
+    failures = refl;
+  },
+)
 
 pub returns-in-Err-clause-collision : goal.returns-in-Err-clause-collision
 returns-in-Err-clause-collision g c = λ h is.
@@ -21,6 +40,14 @@ returns-in-Err-clause-still g c = λ h is.
     let first = c.args.files.now.contents in
     among_front c.args.objects.items front c.loop-sealed.sealed-iterator.rest.items first c.receive.new.files.contents before.order
     (subst (λ files. StoresAmong front first files) (sym (c.in-Err.ensures.still (before.honest ∙ h) is)) (before.receives h).among)
+
+pub returns-in-Err-clause-grows : goal.returns-in-Err-clause-grows
+returns-in-Err-clause-grows g c =
+    let front = c.loop-sealed.invariant.0 in
+    let before = c.loop-sealed.invariant.1 in
+    let left : c.loop-sealed.sealed-iterator.rest.items ≡ c.in-Some.sealed ∷ c.next.new.self.rest.items = search rules in
+    grows_on c.args.objects.items front c.in-Some.sealed c.next.new.self.rest.items (places_of c.args.holdings.now.catalogue) (places_of c.loop-sealed.holdings.catalogue) (places_of c.receive.new.holdings.catalogue)
+    (before.order ∙ ap (λ xs. front ++ xs) left) before.grows c.receive.ensures.grows
 
 pub loop-sealed-preserved : goal.loop-sealed-preserved
 loop-sealed-preserved g c =
@@ -40,6 +67,7 @@ loop-sealed-preserved g c =
         order = before.order ∙ ap (λ xs. front ++ xs) left ∙ sym (regroup front object c.next.new.self.rest.items);
         ledgers = told.ledgers ∙ before.ledgers;
         listed = subst (AreListed last) (sym (told_more front object)) (listed_more (map entry_of front) (entry_of object) old last told.listed before.listed);
+        grows = grows_on c.args.objects.items front object c.next.new.self.rest.items start old last (before.order ∙ ap (λ xs. front ++ xs) left) before.grows told.grows;
         receives = λ h.
             let was = before.honest ∙ h in
             receives_more front object first.contents mid.contents new.contents start old last (before.receives h) (told.whole was) (told.stands was) (told.alone was) (told.covers was) (told.exact was);

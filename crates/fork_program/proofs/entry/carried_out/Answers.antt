@@ -1,5 +1,20 @@
+use Rattle.std.proofs.Common.{IfErr, OnOk}
+use Rattle.std.proofs.KnownBytes.{Keeps-refl}
+use Rattle.std.proofs.lemmas.Result.{on_ok_weaker}
+use Rattle.std.specs.Io.KnownBytes.{Keeps}
+use Rattle.fork_command.specs.declared.command.Command.TheVariants.{Serve}
+use Rattle.fork_program.specs.Keeping.{IsUntouched}
+use Rattle.fork_program.specs.Serving.{IsListened, IsUnlistened}
+use Rattle.fork_program.proofs.EntryLemmas.{carried}
 use Rattle.fork_program.proofs.HostingLemmas.{if_err_more, untouched}
 use Rattle.fork_program.proofs.entry.carried_out.Goals as goal
 
-pub returns-in-Serve-clause-err : goal.returns-in-Serve-clause-err
-returns-in-Serve-clause-err g c = rw c.in-Serve.is (if_err_more c.serve.result (λ fault why. (why, untouched _ _)) c.serve.ensures.err)
+pub returns-in-Serve : goal.returns-in-Serve
+returns-in-Serve g c =
+    let input = g.R.Read.remaining c.args.reader.now in
+    let before = g.W.Write.contents c.args.writer.now in
+    let hosting = c.in-Serve.hosting in
+    let n = c.in-Serve.connections in
+    let right : OnOk c.serve.result (IsListened hosting n × Keeps before before) = on_ok_weaker c.serve.result (λ served. (served, Keeps-refl before)) c.serve.ensures.ok in
+    let why : IfErr c.serve.result (λ fault. IsUnlistened hosting n fault × IsUntouched input input before before) = if_err_more c.serve.result (λ fault why. (why, untouched input before)) c.serve.ensures.err in
+    rw c.in-Serve.is (carried (Serve c.in-Serve.socket n hosting) input input before before c.serve.result c.done-in-Serve.result c.done-in-Serve.ensures right why)

@@ -1,16 +1,12 @@
 use Rattle.std.proofs.KnownBytes.{Keeps-refl}
-use Rattle.fork_program.specs.Program.{Did, Helped, Undone}
+use Rattle.fork_program.specs.Program.{Helped}
+use Rattle.fork_program.proofs.EntryLemmas.{ends_so}
 use Rattle.fork_program.proofs.entry.ending.Goals as goal
 
-pub returns-in-Ok-carried_out : goal.returns-in-Ok-carried_out
-returns-in-Ok-carried_out g c =
+pub returns-in-Ok : goal.returns-in-Ok
+returns-in-Ok g c =
     let asked = rw c.in-Ok.command-is at c.in-Ok.ensures.ok in
-    Did c.in-Ok.command asked.0 asked.1 c.in-Ok-carried_out.ensures.ok
-
-pub returns-in-Err : goal.returns-in-Err
-returns-in-Err g c =
-    let asked = rw c.in-Ok.command-is at c.in-Ok.ensures.ok in
-    Undone c.in-Ok.command asked.0 asked.1 c.in-Err.ensures.err
+    ends_so _ c.in-Ok.command _ _ _ _ c.carried_out.result asked.0 asked.1 c.carried_out.ensures
 
 pub returns-in-Ok-help : goal.returns-in-Ok-help
 returns-in-Ok-help g c =

@@ -10,11 +10,11 @@ returns-in_err-keep-clause-err g c hosting host =
 
 pub returns-in-Ok-clause-ok : goal.returns-in-Ok-clause-ok
 returns-in-Ok-clause-ok g c hosting host =
-    on_ok_always c.save-saved.result (record { first = c.begin.new.host; last = c.session-served.new.host; host = saved_host hosting _ _ host c.begin.ensures.saved; served = c.in-Ok.ensures.ok })
+    on_ok_always c.end-saved.result (record { first = c.begin.new.host; last = c.session-served.new.host; host = saved_host hosting _ _ host c.begin.ensures.saved; served = rw c.in-Ok.is at c.session-served.ensures.ok })
 
 pub returns-in-Ok-clause-err : goal.returns-in-Ok-clause-err
 returns-in-Ok-clause-err g c hosting host =
-    if_err_more c.save-saved.result (λ fault is. Unsaved host.kept is (record { first = c.begin.new.host; last = c.session-served.new.host; host = saved_host hosting _ _ host c.begin.ensures.saved; served = c.in-Ok.ensures.ok })) c.save-saved.ensures.cause
+    if_err_more c.end-saved.result (λ fault is. Unsaved host.kept is (record { first = c.begin.new.host; last = c.session-served.new.host; host = saved_host hosting _ _ host c.begin.ensures.saved; served = rw c.in-Ok.is at c.session-served.ensures.ok })) c.end-saved.ensures
 
 pub returns-clause-err : goal.returns-clause-err
-returns-clause-err g c hosting host = Cut _ _ (saved_host hosting _ _ host c.begin.ensures.saved) (λ is. host.kept) c.in-Err.ensures.err
+returns-clause-err g c hosting host = Cut _ _ (saved_host hosting _ _ host c.begin.ensures.saved) (λ is. host.kept) (rw c.in-Err.is at c.session-served.ensures.err)

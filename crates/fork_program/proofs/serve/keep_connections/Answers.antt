@@ -7,11 +7,11 @@ returns-in-Err-clause-err g c hosting host = Unready host.kept c.in-Err.ensures.
 
 pub returns-in-Ok-served-clause-ok : goal.returns-in-Ok-served-clause-ok
 returns-in-Ok-served-clause-ok g c hosting host =
-    on_ok_always c.save-saved.result (record { first = c.begin.new.host; last = c.serve_kept_at-served.new.host; host = saved_host hosting _ _ host c.begin.ensures.saved; served = c.in-Ok-served.ensures.ok })
+    on_ok_always c.end-saved.result (record { first = c.begin.new.host; last = c.serve_kept_at-served.new.host; host = saved_host hosting _ _ host c.begin.ensures.saved; served = rw c.in-Ok-served.is at c.serve_kept_at-served.ensures.ok })
 
 pub returns-in-Ok-served-clause-err : goal.returns-in-Ok-served-clause-err
 returns-in-Ok-served-clause-err g c hosting host =
-    if_err_more c.save-saved.result (λ fault is. Unsaved host.kept is (record { first = c.begin.new.host; last = c.serve_kept_at-served.new.host; host = saved_host hosting _ _ host c.begin.ensures.saved; served = c.in-Ok-served.ensures.ok })) c.save-saved.ensures.cause
+    if_err_more c.end-saved.result (λ fault is. Unsaved host.kept is (record { first = c.begin.new.host; last = c.serve_kept_at-served.new.host; host = saved_host hosting _ _ host c.begin.ensures.saved; served = rw c.in-Ok-served.is at c.serve_kept_at-served.ensures.ok })) c.end-saved.ensures
 
 pub returns-clause-err : goal.returns-clause-err
-returns-clause-err g c hosting host = deaf_or_lost _ _ _ _ _ host.kept (saved_host hosting _ _ host c.begin.ensures.saved) c.in-Err-served.ensures.err c.in-Err-served.ensures.cause
+returns-clause-err g c hosting host = deaf_or_lost _ _ _ _ _ host.kept (saved_host hosting _ _ host c.begin.ensures.saved) (rw c.in-Err-served.is at c.serve_kept_at-served.ensures.err) (rw c.in-Err-served.is at c.serve_kept_at-served.ensures.cause)

@@ -16,7 +16,7 @@ loop-count-preserved g c = record {
   right = λ trusted. c.answer_again.ensures.right (c.loop-count.invariant.trusted trusted);
   so_far =
       let frame = rw c.in-Ok-Frame.field-0-is at c.in-Ok-Frame.ensures.next in
-      more_again _ _ _ _ _ _ _ c.in-Ok-Frame.frame c.loop-count.invariant.so_far frame.0 frame.1 c.loop-count.invariant.trusted c.in_ok-is_kept.ensures.ok;
+      more_again _ _ _ _ _ _ _ c.in-Ok-Frame.frame c.loop-count.invariant.so_far frame.0 frame.1 c.in_ok-is_kept.ensures.ok;
 }
 
 pub returns-in-Ok-End-clause-again : goal.returns-in-Ok-End-clause-again

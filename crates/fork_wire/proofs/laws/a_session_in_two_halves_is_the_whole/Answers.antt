@@ -8,7 +8,7 @@ pub returns-clause-stream : goal.returns-clause-stream
 returns-clause-stream c input more frames others ended one other = streams_joined input more frames others ended one other
 
 pub returns-clause-answered : goal.returns-clause-answered
-returns-clause-answered c old mid new frames others replies more one still other = joined old mid new frames others replies more one still other
+returns-clause-answered c = joined
 
 pub returns-clause-told : goal.returns-clause-told
 returns-clause-told c replies more = flat_map-append (λ reply. reply_frame (bytes_of reply)) replies more

@@ -26,7 +26,7 @@ returns-then-held-clause-asked g c =
     record {
       measures = same_both _ _ (same_measures old.vault.now.tenants c.get.new.self.tenants old.tenant.now told.shape);
       honest = told.store.honest;
-      base = λ i. ((old.vault.ghost_name, old.tenant), told.shape i);
+      base = λ i. ((old.vault.ghost_name, old.tenant), told.shape i, told.places i);
       counted = told_counts c.get.result c.told.result old.vault.now.failures c.get.new.self.failures c.told.ensures told.store.counted;
       objects = λ honest. ap (λ m. both_of (private_of m old.tenant.now)) (told.kept honest);
       rest = λ honest i. (told.kept honest i, told.files honest i);
@@ -52,7 +52,7 @@ returns-clause-asked g c =
     record {
       measures = same_both _ _ (same_measures old.vault.now.tenants c.get_staged.new.self.tenants old.tenant.now told.shape);
       honest = told.store.honest;
-      base = λ i. ((old.vault.ghost_name, old.tenant), told.shape i);
+      base = λ i. ((old.vault.ghost_name, old.tenant), told.shape i, told.places i);
       counted = told_counts c.get_staged.result c.told-2.result old.vault.now.failures c.get_staged.new.self.failures c.told-2.ensures told.store.counted;
       objects = λ honest. ap (λ m. both_of (private_of m old.tenant.now)) (told.kept honest);
       rest = λ honest i. (told.kept honest i, told.files honest i);

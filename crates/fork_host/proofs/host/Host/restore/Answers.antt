@@ -4,6 +4,7 @@ use Rattle.std.proofs.lemmas.List.{length-map, take_all}
 use Rattle.std.proofs.lemmas.Result.{err_from_is_err_and}
 use Rattle.std.specs.FinMap as map
 use Rattle.loose_store.specs.Files.{Files}
+use Rattle.fork_ledger.specs.Store.{IsOver}
 use Rattle.state_text.specs.Adding.{AreBefore}
 use Rattle.state_text.specs.States.{States, TenantState}
 use Rattle.state_text.proofs.BehindLemmas.{map_behind}
@@ -42,6 +43,7 @@ loop-state-init g c =
           let was = c.in-Ok.ensures.honest ∙ h in
           going_none (g.S.LooseFiles.contents c.args.files) c.in_ok-host.host told.empty (told.store.files (read.honest ∙ was) ∙ read.kept was ∙ c.in-Ok.ensures.contents);
       honest = told.store.honest ∙ read.honest ∙ c.in-Ok.ensures.honest;
+      failures = told.store.failures ∙ c.in_ok-readings.ensures.failures ∙ c.in-Ok.ensures.failures;
       names = no_tenants c.in_ok-host.host told.empty;
     }
 
@@ -127,6 +129,7 @@ loop-state-preserved g c =
           (subst (λ names. AreBefore names tenant.name) (sym before.names) (next_by (λ t. t.name) states i tenant c.as_slice-state-items.ensures.sound.ordered lt is))
           c.name.ensures.sound.seen_ordered (judged.files (before.trusted h)) (judged.judged (before.trusted h)) none (before.going h)));
       honest = judged.honest ∙ before.honest;
+      failures = judged.failures ∙ before.failures;
       names = behind_is tenant.name (map.keys old.accounts) (map.keys new.accounts) result none judged.behind
           ∙ ap (λ names. names ++ tenant.name ∷ []) before.names ∙ sym (map_behind (λ t. t.name) (take i states) tenant) ∙ ap (mapped (λ t. t.name)) (sym more);
     }
@@ -151,3 +154,10 @@ returns-clause-shown g c = λ h.
     let going = all_of files c.as_slice-state-items.result.now c.args.states c.loop-state.state-index c.loop-state.host c.loop-state.later c.as_slice-state-items.ensures.tenants (omega arith) (c.loop-state.invariant.going h) in
     subst (λ (s : HostState). IsShownAgain files c.args.states (world_of s)) (sym c.end_survey.ensures)
     (shown_late files c.args.states c.loop-state.host c.loop-state.later going (sym c.told.ensures ∙ c.in-None.is))
+
+pub returns-clause-store : goal.returns-clause-store
+returns-clause-store g c =
+    let files = g.S.LooseFiles.contents c.args.files in
+    let before = c.loop-state.invariant in
+    subst (λ (s : HostState). IsOver files (g.S.LooseFiles.honest c.args.files) (g.S.LooseFiles.failures c.args.files) s.vault) (sym c.end_survey.ensures)
+    (record { files = λ h. (before.going h).same; honest = before.honest; failures = before.failures })

@@ -1,5 +1,5 @@
 use Rattle.fork_request.specs.Asked.{ask_of}
-use Rattle.std.proofs.Common.{subst, sym}
+use Rattle.std.proofs.Common.{[], subst, sym}
 use Rattle.fork_model.specs.Answer.{answer, cat_file_answer, ls_tree_answer}
 use Rattle.fork_host.specs.Handle.{private_by, shown_by, staged_by}
 use Rattle.fork_host.specs.Own.{staged_in}
@@ -8,8 +8,7 @@ use Rattle.fork_host.specs.Sent.{sent_by}
 use Rattle.fork_host.specs.Shown.{shown}
 use Rattle.fork_host.specs.Staged.{IsStaged}
 use Rattle.fork_host.proofs.BoundLemmas.{bounded_left, bounded_still, quiet_row}
-use Rattle.fork_host.proofs.HandleLemmas.{same_own}
-use Rattle.fork_host.proofs.OwnLemmas.{own_same}
+use Rattle.fork_host.proofs.HandleLemmas.{touched, touched_none, used}
 use Rattle.fork_host.proofs.RowLemmas.{yields_of}
 use Rattle.fork_host.proofs.SafeLemmas.{safe_gives}
 use Rattle.fork_host.proofs.StagedLemmas.{staged_kept_still}
@@ -140,81 +139,90 @@ unfolding answer
 returns-in-Prune-clause-row g c = record { yields = λ honest. rw c.in-Prune.is (c.prune.ensures.row honest) }
 
 pub returns-in-Init-clause-own : goal.returns-in-Init-clause-own
-returns-in-Init-clause-own g c = record { same = same_own c.args.own.now; own = own_same c.args.own.now.vault.now c.args.own.now.tenant.now }
+returns-in-Init-clause-own g c = touched_none _ c.args.own.now
 
 pub returns-in-Init-clause-staged : goal.returns-in-Init-clause-staged
 returns-in-Init-clause-staged g c = subst (λ upload. IsStaged c.args.own.now.vault.now.honest upload (staged_by c.args.own.now)) (sym c.init.ensures.upload) c.requires.staged
 
 pub returns-in-Drop-clause-own : goal.returns-in-Drop-clause-own
-returns-in-Drop-clause-own g c = record { same = same_own c.args.own.now; own = own_same c.args.own.now.vault.now c.args.own.now.tenant.now }
+returns-in-Drop-clause-own g c = touched_none _ c.args.own.now
 
 pub returns-in-Drop-clause-staged : goal.returns-in-Drop-clause-staged
 returns-in-Drop-clause-staged g c = subst (λ upload. IsStaged c.args.own.now.vault.now.honest upload (staged_by c.args.own.now)) (sym c.drop_repository.ensures.upload) c.requires.staged
 
 pub returns-in-Fork-clause-own : goal.returns-in-Fork-clause-own
-returns-in-Fork-clause-own g c = record { same = same_own c.args.own.now; own = own_same c.args.own.now.vault.now c.args.own.now.tenant.now }
+returns-in-Fork-clause-own g c = touched_none _ c.args.own.now
 
 pub returns-in-Fork-clause-staged : goal.returns-in-Fork-clause-staged
 returns-in-Fork-clause-staged g c = subst (λ upload. IsStaged c.args.own.now.vault.now.honest upload (staged_by c.args.own.now)) (sym c.fork.ensures.upload) c.requires.staged
 
 pub returns-in-UpdateRefs-clause-own : goal.returns-in-UpdateRefs-clause-own
-returns-in-UpdateRefs-clause-own g c = record { same = same_own c.args.own.now; own = own_same c.args.own.now.vault.now c.args.own.now.tenant.now }
+returns-in-UpdateRefs-clause-own g c = touched_none _ c.args.own.now
 
 pub returns-in-UpdateRefs-clause-staged : goal.returns-in-UpdateRefs-clause-staged
 returns-in-UpdateRefs-clause-staged g c = subst (λ upload. IsStaged c.args.own.now.vault.now.honest upload (staged_by c.args.own.now)) (sym c.update_refs.ensures.upload) c.requires.staged
 
 pub returns-in-ForEachRef-clause-own : goal.returns-in-ForEachRef-clause-own
-returns-in-ForEachRef-clause-own g c = record { same = same_own c.args.own.now; own = own_same c.args.own.now.vault.now c.args.own.now.tenant.now }
+returns-in-ForEachRef-clause-own g c = touched_none _ c.args.own.now
 
 pub returns-in-ForEachRef-clause-staged : goal.returns-in-ForEachRef-clause-staged
 returns-in-ForEachRef-clause-staged g c = c.requires.staged
 
 pub returns-in-Quota-clause-own : goal.returns-in-Quota-clause-own
-returns-in-Quota-clause-own g c = record { same = same_own c.args.own.now; own = own_same c.args.own.now.vault.now c.args.own.now.tenant.now }
+returns-in-Quota-clause-own g c = touched_none _ c.args.own.now
 
 pub returns-in-Quota-clause-staged : goal.returns-in-Quota-clause-staged
 returns-in-Quota-clause-staged g c = c.requires.staged
 
 pub returns-in-CatFile-clause-own : goal.returns-in-CatFile-clause-own
-returns-in-CatFile-clause-own g c = record { same = c.cat_file.ensures.own.same; own = c.cat_file.ensures.own.own }
+returns-in-CatFile-clause-own g c = touched _ c.args.own.now c.cat_file.new.own (used [] c.args.own.now c.cat_file.new.own c.cat_file.ensures.own)
 
 pub returns-in-CatFile-clause-staged : goal.returns-in-CatFile-clause-staged
 returns-in-CatFile-clause-staged g c = staged_kept_still c.args.own.now.vault.now c.cat_file.new.own.vault.now c.args.own.now.tenant.now c.args.self.now.upload c.cat_file.ensures.own.staged c.requires.staged
 
 pub returns-in-LsTree-clause-own : goal.returns-in-LsTree-clause-own
-returns-in-LsTree-clause-own g c = record { same = c.ls_tree.ensures.own.same; own = c.ls_tree.ensures.own.own }
+returns-in-LsTree-clause-own g c = touched _ c.args.own.now c.ls_tree.new.own (used [] c.args.own.now c.ls_tree.new.own c.ls_tree.ensures.own)
 
 pub returns-in-LsTree-clause-staged : goal.returns-in-LsTree-clause-staged
 returns-in-LsTree-clause-staged g c = staged_kept_still c.args.own.now.vault.now c.ls_tree.new.own.vault.now c.args.own.now.tenant.now c.args.self.now.upload c.ls_tree.ensures.own.staged c.requires.staged
 
 pub returns-in-RevList-clause-own : goal.returns-in-RevList-clause-own
-returns-in-RevList-clause-own g c = record { same = c.rev_list.ensures.own.same; own = c.rev_list.ensures.own.own }
+returns-in-RevList-clause-own g c = touched _ c.args.own.now c.rev_list.new.own (used [] c.args.own.now c.rev_list.new.own c.rev_list.ensures.own)
 
 pub returns-in-RevList-clause-staged : goal.returns-in-RevList-clause-staged
 returns-in-RevList-clause-staged g c = staged_kept_still c.args.own.now.vault.now c.rev_list.new.own.vault.now c.args.own.now.tenant.now c.args.self.now.upload c.rev_list.ensures.own.staged c.requires.staged
 
 pub returns-in-MergeBase-clause-own : goal.returns-in-MergeBase-clause-own
-returns-in-MergeBase-clause-own g c = record { same = c.merge_base.ensures.own.same; own = c.merge_base.ensures.own.own }
+returns-in-MergeBase-clause-own g c = touched _ c.args.own.now c.merge_base.new.own (used [] c.args.own.now c.merge_base.new.own c.merge_base.ensures.own)
 
 pub returns-in-MergeBase-clause-staged : goal.returns-in-MergeBase-clause-staged
 returns-in-MergeBase-clause-staged g c = staged_kept_still c.args.own.now.vault.now c.merge_base.new.own.vault.now c.args.own.now.tenant.now c.args.self.now.upload c.merge_base.ensures.own.staged c.requires.staged
 
 pub returns-in-Fetch-clause-own : goal.returns-in-Fetch-clause-own
-returns-in-Fetch-clause-own g c = record { same = c.fetch.ensures.own.same; own = c.fetch.ensures.own.own }
+returns-in-Fetch-clause-own g c = touched _ c.args.own.now c.fetch.new.own (used [] c.args.own.now c.fetch.new.own c.fetch.ensures.own)
 
 pub returns-in-Fetch-clause-staged : goal.returns-in-Fetch-clause-staged
 returns-in-Fetch-clause-staged g c = staged_kept_still c.args.own.now.vault.now c.fetch.new.own.vault.now c.args.own.now.tenant.now c.args.self.now.upload c.fetch.ensures.own.staged c.requires.staged
 
 pub returns-in-Prune-clause-own : goal.returns-in-Prune-clause-own
-returns-in-Prune-clause-own g c = record { same = c.prune.ensures.own.same; own = c.prune.ensures.own.own }
+returns-in-Prune-clause-own g c = touched _ c.args.own.now c.prune.new.own (used [] c.args.own.now c.prune.new.own c.prune.ensures.own)
 
 pub returns-in-Prune-clause-staged : goal.returns-in-Prune-clause-staged
 returns-in-Prune-clause-staged g c = staged_kept_still c.args.own.now.vault.now c.prune.new.own.vault.now c.args.own.now.tenant.now c.args.self.now.upload c.prune.ensures.own.staged c.requires.staged
 
 pub returns-in-Push-clause-own : goal.returns-in-Push-clause-own
-returns-in-Push-clause-own g c = record { same = c.push.ensures.own.same; own = c.push.ensures.own.own }
+returns-in-Push-clause-own g c = rw c.in-Push.is (used _ c.args.own.now c.push.new.own c.push.ensures.own)
 
 pub returns-in-Push-clause-staged : goal.returns-in-Push-clause-staged
 returns-in-Push-clause-staged g c =
     subst (λ upload. IsStaged c.args.own.now.vault.now.honest upload (staged_in c.push.new.own.vault.now c.args.own.now.tenant.now)) (sym c.push.ensures.upload)
     (staged_kept_still c.args.own.now.vault.now c.push.new.own.vault.now c.args.own.now.tenant.now c.args.self.now.upload c.push.ensures.own.staged c.requires.staged)
+
+pub returns-in-Part-clause-own : goal.returns-in-Part-clause-own
+returns-in-Part-clause-own g c = rw c.in-Part.is c.part.ensures.own
+
+pub returns-in-PartEnd-clause-own : goal.returns-in-PartEnd-clause-own
+returns-in-PartEnd-clause-own g c = touched _ c.args.own.now c.part_end.new.own c.part_end.ensures.own
+
+pub returns-in-PartDrop-clause-own : goal.returns-in-PartDrop-clause-own
+returns-in-PartDrop-clause-own g c = touched _ c.args.own.now c.part_drop.new.own c.part_drop.ensures.own

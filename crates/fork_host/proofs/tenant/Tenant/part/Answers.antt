@@ -4,13 +4,15 @@ use Rattle.push_stream.specs.Reading.{Reading}
 use Rattle.push_stream.specs.Stream.{sent_in, stream_of}
 use Rattle.push_stream.specs.Upload.{continued}
 use Rattle.fork_model.specs.Answer.{open_upload, part_answer}
+use Rattle.looks.specs.Growth.{GrowsBy}
 use Rattle.fork_host.specs.Bounds.{IsBounded}
 use Rattle.fork_host.specs.Handle.{staged_by}
 use Rattle.fork_host.specs.Rows.{Yields}
 use Rattle.fork_host.specs.Safe.{IsSafe}
+use Rattle.fork_host.specs.Sent.{sent_names}
 use Rattle.fork_host.specs.Shown.{Account, shown}
 use Rattle.fork_host.specs.Staged.{IsStaged}
-use Rattle.fork_host.proofs.PartLemmas.{IsPart, account_of, bounded_among, part_kept, part_more, part_opened, part_row, part_safe, part_sent, part_staged}
+use Rattle.fork_host.proofs.PartLemmas.{IsPart, account_of, begun_grows, bounded_among, part_grows, part_kept, part_more, part_opened, part_row, part_safe, part_sent, part_staged}
 use Rattle.fork_host.proofs.tenant.Tenant.part.Goals as goal
 
 pub returns-in-Some-clause-row : goal.returns-in-Some-clause-row
@@ -153,3 +155,39 @@ returns-clause-staged g c =
     let part : IsPart own.tenant.now waits (Some c.feed-reply.new.upload.brief) c.new-upload.result.brief c.feed-reply.new.upload.brief c.args.body.now own.vault.now reply new =
     part_opened own.tenant.now waits c.new-upload.result.brief c.feed-reply.new.upload.brief c.args.body.now own.vault.now new reply (ap (option_map (λ upload. upload.brief)) c.in_default.is) c.new-upload.ensures.brief staged c.feed-reply.ensures.fed (sym c.is_done.ensures ∙ c.if-not-is_done.false) in
     part_staged own.tenant.now waits (Some c.feed-reply.new.upload.brief) c.new-upload.result.brief c.feed-reply.new.upload.brief c.args.body.now own.vault.now new reply staged part
+
+pub returns-in-Some-clause-own : goal.returns-in-Some-clause-own
+returns-in-Some-clause-own g c =
+    let own = c.args.own.now in
+    let waits : Option Reading = option_map (λ upload. upload.brief) c.self.inside.upload in
+    let new = c.feed.new.own.vault.now in
+    record {
+      same = c.feed.ensures.same;
+      own = c.feed.ensures.own;
+      grows = subst (λ (a : Account). GrowsBy (sent_names (sent_in (continued (open_upload (shown a own.vault.now own.tenant.now).upload) c.args.body.now).stream)) own.vault.now.places new.places) c.self.view_is
+          (part_grows (staged_by own) waits c.in-Some.upload.brief c.args.body.now own.vault.now.places new.places (ap (option_map (λ upload. upload.brief)) c.in-Some.is) c.feed.ensures.grows);
+    }
+
+pub returns-then-not-is_done-clause-own : goal.returns-then-not-is_done-clause-own
+returns-then-not-is_done-clause-own g c =
+    let own = c.args.own.now in
+    let waits : Option Reading = option_map (λ upload. upload.brief) c.self.inside.upload in
+    let new = c.feed-reply.new.own.vault.now in
+    record {
+      same = c.feed-reply.ensures.same;
+      own = c.feed-reply.ensures.own;
+      grows = subst (λ (a : Account). GrowsBy (sent_names (sent_in (continued (open_upload (shown a own.vault.now own.tenant.now).upload) c.args.body.now).stream)) own.vault.now.places new.places) c.self.view_is
+          (begun_grows (staged_by own) waits c.new-upload.result.brief c.args.body.now own.vault.now.places new.places (ap (option_map (λ upload. upload.brief)) c.in_default.is) c.new-upload.ensures.brief c.feed-reply.ensures.grows);
+    }
+
+pub returns-clause-own : goal.returns-clause-own
+returns-clause-own g c =
+    let own = c.args.own.now in
+    let waits : Option Reading = option_map (λ upload. upload.brief) c.self.inside.upload in
+    let new = c.feed-reply.new.own.vault.now in
+    record {
+      same = c.feed-reply.ensures.same;
+      own = c.feed-reply.ensures.own;
+      grows = subst (λ (a : Account). GrowsBy (sent_names (sent_in (continued (open_upload (shown a own.vault.now own.tenant.now).upload) c.args.body.now).stream)) own.vault.now.places new.places) c.self.view_is
+          (begun_grows (staged_by own) waits c.new-upload.result.brief c.args.body.now own.vault.now.places new.places (ap (option_map (λ upload. upload.brief)) c.in_default.is) c.new-upload.ensures.brief c.feed-reply.ensures.grows);
+    }

@@ -72,3 +72,6 @@ returns-clause-safe g c =
     let sent = sent_in (stream_of c.args.body.now) in
     safe_as (IsBounded sent own.vault.now new) _ view _ now c.take_body.result before after
     (c.take_body.ensures.safe None sent (sends_held (stream_of c.args.body.now) c.read_body-read.result c.read_body-read.ensures.found))
+
+pub returns-clause-own : goal.returns-clause-own
+returns-clause-own g c = c.take_body.ensures.own (sent_in (stream_of c.args.body.now)) (sends_held (stream_of c.args.body.now) c.read_body-read.result c.read_body-read.ensures.found)

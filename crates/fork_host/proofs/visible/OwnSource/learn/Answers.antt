@@ -14,7 +14,7 @@ returns g c =
       measures = ap (λ r. measures_of (private_of new.vault.now.tenants r.now).visible) told.same.tenant
           ∙ ap (λ p. p.0) (same_measures old.vault.now.tenants new.vault.now.tenants old.tenant.now told.shape);
       honest = told.store.honest;
-      base = λ i. ((told.same.vault i, told.same.tenant i), told.shape i);
+      base = λ i. ((told.same.vault i, told.same.tenant i), told.shape i, told.places i);
       counted = told_counts c.learn_seen.result c.told.result old.vault.now.failures new.vault.now.failures c.told.ensures told.store.counted;
       objects = λ honest. ap (λ r. (private_of new.vault.now.tenants r.now).visible) told.same.tenant ∙ ap (λ m. (private_of m old.tenant.now).visible) (told.kept honest);
       rest = λ honest i. (told.kept honest i, told.files honest i);

@@ -1,6 +1,8 @@
-use Rattle.std.proofs.Common.{ap, sym, subst, ◌∙◌}
+use Rattle.std.proofs.Common.{◌∷◌, [], ap, sym, subst, ◌∙◌}
 use Rattle.std.proofs.lemmas.Result.{on_err_weaker, on_ok_weaker}
 use Rattle.git_name.specs.Object.{object_name}
+use Rattle.looks.specs.Growth.{GrowsBy}
+use Rattle.catalogue.specs.Counted.{places_of}
 use Rattle.fork_ledger.specs.Kept.{IsExact}
 use Rattle.fork_ledger.specs.Private.{with_staged}
 use Rattle.fork_ledger.specs.Shown.{tenants_of}
@@ -74,3 +76,6 @@ returns-clause-store g c = record {
       let was = ap (λ s. s.honest) c.self.view_is ∙ h in
       undamaged_in c.stage_whole.result (staged_undamaged c.stage_whole.result c.self.inside.files.contents c.self.inside.holdings.ledgers (object_name c.args.sealed) (c.self.invariant was).stored (c.stage_whole.ensures.damaged was));
 }
+
+pub returns-clause-grows : goal.returns-clause-grows
+returns-clause-grows g c = subst (λ (s : VaultState). GrowsBy (object_name c.args.sealed ∷ []) s.places (places_of c.stage_whole.new.holdings.catalogue)) c.self.view_is c.stage_whole.ensures.grows

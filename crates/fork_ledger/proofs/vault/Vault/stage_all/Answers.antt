@@ -1,6 +1,9 @@
 use Rattle.std.proofs.Common.{ap, map, sym, subst, ◌∙◌}
 use Rattle.std.specs.FinMap.{contains_key}
 use Rattle.std.proofs.lemmas.Result.{on_err_weaker, on_ok_weaker}
+use Rattle.git_name.specs.Object.{object_name}
+use Rattle.looks.specs.Growth.{GrowsBy}
+use Rattle.catalogue.specs.Counted.{places_of}
 use Rattle.ledgers.specs.AllStaged.{all_staged_words}
 use Rattle.ledgers.specs.Ledgers.{at_ledger}
 use Rattle.ledgers.specs.Told.{entry_of}
@@ -104,3 +107,6 @@ returns-clause-store g c = record {
       let was = ap (λ s. s.honest) c.self.view_is ∙ h in
       undamaged_in c.stage_all_whole.result (none_damaged c.stage_all_whole.result c.self.inside.files.contents c.self.inside.holdings.ledgers (c.self.invariant was).stored (c.stage_all_whole.ensures.damaged was));
 }
+
+pub returns-clause-grows : goal.returns-clause-grows
+returns-clause-grows g c = subst (λ (s : VaultState). GrowsBy (map object_name c.args.objects.items) s.places (places_of c.stage_all_whole.new.holdings.catalogue)) c.self.view_is c.stage_all_whole.ensures.grows

@@ -1,0 +1,43 @@
+-- What a step of a host is, and a run of steps (own): all that is promised of one request, from state to state.
+use Rattle.std.specs.Prelude.{◌≡◌, ◌≢◌, ℕ, false, List, [], ◌∷◌, Some, ⊤}
+use Rattle.fork_request.specs.Told.{is_done}
+use Rattle.fork_request.specs.declared.reply.Reply.{Reply}
+use Rattle.fork_model.specs.Runs.{Asks, HostAsks}
+use Rattle.fork_model.specs.World.{Event, Steps}
+use Rattle.fork_host.specs.Faults.{FaultsWithin}
+use Rattle.fork_host.specs.Given.{asker_of}
+use Rattle.fork_host.specs.Safe.{IsNamedReply}
+use Rattle.fork_host.specs.Shape.{SameShape}
+use Rattle.fork_host.specs.Shown.{HostState, IsWhole, Trusted, world_of}
+use Rattle.fork_host.specs.Swept.{TendsAt}
+
+-- what a tenant is told under a name has that name
+abbrev pub IsNamedAt : Event → Reply → Type 0
+IsNamedAt (Asks tenant ask) reply = IsNamedReply ask reply
+IsNamedAt (HostAsks request) reply = ⊤
+
+-- a step from state to state. Over an honest store it is a step of the world. Over any store the honesty stays, and the new state is
+-- a host's; what is refused or failed keeps each view's shape, and a step that a tenant does not ask keeps that tenant's; what is told
+-- under a name has it; the host faults and what is done with the store keep their bounds
+pub record IsStep (old : HostState) (event : Event) (reply : Reply) (new : HostState) : Type 0 where
+  pub explained : Trusted old → Steps (world_of old) event reply (world_of new)
+  pub honest : new.vault.honest ≡ old.vault.honest
+  pub whole : IsWhole new
+  pub kept : is_done reply ≡ false → (tenant : List ℕ) → SameShape tenant (world_of old) (world_of new)
+  pub others : (tenant : List ℕ) → asker_of event ≢ Some tenant → SameShape tenant (world_of old) (world_of new)
+  pub named : IsNamedAt event reply
+  pub faults : FaultsWithin old event reply new
+  pub tends : TendsAt old event reply new
+
+-- these replies, one to each step, lead from state to state
+abbrev pub IsRun : HostState → List Event → List Reply → HostState → Type 0
+IsRun old [] [] new = new ≡ old
+IsRun old (event ∷ events) (reply ∷ replies) new = (mid : HostState) × IsStep old event reply mid × IsRun mid events replies new
+IsRun old [] (reply ∷ replies) new = ⊥
+IsRun old (event ∷ events) [] new = ⊥
+
+-- each reply is named so
+abbrev pub AreNamed : List Event → List Reply → Type 0
+AreNamed (event ∷ events) (reply ∷ replies) = IsNamedAt event reply × AreNamed events replies
+AreNamed [] replies = ⊤
+AreNamed (event ∷ events) [] = ⊤

@@ -1,0 +1,155 @@
+-- What was sent was seen, behind the answer that took it.
+use Rattle.std.proofs.Common.{◌≡◌, ℕ, Bool, true, false, cond, zero, suc, List, [], ◌∷◌, ◌++◌, Option, Some, None, Result, Ok, Err, is_some, refl, sym, ap, subst, ◌∙◌, arith}
+use Rattle.std.specs.FinMap.{contains_key, get}
+use Rattle.std.specs.List.{AllByRecursion, concat}
+use Rattle.git_name.specs.Object.{Object}
+use Rattle.git_reftx.specs.Transaction.{References}
+use Rattle.push_stream.specs.Brief.{brief_of}
+use Rattle.push_stream.specs.Stream.{Stream, Flows, Breaks, finished, sent_in, stream_of}
+use Rattle.push_stream.specs.Upload.{UploadValue, fed}
+use Rattle.push_stream.proofs.PieceLemmas.{pieces_join}
+use Rattle.fork_push.specs.declared.refusal.PushRefusal.{PushRefusal}
+use Rattle.fork_push.specs.Push.{judged}
+use Rattle.fork_reach.specs.Objects.{with_objects}
+use Rattle.fork_reach.specs.Source.{Objects}
+use Rattle.fork_request.specs.Asked.{Ask, Pushes, EndsParts}
+use Rattle.fork_request.specs.Names.{is_plain_name}
+use Rattle.fork_request.specs.declared.refusal.Refusal.TheVariants.{BadName, UploadOpen}
+use Rattle.fork_request.specs.declared.reply.Reply.{Reply}
+use Rattle.fork_request.specs.declared.reply.Reply.TheVariants.{Done, Refused}
+use Rattle.fork_model.specs.Answer.{answer, end_in, named_repository, open_upload, part_end_answer, push_answer, push_into, pushed, taken, upload_into}
+use Rattle.fork_model.specs.Provenance.{AreParts, InParts, InPush, InUpload, IsAmong, IsUploadFrom, Stays, Ends, GoesOn, WasSent, WasShown, ends_upload, part_in, parts_in}
+use Rattle.fork_model.specs.View.{View}
+use Rattle.fork_model.specs.World.{Exchange, exchanges_alone}
+use Rattle.fork_model.proofs.PartLemmas.{head_is, part_or_end, tail_is}
+use Rattle.fork_model.proofs.ProvenanceLemmas.{upload_from}
+use Rattle.fork_model.proofs.TransferLemmas.{came}
+
+-- where a row is done, what is named is seen behind it
+abbrev Shows : List ℕ → Reply × View → Type 0
+Shows name row = row.0 ≡ Done [] → contains_key row.1.objects name ≡ true
+
+either : (name : List ℕ) (b : Bool) (x y : Reply × View) → Shows name x → Shows name y → Shows name (cond b x y)
+either name true x y left right = left
+either name false x y left right = right
+
+named_shows : (view : View) (name word : List ℕ) (row : Reply × View) → Shows name row → Shows name (named_repository view word row)
+named_shows view name word row done = either name (is_plain_name 64 word) row (Refused (BadName word), view) done (λ is. absurd (cc))
+
+taken_shows : (view : View) (name word : List ℕ) (objects : Objects) (verdict : Result References PushRefusal) → contains_key objects name ≡ true → Shows name (taken view word objects verdict)
+taken_shows view name word objects (Ok new) there is = there
+taken_shows view name word objects (Err refusal) there is = absurd (cc)
+
+-- what a stream holds that is taken
+pushed_shows : (view : View) (word : List ℕ) (old : References) (s : Stream) (name : List ℕ) (object : Object) → IsAmong (sent_in s) name object → Shows name (pushed view word old (finished s))
+unfolding judged
+pushed_shows view word old (Flows commands sent true []) name object among =
+    taken_shows view name word (with_objects view.objects sent) (judged (with_objects view.objects sent) old view.limit (brief_of (Ok (commands, sent))))
+    (subst (λ n. contains_key (with_objects view.objects sent) n ≡ true) among.named (came view.objects sent object among.sent))
+pushed_shows view word old (Flows commands sent true (b ∷ rest)) name object among = λ is. absurd (cc)
+pushed_shows view word old (Flows commands sent false rest) name object among = λ is. absurd (cc)
+pushed_shows view word old (Breaks fault) name object among = λ is. absurd (cc)
+
+into_shows : (view : View) (word body : List ℕ) (o : Option References) (name : List ℕ) (object : Object) → IsAmong (sent_in (stream_of body)) name object → Shows name (push_into view word body o)
+into_shows view word body None name object among = λ is. absurd (cc)
+into_shows view word body (Some old) name object among =
+    either name (is_some view.upload) (Refused UploadOpen, view) (pushed view word old (finished (stream_of body))) (λ is. absurd (cc)) (pushed_shows view word old (stream_of body) name object among)
+
+upload_shows : (view : View) (word : List ℕ) (old : References) (o : Option UploadValue) (name : List ℕ) (object : Object) → IsAmong (sent_in (open_upload o).stream) name object → Shows name (upload_into view word old o)
+upload_shows view word old None name object among = λ is. absurd (cc)
+upload_shows view word old (Some upload) name object among = pushed_shows view word old upload.stream name object among
+
+end_shows : (view : View) (word : List ℕ) (o : Option References) (name : List ℕ) (object : Object) → IsAmong (sent_in (open_upload view.upload).stream) name object → Shows name (end_in view word o)
+end_shows view word None name object among = λ is. absurd (cc)
+end_shows view word (Some old) name object among = upload_shows view word old view.upload name object among
+
+push_shows : (view : View) (word body : List ℕ) (name : List ℕ) (object : Object) → IsAmong (sent_in (stream_of body)) name object → Shows name (answer view (Pushes word body))
+unfolding answer push_answer
+push_shows view word body name object among = named_shows view name word _ (into_shows view word body (get view.repositories word) name object among)
+
+part_end_shows : (view : View) (word : List ℕ) (name : List ℕ) (object : Object) → IsAmong (sent_in (open_upload view.upload).stream) name object → Shows name (answer view (EndsParts word))
+unfolding answer part_end_answer
+part_end_shows view word name object among = named_shows view name word (end_in view word (get view.repositories word)) (end_shows view word (get view.repositories word) name object among)
+
+further : (view : View) (ask : Ask) (asks : List Ask) (name : List ℕ) → WasShown (answer view ask).1 asks name → WasShown view (ask ∷ asks) name
+further view ask asks name shown = (ask ∷ shown.0, shown.1, ap (λ all. ask ∷ all) shown.2, shown.3)
+
+-- the push that is answered here
+pushed_here : (view : View) (ask : Ask) (asks : List Ask) (repository body name : List ℕ) (object : Object) → ◌≡◌ {A = Exchange} (ask, (answer view ask).0) (Pushes repository body, Done []) → IsAmong (sent_in (stream_of body)) name object → WasShown view (ask ∷ asks) name
+pushed_here view ask asks repository body name object is among = (
+  ask ∷ [],
+  asks,
+  refl,
+  subst (λ a. Shows name (answer view a)) (ap (λ (x : Exchange). x.0) (sym is)) (push_shows view repository body name object among) (ap (λ (x : Exchange). x.1) is),
+)
+
+-- the end of an upload that is answered here
+ended_here : (view : View) (ask : Ask) (asks : List Ask) (repository name : List ℕ) (object : Object) → ◌≡◌ {A = Exchange} (ask, (answer view ask).0) (EndsParts repository, Done []) → IsAmong (sent_in (open_upload view.upload).stream) name object → WasShown view (ask ∷ asks) name
+ended_here view ask asks repository name object is among = (
+  ask ∷ [],
+  asks,
+  refl,
+  subst (λ a. Shows name (answer view a)) (ap (λ (x : Exchange). x.0) (sym is)) (part_end_shows view repository name object among) (ap (λ (x : Exchange). x.1) is),
+)
+
+-- what was sent into an upload that began behind this end
+begun_here : (view : View) (exchange : Exchange) (exchanges : List Exchange) (after : Option UploadValue) (bodies : List (List ℕ)) (name : List ℕ) (object : Object) → IsUploadFrom view exchange after → ends_upload exchange ≡ true
+    → IsAmong (sent_in (stream_of (concat bodies))) name object → IsAmong (sent_in (fed (open_upload after) bodies).stream) name object
+begun_here view exchange exchanges after bodies name object (Stays part no_end stays) ended among = (let both : true ≡ false = sym ended ∙ no_end in absurd (cc))
+begun_here view exchange exchanges after bodies name object (Ends is none) ended among =
+    subst (λ (u : UploadValue). IsAmong (sent_in u.stream) name object) (sym (ap (λ o. fed (open_upload o) bodies) none ∙ pieces_join [] bodies)) among
+begun_here view exchange exchanges after bodies name object (GoesOn body part goes) ended among = (let both : true ≡ false = sym ended ∙ part_or_end exchange body part in absurd (cc))
+
+-- what was sent into an upload that goes on behind this exchange
+gone_on_here : (view : View) (exchange : Exchange) (after : Option UploadValue) (bodies later : List (List ℕ)) (name : List ℕ) (object : Object) → IsUploadFrom view exchange after → ends_upload exchange ≡ false → bodies ≡ part_in exchange ++ later
+    → IsAmong (sent_in (fed (open_upload view.upload) bodies).stream) name object → IsAmong (sent_in (fed (open_upload after) later).stream) name object
+gone_on_here view exchange after bodies later name object (Stays part no_end stays) on whole among =
+    subst (λ (u : UploadValue). IsAmong (sent_in u.stream) name object)
+    (ap (fed (open_upload view.upload)) (whole ∙ ap (λ front. front ++ later) part) ∙ ap (λ o. fed (open_upload o) later) (sym stays)) among
+gone_on_here view exchange after bodies later name object (Ends ended none) on whole among = (let both : true ≡ false = sym ended ∙ on in absurd (cc))
+gone_on_here view exchange after bodies later name object (GoesOn body part goes) on whole among =
+    subst (λ (u : UploadValue). IsAmong (sent_in u.stream) name object)
+    (ap (fed (open_upload view.upload)) (whole ∙ ap (λ front. front ++ later) part) ∙ ap (λ o. fed (open_upload o) later) (sym goes)) among
+
+-- behind the first answer, or later
+shown_next : (view : View) (ask : Ask) (asks : List Ask) (exchanges : List Exchange) (name : List ℕ) (object : Object) → (WasSent (answer view ask).1 exchanges name object → WasShown (answer view ask).1 asks name)
+    → WasSent view ((ask, (answer view ask).0) ∷ exchanges) name object → WasShown view (ask ∷ asks) name
+shown_next view ask asks exchanges name object later (InPush repository body (zero, few, is) among) = pushed_here view ask asks repository body name object is among
+shown_next view ask asks exchanges name object later (InPush repository body (suc k, few, is) among) = further view ask asks name (later (InPush repository body (k, omega arith, is) among))
+shown_next view ask asks exchanges name object later (InParts [] behind end bodies is ended are among) =
+    further view ask asks name (later (InUpload bodies (subst (λ all. AreParts all bodies) (sym (tail_is (ask, (answer view ask).0) end exchanges behind is)) are)
+    (begun_here view (ask, (answer view ask).0) exchanges (answer view ask).1.upload bodies name object (upload_from view ask) (ap ends_upload (head_is (ask, (answer view ask).0) end exchanges behind is) ∙ ended) among)))
+shown_next view ask asks exchanges name object later (InParts (x ∷ front) behind end bodies is ended are among) =
+    further view ask asks name (later (InParts front behind end bodies (tail_is (ask, (answer view ask).0) x exchanges (front ++ end ∷ behind) is) ended are among))
+shown_next view ask asks exchanges name object later (InUpload bodies are among) = by are.during are.no_end are.parts are.whole
+  where
+    by : (during : List Exchange) → AllByRecursion (λ exchange. ends_upload exchange ≡ false) during → (ask, (answer view ask).0) ∷ exchanges ≡ during ++ (EndsParts are.repository, Done []) ∷ are.behind → bodies ≡ parts_in during → WasShown view (ask ∷ asks) name
+    by [] no_end is whole =
+        ended_here view ask asks are.repository name object (head_is (ask, (answer view ask).0) (EndsParts are.repository, Done []) exchanges are.behind is)
+        (subst (λ all. IsAmong (sent_in (fed (open_upload view.upload) all).stream) name object) whole among)
+    by (x ∷ during) no_end is whole =
+        let same = head_is (ask, (answer view ask).0) x exchanges (during ++ (EndsParts are.repository, Done []) ∷ are.behind) is in
+        further view ask asks name (later (InUpload (parts_in during) (record {
+          during = during;
+          behind = are.behind;
+          repository = are.repository;
+          parts = tail_is (ask, (answer view ask).0) x exchanges (during ++ (EndsParts are.repository, Done []) ∷ are.behind) is;
+          no_end = no_end.1;
+          whole = refl;
+        }) (gone_on_here view (ask, (answer view ask).0) (answer view ask).1.upload bodies (parts_in during) name object (upload_from view ask) (ap ends_upload same ∙ no_end.0) (whole ∙ ap (λ y. part_in y ++ parts_in during) (sym same)) among)))
+
+no_exchange : (front behind : List Exchange) (exchange : Exchange) → [] ≡ front ++ exchange ∷ behind → ⊥
+no_exchange [] behind exchange is = cc
+no_exchange (first ∷ front) behind exchange is = cc
+
+-- who asks nothing sent nothing, whatever upload is open
+pub silence_sends_nothing : (view : View) (name : List ℕ) (object : Object) → WasSent view [] name object → ⊥
+silence_sends_nothing view name object (InPush repository body (k, few, is) among) = omega arith
+silence_sends_nothing view name object (InParts front behind end bodies is ended are among) = no_exchange front behind end is
+silence_sends_nothing view name object (InUpload bodies are among) = no_exchange are.during are.behind (EndsParts are.repository, Done []) are.parts
+
+-- what was sent was seen at some moment
+pub sent_shown : (view : View) (asks : List Ask) (name : List ℕ) (object : Object) → WasSent view (exchanges_alone view asks) name object → WasShown view asks name
+sent_shown view [] name object sent = absurd (silence_sends_nothing view name object sent)
+sent_shown view (ask ∷ asks) name object sent =
+    shown_next view ask asks (exchanges_alone (answer view ask).1 asks) name object (sent_shown (answer view ask).1 asks name object) sent

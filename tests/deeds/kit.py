@@ -55,7 +55,7 @@ def checked(crate, deeds, kept):
     is kept, for the next check of this crate."""
     functions = sorted(set().union(*(it.functions for it in deeds)))
     only = [f"--only={crate.name}::{it}" for it in functions]
-    words = ["timeout", LONGEST, rtlib.RATTLE, "check", *crate.words(["--jobs", "1"], keeps=False), "--incremental", str(kept), *only]
+    words = ["timeout", "--foreground", LONGEST, rtlib.RATTLE, "check", *crate.words(["--jobs", "1"], keeps=False), "--incremental", str(kept), *only]
     with tempfile.TemporaryDirectory() as room:
         for part in PARTS:
             if os.path.isdir(f"{crate.folder}/{part}"):

@@ -5,7 +5,7 @@ import subprocess
 
 from cases import B, C, D, FILES, O, OBJECTS, alone
 from checks import Checks
-from folder import Folder
+from folder import Folder, content
 from forkhost_client.frames import framed, frames
 from live import Live
 from objects import name_of, record, stored
@@ -48,6 +48,12 @@ def show_streams(checks: Checks, program, folder):
     checks.same("a pipe that nobody reads", failed("write", None), ended(program.begun(*words, stdout=writing), pushed))
     os.close(writing)
     checks.same("what was answered", made, folder.state())
+    os.remove(folder.inside("state"))
+    closed = ["sh", "-c", 'exec "$0" "$@" >&-', program.path, *words]
+    ran = subprocess.run(closed, input=pushed, stderr=subprocess.PIPE)
+    checks.same("an output that is closed", (1, b"forkhost: write\n"), (ran.returncode, ran.stderr))
+    checks.same("what was answered", made, folder.state())
+    checks.same("nothing of it stands in the folder's lock", b"", content(folder.inside("lock")))
     place = os.open(folder.path, os.O_RDONLY)
     child = program.begun("run", "--dir", folder.path, stdin=place)
     checks.same("an input that can't be read", failed("read"), ended(child, None))

@@ -42,12 +42,23 @@ fn keep_memory(alloc: Global) {
     let _block = Vec::<u8>::with_capacity(alloc, MAPPED);
 }
 
+// Opens files in the place of the standard streams that the process was begun without, so that no file of
+// a folder stands there: what is read is at its end, and what is written fails.
+fn hold_streams<R: Files<File = File>>(
+    rt: &R,
+) -> (io::Result<File>, io::Result<File>, io::Result<File>) {
+    let first = File::open(rt, "/dev/null");
+    let second = File::open(rt, "/dev/null");
+    (first, second, File::open(rt, "/dev/null"))
+}
+
 // Runs the program on these words, and answers its exit status, which stays where nothing can be told.
 fn ended<R: AllocGlobal + Input + Print + Eprint + Files<File = File> + Net + RandomSource>(
     rt: &R,
     words: &[&str],
 ) -> io::Result<u8> {
     let alloc = rt.alloc();
+    let _streams = hold_streams(rt);
     keep_memory(alloc);
     let mut reader = BufReader::new(alloc, rt.reader())?;
     let mut writer = BufWriter::new(alloc, io::writer(rt))?;

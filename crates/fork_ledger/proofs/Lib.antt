@@ -8,6 +8,7 @@ pub mod HarmLemmas
 pub mod HeldLemmas
 pub mod KeepingLemmas
 mod LentLemmas
+pub mod LinkLemmas
 pub mod LookLemmas
 pub mod OwnLemmas
 pub mod RecallLemmas

@@ -2,9 +2,12 @@ pub mod AllStaged
 pub mod Checked
 pub mod Harms
 pub mod Kept
+pub mod Learning
+pub mod Linked
 pub mod Private
 pub mod Shown
 pub mod Store
+pub mod Surveyed
 pub mod Swept
 pub mod Taken
 pub mod Tenants

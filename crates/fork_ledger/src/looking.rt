@@ -4,9 +4,11 @@ ghost use Rattle.looks.specs.Looks.{Look};
 ghost use Rattle.catalogue.specs.Counted.{IsNext, places_of};
 ghost use Rattle.ledgers.specs.Holders.{holders_of, is_held_in};
 ghost use Rattle.fork_ledger.specs.Kept.{Covers, IsExact, KeepsHeld, TakesAway};
+ghost use Rattle.fork_ledger.specs.Linked.{AreLinked};
 ghost use Rattle.fork_ledger.specs.Store.{CountsFault, fault_in};
 
 use crate::fault::VaultFault;
+use commit_graph::Graph;
 use git_name::Name;
 use ledgers::Holdings;
 use loose_store::{FileFault, LooseFiles};
@@ -18,6 +20,7 @@ fn take_away<S: LooseFiles>(
     alloc: Global,
     files: &mut CachedStore<S>,
     holdings: &mut Holdings,
+    graph: &mut Graph,
     name: Name,
 ) -> Result<(), VaultFault>
     requires next { IsNext (places_of holdings.old.catalogue) name }
@@ -30,11 +33,13 @@ fn take_away<S: LooseFiles>(
     ensures covers { IsTrue files.old.honest → Covers files.old.contents (places_of holdings.old.catalogue) → Covers files.new.contents (places_of holdings.new.catalogue) }
     ensures exact { IsTrue files.old.honest → OnOk result (IsExact files.old.contents (places_of holdings.old.catalogue) → IsExact files.new.contents (places_of holdings.new.catalogue)) }
     ensures away { IsTrue files.old.honest → OnOk result (TakesAway files.old.contents files.new.contents) }
+    ensures linked { IsTrue files.old.honest → AreLinked graph.old files.old.contents → AreLinked graph.new files.new.contents }
     ensures honest { files.new.honest ≡ files.old.honest }
     ensures cause { CountsFault files.old.failures files.new.failures (fault_in result) }
     ensures undamaged { IfErr result (λ fault. fault ≢ VaultFault.Damaged) }
     ensures apart { IfErr result (λ fault. fault ≢ VaultFault.Collision) }
 {
+    graph.forget(name);
     match files.remove(alloc, name) {
         Ok(()) => {
             holdings.leave(name);
@@ -50,6 +55,7 @@ pub(crate) fn look_once<S: LooseFiles>(
     alloc: Global,
     files: &mut CachedStore<S>,
     holdings: &mut Holdings,
+    graph: &mut Graph,
 ) -> Result<bool, VaultFault>
     requires { 0 < length (places_of holdings.old.catalogue).names }
     ensures look { OnOk result (Look (is_held_in holdings.old.ledgers) (places_of holdings.old.catalogue) (places_of holdings.new.catalogue)) }
@@ -60,6 +66,7 @@ pub(crate) fn look_once<S: LooseFiles>(
     ensures covers { IsTrue files.old.honest → Covers files.old.contents (places_of holdings.old.catalogue) → Covers files.new.contents (places_of holdings.new.catalogue) }
     ensures exact { IsTrue files.old.honest → OnOk result (IsExact files.old.contents (places_of holdings.old.catalogue) → IsExact files.new.contents (places_of holdings.new.catalogue)) }
     ensures away { IsTrue files.old.honest → OnOk result (TakesAway files.old.contents files.new.contents) }
+    ensures linked { IsTrue files.old.honest → AreLinked graph.old files.old.contents → AreLinked graph.new files.new.contents }
     ensures honest { files.new.honest ≡ files.old.honest }
     ensures cause { CountsFault files.old.failures files.new.failures (fault_in result) }
     ensures undamaged { IfErr result (λ fault. fault ≢ VaultFault.Damaged) }
@@ -69,7 +76,7 @@ pub(crate) fn look_once<S: LooseFiles>(
         holdings.pass();
         return Ok(false);
     };
-    match take_away(alloc, files, holdings, name) {
+    match take_away(alloc, files, holdings, graph, name) {
         Ok(()) => Ok(true),
         Err(fault) => Err(fault),
     }

@@ -32,23 +32,3 @@ pub(crate) fn read_held<S: LooseFiles>(
         Err(StoreFault::Memory) => Err(VaultFault::Memory),
     }
 }
-
-// Comes to know the parents of a commit, and of those that they lead to.
-pub(crate) fn learn<S: LooseFiles>(
-    alloc: Global,
-    files: &mut CachedStore<S>,
-    commit: Name,
-) -> Result<(), VaultFault>
-    ensures kept { IsTrue files.old.honest → files.new.contents ≡ files.old.contents }
-    ensures honest { files.new.honest ≡ files.old.honest }
-    ensures cause { CountsFault files.old.failures files.new.failures (fault_in result) }
-    ensures undamaged { IfErr result (λ fault. fault ≢ VaultFault.Damaged) }
-    ensures apart { IfErr result (λ fault. fault ≢ VaultFault.Collision) }
-{
-    match files.learn(alloc, commit) {
-        Ok(()) => Ok(()),
-        Err(StoreFault::Device) => Err(VaultFault::Store),
-        Err(StoreFault::Damaged) => Err(VaultFault::Damaged),
-        Err(StoreFault::Memory) => Err(VaultFault::Memory),
-    }
-}

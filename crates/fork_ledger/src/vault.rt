@@ -1,8 +1,9 @@
-ghost use Rattle.std.specs.Prelude.{◌≡◌, ◌≢◌, ◌⊎◌, ◌≤◌, ◌<◌, ◌+◌, ◌∷◌, ℕ, List, [], true, length, map as map_list, IsTrue, OnOk, OnErr, IfOk, IfErr, IfSome, Some, is_some, nat_le};
+ghost use Rattle.std.specs.Prelude.{◌≡◌, ◌≢◌, ◌⊎◌, ◌≤◌, ◌<◌, ◌+◌, ◌∷◌, ℕ, List, [], false, true, length, map as map_list, IsTrue, OnOk, OnErr, IfOk, IfErr, IfSome, Some, is_some, nat_le};
 ghost use Rattle.std.specs.FinMap as map;
 ghost use Rattle.std.specs.List.{AllByRecursion};
 ghost use Rattle.git_name.specs.Object.{object_name};
-ghost use Rattle.fork_reach.specs.Known.{AreParents};
+ghost use Rattle.commit_graph.specs.Graph.{IsGraph, name_at, parents_at};
+ghost use Rattle.fork_reach.specs.Known.{AreParents, seen_name, seen_place};
 ghost use Rattle.fork_reach.specs.Objects.{use_of};
 ghost use Rattle.looks.specs.Growth.{GrowsBy};
 ghost use Rattle.looks.specs.Looks.{Looks, Walks};
@@ -24,9 +25,11 @@ use crate::checking::check_all;
 use crate::fault::VaultFault;
 use crate::harms::Harms;
 use crate::held::{Held, held_of};
-use crate::reading::{learn, read_held};
+use crate::learning::learn;
+use crate::reading::read_held;
 use crate::recalling::{RecallFault, recall_known};
 use crate::staging::{stage_all_whole, stage_whole};
+use crate::survey::Survey;
 use crate::sweeping::{collect, sweep};
 use catalogue::Catalogue;
 use commit_graph::Graph;
@@ -50,12 +53,14 @@ use std::marker::Model;
 pub struct Vault<S: LooseFiles> {
     files: CachedStore<S>,
     holdings: Holdings,
+    graph: Graph,
 }
 
 impl<S: LooseFiles> Model for Vault<S> {
     ghost use Rattle.std.specs.Prelude.{IsTrue};
     ghost use Rattle.catalogue.specs.Counted.{places_of};
     ghost use Rattle.fork_ledger.specs.Kept.{IsKept};
+    ghost use Rattle.fork_ledger.specs.Linked.{AreLinked};
     ghost use Rattle.fork_ledger.specs.Shown.{tenants_of};
     ghost use Rattle.fork_ledger.specs.Tenants.{VaultState, vault_code};
 
@@ -69,35 +74,22 @@ impl<S: LooseFiles> Model for Vault<S> {
       honest = a.files.honest;
       failures = a.files.failures;
       places = places_of a.holdings.catalogue;
+      commits = a.graph;
     } };
 
-    ghost invariant = { λ a. IsTrue a.files.honest → IsKept a.holdings.ledgers a.files.contents (places_of a.holdings.catalogue) };
+    ghost invariant = { λ a. IsTrue a.files.honest → IsKept a.holdings.ledgers a.files.contents (places_of a.holdings.catalogue) × AreLinked a.graph a.files.contents };
 }
 
 impl<S: LooseFiles + Drop> Vault<S> {
-    /// Over this store, with no tenants. Each stored name is catalogued, ascending, and nobody holds it.
-    pub fn open(alloc: Global, files: S) -> Result<Vault<S>, VaultFault>
+    /// Over the store of a survey, with no tenants. Each stored name is catalogued, ascending, and nobody holds it.
+    pub fn over(alloc: Global, survey: Survey<S>) -> Result<Vault<S>, VaultFault>
         ensures empty { IfOk result (λ vault. vault.tenants ≡ map.empty) }
-        ensures store { IfOk result (λ vault. IsOver (S.contents files) (S.honest files) (S.failures files) vault) }
-        ensures catalogued { IsTrue (S.honest files) → IfOk result (λ vault. (name : List ℕ) → is_listed vault.places.names name ≡ map.contains_key (S.contents files) name) }
+        ensures store { IfOk result (λ vault. IsOver survey.contents survey.honest survey.failures vault) }
+        ensures catalogued { IsTrue survey.honest → IfOk result (λ vault. (name : List ℕ) → is_listed vault.places.names name ≡ map.contains_key survey.contents name) }
         ensures place { IfOk result (λ vault. vault.places.place ≡ 0) }
         ensures cause { IfErr result (λ fault. (fault ≡ VaultFault.Store) ⊎ (fault ≡ VaultFault.Memory)) }
     {
-        let Ok(files) = CachedStore::new(alloc, files) else {
-            return Err(VaultFault::Memory);
-        };
-        Vault::over(alloc, files)
-    }
-
-    /// The same over a store of which a survey may have been made.
-    pub fn over(alloc: Global, files: CachedStore<S>) -> Result<Vault<S>, VaultFault>
-        ensures empty { IfOk result (λ vault. vault.tenants ≡ map.empty) }
-        ensures store { IfOk result (λ vault. IsOver files.contents files.honest files.failures vault) }
-        ensures catalogued { IsTrue files.honest → IfOk result (λ vault. (name : List ℕ) → is_listed vault.places.names name ≡ map.contains_key files.contents name) }
-        ensures place { IfOk result (λ vault. vault.places.place ≡ 0) }
-        ensures cause { IfErr result (λ fault. (fault ≡ VaultFault.Store) ⊎ (fault ≡ VaultFault.Memory)) }
-    {
-        let mut files = files;
+        let mut files = survey.files;
         let hashing = files.hashing();
         let names = match files.names(alloc) {
             Ok(names) => names,
@@ -107,7 +99,11 @@ impl<S: LooseFiles + Drop> Vault<S> {
             return Err(VaultFault::Memory);
         };
         let holdings = Holdings::new(alloc, hashing, catalogue);
-        Ok(Vault { files, holdings })
+        Ok(Vault {
+            files,
+            holdings,
+            graph: Graph::new(alloc, hashing),
+        })
     }
 }
 
@@ -213,12 +209,49 @@ impl<S: LooseFiles> Vault<S> {
         self.files.lend(name)
     }
 
-    /// The commits whose parents are known without reading them, whoever sees them.
-    pub fn graph(&self) -> &Graph
-        ensures { IsTrue self.now.honest → (tenant : List ℕ) → AreParents (private_of self.now.tenants tenant).visible result.now }
+    /// How many commits there are whose parents are known without reading them.
+    pub fn commit_count(&self) -> usize
+        ensures count { result ≡ length self.now.commits }
+        ensures graph { IsGraph self.now.commits }
+        ensures parents { IsTrue self.now.honest → (tenant : List ℕ) → AreParents (private_of self.now.tenants tenant).visible self.now.commits }
     {
         let _holdings = &self.holdings;
-        self.files.graph()
+        self.graph.len()
+    }
+
+    /// The place among them of a commit that a tenant sees.
+    pub fn commit_place(&self, tenant: &TenantName, name: Name) -> Option<usize>
+        ensures { result ≡ seen_place (private_of self.now.tenants tenant.now).visible self.now.commits name }
+    {
+        if self.holdings.sees(tenant, name) {
+            return self.graph.place(name);
+        }
+        None
+    }
+
+    /// The commit at a place, if a tenant sees it.
+    pub fn commit_at(&self, tenant: &TenantName, place: usize) -> Option<Name>
+        ensures { result ≡ seen_name (private_of self.now.tenants tenant.now).visible self.now.commits place }
+    {
+        let Some(name) = self.graph.name(place) else {
+            return None;
+        };
+        if self.holdings.sees(tenant, name) {
+            return Some(name);
+        }
+        None
+    }
+
+    /// The places of the parents of the commit at a place, in their order, if a tenant sees the commit.
+    pub fn parents_at(&self, tenant: &TenantName, place: usize) -> &[usize]
+        ensures names { is_some (seen_name (private_of self.now.tenants tenant.now).visible self.now.commits place) ≡ true → map_list (name_at self.now.commits) result.now ≡ parents_at self.now.commits place }
+        ensures before { AllByRecursion (λ parent. parent < place) result.now }
+        ensures hidden { is_some (seen_name (private_of self.now.tenants tenant.now).visible self.now.commits place) ≡ false → result.now ≡ [] }
+    {
+        let Some(_) = self.commit_at(tenant, place) else {
+            return &[];
+        };
+        self.graph.parents(place)
     }
 
     /// Comes to know the parents of a commit that a tenant sees, and of those that they lead to. Each is read
@@ -241,7 +274,7 @@ impl<S: LooseFiles> Vault<S> {
         if !self.holdings.sees(tenant, commit) {
             return Ok(());
         }
-        learn(alloc, &mut self.files, commit)
+        learn(alloc, &mut self.files, &mut self.graph, commit)
     }
 
     /// What is known of the object that a tenant sees or has staged under this name. It asks no store.
@@ -398,7 +431,13 @@ impl<S: LooseFiles> Vault<S> {
         ensures store { AsksStore self.old self.new (fault_in result) }
     {
         let _place = self.holdings.place();
-        sweep(alloc, &mut self.files, &mut self.holdings, most)
+        sweep(
+            alloc,
+            &mut self.files,
+            &mut self.holdings,
+            &mut self.graph,
+            most,
+        )
     }
 
     /// Looks at each place of the catalogue, from the beginning until the end is reached, and takes away
@@ -421,7 +460,7 @@ impl<S: LooseFiles> Vault<S> {
         ensures store { AsksStore self.old self.new (fault_in result) }
     {
         sharp_collection();
-        collect(alloc, &mut self.files, &mut self.holdings)
+        collect(alloc, &mut self.files, &mut self.holdings, &mut self.graph)
     }
 
     /// What is wrong with the files of names that some tenant holds. Each of them is read once, past all

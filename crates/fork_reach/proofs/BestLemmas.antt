@@ -41,6 +41,10 @@ pub record IsDescent (graph : Commits) (objects : Objects) (a b below : ℕ) (fr
   pub within_a : (place : ℕ) → from_a place ≡ true → place < below
   pub within_b : (place : ℕ) → from_b place ≡ true → place < below
   pub within : (place : ℕ) → outdone place ≡ true → place < below
+  pub seen_a : (place : ℕ) → from_a place ≡ true → is_seen_at graph objects place ≡ true
+  pub seen_b : (place : ℕ) → from_b place ≡ true → is_seen_at graph objects place ≡ true
+  pub seen : (place : ℕ) → outdone place ≡ true → is_seen_at graph objects place ≡ true
+  pub found : (name : List ℕ) → best name ≡ true → contains_key objects name ≡ true
   pub right : AreParents objects graph → IsRight graph objects a b below from_a from_b outdone best
 
 -- the last place that waits is not done
@@ -51,6 +55,17 @@ latest_under below last at from_a from_b outdone within_a within_b within among 
   | inl same ↦ subst (λ p. p < below) (sym same) (elim among [
     | inl a ↦ within_a last a
     | inr b ↦ within_b last b
+  ])
+]
+
+-- its commit is seen
+pub latest_seen : (seen : ℕ → Bool) (last at : ℕ) (from_a from_b outdone : ℕ → Bool) → ((place : ℕ) → from_a place ≡ true → seen place ≡ true) → ((place : ℕ) → from_b place ≡ true → seen place ≡ true) → ((place : ℕ) → outdone place ≡ true → seen place ≡ true)
+    → (from_a last ≡ true) ⊎ (from_b last ≡ true) → (at ≡ last) ⊎ (outdone at ≡ true) → seen at ≡ true
+latest_seen seen last at from_a from_b outdone seen_a seen_b seen_gone among latest = elim latest [
+  | inr gone ↦ seen_gone at gone
+  | inl same ↦ subst (λ p. seen p ≡ true) (sym same) (elim among [
+    | inl a ↦ seen_a last a
+    | inr b ↦ seen_b last b
   ])
 ]
 
@@ -117,6 +132,12 @@ module _ (graph : Commits) (is : IsGraph graph) (objects : Objects) (a b : ℕ) 
     | inr (among, seen) ↦ subst (λ p. p < length graph) (sym (sole_place from place among)) inside
   ]
 
+  seen_first : (from : ℕ) (waits : ℕ → Bool) → Puts (from ∷ []) (is_seen_at graph objects) (λ _. false) waits → (place : ℕ) → waits place ≡ true → is_seen_at graph objects place ≡ true
+  seen_first from waits puts place there = elim (puts.only place there) [
+    | inl before ↦ absurd (cc)
+    | inr (among, seen) ↦ seen
+  ]
+
   pub descent_begins : (from_a from_b outdone : ℕ → Bool) (best : List ℕ → Bool) → Puts (a ∷ []) (is_seen_at graph objects) (λ _. false) from_a → Puts (b ∷ []) (is_seen_at graph objects) (λ _. false) from_b → ((place : ℕ) → outdone place ≡ false)
       → ((name : List ℕ) → best name ≡ true → ⊥) → IsDescent graph objects a b (length graph) from_a from_b outdone best
   descent_begins from_a from_b outdone best puts_a puts_b none_outdone none_best = record {
@@ -124,6 +145,10 @@ module _ (graph : Commits) (is : IsGraph graph) (objects : Objects) (a b : ℕ) 
     within_a = within_first a a_inside from_a puts_a;
     within_b = within_first b b_inside from_b puts_b;
     within = λ place there. absurd (both_not (outdone place) there (none_outdone place));
+    seen_a = seen_first a from_a puts_a;
+    seen_b = seen_first b from_b puts_b;
+    seen = λ place there. absurd (both_not (outdone place) there (none_outdone place));
+    found = λ name there. absurd (none_best name there);
     right = λ known. record {
       of_a = waits_first a a_inside from_a outdone puts_a;
       of_b = waits_first b b_inside from_b outdone puts_b;
@@ -170,6 +195,12 @@ module _ (graph : Commits) (is : IsGraph graph) (objects : Objects) (a b : ℕ) 
           | inr (inl less) ↦ less
           | inr (inr more) ↦ absurd (omega arith)
         ]
+
+    settled_seen : (gives : Bool) (waits now : ℕ → Bool) → ((place : ℕ) → waits place ≡ true → is_seen_at graph objects place ≡ true) → Settles (IsParent graph objects) at gives waits now → (place : ℕ) → now place ≡ true → is_seen_at graph objects place ≡ true
+    settled_seen gives waits now were settles place there = elim (settles.only place there) [
+      | inl (apart, before) ↦ were place before
+      | inr (gave, parent) ↦ parent.seen
+    ]
 
     module _ (known : AreParents objects graph) where
       right : IsRight graph objects a b below from_a from_b outdone best
@@ -266,6 +297,13 @@ module _ (graph : Commits) (is : IsGraph graph) (objects : Objects) (a b : ℕ) 
       within_a = settled_within _ from_a now_a most_a goes_on.of_a;
       within_b = settled_within _ from_b now_b most_b goes_on.of_b;
       within = settled_within _ outdone now_outdone most goes_on.outdone;
+      seen_a = settled_seen _ from_a now_a state.seen_a goes_on.of_a;
+      seen_b = settled_seen _ from_b now_b state.seen_b goes_on.of_b;
+      seen = settled_seen _ outdone now_outdone state.seen goes_on.outdone;
+      found = λ name there. elim (only name there) [
+        | inr before ↦ state.found name before
+        | inl (is_best, same) ↦ subst (λ n. contains_key objects n ≡ true) same (state.seen_a at (and_parts (from_a at) (from_b at) (and_parts (not (outdone at)) (from_a at && from_b at) is_best).1).0)
+      ];
       right = λ known. right_on known only keeps notes;
     }
 

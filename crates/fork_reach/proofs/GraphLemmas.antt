@@ -1,5 +1,5 @@
 -- Places of a graph, and what is reached from one of them.
-use Rattle.std.proofs.Common.{◌≡◌, ◌≢◌, ◌⊎◌, ◌<◌, ℕ, zero, suc, cond, Bool, true, false, List, [], ◌∷◌, Contains, length, map, position, inl, inr, refl, sym, ap, subst, ◌∙◌, arith}
+use Rattle.std.proofs.Common.{◌≡◌, ◌≢◌, ◌⊎◌, ◌<◌, ℕ, zero, suc, cond, Bool, true, false, List, [], ◌∷◌, Contains, length, map, position, None, Some, is_some, inl, inr, refl, sym, ap, subst, ◌∙◌, arith}
 use Rattle.std.specs.BTreeMap.{is_at}
 use Rattle.std.specs.FinMap.{contains_key}
 use Rattle.std.specs.List.{AllByRecursion}
@@ -16,7 +16,7 @@ use Rattle.git_name.specs.Same.{same_name}
 use Rattle.commit_graph.specs.Graph.{Commits, IsGraph, name_at, parents_at}
 use Rattle.nearby.proofs.PlaceLemmas.{only_place}
 use Rattle.fork_reach.specs.Descent.{IsParent, Puts, Settles, is_ancestor_of, is_seen_at}
-use Rattle.fork_reach.specs.Known.{AreParents}
+use Rattle.fork_reach.specs.Known.{AreParents, if_seen, seen_name, seen_place}
 use Rattle.fork_reach.specs.Reach.{IsReached, Root, Next, is_reached, parent_names}
 use Rattle.fork_reach.specs.Source.{Objects}
 use Rattle.fork_reach.proofs.DescentLemmas.{IsSide}
@@ -33,6 +33,20 @@ one_place graph is i j first second same =
     let names = keys_of graph in
     let at = (λ (k : ℕ) (inside : k < length graph). only_place names k (name_at graph k) is.distinct (slice_get-get_or names k [] (omega (arith, inside, length-map graph (λ (e : List ℕ × List (List ℕ)). e.0))))) in
     same_Some i j (sym (at i first) ∙ ap (λ name. position (same_name name) names) same ∙ at j second)
+
+-- the commit at a place is told, if it is seen
+pub seen_told : (graph : Commits) (objects : Objects) (place : ℕ) → place < length graph → is_seen_at graph objects place ≡ true → is_some (seen_name objects graph place) ≡ true
+seen_told graph objects place inside seen =
+    ap (λ found. is_some (if_seen objects found)) (slice_get-get_or (keys_of graph) place [] (omega (arith, inside, length-map graph (λ (e : List ℕ × List (List ℕ)). e.0))))
+    ∙ ap (λ (is_there : Bool). is_some (cond is_there (Some (name_at graph place)) None)) seen
+
+-- the place of a commit that is seen
+pub placed_name : (graph : Commits) (objects : Objects) (name : List ℕ) (place : ℕ) → seen_place objects graph name ≡ Some place → position (same_name name) (keys_of graph) ≡ Some place
+placed_name graph objects name place is = by (contains_key objects name) is
+  where
+    by : (there : Bool) → cond there (position (same_name name) (keys_of graph)) None ≡ Some place → position (same_name name) (keys_of graph) ≡ Some place
+    by true found = found
+    by false none = absurd (cc)
 
 -- with its parents
 entry_at : (graph : Commits) (at : ℕ) → at < length graph → Contains graph (name_at graph at, parents_at graph at)

@@ -4,6 +4,7 @@
 #![tactic(auto)]
 
 mod along;
+mod ancestry;
 mod descent;
 mod history;
 mod laws;
@@ -21,6 +22,7 @@ mod source;
 mod usage;
 mod walk;
 
+pub use crate::ancestry::Ancestry;
 pub use crate::descent::known_bases;
 pub use crate::history::History;
 pub use crate::laws::reached_is_led_to;

@@ -1,11 +1,9 @@
 ghost use Rattle.std.specs.Prelude.{◌≡◌, IsTrue, IfOk, IfSome, Some, is_some};
 ghost use Rattle.std.specs.FinMap as map;
 ghost use Rattle.git_name.specs.Object.{object_name};
-ghost use Rattle.fork_reach.specs.Known.{AreParents};
 ghost use Rattle.fork_reach.specs.Faults.{IsAsked, fault_in};
 ghost use Rattle.fork_reach.specs.Source.{SourceState, kind_in};
 
-use commit_graph::Graph;
 use git_name::{Hashing, Kind, Name, Sealed};
 use std::alloc::Global;
 use thiserror::Error;
@@ -58,19 +56,4 @@ pub trait Source {
         ensures there { IfOk result (λ found. is_some found ≡ map.contains_key (state self.old).objects name) }
         ensures named { IfOk result (λ found. IfSome found (λ object. object_name object ≡ name)) }
         ensures asked { IsAsked (state self.old) (state self.new) (fault_in result) };
-
-    /// The commits whose parents are known without reading them.
-    fn graph(&self) -> Option<&Graph>
-        ensures { IfSome result (λ graph. IsTrue (state self.now).honest → AreParents (state self.now).objects graph.now) }
-    {
-        None
-    }
-
-    /// Comes to know the parents of this commit, and of those that they lead to, as far as it can.
-    fn learn(&mut self, alloc: Global, commit: Name) -> Result<(), SourceFault>
-        ensures { IsAsked (state self.old) (state self.new) (fault_in result) }
-    {
-        let _commit = (alloc, commit);
-        Ok(())
-    }
 }

@@ -2,4 +2,3 @@ pub mod CacheLemmas
 pub mod KnownLemmas
 pub mod SureLemmas
 pub mod WholeLemmas
-pub mod LinkLemmas

@@ -5,36 +5,30 @@ ghost use Rattle.loose_store.specs.Files.{SameBut};
 ghost use Rattle.loose_store.specs.Failures.{Counts, CountsPut};
 ghost use Rattle.loose_store.specs.Stored.{ReadsTo, Whole, CountsRead as CountsAsked};
 ghost use Rattle.read_cache.specs.Known.{AreKnown, IsKnown};
-ghost use Rattle.read_cache.specs.Linked.{AreLinked, IsLinked};
 ghost use Rattle.read_cache.specs.Stores.{CountsRead};
 
-use crate::learning::learn;
 use crate::read_cache::ReadCache;
 use crate::survey::Survey;
-use commit_graph::Graph;
 use git_name::{Hashing, Kind, Name, Sealed, seal_as};
 use loose_store::{FileFault, LooseFiles, StoreFault, content_of, one_object, read_checked};
 use std::alloc::{AllocError, Global};
 use std::marker::Model;
 
-/// A store, the objects that were read from it last, what a survey of it found, and the commits whose
-/// parents are known. Seen from outside it is the store alone; over an honest one each object that is
-/// kept, was surveyed or is a known commit stands whole in its file. Of a store that was fresh each file
-/// was put here, whole, and is not hashed again.
+/// A store, the objects that were read from it last, and what a survey of it found. Seen from outside it
+/// is the store alone; over an honest one each object that is kept or was surveyed stands whole in its
+/// file. Of a store that was fresh each file was put here, whole, and is not hashed again.
 #[derive(Drop)]
 pub struct CachedStore<S: LooseFiles> {
     files: S,
     cache: ReadCache,
     survey: Survey,
     is_sure: bool,
-    graph: Graph,
 }
 
 impl<S: LooseFiles> Model for CachedStore<S> {
     ghost use Rattle.std.specs.Prelude.{IsTrue};
     ghost use Rattle.read_cache.specs.Cached.{AreWhole, IsSure};
     ghost use Rattle.read_cache.specs.Known.{AreKnown};
-    ghost use Rattle.read_cache.specs.Linked.{AreLinked};
     ghost use Rattle.read_cache.specs.Stores.{StoreState, store_code};
 
     ghost Value = { StoreState };
@@ -47,7 +41,7 @@ impl<S: LooseFiles> Model for CachedStore<S> {
       failures = S.failures a.files;
     } };
 
-    ghost invariant = { λ a. (IsTrue (S.honest a.files) → AreWhole a.cache (S.contents a.files)) × AreKnown (S.honest a.files) (S.contents a.files) a.survey × IsSure a.is_sure (S.honest a.files) (S.contents a.files) × (IsTrue (S.honest a.files) → AreLinked a.graph (S.contents a.files)) };
+    ghost invariant = { λ a. (IsTrue (S.honest a.files) → AreWhole a.cache (S.contents a.files)) × AreKnown (S.honest a.files) (S.contents a.files) a.survey × IsSure a.is_sure (S.honest a.files) (S.contents a.files) };
 }
 
 impl<S: LooseFiles + Drop> CachedStore<S> {
@@ -59,14 +53,12 @@ impl<S: LooseFiles + Drop> CachedStore<S> {
     {
         let cache = ReadCache::new(alloc)?;
         let survey = Survey::new(alloc);
-        let graph = Graph::new(alloc, files.hashing());
         let is_sure = files.is_fresh();
         Ok(CachedStore {
             files,
             cache,
             survey,
             is_sure,
-            graph,
         })
     }
 }
@@ -151,39 +143,6 @@ impl<S: LooseFiles> CachedStore<S> {
         self.survey.end();
     }
 
-    /// The commits whose parents are known.
-    pub fn graph(&self) -> &Graph
-        ensures { IsTrue self.now.honest → AreLinked result.now self.now.contents }
-    {
-        &self.graph
-    }
-
-    // Keeps the parents of a commit, if those of the parents are known.
-    pub(crate) fn note(
-        &mut self,
-        alloc: Global,
-        name: Name,
-        parents: &[Name],
-    ) -> Result<(), AllocError>
-        requires { IsTrue self.old.honest → IsLinked self.old.contents name parents.now }
-        ensures { self.new ≡ self.old }
-    {
-        self.graph.push(alloc, name, parents)?;
-        Ok(())
-    }
-
-    /// Comes to know the parents of a commit, and of those that they lead to, as far as the store has them
-    /// whole. Each is read once, and no more once it is known.
-    pub fn learn(&mut self, alloc: Global, commit: Name) -> Result<(), StoreFault>
-        ensures kept { IsTrue self.old.honest → self.new.contents ≡ self.old.contents }
-        // Over any store.
-        ensures honest { self.new.honest ≡ self.old.honest }
-        ensures cause { CountsRead self.old.failures self.new.failures result }
-        ensures undamaged { IfErr result (λ fault. fault ≢ StoreFault.Damaged) }
-    {
-        learn(alloc, self, commit)
-    }
-
     /// The names of the files, ascending.
     pub fn names(&mut self, alloc: Global) -> Result<Vec<Name>, FileFault>
         ensures found { IsTrue self.old.honest → IfOk result (λ names. names.items ≡ map.keys self.old.contents) }
@@ -204,7 +163,6 @@ impl<S: LooseFiles> CachedStore<S> {
     {
         let name = sealed.name();
         self.cache.forget(name);
-        self.graph.forget(name);
         self.survey.end();
         let Err(fault) = self.files.put_object(alloc, sealed) else {
             return Ok(());
@@ -221,7 +179,6 @@ impl<S: LooseFiles> CachedStore<S> {
         ensures cause { Counts self.old.failures self.new.failures result }
     {
         self.cache.forget(name);
-        self.graph.forget(name);
         self.survey.end();
         let Err(fault) = self.files.remove(alloc, name) else {
             return Ok(());

@@ -1,9 +1,8 @@
 //! A store of objects that keeps what was read last, so that a hot object is read and hashed once for all
-//! who ask, and of commits their parents. It knows no tenant: who may ask for an object is settled above it.
+//! who ask. It knows no tenant: who may ask for an object is settled above it.
 #![tactic(auto)]
 
 mod cached_store;
-mod learning;
 mod read_cache;
 mod survey;
 

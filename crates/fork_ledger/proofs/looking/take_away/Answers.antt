@@ -4,6 +4,7 @@ use Rattle.catalogue.specs.Counted.{places_of}
 use Rattle.ledgers.specs.Holders.{holders_of, is_held_in}
 use Rattle.fork_ledger.proofs.CoverLemmas.{covers_failed, covers_left, exact_left, false_is_true, removed_none}
 use Rattle.fork_ledger.proofs.KeepingLemmas.{away_one, keeps_but}
+use Rattle.fork_ledger.proofs.LinkLemmas.{linked_but}
 use Rattle.fork_ledger.proofs.LookLemmas.{fewer_names, look_leaves, not_held}
 use Rattle.fork_ledger.proofs.looking.take_away.Goals as goal
 
@@ -50,3 +51,12 @@ returns-in-Ok-clause-exact g c = λ h exact.
 
 pub returns-in-Ok-clause-away : goal.returns-in-Ok-clause-away
 returns-in-Ok-clause-away g c = λ h. away_one c.args.files.now.contents c.remove.new.self.contents c.args.name (c.in-Ok.ensures.ok h)
+
+pub returns-in-Ok-clause-linked : goal.returns-in-Ok-clause-linked
+returns-in-Ok-clause-linked g c = λ h known. linked_but c.args.name c.args.graph.now c.forget.new.self c.args.files.now.contents c.remove.new.self.contents (c.remove.ensures.others h) c.forget.ensures known
+
+pub returns-in-Err-Device-clause-linked : goal.returns-in-Err-Device-clause-linked
+returns-in-Err-Device-clause-linked g c = λ h known. linked_but c.args.name c.args.graph.now c.forget.new.self c.args.files.now.contents c.remove.new.self.contents (c.remove.ensures.others h) c.forget.ensures known
+
+pub returns-in-Err-Memory-clause-linked : goal.returns-in-Err-Memory-clause-linked
+returns-in-Err-Memory-clause-linked g c = λ h known. linked_but c.args.name c.args.graph.now c.forget.new.self c.args.files.now.contents c.remove.new.self.contents (c.remove.ensures.others h) c.forget.ensures known

@@ -12,6 +12,9 @@ returns-in_err-left-clause-keeps g c = λ h.
     keeps_more c.args.holdings.now.ledgers c.loop-done.holdings.ledgers c.args.files.now.contents c.loop-done.files.contents c.look_once.new.files.contents
     c.loop-done.invariant.ledgers (c.loop-done.invariant.keeps h) (c.look_once.ensures.keeps (c.loop-done.invariant.honest ∙ h))
 
+pub returns-in_err-left-clause-covers : goal.returns-in_err-left-clause-covers
+returns-in_err-left-clause-covers g c = λ h cover. c.look_once.ensures.covers (c.loop-done.invariant.honest ∙ h) (c.loop-done.invariant.covers h cover)
+
 pub returns-in_err-left-clause-cause : goal.returns-in_err-left-clause-cause
 returns-in_err-left-clause-cause g c =
     let told = err_from_is_err_and c.from_residual.result c.from_residual.ensures.1 in
@@ -38,6 +41,7 @@ loop-done-preserved g c =
       covers = λ h cover. c.look_once.ensures.covers (c.loop-done.invariant.honest ∙ h) (c.loop-done.invariant.covers h cover);
       exact = λ h exact. c.in_ok-left.ensures.exact (c.loop-done.invariant.honest ∙ h) (c.loop-done.invariant.exact h exact);
       away = λ h. away_more c.args.files.now.contents c.loop-done.files.contents c.look_once.new.files.contents (c.loop-done.invariant.away h) (c.in_ok-left.ensures.away (c.loop-done.invariant.honest ∙ h));
+      linked = λ h known. c.look_once.ensures.linked (c.loop-done.invariant.honest ∙ h) (c.loop-done.invariant.linked h known);
       honest = c.look_once.ensures.honest ∙ c.loop-done.invariant.honest;
       failures = c.in_ok-left.ensures.cause ∙ c.loop-done.invariant.failures;
     }

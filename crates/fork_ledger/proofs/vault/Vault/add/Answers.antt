@@ -12,13 +12,15 @@ use Rattle.fork_ledger.proofs.vault.Vault.add.Goals as goal
 pub invariant_of-self : goal.invariant_of-self
 invariant_of-self g c = λ h.
     let files = c.self.inside.files.contents in
-    let kept = c.self.invariant h in
-    record {
-      stored = whichever (IsStored (tenants_of files c.add.new.self.ledgers) files) c.add.result c.add.ensures.ok c.add.ensures.err
-          (λ is. subst (λ m. IsStored m files) (sym (ap (tenants_of files) is ∙ added_shown files c.self.inside.holdings.ledgers c.args.tenant)) (stored_new (tenants_of files c.self.inside.holdings.ledgers) c.args.tenant files kept.stored))
-          (λ same. subst (λ m. IsStored (tenants_of files m) files) (sym same) kept.stored);
-      covers = subst (λ catalogue. Covers files (places_of catalogue)) (sym c.add.ensures.catalogue) kept.covers;
-    }
+    let kept = (c.self.invariant h).0 in (
+      record {
+        stored = whichever (IsStored (tenants_of files c.add.new.self.ledgers) files) c.add.result c.add.ensures.ok c.add.ensures.err
+            (λ is. subst (λ m. IsStored m files) (sym (ap (tenants_of files) is ∙ added_shown files c.self.inside.holdings.ledgers c.args.tenant)) (stored_new (tenants_of files c.self.inside.holdings.ledgers) c.args.tenant files kept.stored))
+            (λ same. subst (λ m. IsStored (tenants_of files m) files) (sym same) kept.stored);
+        covers = subst (λ catalogue. Covers files (places_of catalogue)) (sym c.add.ensures.catalogue) kept.covers;
+      },
+      (c.self.invariant h).1,
+    )
 
 pub returns-clause-ok : goal.returns-clause-ok
 returns-clause-ok g c =

@@ -18,9 +18,11 @@ use Rattle.fork_ledger.proofs.vault.Vault.collect.Goals as goal
 
 pub invariant_of-self : goal.invariant_of-self
 invariant_of-self g c = λ h.
-    let was = sym c.collect.ensures.honest ∙ h in
-    kept_after c.self.inside.files.contents c.collect.new.files.contents c.self.inside.holdings.ledgers c.collect.new.holdings.ledgers (places_of c.self.inside.holdings.catalogue) (places_of c.collect.new.holdings.catalogue)
-    c.collect.ensures.ledgers (c.collect.ensures.keeps was) (c.collect.ensures.covers was) (c.self.invariant was)
+    let was = sym c.collect.ensures.honest ∙ h in (
+      kept_after c.self.inside.files.contents c.collect.new.files.contents c.self.inside.holdings.ledgers c.collect.new.holdings.ledgers (places_of c.self.inside.holdings.catalogue) (places_of c.collect.new.holdings.catalogue)
+          c.collect.ensures.ledgers (c.collect.ensures.keeps was) (c.collect.ensures.covers was) (c.self.invariant was).0,
+      c.collect.ensures.linked was (c.self.invariant was).1,
+    )
 
 pub returns-clause-kept : goal.returns-clause-kept
 returns-clause-kept g c = λ h.
@@ -62,7 +64,7 @@ returns-clause-sharp g c = λ h.
     let first = places_of c.self.inside.holdings.catalogue in
     let last = places_of c.collect.new.holdings.catalogue in
     let kept = kept_after c.self.inside.files.contents c.collect.new.files.contents m c.collect.new.holdings.ledgers first last
-    c.collect.ensures.ledgers (c.collect.ensures.keeps was) (c.collect.ensures.covers was) (c.self.invariant was) in
+    c.collect.ensures.ledgers (c.collect.ensures.keeps was) (c.collect.ensures.covers was) (c.self.invariant was).0 in
     on_ok_weaker c.collect.result (λ round. sharp_files c.collect.new.files.contents c.collect.new.holdings.ledgers last kept
     (λ q listed. ap (λ x. is_held_in x q) c.collect.ensures.ledgers ∙ c.sharp_collection.ensures (is_held_in m) first last round q listed)) c.collect.ensures.collects
 
@@ -73,7 +75,7 @@ returns-clause-exact g c = λ h.
     let first = places_of c.self.inside.holdings.catalogue in
     let last = places_of c.collect.new.holdings.catalogue in
     let kept = kept_after c.self.inside.files.contents c.collect.new.files.contents m c.collect.new.holdings.ledgers first last
-    c.collect.ensures.ledgers (c.collect.ensures.keeps was) (c.collect.ensures.covers was) (c.self.invariant was) in
+    c.collect.ensures.ledgers (c.collect.ensures.keeps was) (c.collect.ensures.covers was) (c.self.invariant was).0 in
     on_ok_weaker c.collect.result (λ round. exact_files c.collect.new.files.contents c.collect.new.holdings.ledgers last kept
     (λ q listed. ap (λ x. is_held_in x q) c.collect.ensures.ledgers ∙ c.sharp_collection.ensures (is_held_in m) first last round q listed)) c.collect.ensures.collects
 

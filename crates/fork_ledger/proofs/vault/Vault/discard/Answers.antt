@@ -13,12 +13,14 @@ use Rattle.fork_ledger.proofs.vault.Vault.discard.Goals as goal
 pub invariant_of-self : goal.invariant_of-self
 invariant_of-self g c = λ h.
     let files = c.self.inside.files.contents in
-    let kept = c.self.invariant h in
-    let is = ap (tenants_of files) c.discard.ensures.ledgers ∙ changed_shown files c.self.inside.holdings.ledgers c.args.tenant.now discarded_words with_discarded (discarded_own files) in
-    record {
-      stored = subst (λ m. IsStored m files) (sym is) (stored_at (tenants_of files c.self.inside.holdings.ledgers) c.args.tenant.now files with_discarded brings_discarded kept.stored);
-      covers = subst (λ p. Covers files p) (sym c.discard.ensures.places) kept.covers;
-    }
+    let kept = (c.self.invariant h).0 in
+    let is = ap (tenants_of files) c.discard.ensures.ledgers ∙ changed_shown files c.self.inside.holdings.ledgers c.args.tenant.now discarded_words with_discarded (discarded_own files) in (
+      record {
+        stored = subst (λ m. IsStored m files) (sym is) (stored_at (tenants_of files c.self.inside.holdings.ledgers) c.args.tenant.now files with_discarded brings_discarded kept.stored);
+        covers = subst (λ p. Covers files p) (sym c.discard.ensures.places) kept.covers;
+      },
+      (c.self.invariant h).1,
+    )
 
 pub returns-clause-tenants : goal.returns-clause-tenants
 returns-clause-tenants g c =

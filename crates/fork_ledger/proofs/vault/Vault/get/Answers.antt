@@ -22,7 +22,7 @@ pub returns-clause-found : goal.returns-clause-found
 returns-clause-found g c = λ h.
     let was = ap (λ s. s.honest) c.self.view_is ∙ h in
     let files = c.self.inside.files.contents in
-    let stands = seen_whole files c.self.inside.holdings.ledgers c.args.tenant.now c.args.name (c.self.invariant was).stored (sym c.sees.ensures ∙ c.if-not-sees.false) in
+    let stands = seen_whole files c.self.inside.holdings.ledgers c.args.tenant.now c.args.name (c.self.invariant was).0.stored (sym c.sees.ensures ∙ c.if-not-sees.false) in
     IfOk-weaker c.read_held.result _ _ (λ found read.
     read_is files c.args.name _ found stands read ∙ ap (λ s. map.get (private_of s.tenants c.args.tenant.now).visible c.args.name) c.self.view_is) (c.read_held.ensures.whole was)
 
@@ -44,6 +44,6 @@ returns-clause-store g c = record {
   undamaged = λ h.
       let was = ap (λ s. s.honest) c.self.view_is ∙ h in
       let files = c.self.inside.files.contents in
-      let stands = seen_whole files c.self.inside.holdings.ledgers c.args.tenant.now c.args.name (c.self.invariant was).stored (sym c.sees.ensures ∙ c.if-not-sees.false) in
+      let stands = seen_whole files c.self.inside.holdings.ledgers c.args.tenant.now c.args.name (c.self.invariant was).0.stored (sym c.sees.ensures ∙ c.if-not-sees.false) in
       undamaged_in c.read_held.result (undamaged_whole c.read_held.result files c.args.name stands.0 stands.2 (c.read_held.ensures.damaged was));
 }

@@ -13,12 +13,14 @@ use Rattle.fork_ledger.proofs.vault.Vault.keep_only.Goals as goal
 pub invariant_of-self : goal.invariant_of-self
 invariant_of-self g c = λ h.
     let files = c.self.inside.files.contents in
-    let kept = c.self.invariant h in
-    let is = ap (tenants_of files) c.keep_only.ensures.ledgers ∙ changed_shown files c.self.inside.holdings.ledgers c.args.tenant.now (kept_words (g.N.NameSet.names c.args.names.now)) (with_kept (g.N.NameSet.names c.args.names.now)) (kept_own (g.N.NameSet.names c.args.names.now) files) in
-    record {
-      stored = subst (λ m. IsStored m files) (sym is) (stored_at (tenants_of files c.self.inside.holdings.ledgers) c.args.tenant.now files (with_kept (g.N.NameSet.names c.args.names.now)) (brings_kept (g.N.NameSet.names c.args.names.now)) kept.stored);
-      covers = subst (λ p. Covers files p) (sym c.keep_only.ensures.places) kept.covers;
-    }
+    let kept = (c.self.invariant h).0 in
+    let is = ap (tenants_of files) c.keep_only.ensures.ledgers ∙ changed_shown files c.self.inside.holdings.ledgers c.args.tenant.now (kept_words (g.N.NameSet.names c.args.names.now)) (with_kept (g.N.NameSet.names c.args.names.now)) (kept_own (g.N.NameSet.names c.args.names.now) files) in (
+      record {
+        stored = subst (λ m. IsStored m files) (sym is) (stored_at (tenants_of files c.self.inside.holdings.ledgers) c.args.tenant.now files (with_kept (g.N.NameSet.names c.args.names.now)) (brings_kept (g.N.NameSet.names c.args.names.now)) kept.stored);
+        covers = subst (λ p. Covers files p) (sym c.keep_only.ensures.places) kept.covers;
+      },
+      (c.self.invariant h).1,
+    )
 
 pub returns-clause-tenants : goal.returns-clause-tenants
 returns-clause-tenants g c =

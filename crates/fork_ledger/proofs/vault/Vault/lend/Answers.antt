@@ -11,7 +11,7 @@ pub returns-then-sees-clause-found : goal.returns-then-sees-clause-found
 returns-then-sees-clause-found g c = IfSome_then c.lend.result c.lend.ensures (λ lent told.
     let files = c.self.inside.files.contents in
     let read : Object = record { kind = lent.0; bytes = lent.1.now } in
-    let stands = seen_whole files c.self.inside.holdings.ledgers c.args.tenant.now c.args.name (c.self.invariant told.0).stored (sym c.sees.ensures ∙ c.if-sees.true) in (
+    let stands = seen_whole files c.self.inside.holdings.ledgers c.args.tenant.now c.args.name (c.self.invariant told.0).0.stored (sym c.sees.ensures ∙ c.if-sees.true) in (
       sym (ap (λ s. s.honest) c.self.view_is) ∙ told.0,
       sym (ap (λ s. map.get (private_of s.tenants c.args.tenant.now).visible c.args.name) c.self.view_is) ∙ stands.1
           ∙ ap Some (one_whole files c.args.name stands.0 read stands.2 told.1),

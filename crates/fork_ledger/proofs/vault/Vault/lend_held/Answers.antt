@@ -12,7 +12,7 @@ pub returns-clause-found : goal.returns-clause-found
 returns-clause-found g c = IfSome_then c.lend.result c.lend.ensures (λ lent told.
     let files = c.self.inside.files.contents in
     let read : Object = record { kind = lent.0; bytes = lent.1.now } in
-    let stands = word_whole files c.self.inside.holdings.ledgers c.args.tenant.now c.args.name c.in-Some.field-0 (c.self.invariant told.0).stored (sym c.in-Some.ensures) in (
+    let stands = word_whole files c.self.inside.holdings.ledgers c.args.tenant.now c.args.name c.in-Some.field-0 (c.self.invariant told.0).0.stored (sym c.in-Some.ensures) in (
       sym (ap (λ s. s.honest) c.self.view_is) ∙ told.0,
       sym (ap (λ s. map.get (both_of (private_of s.tenants c.args.tenant.now)) c.args.name) c.self.view_is) ∙ stands.1
           ∙ ap Some (one_whole files c.args.name stands.0 read stands.2 told.1),

@@ -14,12 +14,14 @@ use Rattle.fork_ledger.proofs.vault.Vault.publish.Goals as goal
 pub invariant_of-self : goal.invariant_of-self
 invariant_of-self g c = λ h.
     let files = c.self.inside.files.contents in
-    let kept = c.self.invariant h in
-    let is = ap (tenants_of files) c.publish.ensures.ledgers ∙ changed_shown files c.self.inside.holdings.ledgers c.args.tenant.now published_words with_published (published_own files) in
-    record {
-      stored = subst (λ m. IsStored m files) (sym is) (stored_at (tenants_of files c.self.inside.holdings.ledgers) c.args.tenant.now files with_published brings_published kept.stored);
-      covers = subst (λ catalogue. Covers files (places_of catalogue)) (sym c.publish.ensures.catalogue) kept.covers;
-    }
+    let kept = (c.self.invariant h).0 in
+    let is = ap (tenants_of files) c.publish.ensures.ledgers ∙ changed_shown files c.self.inside.holdings.ledgers c.args.tenant.now published_words with_published (published_own files) in (
+      record {
+        stored = subst (λ m. IsStored m files) (sym is) (stored_at (tenants_of files c.self.inside.holdings.ledgers) c.args.tenant.now files with_published brings_published kept.stored);
+        covers = subst (λ catalogue. Covers files (places_of catalogue)) (sym c.publish.ensures.catalogue) kept.covers;
+      },
+      (c.self.invariant h).1,
+    )
 
 pub returns-clause-tenants : goal.returns-clause-tenants
 returns-clause-tenants g c =

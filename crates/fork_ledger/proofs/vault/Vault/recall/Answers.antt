@@ -11,11 +11,13 @@ use Rattle.fork_ledger.proofs.vault.Vault.recall.Goals as goal
 pub invariant_of-self : goal.invariant_of-self
 invariant_of-self g c = λ h.
     let files = c.self.inside.files.contents in
-    let kept = c.self.invariant h in
-    record {
-      stored = recalled_stored c.recall_known.result c.args.tenant.now c.args.name files c.self.inside.holdings.ledgers c.recall_known.new.holdings.ledgers c.self.inside.files.honest c.args.kind c.args.length h c.recall_known.ensures.ok c.recall_known.ensures.err kept.stored;
-      covers = c.recall_known.ensures.covers files kept.covers;
-    }
+    let kept = (c.self.invariant h).0 in (
+      record {
+        stored = recalled_stored c.recall_known.result c.args.tenant.now c.args.name files c.self.inside.holdings.ledgers c.recall_known.new.holdings.ledgers c.self.inside.files.honest c.args.kind c.args.length h c.recall_known.ensures.ok c.recall_known.ensures.err kept.stored;
+        covers = c.recall_known.ensures.covers files kept.covers;
+      },
+      (c.self.invariant h).1,
+    )
 
 pub returns-clause-recalls : goal.returns-clause-recalls
 returns-clause-recalls g c =

@@ -9,6 +9,7 @@ use Rattle.fork_ledger.specs.Shown.{tenants_of}
 use Rattle.fork_ledger.specs.Store.{CountsFault, IsStored, fault_in}
 use Rattle.fork_ledger.specs.Tenants.{VaultState, at_tenant, shape_of}
 use Rattle.fork_ledger.proofs.KeepingLemmas.{stored_keeps, tenants_keep}
+use Rattle.fork_ledger.proofs.LinkLemmas.{linked_still}
 use Rattle.fork_ledger.proofs.ShownShapes.{shape_any, staged_shape}
 use Rattle.fork_ledger.proofs.StagedLemmas.{ok_both, staged_stored, staged_tenants, staged_undamaged}
 use Rattle.fork_ledger.proofs.StoreLemmas.{undamaged_in}
@@ -22,14 +23,16 @@ invariant_of-self g c = λ h.
     let m = c.self.inside.holdings.ledgers in
     let old = c.self.inside.files.contents in
     let new = c.stage_whole.new.files.contents in
-    let kept = c.self.invariant was in
-    let keeps = c.stage_whole.ensures.keeps was (has_files old m kept.stored) in
-    record {
-      stored = whichever (IsStored (tenants_of new c.stage_whole.new.holdings.ledgers) new) c.stage_whole.result (ok_both _ _ c.stage_whole.result (c.stage_whole.ensures.whole was) c.stage_whole.ensures.ok) c.stage_whole.ensures.err
-          (λ both. subst (λ x. IsStored (tenants_of new x) new) (sym both.1) (staged_stored old new m c.args.tenant.now c.args.sealed keeps both.0 kept.stored))
-          (λ same. subst (λ x. IsStored (tenants_of new x) new) (sym same) (stored_keeps m old new keeps kept.stored));
-      covers = c.stage_whole.ensures.covers was kept.covers;
-    }
+    let kept = (c.self.invariant was).0 in
+    let keeps = c.stage_whole.ensures.keeps was (has_files old m kept.stored) in (
+      record {
+        stored = whichever (IsStored (tenants_of new c.stage_whole.new.holdings.ledgers) new) c.stage_whole.result (ok_both _ _ c.stage_whole.result (c.stage_whole.ensures.whole was) c.stage_whole.ensures.ok) c.stage_whole.ensures.err
+            (λ both. subst (λ x. IsStored (tenants_of new x) new) (sym both.1) (staged_stored old new m c.args.tenant.now c.args.sealed keeps both.0 kept.stored))
+            (λ same. subst (λ x. IsStored (tenants_of new x) new) (sym same) (stored_keeps m old new keeps kept.stored));
+        covers = c.stage_whole.ensures.covers was kept.covers;
+      },
+      linked_still c.self.inside.graph old new (c.stage_whole.ensures.stands was) (c.self.invariant was).1,
+    )
 
 pub returns-clause-ok : goal.returns-clause-ok
 returns-clause-ok g c = λ h.
@@ -37,7 +40,7 @@ returns-clause-ok g c = λ h.
     let old = c.self.inside.files.contents in
     let new = c.stage_whole.new.files.contents in
     on_ok_weaker c.stage_whole.result (λ both.
-    ap (tenants_of new) both.1 ∙ staged_tenants old new c.self.inside.holdings.ledgers c.args.tenant.now c.args.sealed (c.stage_whole.ensures.keeps was (has_files old c.self.inside.holdings.ledgers (c.self.invariant was).stored)) both.0
+    ap (tenants_of new) both.1 ∙ staged_tenants old new c.self.inside.holdings.ledgers c.args.tenant.now c.args.sealed (c.stage_whole.ensures.keeps was (has_files old c.self.inside.holdings.ledgers (c.self.invariant was).0.stored)) both.0
     ∙ ap (λ s. at_tenant s.tenants c.args.tenant.now (with_staged c.args.sealed)) c.self.view_is)
     (ok_both _ _ c.stage_whole.result (c.stage_whole.ensures.whole was) c.stage_whole.ensures.ok)
 
@@ -47,7 +50,7 @@ returns-clause-err g c = λ h.
     let old = c.self.inside.files.contents in
     let new = c.stage_whole.new.files.contents in
     on_err_weaker c.stage_whole.result (λ same.
-    ap (tenants_of new) same ∙ tenants_keep c.self.inside.holdings.ledgers old new (c.stage_whole.ensures.keeps was (has_files old c.self.inside.holdings.ledgers (c.self.invariant was).stored)) ∙ ap (λ s. s.tenants) c.self.view_is) c.stage_whole.ensures.err
+    ap (tenants_of new) same ∙ tenants_keep c.self.inside.holdings.ledgers old new (c.stage_whole.ensures.keeps was (has_files old c.self.inside.holdings.ledgers (c.self.invariant was).0.stored)) ∙ ap (λ s. s.tenants) c.self.view_is) c.stage_whole.ensures.err
 
 pub returns-clause-exact : goal.returns-clause-exact
 returns-clause-exact g c = λ h.
@@ -74,7 +77,7 @@ returns-clause-store g c = record {
   counted = subst (λ n. CountsFault n c.stage_whole.new.files.failures (fault_in c.stage_whole.result)) (ap (λ s. s.failures) c.self.view_is) c.stage_whole.ensures.cause;
   undamaged = λ h.
       let was = ap (λ s. s.honest) c.self.view_is ∙ h in
-      undamaged_in c.stage_whole.result (staged_undamaged c.stage_whole.result c.self.inside.files.contents c.self.inside.holdings.ledgers (object_name c.args.sealed) (c.self.invariant was).stored (c.stage_whole.ensures.damaged was));
+      undamaged_in c.stage_whole.result (staged_undamaged c.stage_whole.result c.self.inside.files.contents c.self.inside.holdings.ledgers (object_name c.args.sealed) (c.self.invariant was).0.stored (c.stage_whole.ensures.damaged was));
 }
 
 pub returns-clause-grows : goal.returns-clause-grows

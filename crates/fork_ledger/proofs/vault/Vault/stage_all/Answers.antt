@@ -15,6 +15,7 @@ use Rattle.fork_ledger.specs.Tenants.{VaultState, at_tenant, shape_of}
 use Rattle.fork_ledger.proofs.AllStagedLemmas.{all_staged_shape, all_staged_stored, all_staged_tenants, keeps_whole, none_damaged}
 use Rattle.fork_ledger.proofs.CameLemmas.{all_came}
 use Rattle.fork_ledger.proofs.KeepingLemmas.{stored_keeps, tenants_keep}
+use Rattle.fork_ledger.proofs.LinkLemmas.{linked_still}
 use Rattle.fork_ledger.proofs.ShownShapes.{shape_any}
 use Rattle.fork_ledger.proofs.StagedLemmas.{ok_both}
 use Rattle.fork_ledger.proofs.StoreLemmas.{undamaged_in}
@@ -29,14 +30,16 @@ invariant_of-self g c = λ h.
     let old = c.self.inside.files.contents in
     let new = c.stage_all_whole.new.files.contents in
     let objects = c.args.objects.items in
-    let kept = c.self.invariant was in
-    let keeps = keeps_whole m old new kept.stored (told.stands was) in
-    record {
-      stored = whichever (IsStored (tenants_of new c.stage_all_whole.new.holdings.ledgers) new) c.stage_all_whole.result (ok_both _ _ c.stage_all_whole.result (told.receives was) told.ok) told.err
-          (λ both. subst (λ x. IsStored (tenants_of new x) new) (sym {b = at_ledger m c.args.tenant.now (all_staged_words (map entry_of objects))} both.1) (all_staged_stored old new m c.args.tenant.now objects keeps both.0.whole kept.stored))
-          (λ same. subst (λ x. IsStored (tenants_of new x) new) (sym {b = m} same) (stored_keeps m old new keeps kept.stored));
-      covers = told.covers was kept.covers;
-    }
+    let kept = (c.self.invariant was).0 in
+    let keeps = keeps_whole m old new kept.stored (told.stands was) in (
+      record {
+        stored = whichever (IsStored (tenants_of new c.stage_all_whole.new.holdings.ledgers) new) c.stage_all_whole.result (ok_both _ _ c.stage_all_whole.result (told.receives was) told.ok) told.err
+            (λ both. subst (λ x. IsStored (tenants_of new x) new) (sym {b = at_ledger m c.args.tenant.now (all_staged_words (map entry_of objects))} both.1) (all_staged_stored old new m c.args.tenant.now objects keeps both.0.whole kept.stored))
+            (λ same. subst (λ x. IsStored (tenants_of new x) new) (sym {b = m} same) (stored_keeps m old new keeps kept.stored));
+        covers = told.covers was kept.covers;
+      },
+      linked_still c.self.inside.graph old new (told.stands was) (c.self.invariant was).1,
+    )
 
 pub returns-clause-ok : goal.returns-clause-ok
 returns-clause-ok g c = λ h.
@@ -47,7 +50,7 @@ returns-clause-ok g c = λ h.
     let new = c.stage_all_whole.new.files.contents in
     let objects = c.args.objects.items in
     on_ok_weaker c.stage_all_whole.result (λ both.
-    ap (tenants_of new) both.1 ∙ all_staged_tenants old new m c.args.tenant.now objects (keeps_whole m old new (c.self.invariant was).stored (told.stands was)) both.0.whole
+    ap (tenants_of new) both.1 ∙ all_staged_tenants old new m c.args.tenant.now objects (keeps_whole m old new (c.self.invariant was).0.stored (told.stands was)) both.0.whole
     ∙ (λ i. at_tenant (c.self.view_is i).tenants c.args.tenant.now (with_all_staged c.args.objects.items)))
     (ok_both _ _ c.stage_all_whole.result (told.receives was) told.ok)
 
@@ -59,7 +62,7 @@ returns-clause-err g c = λ h.
     let old = c.self.inside.files.contents in
     let new = c.stage_all_whole.new.files.contents in
     on_err_weaker c.stage_all_whole.result (λ same.
-    ap (tenants_of new) same ∙ tenants_keep m old new (keeps_whole m old new (c.self.invariant was).stored (told.stands was)) ∙ ap (λ s. s.tenants) c.self.view_is) told.err
+    ap (tenants_of new) same ∙ tenants_keep m old new (keeps_whole m old new (c.self.invariant was).0.stored (told.stands was)) ∙ ap (λ s. s.tenants) c.self.view_is) told.err
 
 pub returns-clause-came : goal.returns-clause-came
 returns-clause-came g c = λ h there.
@@ -72,9 +75,9 @@ returns-clause-came g c = λ h there.
     let t = c.args.tenant.now in
     let m2 = c.stage_all_whole.new.holdings.ledgers in
     let here = ap (λ s. contains_key s.tenants t) c.self.view_is ∙ there in
-    let stored = (invariant_of-self g c (told.honest ∙ was)).stored in
+    let stored = (invariant_of-self g c (told.honest ∙ was)).0.stored in
     on_ok_weaker c.stage_all_whole.result (λ both.
-    let is = ap (tenants_of new) both.1 ∙ all_staged_tenants old new m t objects (keeps_whole m old new (c.self.invariant was).stored (told.stands was)) both.0.whole in
+    let is = ap (tenants_of new) both.1 ∙ all_staged_tenants old new m t objects (keeps_whole m old new (c.self.invariant was).0.stored (told.stands was)) both.0.whole in
     all_came new (tenants_of old m) (tenants_of new m2) t objects here is stored both.0.whole)
     (ok_both _ _ c.stage_all_whole.result (told.receives was) told.ok)
 
@@ -105,7 +108,7 @@ returns-clause-store g c = record {
   counted = subst (λ n. CountsFault n c.stage_all_whole.new.files.failures (fault_in c.stage_all_whole.result)) (ap (λ s. s.failures) c.self.view_is) c.stage_all_whole.ensures.cause;
   undamaged = λ h.
       let was = ap (λ s. s.honest) c.self.view_is ∙ h in
-      undamaged_in c.stage_all_whole.result (none_damaged c.stage_all_whole.result c.self.inside.files.contents c.self.inside.holdings.ledgers (c.self.invariant was).stored (c.stage_all_whole.ensures.damaged was));
+      undamaged_in c.stage_all_whole.result (none_damaged c.stage_all_whole.result c.self.inside.files.contents c.self.inside.holdings.ledgers (c.self.invariant was).0.stored (c.stage_all_whole.ensures.damaged was));
 }
 
 pub returns-clause-grows : goal.returns-clause-grows

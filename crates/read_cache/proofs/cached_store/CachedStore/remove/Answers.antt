@@ -1,6 +1,5 @@
 use Rattle.std.proofs.Common.{refl, sym, ◌∙◌, false}
 use Rattle.read_cache.proofs.KnownLemmas.{known_none}
-use Rattle.read_cache.proofs.LinkLemmas.{linked_but}
 use Rattle.read_cache.proofs.SureLemmas.{sure_none, sure_removed}
 use Rattle.read_cache.proofs.WholeLemmas.{whole_but}
 use Rattle.read_cache.proofs.cached_store.CachedStore.remove.Goals as goal
@@ -12,7 +11,6 @@ invariant_of-self g c = (
       whole_but c.self.inside.cache c.forget.new.self (g.S.LooseFiles.contents c.self.inside.files) (g.S.LooseFiles.contents c.remove.new.self) c.args.name c.forget.ensures (c.remove.ensures.others was) (c.self.invariant.0 was),
   known_none (g.S.LooseFiles.honest c.remove.new.self) (g.S.LooseFiles.contents c.remove.new.self) c.end.new.self c.end.ensures,
   sure_removed c.self.inside.is_sure (g.S.LooseFiles.honest c.self.inside.files) (g.S.LooseFiles.honest c.remove.new.self) (g.S.LooseFiles.contents c.self.inside.files) (g.S.LooseFiles.contents c.remove.new.self) c.args.name c.remove.ensures.honest c.in_default.ensures.ok c.self.invariant.2,
-  linked_but c.args.name c.self.inside.graph c.forget-2.new.self (g.S.LooseFiles.honest c.self.inside.files) (g.S.LooseFiles.honest c.remove.new.self) (g.S.LooseFiles.contents c.self.inside.files) (g.S.LooseFiles.contents c.remove.new.self) c.remove.ensures.honest (c.remove.ensures.others) c.forget-2.ensures c.self.invariant.3,
 )
 
 pub invariant_of-self-2 : goal.invariant_of-self-2
@@ -22,5 +20,4 @@ invariant_of-self-2 g c = (
       whole_but c.self.inside.cache c.forget.new.self (g.S.LooseFiles.contents c.self.inside.files) (g.S.LooseFiles.contents c.remove.new.self) c.args.name c.forget.ensures (c.remove.ensures.others was) (c.self.invariant.0 was),
   known_none (g.S.LooseFiles.honest c.remove.new.self) (g.S.LooseFiles.contents c.remove.new.self) c.end.new.self c.end.ensures,
   sure_none false (g.S.LooseFiles.honest c.remove.new.self) (g.S.LooseFiles.contents c.remove.new.self) refl,
-  linked_but c.args.name c.self.inside.graph c.forget-2.new.self (g.S.LooseFiles.honest c.self.inside.files) (g.S.LooseFiles.honest c.remove.new.self) (g.S.LooseFiles.contents c.self.inside.files) (g.S.LooseFiles.contents c.remove.new.self) c.remove.ensures.honest (c.remove.ensures.others) c.forget-2.ensures c.self.invariant.3,
 )

@@ -1,5 +1,4 @@
 use Rattle.std.proofs.Common.{sym, ◌∙◌}
-use Rattle.read_cache.proofs.LinkLemmas.{linked_at}
 use Rattle.read_cache.proofs.SureLemmas.{sure_at}
 use Rattle.read_cache.proofs.WholeLemmas.{whole_less}
 use Rattle.read_cache.proofs.cached_store.CachedStore.survey.Goals as goal
@@ -9,5 +8,4 @@ invariant_of-self g c = (
   λ h. (let was = sym c.read_and_note.ensures.honest ∙ h in whole_less c.self.inside.cache c.self.inside.cache (g.S.LooseFiles.contents c.self.inside.files) (g.S.LooseFiles.contents c.read_and_note.new.files) (λ n o there. there) (c.read_and_note.ensures.kept was) (c.self.invariant.0 was)),
   c.read_and_note.ensures.known,
   sure_at c.self.inside.is_sure (g.S.LooseFiles.honest c.self.inside.files) (g.S.LooseFiles.honest c.read_and_note.new.files) (g.S.LooseFiles.contents c.self.inside.files) (g.S.LooseFiles.contents c.read_and_note.new.files) c.read_and_note.ensures.honest c.read_and_note.ensures.kept c.self.invariant.2,
-  linked_at c.self.inside.graph (g.S.LooseFiles.honest c.self.inside.files) (g.S.LooseFiles.honest c.read_and_note.new.files) (g.S.LooseFiles.contents c.self.inside.files) (g.S.LooseFiles.contents c.read_and_note.new.files) c.read_and_note.ensures.honest c.read_and_note.ensures.kept c.self.invariant.3,
 )

@@ -11,5 +11,5 @@ abbrev pub IsLinked : Files → List ℕ → List (List ℕ) → Type 0
 IsLinked files name parents = (object : Object) × Whole files name object × (parents_in object.kind object.bytes ≡ parents)
 
 -- each of these commits has these parents
-abbrev pub AreLinked : Commits → Files → Type 0
-AreLinked commits files = (name : List ℕ) (parents : List (List ℕ)) → Contains commits (name, parents) → IsLinked files name parents
+pub record AreLinked (commits : Commits) (files : Files) : Type 0 where
+  pub each : (name : List ℕ) (parents : List (List ℕ)) → Contains commits (name, parents) → IsLinked files name parents

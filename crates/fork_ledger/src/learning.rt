@@ -3,16 +3,18 @@ ghost use Rattle.std.specs.Prelude.{◌≡◌, ◌≢◌, ◌+◌, ◌≤◌, �
 ghost use Rattle.std.specs.Bool.{OnTrue};
 ghost use Rattle.std.specs.List.{AllByRecursion};
 ghost use Rattle.commit_graph.specs.Parents.{parents_in};
-ghost use Rattle.read_cache.specs.Learning.{IsRead, left_to_do};
-ghost use Rattle.read_cache.specs.Linked.{IsLinked};
-ghost use Rattle.read_cache.specs.declared.learning.TheConstants.{MOST};
+ghost use Rattle.fork_ledger.specs.Learning.{HasItsParents, left_to_do};
+ghost use Rattle.fork_ledger.specs.Linked.{AreLinked, IsLinked};
+ghost use Rattle.fork_ledger.specs.declared.learning.TheConstants.{MOST};
+ghost use Rattle.fork_ledger.specs.Store.{CountsFault, fault_in};
 ghost use Rattle.read_cache.specs.Stores.{CountsRead};
 
-use crate::cached_store::CachedStore;
+use crate::fault::VaultFault;
 use commit_graph::{Graph, parent_names};
 use git_name::{Hashing, Kind, Name};
 use indexmap::IndexSet;
 use loose_store::{LooseFiles, StoreFault};
+use read_cache::CachedStore;
 use std::alloc::Global;
 
 // So many commits are begun at the most: over a store that lies names need have no end.
@@ -47,19 +49,19 @@ fn parents_of_commit(
 // The parents of the commit of this name, if the store has it whole.
 fn read_parents<S: LooseFiles>(
     alloc: Global,
-    store: &mut CachedStore<S>,
+    files: &mut CachedStore<S>,
     name: Name,
 ) -> Result<Option<Vec<Name>>, StoreFault>
-    ensures linked { IsTrue store.old.honest → IfOk result (λ found. IfSome found (λ parents. IsLinked store.old.contents name parents.items)) }
-    ensures kept { IsTrue store.old.honest → store.new.contents ≡ store.old.contents }
-    ensures honest { store.new.honest ≡ store.old.honest }
-    ensures cause { CountsRead store.old.failures store.new.failures result }
+    ensures linked { IsTrue files.old.honest → IfOk result (λ found. IfSome found (λ parents. IsLinked files.old.contents name parents.items)) }
+    ensures kept { IsTrue files.old.honest → files.new.contents ≡ files.old.contents }
+    ensures honest { files.new.honest ≡ files.old.honest }
+    ensures cause { CountsRead files.old.failures files.new.failures result }
     ensures undamaged { IfErr result (λ fault. fault ≢ StoreFault.Damaged) }
 {
-    if let Some((kind, bytes)) = store.lend(name) {
+    if let Some((kind, bytes)) = files.lend(name) {
         return parents_of_commit(alloc, kind, bytes);
     }
-    match store.read(alloc, name) {
+    match files.read(alloc, name) {
         Ok(Some(sealed)) => parents_of_commit(alloc, sealed.kind(), sealed.bytes()),
         Ok(None) => Ok(None),
         Err(StoreFault::Damaged) => Ok(None),
@@ -70,18 +72,18 @@ fn read_parents<S: LooseFiles>(
 // Reads a commit that was not begun, so that it waits behind the others. Answers whether it does.
 fn begin<S: LooseFiles>(
     alloc: Global,
-    store: &mut CachedStore<S>,
+    files: &mut CachedStore<S>,
     name: Name,
     begun: &mut IndexSet<Name, Hashing>,
     waiting: &mut Vec<Waiting>,
 ) -> Result<bool, StoreFault>
-    ensures read { IsTrue store.old.honest → AllByRecursion (IsRead store.old.contents) waiting.old.items → AllByRecursion (IsRead store.old.contents) waiting.new.items }
+    ensures read { IsTrue files.old.honest → AllByRecursion (HasItsParents files.old.contents) waiting.old.items → AllByRecursion (HasItsParents files.old.contents) waiting.new.items }
     ensures begun { IfOk result (λ is_begun. OnTrue is_begun (length begun.new.keys ≡ length begun.old.keys + 1)) }
     ensures few { length begun.old.keys ≤ MOST → length begun.new.keys ≤ MOST }
     ensures waiting { IfOk result (λ is_begun. OnTrue is_begun (length waiting.new.items ≡ length waiting.old.items + 1)) }
-    ensures kept { IsTrue store.old.honest → store.new.contents ≡ store.old.contents }
-    ensures honest { store.new.honest ≡ store.old.honest }
-    ensures cause { CountsRead store.old.failures store.new.failures result }
+    ensures kept { IsTrue files.old.honest → files.new.contents ≡ files.old.contents }
+    ensures honest { files.new.honest ≡ files.old.honest }
+    ensures cause { CountsRead files.old.failures files.new.failures result }
     ensures undamaged { IfErr result (λ fault. fault ≢ StoreFault.Damaged) }
 {
     if begun.len() >= MOST {
@@ -93,7 +95,7 @@ fn begin<S: LooseFiles>(
     if !is_new {
         return Ok(false);
     }
-    let found = read_parents(alloc, store, name)?;
+    let found = read_parents(alloc, files, name)?;
     let Some(parents) = found else {
         return Ok(false);
     };
@@ -121,24 +123,26 @@ fn first_unknown(graph: &Graph, parents: &[Name], from: usize) -> usize {
 // are known, it is known as well. Answers whether that went on.
 fn go_on<S: LooseFiles>(
     alloc: Global,
-    store: &mut CachedStore<S>,
+    files: &mut CachedStore<S>,
+    graph: &mut Graph,
     last: Waiting,
     begun: &mut IndexSet<Name, Hashing>,
     waiting: &mut Vec<Waiting>,
 ) -> Result<bool, StoreFault>
-    requires { IsTrue store.old.honest → IsRead store.old.contents last }
-    ensures read { IsTrue store.old.honest → AllByRecursion (IsRead store.old.contents) waiting.old.items → AllByRecursion (IsRead store.old.contents) waiting.new.items }
+    requires { IsTrue files.old.honest → HasItsParents files.old.contents last }
+    ensures linked { IsTrue files.old.honest → AreLinked graph.old files.old.contents → AreLinked graph.new files.old.contents }
+    ensures read { IsTrue files.old.honest → AllByRecursion (HasItsParents files.old.contents) waiting.old.items → AllByRecursion (HasItsParents files.old.contents) waiting.new.items }
     ensures few { length begun.old.keys ≤ MOST → length begun.new.keys ≤ MOST }
     ensures less { length begun.old.keys ≤ MOST → IfOk result (λ went_on. OnTrue went_on (left_to_do (length begun.new.keys) (length waiting.new.items) ≤ left_to_do (length begun.old.keys) (length waiting.old.items))) }
-    ensures kept { IsTrue store.old.honest → store.new.contents ≡ store.old.contents }
-    ensures honest { store.new.honest ≡ store.old.honest }
-    ensures cause { CountsRead store.old.failures store.new.failures result }
+    ensures kept { IsTrue files.old.honest → files.new.contents ≡ files.old.contents }
+    ensures honest { files.new.honest ≡ files.old.honest }
+    ensures cause { CountsRead files.old.failures files.new.failures result }
     ensures undamaged { IfErr result (λ fault. fault ≢ StoreFault.Damaged) }
 {
-    let met = first_unknown(store.graph(), last.parents.as_slice(), last.met);
+    let met = first_unknown(graph, last.parents.as_slice(), last.met);
     let Some(parent) = last.parents.get(met).copied() else {
-        return match store.note(alloc, last.name, last.parents.as_slice()) {
-            Ok(()) => Ok(true),
+        return match graph.push(alloc, last.name, last.parents.as_slice()) {
+            Ok(_) => Ok(true),
             Err(_) => Err(StoreFault::Memory),
         };
     };
@@ -149,32 +153,56 @@ fn go_on<S: LooseFiles>(
     }) else {
         return Err(StoreFault::Memory);
     };
-    begin(alloc, store, parent, begun, waiting)
+    begin(alloc, files, parent, begun, waiting)
 }
 
 // Comes to know a commit, and those that parents lead to from it. Each waits until its parents are known.
-pub(crate) fn learn<S: LooseFiles>(
+fn learn_all<S: LooseFiles>(
     alloc: Global,
-    store: &mut CachedStore<S>,
+    files: &mut CachedStore<S>,
+    graph: &mut Graph,
     commit: Name,
 ) -> Result<(), StoreFault>
-    ensures kept { IsTrue store.old.honest → store.new.contents ≡ store.old.contents }
-    ensures honest { store.new.honest ≡ store.old.honest }
-    ensures cause { CountsRead store.old.failures store.new.failures result }
+    ensures linked { IsTrue files.old.honest → AreLinked graph.old files.old.contents → AreLinked graph.new files.old.contents }
+    ensures kept { IsTrue files.old.honest → files.new.contents ≡ files.old.contents }
+    ensures honest { files.new.honest ≡ files.old.honest }
+    ensures cause { CountsRead files.old.failures files.new.failures result }
     ensures undamaged { IfErr result (λ fault. fault ≢ StoreFault.Damaged) }
 {
-    if store.graph().place(commit).is_some() {
+    if graph.place(commit).is_some() {
         return Ok(());
     }
-    let mut begun = IndexSet::with_hasher(alloc, store.hashing());
+    let mut begun = IndexSet::with_hasher(alloc, files.hashing());
     let mut waiting = Vec::new(alloc);
-    if !begin(alloc, store, commit, &mut begun, &mut waiting)? {
+    if !begin(alloc, files, commit, &mut begun, &mut waiting)? {
         return Ok(());
     }
     'waiting: while let Some(last) = waiting.pop() {
-        if !go_on(alloc, store, last, &mut begun, &mut waiting)? {
+        if !go_on(alloc, files, graph, last, &mut begun, &mut waiting)? {
             return Ok(());
         }
     }
     Ok(())
+}
+
+// The same, with the faults of a vault.
+pub(crate) fn learn<S: LooseFiles>(
+    alloc: Global,
+    files: &mut CachedStore<S>,
+    graph: &mut Graph,
+    commit: Name,
+) -> Result<(), VaultFault>
+    ensures linked { IsTrue files.old.honest → AreLinked graph.old files.old.contents → AreLinked graph.new files.old.contents }
+    ensures kept { IsTrue files.old.honest → files.new.contents ≡ files.old.contents }
+    ensures honest { files.new.honest ≡ files.old.honest }
+    ensures cause { CountsFault files.old.failures files.new.failures (fault_in result) }
+    ensures undamaged { IfErr result (λ fault. fault ≢ VaultFault.Damaged) }
+    ensures apart { IfErr result (λ fault. fault ≢ VaultFault.Collision) }
+{
+    match learn_all(alloc, files, graph, commit) {
+        Ok(()) => Ok(()),
+        Err(StoreFault::Device) => Err(VaultFault::Store),
+        Err(StoreFault::Damaged) => Err(VaultFault::Damaged),
+        Err(StoreFault::Memory) => Err(VaultFault::Memory),
+    }
 }

@@ -1,13 +1,13 @@
 -- Commits that are read for their parents (own).
 use Rattle.std.specs.Prelude.{ℕ, ◌+◌, ◌*◌, ◌-◌}
 use Rattle.loose_store.specs.Files.{Files}
-use Rattle.read_cache.specs.Linked.{IsLinked}
-use Rattle.read_cache.specs.declared.learning.TheConstants.{MOST}
-use Rattle.read_cache.specs.declared.learning.Waiting.{Waiting}
+use Rattle.fork_ledger.specs.Linked.{IsLinked}
+use Rattle.fork_ledger.specs.declared.learning.TheConstants.{MOST}
+use Rattle.fork_ledger.specs.declared.learning.Waiting.{Waiting}
 
 -- a commit that waits stands whole on the store, with its parents
-abbrev pub IsRead : Files → Waiting → Type 0
-IsRead files commit = IsLinked files commit.name commit.parents.items
+abbrev pub HasItsParents : Files → Waiting → Type 0
+HasItsParents files commit = IsLinked files commit.name commit.parents.items
 
 -- a bound of the steps that are left, where so many are begun and so many wait
 abbrev pub left_to_do : ℕ → ℕ → ℕ

@@ -1,0 +1,40 @@
+ghost use Rattle.std.specs.Prelude.{◌≡◌, ◌<◌, IsTrue, length, is_some, map as mapped, false, true, []};
+ghost use Rattle.std.specs.List.{AllByRecursion};
+ghost use Rattle.commit_graph.specs.Graph.{Commits, IsGraph, name_at, parents_at};
+ghost use Rattle.fork_reach.specs.Faults.{IsAsked, fault_in};
+ghost use Rattle.fork_reach.specs.Known.{AreParents, seen_name, seen_place};
+
+use crate::source::{Source, SourceFault};
+use git_name::Name;
+use std::alloc::Global;
+
+/// Tells the parents of commits without reading them. Each commit has a place, behind those of its
+/// parents. It answers for commits that the source finds, and for no others, over any store.
+pub trait Ancestry: Source {
+    /// The commits that have a place, with their parents.
+    ghost commits: { Self → Commits };
+
+    /// Comes to know the parents of this commit, and of those that they lead to, as far as it can.
+    fn learn(&mut self, alloc: Global, commit: Name) -> Result<(), SourceFault>
+        ensures { IsAsked (Self.state self.old) (Self.state self.new) (fault_in result) };
+
+    /// How many commits have a place.
+    fn commit_count(&self) -> usize
+        ensures count { result ≡ length (commits self.now) }
+        ensures graph { IsGraph (commits self.now) }
+        ensures parents { IsTrue (Self.state self.now).honest → AreParents (Self.state self.now).objects (commits self.now) };
+
+    /// The place of this commit.
+    fn place_of(&self, name: Name) -> Option<usize>
+        ensures { result ≡ seen_place (Self.state self.now).objects (commits self.now) name };
+
+    /// The commit at this place.
+    fn commit_at(&self, place: usize) -> Option<Name>
+        ensures { result ≡ seen_name (Self.state self.now).objects (commits self.now) place };
+
+    /// The places of the parents of the commit at this place, in their order.
+    fn parents_at(&self, place: usize) -> &[usize]
+        ensures names { is_some (seen_name (Self.state self.now).objects (commits self.now) place) ≡ true → mapped (name_at (commits self.now)) result.now ≡ parents_at (commits self.now) place }
+        ensures before { AllByRecursion (λ parent. parent < place) result.now }
+        ensures hidden { is_some (seen_name (Self.state self.now).objects (commits self.now) place) ≡ false → result.now ≡ [] };
+}

@@ -1,4 +1,5 @@
 pub mod AboveLemmas
+pub mod BranchExamples
 pub mod FrontLemmas
 pub mod MapLemmas
 pub mod MemberLemmas

@@ -2,7 +2,7 @@
 use Rattle.std.proofs.Common.{◌≡◌, ℕ, Bool, true, false, cond, List, ◌∷◌, None, Some, Ok, sym, ap, ◌∙◌, is_some, length}
 use Rattle.std.specs.Prelude.{nat_lt}
 use Rattle.std.specs.FinMap.{get}
-use Rattle.git_reftx.specs.Transaction.{References}
+use Rattle.git_reftx.specs.Repository.{Repository}
 use Rattle.push_stream.specs.Stream.{finished, stream_of}
 use Rattle.fork_query.specs.Fetch.{fetch_told, fetched, fetched_of}
 use Rattle.fork_query.specs.Items.{object_of_item}
@@ -30,17 +30,17 @@ same_text : (a b : List ℕ) → Done a ≡ Done b → a ≡ b
 same_text a b is = cc
 
 -- the data of a fetch
-fetched_text : (view : View) (word : List ℕ) (items : List (List ℕ)) (references : References) (selection : Selection) (text : List ℕ)
-    → get view.repositories word ≡ Some references → selected (object_of_item view.objects references) items ≡ Ok selection → (answer view (Fetches word items)).0 ≡ Done text
+fetched_text : (view : View) (word : List ℕ) (items : List (List ℕ)) (repository : Repository) (selection : Selection) (text : List ℕ)
+    → get view.repositories word ≡ Some repository → selected (object_of_item view.objects repository) items ≡ Ok selection → (answer view (Fetches word items)).0 ≡ Done text
     → fetched view.objects selection.wanted selection.excluded ≡ text
 unfolding answer fetch_answer fetch_told
-fetched_text view word items references selection text there chosen is =
-    let said = told_behind view (is_plain_name 64 word) (nat_lt 64 (length items)) word (told_over word (λ references. fetch_told view.objects references items) (get view.repositories word)) text is in
-    let found = ap (told_over word (λ references. fetch_told view.objects references items)) there ∙ ap (λ sides. told (fetched_of view.objects sides)) chosen in
+fetched_text view word items repository selection text there chosen is =
+    let said = told_behind view (is_plain_name 64 word) (nat_lt 64 (length items)) word (told_over word (λ repository. fetch_told view.objects repository items) (get view.repositories word)) text is in
+    let found = ap (told_over word (λ repository. fetch_told view.objects repository items)) there ∙ ap (λ sides. told (fetched_of view.objects sides)) chosen in
     same_text (fetched view.objects selection.wanted selection.excluded) text (sym found ∙ said)
 
 -- a push into a repository that is there, where no upload is open
-push_answered : (view : View) (word body : List ℕ) (old : References) → IsOrderly view → get view.repositories word ≡ Some old → view.upload ≡ None
+push_answered : (view : View) (word body : List ℕ) (old : Repository) → IsOrderly view → get view.repositories word ≡ Some old → view.upload ≡ None
     → answer view (Pushes word body) ≡ pushed view word old (finished (stream_of body))
 unfolding answer push_answer
 push_answered view word body old orderly there none =
@@ -49,14 +49,14 @@ push_answered view word body old orderly there none =
     ∙ ap (λ o. cond {A = Reply × View} (is_some o) (Refused UploadOpen, view) (pushed view word old (finished (stream_of body)))) none
 
 -- what a fetch tells, a push takes
-pub fetch_pushed : (receiver sender : View) (source repository : List ℕ) (items : List (List ℕ)) (references old : References) (selection : Selection) (text : List ℕ)
+pub fetch_pushed : (receiver sender : View) (source word : List ℕ) (items : List (List ℕ)) (repository old : Repository) (selection : Selection) (text : List ℕ)
     → IsRight sender → AreSendable sender.objects → IsOrderly receiver
-    → get sender.repositories source ≡ Some references → selected (object_of_item sender.objects references) items ≡ Ok selection
+    → get sender.repositories source ≡ Some repository → selected (object_of_item sender.objects repository) items ≡ Ok selection
     → (answer sender (Fetches source items)).0 ≡ Done text
     → HasPrerequisites receiver.objects sender.objects selection.excluded
-    → get receiver.repositories repository ≡ Some old → receiver.upload ≡ None
-    → answer receiver (Pushes repository (10 ∷ text)) ≡ within_quota receiver repository old (received receiver.objects sender.objects selection.wanted selection.excluded)
-fetch_pushed receiver sender source repository items references old selection text right sendable orderly there chosen is has open_is none =
-    ap (λ text. answer receiver (Pushes repository (10 ∷ text))) (sym (fetched_text sender source items references selection text there chosen is))
-    ∙ push_answered receiver repository (10 ∷ fetched sender.objects selection.wanted selection.excluded) old orderly open_is none
-    ∙ fetched_pushed receiver sender selection.wanted selection.excluded repository old right sendable has (orderly.references repository old open_is)
+    → get receiver.repositories word ≡ Some old → receiver.upload ≡ None
+    → answer receiver (Pushes word (10 ∷ text)) ≡ within_quota receiver word old (received receiver.objects sender.objects selection.wanted selection.excluded)
+fetch_pushed receiver sender source word items repository old selection text right sendable orderly there chosen is has open_is none =
+    ap (λ text. answer receiver (Pushes word (10 ∷ text))) (sym (fetched_text sender source items repository selection text there chosen is))
+    ∙ push_answered receiver word (10 ∷ fetched sender.objects selection.wanted selection.excluded) old orderly open_is none
+    ∙ fetched_pushed receiver sender selection.wanted selection.excluded word old right sendable has (orderly.references word old open_is)

@@ -13,6 +13,7 @@ use Rattle.git_name.specs.Object.{Object}
 use Rattle.git_name.proofs.Names.{name_exact, name_total}
 use Rattle.git_object.specs.declared.link.Link.{Link}
 use Rattle.git_object.specs.ObjectIn.{links_in}
+use Rattle.git_reftx.specs.Repository.{Repository}
 use Rattle.git_reftx.specs.Transaction.{References, is_commit}
 use Rattle.fork_reach.specs.Objects.{IsNamed, use_of, use_of_object}
 use Rattle.fork_reach.specs.Reach.{linked_names, links_of_found}
@@ -72,12 +73,12 @@ among f x y (z ∷ xs) (zero, few, same) is = in_front y (f z) (flat_map f xs) (
 among f x y (z ∷ xs) (suc k, few, same) is = behind y (f z) (flat_map f xs) (among f x y xs (k, omega arith, same) is)
 
 -- where a reference points is among the targets
-pub target_among : (repositories : Repositories) (word : List ℕ) (references : References) (reference target : List ℕ)
-    → get repositories word ≡ Some references → get references reference ≡ Some target → Contains (targets_of repositories) target
-target_among repositories word references reference target there_is points =
-    among (values {X = List ℕ} {R = name_cmp}) references target (values repositories)
-    (found_value word references (entries repositories) (sym (get-entries repositories word) ∙ there_is))
-    (found_value reference target (entries references) (sym (get-entries references reference) ∙ points))
+pub target_among : (repositories : Repositories) (word : List ℕ) (repository : Repository) (reference target : List ℕ)
+    → get repositories word ≡ Some repository → get repository.references reference ≡ Some target → Contains (targets_of repositories) target
+target_among repositories word repository reference target there_is points =
+    among (λ (r : Repository). values {X = List ℕ} {R = name_cmp} r.references) repository target (values repositories)
+    (found_value word repository (entries repositories) (sym (get-entries repositories word) ∙ there_is))
+    (found_value reference target (entries repository.references) (sym (get-entries repository.references reference) ∙ points))
 
 pub kind_there : (o : Option Object) (kind : _) → option_map (λ object. object.kind) o ≡ Some kind → is_some o ≡ true
 kind_there None kind is = absurd (cc)

@@ -11,6 +11,7 @@ use Rattle.git_reftx.specs.declared.command.Command.{Command}
 use Rattle.git_reftx.specs.declared.fault.TxRefusal.{TxRefusal}
 use Rattle.git_reftx.specs.declared.fault.TxRefusal.TheVariants as tx
 use Rattle.git_reftx.specs.Known.{Kinds}
+use Rattle.git_reftx.specs.Repository.{Repository}
 use Rattle.git_reftx.specs.Transaction.{References, changed, first_refusal, missing_object, not_a_commit, is_branch, ref_conflict, repeated_ref, stale, too_many, transacted, unless_refused}
 use Rattle.push_stream.specs.Stream.{Stream, finished, stream_of}
 use Rattle.fork_push.specs.declared.refusal.PushRefusal.{PushRefusal}
@@ -25,7 +26,7 @@ use Rattle.fork_query.specs.RevList.{revisions_of, revisions_told}
 use Rattle.fork_query.specs.Sides.{bare, is_excluded, selected, with_item, with_rest}
 use Rattle.fork_query.specs.Trees.{entries_at_end, rows_or, tree_told}
 use Rattle.fork_query.specs.Peel.{peeled}
-use Rattle.fork_request.specs.Asked.{Ask, Inits, Drops, Forks, Pushes, SendsPart, EndsParts, DropsParts, Updates, AsksObject, AsksTree, AsksRevisions, AsksBases, AsksReferences, Fetches, AsksUse, Prunes, NoRequest}
+use Rattle.fork_request.specs.Asked.{Ask, Inits, Drops, Forks, Pushes, SendsPart, EndsParts, DropsParts, Updates, SetsHead, AsksObject, AsksTree, AsksRevisions, AsksBases, AsksReferences, AsksHead, Fetches, AsksUse, Prunes, NoRequest}
 use Rattle.fork_request.specs.Told.{is_host_fault}
 use Rattle.fork_request.specs.declared.refusal.Refusal.{Refusal}
 use Rattle.fork_request.specs.declared.refusal.Refusal.TheVariants.{BadName, Missing, TooMany, UploadOpen}
@@ -77,40 +78,40 @@ first_item judge (one ∷ items) (x ∷ before) behind item refusal is right wro
     by (Err other) fine rest = absurd (cc)
 
 -- an item that names what is not seen
-unseen_item : (objects : Objects) (references : References) (item name : List ℕ) → named_by references item ≡ Some name → get objects name ≡ None → object_of_item objects references item ≡ Err (Missing name)
-unseen_item objects references item name named unseen =
+unseen_item : (objects : Objects) (repository : Repository) (item name : List ℕ) → named_by repository item ≡ Some name → get objects name ≡ None → object_of_item objects repository item ≡ Err (Missing name)
+unseen_item objects repository item name named unseen =
     ap (found_name objects item) named ∙ ap (λ o. cond (is_some o) (Ok name) (Err (Missing name))) unseen
 
-unseen_commit : (objects : Objects) (references : References) (item name : List ℕ) → named_by references item ≡ Some name → get objects name ≡ None → commit_of_item objects references item ≡ Err (Missing name)
-unseen_commit objects references item name named unseen = ap (commit_of objects) (unseen_item objects references item name named unseen)
+unseen_commit : (objects : Objects) (repository : Repository) (item name : List ℕ) → named_by repository item ≡ Some name → get objects name ≡ None → commit_of_item objects repository item ≡ Err (Missing name)
+unseen_commit objects repository item name named unseen = ap (commit_of objects) (unseen_item objects repository item name named unseen)
 
--- in a repository that is there a row goes over its references
-in_repository : (view : View) (repository : List ℕ) (Holds : References → Type 0) (row : Option References → Reply × View) (left : Reply × View) → (at : InRepository view repository Holds) → row (Some at.references) ≡ left
-    → named_repository view repository (row (get view.repositories repository)) ≡ left
-in_repository view repository Holds row left at is = ap (λ b. cond b (row (get view.repositories repository)) (Refused (BadName repository), view)) at.named ∙ ap row at.found ∙ is
+-- a row goes over a repository that is there
+in_repository : (view : View) (word : List ℕ) (Holds : Repository → Type 0) (row : Option Repository → Reply × View) (left : Reply × View) → (at : InRepository view word Holds) → row (Some at.repository) ≡ left
+    → named_repository view word (row (get view.repositories word)) ≡ left
+in_repository view word Holds row left at is = ap (λ b. cond b (row (get view.repositories word)) (Refused (BadName word), view)) at.named ∙ ap row at.found ∙ is
 
 few_asked : (items : List (List ℕ)) (reply : Reply) → length items ≤ 64 → few_items items reply ≡ reply
 few_asked items reply few = (let passed : nat_lt 64 (length items) ≡ false = grind (arith, nat_tests) in ap (λ b. cond b (Refused TooMany) reply) passed)
 
 -- both words of `merge-base`
-bases_lack : (objects : Objects) (references : References) (a b name : List ℕ) → LacksItem objects references (commit_of_item objects references) (a ∷ b ∷ []) name → bases_told objects references a b ≡ Err (Missing name)
+bases_lack : (objects : Objects) (repository : Repository) (a b name : List ℕ) → LacksItem objects repository (commit_of_item objects repository) (a ∷ b ∷ []) name → bases_told objects repository a b ≡ Err (Missing name)
 unfolding bases_told
-bases_lack objects references a b name lacks = by lacks.first.before lacks.first.passed lacks.first.parts
+bases_lack objects repository a b name lacks = by lacks.first.before lacks.first.passed lacks.first.parts
   where
-    wrong : commit_of_item objects references lacks.item ≡ Err (Missing name)
-    wrong = unseen_commit objects references lacks.item name lacks.named lacks.unseen
+    wrong : commit_of_item objects repository lacks.item ≡ Err (Missing name)
+    wrong = unseen_commit objects repository lacks.item name lacks.named lacks.unseen
 
     behind_right : (first second : Result (List ℕ) Refusal) → is_ok first ≡ true → second ≡ Err (Missing name) → bases_of objects first second ≡ Err (Missing name)
     behind_right (Ok one) second right is = ap (bases_of objects (Ok one)) is
     behind_right (Err refusal) second right is = absurd (cc)
 
-    by : (before : List (List ℕ)) → AllByRecursion (λ other. is_ok (commit_of_item objects references other) ≡ true) before → a ∷ b ∷ [] ≡ before ++ lacks.item ∷ lacks.first.behind
-        → bases_of objects (commit_of_item objects references a) (commit_of_item objects references b) ≡ Err (Missing name)
-    by [] right is = ap (λ r. bases_of objects r (commit_of_item objects references b)) (ap (commit_of_item objects references) (head_is a lacks.item _ _ is) ∙ wrong)
+    by : (before : List (List ℕ)) → AllByRecursion (λ other. is_ok (commit_of_item objects repository other) ≡ true) before → a ∷ b ∷ [] ≡ before ++ lacks.item ∷ lacks.first.behind
+        → bases_of objects (commit_of_item objects repository a) (commit_of_item objects repository b) ≡ Err (Missing name)
+    by [] right is = ap (λ r. bases_of objects r (commit_of_item objects repository b)) (ap (commit_of_item objects repository) (head_is a lacks.item _ _ is) ∙ wrong)
     by (x ∷ []) right is =
-        behind_right (commit_of_item objects references a) (commit_of_item objects references b)
-        (ap (λ w. is_ok (commit_of_item objects references w)) (head_is a x _ _ is) ∙ right.0)
-        (ap (commit_of_item objects references) (head_is b lacks.item _ _ (tail_is a x _ _ is)) ∙ wrong)
+        behind_right (commit_of_item objects repository a) (commit_of_item objects repository b)
+        (ap (λ w. is_ok (commit_of_item objects repository w)) (head_is a x _ _ is) ∙ right.0)
+        (ap (commit_of_item objects repository) (head_is b lacks.item _ _ (tail_is a x _ _ is)) ∙ wrong)
     by (x ∷ y ∷ []) right is = absurd (cc)
     by (x ∷ y ∷ z ∷ before) right is = absurd (cc)
 
@@ -203,10 +204,10 @@ sent_lacking objects old limit commands sent name (Pointed met lacks) = record {
     both = with_objects objects sent
 
 -- and so a push of a stream
-pushed_lacking : (view : View) (repository : List ℕ) (old : References) (s : Stream) (name : List ℕ) → LacksInStream view.objects s name → pushed view repository old (finished s) ≡ (Refused (Missing name), view)
-pushed_lacking view repository old s name lacks =
-    let verdict = sent_lacking view.objects old view.limit lacks.commands lacks.sent name lacks.lacks in
-    ap (pushed view repository old) lacks.whole ∙ ap (taken view repository (with_objects view.objects lacks.sent)) verdict.is ∙ ap (λ r. (Refused r, view)) verdict.told
+pushed_lacking : (view : View) (word : List ℕ) (old : Repository) (s : Stream) (name : List ℕ) → LacksInStream view.objects s name → pushed view word old (finished s) ≡ (Refused (Missing name), view)
+pushed_lacking view word old s name lacks =
+    let verdict = sent_lacking view.objects old.references view.limit lacks.commands lacks.sent name lacks.lacks in
+    ap (pushed view word old) lacks.whole ∙ ap (taken view word old (with_objects view.objects lacks.sent)) verdict.is ∙ ap (λ r. (Refused r, view)) verdict.told
 
 -- by each way of naming
 pub lacking_answer : (view : View) (name : List ℕ) (ask : Ask) → IsMissing view name ask → answer view ask ≡ (Refused (Missing name), left_by view ask)
@@ -216,33 +217,35 @@ lacking_answer view name (AsksTree asked) is =
     ap (λ n. answer view (AsksTree n)) is.0
     ∙ ap (λ o. (told (cond (is_some o) (rows_or name (entries_at_end view.objects (peeled view.objects name))) (Err (Missing name))), view)) is.1
 lacking_answer view name (AsksRevisions repository items) is =
-    in_repository view repository _ (λ o. (few_items items (told_over repository (λ references. revisions_told view.objects references items) o), view)) _ is
+    in_repository view repository _ (λ o. (few_items items (told_over repository (λ r. revisions_told view.objects r items) o), view)) _ is
     (ap (λ reply. (reply, view)) (few_asked items _ is.holds.0
-    ∙ ap (λ r. told (revisions_of view.objects r)) (first_item (commit_of_item view.objects is.references) items is.holds.1.first.before is.holds.1.first.behind is.holds.1.item (Missing name) is.holds.1.first.parts is.holds.1.first.passed
-    (unseen_commit view.objects is.references is.holds.1.item name is.holds.1.named is.holds.1.unseen))))
+    ∙ ap (λ r. told (revisions_of view.objects r)) (first_item (commit_of_item view.objects is.repository) items is.holds.1.first.before is.holds.1.first.behind is.holds.1.item (Missing name) is.holds.1.first.parts is.holds.1.first.passed
+    (unseen_commit view.objects is.repository is.holds.1.item name is.holds.1.named is.holds.1.unseen))))
 lacking_answer view name (AsksBases repository first second) is =
-    in_repository view repository _ (λ o. (told_over repository (λ references. bases_told view.objects references first second) o, view)) _ is
-    (ap (λ r. (told r, view)) (bases_lack view.objects is.references first second name is.holds))
+    in_repository view repository _ (λ o. (told_over repository (λ r. bases_told view.objects r first second) o, view)) _ is
+    (ap (λ r. (told r, view)) (bases_lack view.objects is.repository first second name is.holds))
 lacking_answer view name (Fetches repository items) is =
-    in_repository view repository _ (λ o. (few_items items (told_over repository (λ references. fetch_told view.objects references items) o), view)) _ is
+    in_repository view repository _ (λ o. (few_items items (told_over repository (λ r. fetch_told view.objects r items) o), view)) _ is
     (ap (λ reply. (reply, view)) (few_asked items _ is.holds.0
-    ∙ ap (λ r. told (fetched_of view.objects r)) (first_item (object_of_item view.objects is.references) items is.holds.1.first.before is.holds.1.first.behind is.holds.1.item (Missing name) is.holds.1.first.parts is.holds.1.first.passed
-    (unseen_item view.objects is.references is.holds.1.item name is.holds.1.named is.holds.1.unseen))))
+    ∙ ap (λ r. told (fetched_of view.objects r)) (first_item (object_of_item view.objects is.repository) items is.holds.1.first.before is.holds.1.first.behind is.holds.1.item (Missing name) is.holds.1.first.parts is.holds.1.first.passed
+    (unseen_item view.objects is.repository is.holds.1.item name is.holds.1.named is.holds.1.unseen))))
 lacking_answer view name (Updates repository body) is =
     in_repository view repository _ (update_in view repository body) _ is
-    (ap (carried_out view repository is.references) is.holds.read ∙ ap (with_references view repository) (target_lacking view.objects [] is.references is.holds.commands name is.holds.lacks))
+    (ap (carried_out view repository is.repository) is.holds.read ∙ ap (with_references view repository is.repository) (target_lacking view.objects [] is.repository.references is.holds.commands name is.holds.lacks))
 lacking_answer view name (Pushes repository body) is =
     in_repository view repository _ (push_into view repository body) _ is
-    (ap (λ o. cond (is_some o) (Refused UploadOpen, view) (pushed view repository is.references (finished (stream_of body)))) is.holds.0 ∙ pushed_lacking view repository is.references (stream_of body) name is.holds.1)
+    (ap (λ o. cond (is_some o) (Refused UploadOpen, view) (pushed view repository is.repository (finished (stream_of body)))) is.holds.0 ∙ pushed_lacking view repository is.repository (stream_of body) name is.holds.1)
 lacking_answer view name (EndsParts repository) is =
     ap upload_ended (in_repository view repository _ (end_in view repository) (Refused (Missing name), view) is
-    (ap (upload_into view repository is.references) is.holds.opened ∙ pushed_lacking view repository is.references is.holds.upload.stream name is.holds.lacks))
+    (ap (upload_into view repository is.repository) is.holds.opened ∙ pushed_lacking view repository is.repository is.holds.upload.stream name is.holds.lacks))
 lacking_answer view name (Inits repository) is = absurd is
 lacking_answer view name (Drops repository) is = absurd is
 lacking_answer view name (Forks source copy) is = absurd is
 lacking_answer view name (SendsPart body) is = absurd is
 lacking_answer view name DropsParts is = absurd is
+lacking_answer view name (SetsHead repository reference) is = absurd is
 lacking_answer view name (AsksReferences repository prefix) is = absurd is
+lacking_answer view name (AsksHead repository) is = absurd is
 lacking_answer view name AsksUse is = absurd is
 lacking_answer view name Prunes is = absurd is
 lacking_answer view name NoRequest is = absurd is

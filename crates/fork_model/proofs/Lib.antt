@@ -2,6 +2,7 @@ pub mod ClosedLemmas
 pub mod Examples
 pub mod FetchLemmas
 pub mod FetchedLemmas
+pub mod HeadExamples
 pub mod HostLemmas
 pub mod Hosts
 pub mod Isolation

@@ -15,7 +15,7 @@ use Rattle.git_refname.specs.Rule.{least_broken_rule}
 use Rattle.git_reftx.specs.Command.{command}
 use Rattle.git_reftx.specs.Line.{line_at}
 use Rattle.git_reftx.specs.Reading.{command_at, commands_of}
-use Rattle.git_reftx.specs.Transaction.{References}
+use Rattle.git_reftx.specs.Repository.{Repository, new_repository}
 use Rattle.git_reftx.specs.declared.command.Change.TheVariants.{Point}
 use Rattle.git_reftx.specs.declared.command.Command.{Command}
 use Rattle.git_reftx.specs.declared.command.Demand.TheVariants.{Absent}
@@ -31,15 +31,12 @@ use Rattle.fork_request.specs.Names.{is_plain_name}
 use Rattle.fork_model.specs.Missing.{InRepository, IsMissing, LacksItem, LacksInStream, Linked, LacksTarget, Pointed}
 use Rattle.fork_model.specs.View.{View}
 
--- a view without objects, and with a repository `r` without references
+-- a view without objects, and with a new repository `r`
 abbrev nothing : Objects
 nothing = empty {X = Object} {R = name_cmp}
 
-abbrev no_references : References
-no_references = empty {X = List ℕ} {R = name_cmp}
-
 abbrev bare_view : Option UploadValue → View
-bare_view upload = record { repositories = insert empty (codes "r") no_references; objects = nothing; upload = upload; limit = 0 }
+bare_view upload = record { repositories = insert empty (codes "r") new_repository; objects = nothing; upload = upload; limit = 0 }
 
 abbrev digits : List ℕ
 digits = replicate 64 49
@@ -55,12 +52,12 @@ plain : is_plain_name 64 (codes "r") ≡ true
 unfolding is_plain_name
 plain = refl
 
-found : (upload : Option UploadValue) → get (bare_view upload).repositories (codes "r") ≡ Some no_references
-found upload = get-insert name_total empty (codes "r") no_references (codes "r")
+found : (upload : Option UploadValue) → get (bare_view upload).repositories (codes "r") ≡ Some new_repository
+found upload = get-insert name_total empty (codes "r") new_repository (codes "r")
 
--- what holds of no references holds in the repository
-in_r : (upload : Option UploadValue) (Holds : References → Type 0) → Holds no_references → InRepository (bare_view upload) (codes "r") Holds
-in_r upload Holds holds = record { named = plain; references = no_references; found = found upload; holds = holds }
+-- what holds of a new repository holds in it
+in_r : (upload : Option UploadValue) (Holds : Repository → Type 0) → Holds new_repository → InRepository (bare_view upload) (codes "r") Holds
+in_r upload Holds holds = record { named = plain; repository = new_repository; found = found upload; holds = holds }
 
 unseen : get nothing name ≡ None
 unseen = get-empty {X = Object} name_cmp name
@@ -71,11 +68,11 @@ an_object upload = (refl, unseen)
 a_tree : (upload : Option UploadValue) → IsMissing (bare_view upload) name (AsksTree name)
 a_tree upload = (refl, unseen)
 
-first_item : (judge : _) (items : List (List ℕ)) → LacksItem nothing no_references judge (digits ∷ items) name
+first_item : (judge : _) (items : List (List ℕ)) → LacksItem nothing new_repository judge (digits ∷ items) name
 first_item judge items = record {
   item = digits;
   first = record { before = []; behind = items; parts = refl; passed = tt };
-  named = ap (λ o. option_or o (get no_references digits)) digits_name;
+  named = ap (λ o. option_or o (get new_repository.references digits)) digits_name;
   unseen = unseen;
 }
 

@@ -1,12 +1,13 @@
 -- What a tenant sees, it saw before or sent itself: answer by answer.
 use Rattle.std.proofs.Common.{◌≡◌, ℕ, ◌+◌, Bool, true, false, cond, List, [], ◌∷◌, Option, Some, None, Result, Ok, Err, refl, sym, ap, ◌∙◌, arith, is_some, inl, inr, ◌⊎◌, length}
 use Rattle.std.specs.Prelude.{nat_le, nat_lt, not}
-use Rattle.std.specs.FinMap.{get, insert, remove, contains_key, len, empty}
+use Rattle.std.specs.FinMap.{get, insert, remove, contains_key, len}
 use Rattle.git_name.specs.Object.{Object, object_name}
 use Rattle.git_reftx.specs.declared.command.Command.{Command}
 use Rattle.git_reftx.specs.declared.fault.CommandFault.{CommandFault}
 use Rattle.git_reftx.specs.declared.fault.TxRefusal.{TxRefusal}
 use Rattle.git_reftx.specs.Reading.{commands_of}
+use Rattle.git_reftx.specs.Repository.{Repository, branch_in, new_repository}
 use Rattle.git_reftx.specs.Transaction.{References, transacted}
 use Rattle.push_stream.specs.Brief.{brief_of}
 use Rattle.push_stream.specs.Stream.{Stream, Flows, Breaks, finished, sent_in, stream_of}
@@ -16,13 +17,13 @@ use Rattle.fork_push.specs.Push.{judged}
 use Rattle.fork_reach.specs.Objects.{with_object, with_objects}
 use Rattle.fork_reach.specs.Reach.{is_reached, linked_names}
 use Rattle.fork_reach.specs.Source.{Objects, kind_in}
-use Rattle.fork_request.specs.Asked.{Ask, Inits, Drops, Forks, Pushes, SendsPart, EndsParts, DropsParts, Updates, AsksObject, AsksTree, AsksRevisions, AsksBases, AsksReferences, Fetches, AsksUse, Prunes, NoRequest}
+use Rattle.fork_request.specs.Asked.{Ask, Inits, Drops, Forks, Pushes, SendsPart, EndsParts, DropsParts, Updates, SetsHead, AsksObject, AsksTree, AsksRevisions, AsksBases, AsksReferences, AsksHead, Fetches, AsksUse, Prunes, NoRequest}
 use Rattle.fork_request.specs.Names.{is_plain_name}
 use Rattle.fork_request.specs.Told.{is_host_fault}
-use Rattle.fork_request.specs.declared.refusal.Refusal.TheVariants.{BadName, NoRepository, NoUpload, RepositoryExists, StagedTooLong, TooMany, UploadOpen}
+use Rattle.fork_request.specs.declared.refusal.Refusal.TheVariants.{BadName, BadRef, NoRepository, NoUpload, RepositoryExists, StagedTooLong, TooMany, UploadOpen}
 use Rattle.fork_request.specs.declared.reply.Reply.{Reply}
 use Rattle.fork_request.specs.declared.reply.Reply.TheVariants.{Done, Refused}
-use Rattle.fork_model.specs.Answer.{answer, both, without_upload, init_answer, drop_answer, fork_answer, push_answer, part_answer, part_end_answer, part_drop_answer, update_answer, cat_file_answer, ls_tree_answer, rev_list_answer, merge_base_answer, fetch_answer, references_answer, quota_answer, prune_answer, targets_of, named_repository, new_repository, dropped, copied, push_into, pushed, taken, open_upload, upload_into, end_in, upload_ended, update_in, carried_out, with_references, transaction_refusal, command_refusal, push_refusal}
+use Rattle.fork_model.specs.Answer.{answer, both, without_upload, init_answer, drop_answer, fork_answer, push_answer, part_answer, part_end_answer, part_drop_answer, update_answer, set_head_answer, cat_file_answer, ls_tree_answer, rev_list_answer, merge_base_answer, fetch_answer, references_answer, head_answer, quota_answer, prune_answer, targets_of, named_repository, added, dropped, copied, push_into, pushed, taken, open_upload, upload_into, end_in, upload_ended, update_in, carried_out, with_references, with_head, set_head_in, transaction_refusal, command_refusal, push_refusal}
 use Rattle.fork_model.specs.Provenance.{IsAmong, IsFrom, Seen, Pushed, Uploaded, IsUploadFrom, Stays, Ends, GoesOn, part_in, ends_upload}
 use Rattle.fork_model.specs.View.{View}
 use Rattle.fork_model.proofs.ClosedLemmas.{of_one}
@@ -86,61 +87,69 @@ either P false x y left right = right
 named_row : (P : Reply × View → Type 0) (view : View) (word : List ℕ) (row : Reply × View) → P (Refused (BadName word), view) → P row → P (named_repository view word row)
 named_row P view word row refused done = either P (is_plain_name 64 word) row (Refused (BadName word), view) done refused
 
-new_row : (view : View) (word : List ℕ) (references : References) → IsQuiet view (new_repository view word references)
-new_row view word references =
+added_row : (view : View) (word : List ℕ) (repository : Repository) → IsQuiet view (added view word repository)
+added_row view word repository =
     either (IsQuiet view) (contains_key view.repositories word) (Refused (RepositoryExists word), view) _ (quiet view (Refused (RepositoryExists word)))
-    (either (IsQuiet view) (nat_le 256 (len view.repositories)) (Refused TooMany, view) (Done [], record view { repositories = insert view.repositories word references }) (quiet view (Refused TooMany)) (record { objects = refl; upload = refl }))
+    (either (IsQuiet view) (nat_le 256 (len view.repositories)) (Refused TooMany, view) (Done [], record view { repositories = insert view.repositories word repository }) (quiet view (Refused TooMany)) (record { objects = refl; upload = refl }))
 
 dropped_row : (view : View) (word : List ℕ) → IsQuiet view (dropped view word)
 dropped_row view word =
     either (IsQuiet view) (contains_key view.repositories word) (Done [], record view { repositories = remove view.repositories word }) (Refused (NoRepository word), view)
     (record { objects = refl; upload = refl }) (quiet view (Refused (NoRepository word)))
 
-copied_row : (view : View) (source copy : List ℕ) (o : Option References) → IsQuiet view (copied view source copy o)
+copied_row : (view : View) (source copy : List ℕ) (o : Option Repository) → IsQuiet view (copied view source copy o)
 copied_row view source copy None = quiet view (Refused (NoRepository source))
-copied_row view source copy (Some references) = new_row view copy references
+copied_row view source copy (Some repository) = added_row view copy repository
 
-with_references_row : (view : View) (word : List ℕ) (value : Result References TxRefusal) → IsQuiet view (with_references view word value)
-with_references_row view word (Ok new) = record { objects = refl; upload = refl }
-with_references_row view word (Err refusal) = quiet view (Refused (transaction_refusal refusal))
+with_references_row : (view : View) (word : List ℕ) (old : Repository) (value : Result References TxRefusal) → IsQuiet view (with_references view word old value)
+with_references_row view word old (Ok new) = record { objects = refl; upload = refl }
+with_references_row view word old (Err refusal) = quiet view (Refused (transaction_refusal refusal))
 
-carried_row : (view : View) (word : List ℕ) (old : References) (value : Result (List Command) CommandFault) → IsQuiet view (carried_out view word old value)
-carried_row view word old (Ok commands) = with_references_row view word (transacted old commands (kind_in view.objects))
+carried_row : (view : View) (word : List ℕ) (old : Repository) (value : Result (List Command) CommandFault) → IsQuiet view (carried_out view word old value)
+carried_row view word old (Ok commands) = with_references_row view word old (transacted old.references commands (kind_in view.objects))
 carried_row view word old (Err fault) = quiet view (Refused (command_refusal fault))
 
-update_row : (view : View) (word body : List ℕ) (o : Option References) → IsQuiet view (update_in view word body o)
+update_row : (view : View) (word body : List ℕ) (o : Option Repository) → IsQuiet view (update_in view word body o)
 update_row view word body None = quiet view (Refused (NoRepository word))
 update_row view word body (Some old) = carried_row view word old (commands_of body)
 
--- a push of a stream: what is seen behind it was seen, or stands in the stream
-taken_row : (view : View) (ask : Ask) (word : List ℕ) (objects : Objects) (value : Result References PushRefusal)
-    → ((name : List ℕ) (object : Object) → get objects name ≡ Some object → IsFrom view (ask, Done []) name object) → IsKnown view ask (taken view word objects value)
-taken_row view ask word objects (Ok new) all = record { objects = all; upload = refl }
-taken_row view ask word objects (Err refusal) all = known view ask _ (quiet view (Refused (push_refusal refusal)))
+with_head_row : (view : View) (word : List ℕ) (old : Repository) (reference : List ℕ) (o : Option (List ℕ)) → IsQuiet view (with_head view word old reference o)
+with_head_row view word old reference None = quiet view (Refused (BadRef reference))
+with_head_row view word old reference (Some branch) = record { objects = refl; upload = refl }
 
-pushed_row : (view : View) (ask : Ask) (word : List ℕ) (old : References) (s : Stream)
+set_head_row : (view : View) (word reference : List ℕ) (o : Option Repository) → IsQuiet view (set_head_in view word reference o)
+set_head_row view word reference None = quiet view (Refused (NoRepository word))
+set_head_row view word reference (Some old) = with_head_row view word old reference (branch_in reference)
+
+-- a push of a stream: what is seen behind it was seen, or stands in the stream
+taken_row : (view : View) (ask : Ask) (word : List ℕ) (old : Repository) (objects : Objects) (value : Result References PushRefusal)
+    → ((name : List ℕ) (object : Object) → get objects name ≡ Some object → IsFrom view (ask, Done []) name object) → IsKnown view ask (taken view word old objects value)
+taken_row view ask word old objects (Ok new) all = record { objects = all; upload = refl }
+taken_row view ask word old objects (Err refusal) all = known view ask _ (quiet view (Refused (push_refusal refusal)))
+
+pushed_row : (view : View) (ask : Ask) (word : List ℕ) (old : Repository) (s : Stream)
     → ((name : List ℕ) (object : Object) → IsAmong (sent_in s) name object → IsFrom view (ask, Done []) name object) → IsKnown view ask (pushed view word old (finished s))
 pushed_row view ask word old s sent =
-    taken_row view ask word (both view (finished s)) (judged (both view (finished s)) old view.limit (brief_of (finished s))) (λ name object found.
+    taken_row view ask word old (both view (finished s)) (judged (both view (finished s)) old.references view.limit (brief_of (finished s))) (λ name object found.
     elim (among_held view s name object found) [
       | inl was ↦ Seen was
       | inr came ↦ sent name object came
     ])
 
-into_row : (view : View) (ask : Ask) (word body : List ℕ) (o : Option References)
+into_row : (view : View) (ask : Ask) (word body : List ℕ) (o : Option Repository)
     → ((name : List ℕ) (object : Object) → IsAmong (sent_in (stream_of body)) name object → IsFrom view (ask, Done []) name object) → IsKnown view ask (push_into view word body o)
 into_row view ask word body None sent = known view ask _ (quiet view (Refused (NoRepository word)))
 into_row view ask word body (Some old) sent =
     either (IsKnown view ask) (is_some view.upload) (Refused UploadOpen, view) (pushed view word old (finished (stream_of body)))
     (known view ask _ (quiet view (Refused UploadOpen))) (pushed_row view ask word old (stream_of body) sent)
 
-upload_row : (view : View) (ask : Ask) (word : List ℕ) (old : References) (o : Option UploadValue) → view.upload ≡ o
+upload_row : (view : View) (ask : Ask) (word : List ℕ) (old : Repository) (o : Option UploadValue) → view.upload ≡ o
     → ((upload : UploadValue) → view.upload ≡ Some upload → (name : List ℕ) (object : Object) → IsAmong (sent_in upload.stream) name object → IsFrom view (ask, Done []) name object)
     → IsKnown view ask (upload_into view word old o)
 upload_row view ask word old None is sent = known view ask _ (quiet view (Refused NoUpload))
 upload_row view ask word old (Some upload) is sent = pushed_row view ask word old upload.stream (sent upload is)
 
-end_row : (view : View) (ask : Ask) (word : List ℕ) (o : Option References)
+end_row : (view : View) (ask : Ask) (word : List ℕ) (o : Option Repository)
     → ((upload : UploadValue) → view.upload ≡ Some upload → (name : List ℕ) (object : Object) → IsAmong (sent_in upload.stream) name object → IsFrom view (ask, Done []) name object)
     → IsKnown view ask (end_in view word o)
 end_row view ask word None sent = known view ask _ (quiet view (Refused (NoRepository word)))
@@ -175,8 +184,8 @@ part_drop_row view =
 
 -- each answer is such a row
 told_row : (view : View) (ask : Ask) → IsTold view ask (answer view ask)
-unfolding answer init_answer drop_answer fork_answer push_answer part_end_answer update_answer cat_file_answer ls_tree_answer rev_list_answer merge_base_answer fetch_answer references_answer quota_answer prune_answer
-told_row view (Inits word) = plain view (Inits word) _ refl refl (known view (Inits word) _ (named_row (IsQuiet view) view word _ (quiet view (Refused (BadName word))) (new_row view word empty)))
+unfolding answer init_answer drop_answer fork_answer push_answer part_end_answer update_answer set_head_answer cat_file_answer ls_tree_answer rev_list_answer merge_base_answer fetch_answer references_answer head_answer quota_answer prune_answer
+told_row view (Inits word) = plain view (Inits word) _ refl refl (known view (Inits word) _ (named_row (IsQuiet view) view word _ (quiet view (Refused (BadName word))) (added_row view word new_repository)))
 told_row view (Drops word) = plain view (Drops word) _ refl refl (known view (Drops word) _ (named_row (IsQuiet view) view word _ (quiet view (Refused (BadName word))) (dropped_row view word)))
 told_row view (Forks source copy) =
     plain view (Forks source copy) _ refl refl
@@ -194,12 +203,16 @@ told_row view DropsParts = part_drop_row view
 told_row view (Updates word body) =
     plain view (Updates word body) _ refl refl
     (known view (Updates word body) _ (named_row (IsQuiet view) view word _ (quiet view (Refused (BadName word))) (update_row view word body (get view.repositories word))))
+told_row view (SetsHead word reference) =
+    plain view (SetsHead word reference) _ refl refl
+    (known view (SetsHead word reference) _ (named_row (IsQuiet view) view word _ (quiet view (Refused (BadName word))) (set_head_row view word reference (get view.repositories word))))
 told_row view (AsksObject name) = plain view (AsksObject name) _ refl refl (known view (AsksObject name) _ (quiet view _))
 told_row view (AsksTree name) = plain view (AsksTree name) _ refl refl (known view (AsksTree name) _ (quiet view _))
 told_row view (AsksRevisions word items) = plain view (AsksRevisions word items) _ refl refl (known view (AsksRevisions word items) _ (named_row (IsQuiet view) view word _ (quiet view (Refused (BadName word))) (quiet view _)))
 told_row view (AsksBases word first second) = plain view (AsksBases word first second) _ refl refl (known view (AsksBases word first second) _ (named_row (IsQuiet view) view word _ (quiet view (Refused (BadName word))) (quiet view _)))
 told_row view (Fetches word items) = plain view (Fetches word items) _ refl refl (known view (Fetches word items) _ (named_row (IsQuiet view) view word _ (quiet view (Refused (BadName word))) (quiet view _)))
 told_row view (AsksReferences word prefix) = plain view (AsksReferences word prefix) _ refl refl (known view (AsksReferences word prefix) _ (named_row (IsQuiet view) view word _ (quiet view (Refused (BadName word))) (quiet view _)))
+told_row view (AsksHead word) = plain view (AsksHead word) _ refl refl (known view (AsksHead word) _ (named_row (IsQuiet view) view word _ (quiet view (Refused (BadName word))) (quiet view _)))
 told_row view AsksUse = plain view AsksUse _ refl refl (known view AsksUse _ (quiet view _))
 told_row view Prunes = record {
   objects = λ name object found. Seen (found_kept view.objects (is_reached (linked_names view.objects) view.objects (targets_of view.repositories)) name object found).1;

@@ -12,7 +12,9 @@ use Rattle.git_reftx.specs.declared.command.Command.{Command}
 use Rattle.git_reftx.specs.declared.fault.CommandFault.{CommandFault}
 use Rattle.git_reftx.specs.declared.fault.TxRefusal.{TxRefusal}
 use Rattle.git_reftx.specs.Reading.{commands_of}
+use Rattle.git_reftx.specs.Repository.{IsBranch, Repository, branch_in, new_repository}
 use Rattle.git_reftx.specs.Transaction.{References, is_commit, least_upper, transacted}
+use Rattle.git_reftx.proofs.BranchLemmas.{branch_right, main_right}
 use Rattle.push_stream.specs.declared.fault.StreamFault.{StreamFault}
 use Rattle.push_stream.specs.Stream.{AreObjects, finished, sent_in, stream_of}
 use Rattle.push_stream.specs.Upload.{UploadValue, continued}
@@ -25,19 +27,20 @@ use Rattle.fork_reach.specs.Reach.{is_reached, linked_names}
 use Rattle.fork_reach.proofs.ReachLemmas.{next_reached, root_reached}
 use Rattle.fork_reach.specs.Source.{Objects, kind_in}
 use Rattle.fork_query.specs.Fetch.{fetch_told}
+use Rattle.fork_query.specs.Head.{head_told}
 use Rattle.fork_query.specs.MergeBase.{bases_told}
 use Rattle.fork_query.specs.Objects.{object_told}
 use Rattle.fork_query.specs.References.{listing}
 use Rattle.fork_query.specs.RevList.{revisions_told}
 use Rattle.fork_query.specs.Trees.{tree_told}
-use Rattle.fork_request.specs.Asked.{Ask, Inits, Drops, Forks, Pushes, SendsPart, EndsParts, DropsParts, Updates, AsksObject, AsksTree, AsksRevisions, AsksBases, AsksReferences, Fetches, AsksUse, Prunes, NoRequest}
+use Rattle.fork_request.specs.Asked.{Ask, Inits, Drops, Forks, Pushes, SendsPart, EndsParts, DropsParts, Updates, SetsHead, AsksObject, AsksTree, AsksRevisions, AsksBases, AsksReferences, AsksHead, Fetches, AsksUse, Prunes, NoRequest}
 use Rattle.fork_request.specs.Names.{IsRepositoryName, is_plain_name}
 use Rattle.fork_request.proofs.NameLemmas.{plain_name}
 use Rattle.fork_request.specs.declared.refusal.Refusal.{Refusal}
-use Rattle.fork_request.specs.declared.refusal.Refusal.TheVariants.{BadName, BadRequest, NoRepository, NoUpload, RepositoryExists, StagedTooLong, TooMany, UploadOpen}
+use Rattle.fork_request.specs.declared.refusal.Refusal.TheVariants.{BadName, BadRef, BadRequest, NoRepository, NoUpload, RepositoryExists, StagedTooLong, TooMany, UploadOpen}
 use Rattle.fork_request.specs.declared.reply.Reply.{Reply}
 use Rattle.fork_request.specs.declared.reply.Reply.TheVariants.{Done, Refused}
-use Rattle.fork_model.specs.Answer.{Held, answer, left_by, without_upload, init_answer, drop_answer, fork_answer, push_answer, part_answer, part_end_answer, part_drop_answer, update_answer, cat_file_answer, ls_tree_answer, rev_list_answer, merge_base_answer, fetch_answer, references_answer, quota_answer, prune_answer, pruned, targets_of, named_repository, new_repository, dropped, copied, push_into, pushed, taken, open_upload, upload_into, end_in, upload_ended, update_in, carried_out, with_references, told, told_over, told_references, transaction_refusal, command_refusal, push_refusal}
+use Rattle.fork_model.specs.Answer.{Held, answer, left_by, without_upload, init_answer, drop_answer, fork_answer, push_answer, part_answer, part_end_answer, part_drop_answer, update_answer, set_head_answer, cat_file_answer, ls_tree_answer, rev_list_answer, merge_base_answer, fetch_answer, references_answer, head_answer, quota_answer, prune_answer, pruned, targets_of, named_repository, added, dropped, copied, push_into, pushed, taken, open_upload, upload_into, end_in, upload_ended, update_in, carried_out, with_references, with_head, set_head_in, told, told_over, told_references, transaction_refusal, command_refusal, push_refusal}
 use Rattle.fork_model.specs.Sound.{AreReferences, IsOrderly, IsRight}
 use Rattle.fork_model.specs.View.{View, Repositories}
 use Rattle.fork_reach.proofs.KeptObjects.{at_key, kept_all, named_all, tied_names}
@@ -68,49 +71,64 @@ either view false x y left right = right refl
 named_row : (view : View) (word : List ℕ) (row : Reply × View) → (IsRepositoryName word → IsRow view row) → IsRow view (named_repository view word row)
 named_row view word row right = either view (is_plain_name 64 word) row (Refused (BadName word), view) (λ is. right (plain_name 64 word is)) (λ _. refuses view (BadName word))
 
--- other repositories, each with a right name and right references, make an orderly view
-with_repositories : (view : View) (repositories : Repositories) → IsOrderly view → len repositories ≤ 256
-    → ((name : List ℕ) (references : References) → get repositories name ≡ Some references → IsRepositoryName name × AreReferences view.objects references)
-    → IsOrderly (record view { repositories = repositories })
+-- a repository that a tenant with these objects may have under this name
+record MayStand (objects : Objects) (name : List ℕ) (repository : Repository) : Type 0 where
+  word : IsRepositoryName name
+  branch : IsBranch repository.head
+  sound : AreReferences objects repository.references
+
+-- each of these may
+abbrev MayAllStand : Objects → Repositories → Type 0
+MayAllStand objects repositories = (name : List ℕ) (repository : Repository) → get repositories name ≡ Some repository → MayStand objects name repository
+
+-- other repositories that may stand make an orderly view
+with_repositories : (view : View) (repositories : Repositories) → IsOrderly view → len repositories ≤ 256 → MayAllStand view.objects repositories → IsOrderly (record view { repositories = repositories })
 with_repositories view repositories orderly few each = record {
   upload = orderly.upload;
   within_limit = orderly.within_limit;
   limit = orderly.limit;
   few_repositories = few;
-  repositories = λ name references is. (each name references is).0;
-  references = λ name references is. (each name references is).1;
+  repositories = λ name repository is. (each name repository is).word;
+  heads = λ name repository is. (each name repository is).branch;
+  references = λ name repository is. (each name repository is).sound;
 }
 
 -- and leave it right
 still_right : (view : View) (repositories : Repositories) → IsRight view → IsRight (record view { repositories = repositories })
 still_right view repositories right = record { named = right.named; right = right.right; closed = right.closed; upload = right.upload }
 
--- a repository put beside others that are right over some objects
-each_inserted : (objects : Objects) (repositories : Repositories) (word : List ℕ) (new : References) → IsRepositoryName word → AreReferences objects new
-    → ((name : List ℕ) (references : References) → get repositories name ≡ Some references → IsRepositoryName name × AreReferences objects references)
-    → (name : List ℕ) (references : References) → get (insert repositories word new) name ≡ Some references → IsRepositoryName name × AreReferences objects references
-each_inserted objects repositories word new right sound_new others name references is =
-    elim (at_key (eq_by_cmp name_cmp name word) new references (get repositories name) (sym (get-insert name_total repositories word new name) ∙ is)) [
-      | inl here ↦ (subst IsRepositoryName (sym (tied_names name word here.0)) right, subst (AreReferences objects) here.1 sound_new)
-      | inr there ↦ others name references there
+-- a repository put beside others
+each_inserted : (objects : Objects) (repositories : Repositories) (word : List ℕ) (new : Repository) → MayStand objects word new → MayAllStand objects repositories → MayAllStand objects (insert repositories word new)
+each_inserted objects repositories word new right others name repository is =
+    elim (at_key (eq_by_cmp name_cmp name word) new repository (get repositories name) (sym (get-insert name_total repositories word new name) ∙ is)) [
+      | inl here ↦ subst (λ n. MayStand objects n repository) (sym (tied_names name word here.0)) (subst (MayStand objects word) here.1 right)
+      | inr there ↦ others name repository there
     ]
 
--- those of an orderly view are
-sound_each : (view : View) → IsOrderly view → (name : List ℕ) (references : References) → get view.repositories name ≡ Some references → IsRepositoryName name × AreReferences view.objects references
-sound_each view sound name references is = (sound.repositories name references is, sound.references name references is)
+-- those of an orderly view may stand
+sound_each : (view : View) → IsOrderly view → MayAllStand view.objects view.repositories
+sound_each view sound name repository is = record { word = sound.repositories name repository is; branch = sound.heads name repository is; sound = sound.references name repository is }
+
+-- a repository that stands may stand with other references, and with another head
+other_references : (view : View) (word : List ℕ) (old : Repository) (new : References) → IsOrderly view → get view.repositories word ≡ Some old → (objects : Objects) → AreReferences objects new
+    → MayStand objects word (record old { references = new })
+other_references view word old new orderly there objects sound = record { word = orderly.repositories word old there; branch = orderly.heads word old there; sound = sound }
+
+other_head : (view : View) (word : List ℕ) (old : Repository) (branch : List ℕ) → IsOrderly view → get view.repositories word ≡ Some old → IsBranch branch → MayStand view.objects word (record old { head = branch })
+other_head view word old branch orderly there is = record { word = orderly.repositories word old there; branch = is; sound = orderly.references word old there }
 
 few_more : (here : Bool) (n : ℕ) → nat_le 256 n ≡ false → n ≤ 256 → cond here n (n + 1) ≤ 256
 few_more true n room few = few
 few_more false n room few = grind (arith, nat_tests)
 
-new_row : (view : View) (word : List ℕ) (references : References) → IsRepositoryName word → (IsOrderly view → AreReferences view.objects references) → IsRow view (new_repository view word references)
-new_row view word references right right_new =
+added_row : (view : View) (word : List ℕ) (repository : Repository) → (IsOrderly view → MayStand view.objects word repository) → IsRow view (added view word repository)
+added_row view word repository right =
     either view (contains_key view.repositories word) (Refused (RepositoryExists word), view) _ (λ _. refuses view (RepositoryExists word)) (λ _.
-    either view (nat_le 256 (len view.repositories)) (Refused TooMany, view) (Done [], record view { repositories = insert view.repositories word references }) (λ _. refuses view TooMany) (λ room.
-    Does [] refl (λ sound. with_repositories view (insert view.repositories word references) sound
-    (subst (λ n. n ≤ 256) (sym (len-insert name_total view.repositories word references)) (few_more (contains_key view.repositories word) (len view.repositories) room sound.few_repositories))
-    (each_inserted view.objects view.repositories word references right (right_new sound) (sound_each view sound)))
-    (still_right view (insert view.repositories word references))))
+    either view (nat_le 256 (len view.repositories)) (Refused TooMany, view) (Done [], record view { repositories = insert view.repositories word repository }) (λ _. refuses view TooMany) (λ room.
+    Does [] refl (λ sound. with_repositories view (insert view.repositories word repository) sound
+    (subst (λ n. n ≤ 256) (sym (len-insert name_total view.repositories word repository)) (few_more (contains_key view.repositories word) (len view.repositories) room sound.few_repositories))
+    (each_inserted view.objects view.repositories word repository (right sound) (sound_each view sound)))
+    (still_right view (insert view.repositories word repository))))
 
 some_absent : {X : Type 0} (x : X) → None ≡ Some x → ⊥
 some_absent x is = cc
@@ -146,15 +164,19 @@ dropped_row view word =
     either view (contains_key view.repositories word) (Done [], record view { repositories = remove view.repositories word }) (Refused (NoRepository word), view) (λ _.
     Does [] refl (λ sound. with_repositories view (remove view.repositories word) sound
     (subst (λ n. n ≤ 256) (sym (len-remove name_total view.repositories word)) (fewer (contains_key view.repositories word) (len view.repositories) sound.few_repositories))
-    (λ name references is.
-    let before = found_before (eq_by_cmp name_cmp name word) (get view.repositories name) references (sym (get-remove name_total view.repositories word name) ∙ is) in
-    (sound.repositories name references before, sound.references name references before)))
+    (λ name repository is.
+    sound_each view sound name repository (found_before (eq_by_cmp name_cmp name word) (get view.repositories name) repository (sym (get-remove name_total view.repositories word name) ∙ is))))
     (still_right view (remove view.repositories word)))
     (λ _. refuses view (NoRepository word))
 
-copied_row : (view : View) (source copy : List ℕ) (o : Option References) → get view.repositories source ≡ o → IsRepositoryName copy → IsRow view (copied view source copy o)
+-- a new repository may stand
+new_stands : (objects : Objects) (word : List ℕ) → IsRepositoryName word → MayStand objects word new_repository
+new_stands objects word right = record { word = right; branch = main_right; sound = none_right objects }
+
+-- the same repository under another name
+copied_row : (view : View) (source copy : List ℕ) (o : Option Repository) → get view.repositories source ≡ o → IsRepositoryName copy → IsRow view (copied view source copy o)
 copied_row view source copy None is right = refuses view (NoRepository source)
-copied_row view source copy (Some references) is right = new_row view copy references right (λ sound. sound.references source references is)
+copied_row view source copy (Some repository) is right = added_row view copy repository (λ sound. record { word = right; branch = sound.heads source repository is; sound = sound.references source repository is })
 
 -- references stay right where objects come
 references_kept : (objects both : Objects) (references : References) → ((name : List ℕ) → contains_key objects name ≡ true → get both name ≡ get objects name) → AreReferences objects references → AreReferences both references
@@ -171,30 +193,33 @@ references_kept objects both references grown right = record {
   few = right.few;
 }
 
-still_few : (view : View) (word : List ℕ) (old new : References) → get view.repositories word ≡ Some old → len view.repositories ≤ 256 → len (insert view.repositories word new) ≤ 256
+still_few : (view : View) (word : List ℕ) (old new : Repository) → get view.repositories word ≡ Some old → len view.repositories ≤ 256 → len (insert view.repositories word new) ≤ 256
 still_few view word old new there few =
     subst (λ n. n ≤ 256) (sym (len-insert name_total view.repositories word new ∙ ap (λ b. cond b (len view.repositories) (len view.repositories + 1)) (ap is_some there))) few
 
 -- an accepted push leaves an orderly view
-pub orderly_pushed : (view : View) (word : List ℕ) (old new : References) (commands : List Command) (both : Objects) → ((name : List ℕ) → contains_key view.objects name ≡ true → get both name ≡ get view.objects name) → get view.repositories word ≡ Some old
-    → IsRepositoryName word → transacted old commands (kind_in both) ≡ Ok new → use_of both ≤ view.limit → IsOrderly view → IsOrderly (record view { repositories = insert view.repositories word new; objects = both })
+pub orderly_pushed : (view : View) (word : List ℕ) (old : Repository) (new : References) (commands : List Command) (both : Objects) → ((name : List ℕ) → contains_key view.objects name ≡ true → get both name ≡ get view.objects name) → get view.repositories word ≡ Some old
+    → IsRepositoryName word → transacted old.references commands (kind_in both) ≡ Ok new → use_of both ≤ view.limit → IsOrderly view
+    → IsOrderly (record view { repositories = insert view.repositories word (record old { references = new }); objects = both })
 orderly_pushed view word old new commands both grown there right carried within orderly =
-    let each = each_inserted both view.repositories word new right
-    (sound_transacted both old new commands (references_kept view.objects both old grown (orderly.references word old there)) carried)
-    (λ name references is. (orderly.repositories name references is, references_kept view.objects both references grown (orderly.references name references is))) in
+    let kept = λ (references : References). references_kept view.objects both references grown in
+    let each = each_inserted both view.repositories word (record old { references = new })
+    (other_references view word old new orderly there both (sound_transacted both old.references new commands (kept old.references (orderly.references word old there)) carried))
+    (λ name repository is. record { word = orderly.repositories name repository is; branch = orderly.heads name repository is; sound = kept repository.references (orderly.references name repository is) }) in
     record {
       upload = orderly.upload;
       within_limit = within;
       limit = orderly.limit;
-      few_repositories = still_few view word old new there orderly.few_repositories;
-      repositories = λ name references is. (each name references is).0;
-      references = λ name references is. (each name references is).1;
+      few_repositories = still_few view word old (record old { references = new }) there orderly.few_repositories;
+      repositories = λ name repository is. (each name repository is).word;
+      heads = λ name repository is. (each name repository is).branch;
+      references = λ name repository is. (each name repository is).sound;
     }
 
 -- and a right one
-right_pushed : (view : View) (word : List ℕ) (old new : References) (held : List Command × List Object) → AreObjects held.1
-    → IsAccepted (with_objects view.objects held.1) old view.limit (held.0, map object_name held.1) new → IsRight view
-    → IsRight (record view { repositories = insert view.repositories word new; objects = with_objects view.objects held.1 })
+right_pushed : (view : View) (word : List ℕ) (old : Repository) (new : References) (held : List Command × List Object) → AreObjects held.1
+    → IsAccepted (with_objects view.objects held.1) old.references view.limit (held.0, map object_name held.1) new → IsRight view
+    → IsRight (record view { repositories = insert view.repositories word (record old { references = new }); objects = with_objects view.objects held.1 })
 right_pushed view word old new held are accepted right = record {
   named = named_all view.objects held.1 right.named;
   right = right_both view.objects held.1 right.right are;
@@ -202,26 +227,26 @@ right_pushed view word old new held are accepted right = record {
   upload = right.upload;
 }
 
-taken_row : (view : View) (word : List ℕ) (objects : Objects) (value : Result References PushRefusal)
-    → ((new : References) → value ≡ Ok new → IsOrderly view → IsOrderly (record view { repositories = insert view.repositories word new; objects = objects }))
-    → ((new : References) → value ≡ Ok new → IsRight view → IsRight (record view { repositories = insert view.repositories word new; objects = objects })) → IsRow view (taken view word objects value)
-taken_row view word objects (Ok new) orderly right = Does [] refl (orderly new refl) (right new refl)
-taken_row view word objects (Err refusal) orderly right = refuses view (push_refusal refusal)
+taken_row : (view : View) (word : List ℕ) (old : Repository) (objects : Objects) (value : Result References PushRefusal)
+    → ((new : References) → value ≡ Ok new → IsOrderly view → IsOrderly (record view { repositories = insert view.repositories word (record old { references = new }); objects = objects }))
+    → ((new : References) → value ≡ Ok new → IsRight view → IsRight (record view { repositories = insert view.repositories word (record old { references = new }); objects = objects })) → IsRow view (taken view word old objects value)
+taken_row view word old objects (Ok new) orderly right = Does [] refl (orderly new refl) (right new refl)
+taken_row view word old objects (Err refusal) orderly right = refuses view (push_refusal refusal)
 
-faulty_row : (view : View) (word : List ℕ) (old : References) (fault : StreamFault) → IsRow view (pushed view word old (Err fault))
+faulty_row : (view : View) (word : List ℕ) (old : Repository) (fault : StreamFault) → IsRow view (pushed view word old (Err fault))
 unfolding judged
 faulty_row view word old fault = refuses view (push_refusal (Stream fault))
 
-pushed_row : (view : View) (word : List ℕ) (old : References) (held : Held) → get view.repositories word ≡ Some old → IsRepositoryName word → (IsRight view → AreHeld held) → IsRow view (pushed view word old held)
+pushed_row : (view : View) (word : List ℕ) (old : Repository) (held : Held) → get view.repositories word ≡ Some old → IsRepositoryName word → (IsRight view → AreHeld held) → IsRow view (pushed view word old held)
 pushed_row view word old (Ok held) there right are =
-    taken_row view word (with_objects view.objects held.1) (judged (with_objects view.objects held.1) old view.limit (Ok (held.0, map object_name held.1)))
+    taken_row view word old (with_objects view.objects held.1) (judged (with_objects view.objects held.1) old.references view.limit (Ok (held.0, map object_name held.1)))
     (λ new is orderly.
-    let told = accepted (with_objects view.objects held.1) old view.limit (held.0, map object_name held.1) new is in
+    let told = accepted (with_objects view.objects held.1) old.references view.limit (held.0, map object_name held.1) new is in
     orderly_pushed view word old new held.0 (with_objects view.objects held.1) (λ name seen. kept_all view.objects held.1 name seen) there right told.carried told.within orderly)
-    (λ new is was. right_pushed view word old new held (are was) (accepted (with_objects view.objects held.1) old view.limit (held.0, map object_name held.1) new is) was)
+    (λ new is was. right_pushed view word old new held (are was) (accepted (with_objects view.objects held.1) old.references view.limit (held.0, map object_name held.1) new is) was)
 pushed_row view word old (Err fault) there right are = faulty_row view word old fault
 
-into_row : (view : View) (word body : List ℕ) (o : Option References) → get view.repositories word ≡ o → IsRepositoryName word → IsRow view (push_into view word body o)
+into_row : (view : View) (word body : List ℕ) (o : Option Repository) → get view.repositories word ≡ o → IsRepositoryName word → IsRow view (push_into view word body o)
 into_row view word body None there right = refuses view (NoRepository word)
 into_row view word body (Some old) there right =
     either view (is_some view.upload) (Refused UploadOpen, view) (pushed view word old (finished (stream_of body))) (λ _. refuses view UploadOpen)
@@ -235,6 +260,7 @@ orderly_upload view upload few orderly = record {
   limit = orderly.limit;
   few_repositories = orderly.few_repositories;
   repositories = orderly.repositories;
+  heads = orderly.heads;
   references = orderly.references;
 }
 
@@ -264,12 +290,12 @@ part_row view body =
     (λ right. right_upload view (Some (continued (open_upload view.upload) body)) (λ value is.
     subst (λ (u : UploadValue). AreObjects (sent_in u.stream)) (some_same (continued (open_upload view.upload) body) value is) (continued_right (open_upload view.upload) body (open_right view.upload right.upload))) right))
 
-upload_row : (view : View) (word : List ℕ) (old : References) (o : Option UploadValue) → view.upload ≡ o → get view.repositories word ≡ Some old → IsRepositoryName word → IsRow view (upload_into view word old o)
+upload_row : (view : View) (word : List ℕ) (old : Repository) (o : Option UploadValue) → view.upload ≡ o → get view.repositories word ≡ Some old → IsRepositoryName word → IsRow view (upload_into view word old o)
 upload_row view word old None is there right = refuses view NoUpload
 upload_row view word old (Some upload) is there right =
     pushed_row view word old (finished upload.stream) there right (λ was. held_right upload.stream (was.upload upload is))
 
-end_row : (view : View) (word : List ℕ) (o : Option References) → get view.repositories word ≡ o → IsRepositoryName word → IsRow view (end_in view word o)
+end_row : (view : View) (word : List ℕ) (o : Option Repository) → get view.repositories word ≡ o → IsRepositoryName word → IsRow view (end_in view word o)
 end_row view word None there right = refuses view (NoRepository word)
 end_row view word (Some old) there right = upload_row view word old view.upload refl there right
 
@@ -283,45 +309,59 @@ unfolding part_drop_answer
 dropped_upload_row view =
     either view (is_some view.upload) (Done [], without_upload view) (Refused NoUpload, view) (λ _. Does [] refl (orderly_without view) (right_without view)) (λ _. refuses view NoUpload)
 
--- a repository that is there has other references
-with_references_row : (view : View) (word : List ℕ) (old : References) (value : Result References TxRefusal) → get view.repositories word ≡ Some old → IsRepositoryName word
-    → ((new : References) → value ≡ Ok new → IsOrderly view → AreReferences view.objects new) → IsRow view (with_references view word value)
-with_references_row view word old (Err refusal) there right right_new = refuses view (transaction_refusal refusal)
-with_references_row view word old (Ok new) there right right_new =
-    Does [] refl (λ sound. with_repositories view (insert view.repositories word new) sound
-    (subst (λ n. n ≤ 256) (sym (len-insert name_total view.repositories word new ∙ ap (λ b. cond b (len view.repositories) (len view.repositories + 1)) (ap is_some there))) sound.few_repositories)
-    (each_inserted view.objects view.repositories word new right (right_new new refl sound) (sound_each view sound)))
+-- another repository stands in the place of one that is there
+replaced_row : (view : View) (word : List ℕ) (old new : Repository) → get view.repositories word ≡ Some old → (IsOrderly view → MayStand view.objects word new) → IsRow view (Done [], record view { repositories = insert view.repositories word new })
+replaced_row view word old new there right_new =
+    Does [] refl (λ sound. with_repositories view (insert view.repositories word new) sound (still_few view word old new there sound.few_repositories)
+    (each_inserted view.objects view.repositories word new (right_new sound) (sound_each view sound)))
     (still_right view (insert view.repositories word new))
 
-carried_row : (view : View) (word : List ℕ) (old : References) (value : Result (List Command) CommandFault) → get view.repositories word ≡ Some old → IsRepositoryName word → IsRow view (carried_out view word old value)
-carried_row view word old (Err fault) there right = refuses view (command_refusal fault)
-carried_row view word old (Ok commands) there right =
-    with_references_row view word old (transacted old commands (kind_in view.objects)) there right
-    (λ new is sound. sound_transacted view.objects old new commands (sound.references word old there) is)
+-- a repository that is there has other references
+with_references_row : (view : View) (word : List ℕ) (old : Repository) (value : Result References TxRefusal) → get view.repositories word ≡ Some old
+    → ((new : References) → value ≡ Ok new → IsOrderly view → AreReferences view.objects new) → IsRow view (with_references view word old value)
+with_references_row view word old (Err refusal) there right_new = refuses view (transaction_refusal refusal)
+with_references_row view word old (Ok new) there right_new =
+    replaced_row view word old (record old { references = new }) there (λ sound. other_references view word old new sound there view.objects (right_new new refl sound))
 
-update_row : (view : View) (word body : List ℕ) (o : Option References) → get view.repositories word ≡ o → IsRepositoryName word → IsRow view (update_in view word body o)
-update_row view word body None there right = refuses view (NoRepository word)
-update_row view word body (Some old) there right = carried_row view word old (commands_of body) there right
+carried_row : (view : View) (word : List ℕ) (old : Repository) (value : Result (List Command) CommandFault) → get view.repositories word ≡ Some old → IsRow view (carried_out view word old value)
+carried_row view word old (Err fault) there = refuses view (command_refusal fault)
+carried_row view word old (Ok commands) there =
+    with_references_row view word old (transacted old.references commands (kind_in view.objects)) there
+    (λ new is sound. sound_transacted view.objects old.references new commands (sound.references word old there) is)
+
+update_row : (view : View) (word body : List ℕ) (o : Option Repository) → get view.repositories word ≡ o → IsRow view (update_in view word body o)
+update_row view word body None there = refuses view (NoRepository word)
+update_row view word body (Some old) there = carried_row view word old (commands_of body) there
+
+-- a repository that is there has another head
+with_head_row : (view : View) (word : List ℕ) (old : Repository) (reference : List ℕ) (o : Option (List ℕ)) → branch_in reference ≡ o → get view.repositories word ≡ Some old → IsRow view (with_head view word old reference o)
+with_head_row view word old reference None is there = refuses view (BadRef reference)
+with_head_row view word old reference (Some branch) is there =
+    replaced_row view word old (record old { head = branch }) there (λ sound. other_head view word old branch sound there (branch_right reference branch is))
+
+set_head_row : (view : View) (word reference : List ℕ) (o : Option Repository) → get view.repositories word ≡ o → IsRow view (set_head_in view word reference o)
+set_head_row view word reference None there = refuses view (NoRepository word)
+set_head_row view word reference (Some old) there = with_head_row view word old reference (branch_in reference) refl there
 
 -- a row that tells what was found, and leaves the view
 told_row : (view : View) (found : Result (List ℕ) Refusal) → IsRow view (told found, view)
 told_row view (Ok text) = Does text refl (λ was. was) (λ was. was)
 told_row view (Err refusal) = refuses view refusal
 
-over_row : (view : View) (word : List ℕ) (query : References → Result (List ℕ) Refusal) (o : Option References) → IsRow view (told_over word query o, view)
+over_row : (view : View) (word : List ℕ) (query : Repository → Result (List ℕ) Refusal) (o : Option Repository) → IsRow view (told_over word query o, view)
 over_row view word query None = refuses view (NoRepository word)
-over_row view word query (Some references) = told_row view (query references)
+over_row view word query (Some repository) = told_row view (query repository)
 
 few_row : (view : View) (many : Bool) (reply : Reply) → IsRow view (reply, view) → IsRow view (cond many (Refused TooMany) reply, view)
 few_row view true reply row = refuses view TooMany
 few_row view false reply row = row
 
-listing_row : (view : View) (word : List ℕ) (prefix : Option (List ℕ)) (o : Option References) → IsRow view (told_references view word prefix o, view)
+listing_row : (view : View) (word : List ℕ) (prefix : Option (List ℕ)) (o : Option Repository) → IsRow view (told_references view word prefix o, view)
 listing_row view word prefix None = refuses view (NoRepository word)
-listing_row view word prefix (Some references) = Does (listing view.objects references prefix) refl (λ was. was) (λ was. was)
+listing_row view word prefix (Some repository) = Does (listing view.objects repository.references prefix) refl (λ was. was) (λ was. was)
 
 -- where nothing goes at which a reference points, the view stays in order
-pub orderly_kept : (view : View) (kept : List ℕ → Bool) → ((word : List ℕ) (references : References) (reference target : List ℕ) → get view.repositories word ≡ Some references → get references reference ≡ Some target
+pub orderly_kept : (view : View) (kept : List ℕ → Bool) → ((word : List ℕ) (repository : Repository) (reference target : List ℕ) → get view.repositories word ≡ Some repository → get repository.references reference ≡ Some target
     → contains_key view.objects target ≡ true → kept target ≡ true) → IsOrderly view → IsOrderly (record view { objects = retain_keys view.objects kept })
 orderly_kept view kept stays orderly =
     let fits = use_of-kept view.objects kept in
@@ -332,7 +372,8 @@ orderly_kept view kept stays orderly =
       limit = orderly.limit;
       few_repositories = orderly.few_repositories;
       repositories = orderly.repositories;
-      references = λ word references is. references_right view.objects kept references (λ reference target points. stays word references reference target is points) (orderly.references word references is);
+      heads = orderly.heads;
+      references = λ word repository is. references_right view.objects kept repository.references (λ reference target points. stays word repository reference target is points) (orderly.references word repository is);
     }
 
 orderly_pruned : (view : View) → IsOrderly view → IsOrderly (pruned view)
@@ -340,7 +381,7 @@ orderly_pruned view orderly =
     let next = linked_names view.objects in
     let roots = targets_of view.repositories in
     orderly_kept view (is_reached next view.objects roots)
-    (λ word references reference target is points. root_reached next view.objects roots target (target_among view.repositories word references reference target is points)) orderly
+    (λ word repository reference target is points. root_reached next view.objects roots target (target_among view.repositories word repository reference target is points)) orderly
 
 -- where nothing goes that a reference reaches, it stays right
 right_pruned : (view : View) → IsRight view → IsRight (pruned view)
@@ -357,8 +398,8 @@ right_pruned view right =
 
 -- each answer is such a row
 pub answer_row : (view : View) (ask : Ask) → GoesTo view (left_by view ask) (answer view ask)
-unfolding answer init_answer drop_answer fork_answer push_answer part_end_answer update_answer cat_file_answer ls_tree_answer rev_list_answer merge_base_answer fetch_answer references_answer quota_answer prune_answer
-answer_row view (Inits word) = named_row view word (new_repository view word empty) (λ right. new_row view word empty right (λ _. none_right view.objects))
+unfolding answer init_answer drop_answer fork_answer push_answer part_end_answer update_answer set_head_answer cat_file_answer ls_tree_answer rev_list_answer merge_base_answer fetch_answer references_answer head_answer quota_answer prune_answer
+answer_row view (Inits word) = named_row view word (added view word new_repository) (λ right. added_row view word new_repository (λ _. new_stands view.objects word right))
 answer_row view (Drops word) = named_row view word (dropped view word) (λ _. dropped_row view word)
 answer_row view (Forks source copy) =
     named_row view source (named_repository view copy (copied view source copy (get view.repositories source))) (λ _.
@@ -369,16 +410,18 @@ answer_row view (EndsParts word) =
     ended_row view (named_repository view word (end_in view word (get view.repositories word)))
     (named_row view word (end_in view word (get view.repositories word)) (λ right. end_row view word (get view.repositories word) refl right))
 answer_row view DropsParts = dropped_upload_row view
-answer_row view (Updates word body) = named_row view word (update_in view word body (get view.repositories word)) (λ right. update_row view word body (get view.repositories word) refl right)
+answer_row view (Updates word body) = named_row view word (update_in view word body (get view.repositories word)) (λ _. update_row view word body (get view.repositories word) refl)
+answer_row view (SetsHead word reference) = named_row view word (set_head_in view word reference (get view.repositories word)) (λ _. set_head_row view word reference (get view.repositories word) refl)
 answer_row view (AsksObject name) = told_row view (object_told view.objects name)
 answer_row view (AsksTree name) = told_row view (tree_told view.objects name)
 answer_row view (AsksRevisions word items) =
-    named_row view word _ (λ _. few_row view (nat_lt 64 (length items)) _ (over_row view word (λ references. revisions_told view.objects references items) (get view.repositories word)))
-answer_row view (AsksBases word first second) = named_row view word _ (λ _. over_row view word (λ references. bases_told view.objects references first second) (get view.repositories word))
+    named_row view word _ (λ _. few_row view (nat_lt 64 (length items)) _ (over_row view word (λ repository. revisions_told view.objects repository items) (get view.repositories word)))
+answer_row view (AsksBases word first second) = named_row view word _ (λ _. over_row view word (λ repository. bases_told view.objects repository first second) (get view.repositories word))
 answer_row view (Fetches word items) =
-    named_row view word _ (λ _. few_row view (nat_lt 64 (length items)) _ (over_row view word (λ references. fetch_told view.objects references items) (get view.repositories word)))
+    named_row view word _ (λ _. few_row view (nat_lt 64 (length items)) _ (over_row view word (λ repository. fetch_told view.objects repository items) (get view.repositories word)))
 answer_row view (AsksReferences word prefix) =
     named_row view word (told_references view word prefix (get view.repositories word), view) (λ _. listing_row view word prefix (get view.repositories word))
+answer_row view (AsksHead word) = named_row view word _ (λ _. over_row view word (λ repository. Ok (head_told repository)) (get view.repositories word))
 answer_row view AsksUse = Does _ refl (λ was. was) (λ was. was)
 answer_row view Prunes = Does [] refl (orderly_pruned view) (right_pruned view)
 answer_row view NoRequest = refuses view BadRequest

@@ -3,6 +3,7 @@ use Rattle.std.proofs.Common.{◌≡◌, ℕ, Bool, true, false, cond, zero, suc
 use Rattle.std.specs.FinMap.{contains_key, get}
 use Rattle.std.specs.List.{AllByRecursion, concat}
 use Rattle.git_name.specs.Object.{Object}
+use Rattle.git_reftx.specs.Repository.{Repository}
 use Rattle.git_reftx.specs.Transaction.{References}
 use Rattle.push_stream.specs.Brief.{brief_of}
 use Rattle.push_stream.specs.Stream.{Stream, Flows, Breaks, finished, sent_in, stream_of}
@@ -36,30 +37,30 @@ either name false x y left right = right
 named_shows : (view : View) (name word : List ℕ) (row : Reply × View) → Shows name row → Shows name (named_repository view word row)
 named_shows view name word row done = either name (is_plain_name 64 word) row (Refused (BadName word), view) done (λ is. absurd (cc))
 
-taken_shows : (view : View) (name word : List ℕ) (objects : Objects) (verdict : Result References PushRefusal) → contains_key objects name ≡ true → Shows name (taken view word objects verdict)
-taken_shows view name word objects (Ok new) there is = there
-taken_shows view name word objects (Err refusal) there is = absurd (cc)
+taken_shows : (view : View) (name word : List ℕ) (old : Repository) (objects : Objects) (verdict : Result References PushRefusal) → contains_key objects name ≡ true → Shows name (taken view word old objects verdict)
+taken_shows view name word old objects (Ok new) there is = there
+taken_shows view name word old objects (Err refusal) there is = absurd (cc)
 
 -- what a stream holds that is taken
-pushed_shows : (view : View) (word : List ℕ) (old : References) (s : Stream) (name : List ℕ) (object : Object) → IsAmong (sent_in s) name object → Shows name (pushed view word old (finished s))
+pushed_shows : (view : View) (word : List ℕ) (old : Repository) (s : Stream) (name : List ℕ) (object : Object) → IsAmong (sent_in s) name object → Shows name (pushed view word old (finished s))
 unfolding judged
 pushed_shows view word old (Flows commands sent true []) name object among =
-    taken_shows view name word (with_objects view.objects sent) (judged (with_objects view.objects sent) old view.limit (brief_of (Ok (commands, sent))))
+    taken_shows view name word old (with_objects view.objects sent) (judged (with_objects view.objects sent) old.references view.limit (brief_of (Ok (commands, sent))))
     (subst (λ n. contains_key (with_objects view.objects sent) n ≡ true) among.named (came view.objects sent object among.sent))
 pushed_shows view word old (Flows commands sent true (b ∷ rest)) name object among = λ is. absurd (cc)
 pushed_shows view word old (Flows commands sent false rest) name object among = λ is. absurd (cc)
 pushed_shows view word old (Breaks fault) name object among = λ is. absurd (cc)
 
-into_shows : (view : View) (word body : List ℕ) (o : Option References) (name : List ℕ) (object : Object) → IsAmong (sent_in (stream_of body)) name object → Shows name (push_into view word body o)
+into_shows : (view : View) (word body : List ℕ) (o : Option Repository) (name : List ℕ) (object : Object) → IsAmong (sent_in (stream_of body)) name object → Shows name (push_into view word body o)
 into_shows view word body None name object among = λ is. absurd (cc)
 into_shows view word body (Some old) name object among =
     either name (is_some view.upload) (Refused UploadOpen, view) (pushed view word old (finished (stream_of body))) (λ is. absurd (cc)) (pushed_shows view word old (stream_of body) name object among)
 
-upload_shows : (view : View) (word : List ℕ) (old : References) (o : Option UploadValue) (name : List ℕ) (object : Object) → IsAmong (sent_in (open_upload o).stream) name object → Shows name (upload_into view word old o)
+upload_shows : (view : View) (word : List ℕ) (old : Repository) (o : Option UploadValue) (name : List ℕ) (object : Object) → IsAmong (sent_in (open_upload o).stream) name object → Shows name (upload_into view word old o)
 upload_shows view word old None name object among = λ is. absurd (cc)
 upload_shows view word old (Some upload) name object among = pushed_shows view word old upload.stream name object among
 
-end_shows : (view : View) (word : List ℕ) (o : Option References) (name : List ℕ) (object : Object) → IsAmong (sent_in (open_upload view.upload).stream) name object → Shows name (end_in view word o)
+end_shows : (view : View) (word : List ℕ) (o : Option Repository) (name : List ℕ) (object : Object) → IsAmong (sent_in (open_upload view.upload).stream) name object → Shows name (end_in view word o)
 end_shows view word None name object among = λ is. absurd (cc)
 end_shows view word (Some old) name object among = upload_shows view word old view.upload name object among
 

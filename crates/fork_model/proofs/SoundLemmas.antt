@@ -1,6 +1,6 @@
 -- Answers keep views in order, and right.
 use Rattle.std.proofs.Common.{sym, subst}
-use Rattle.fork_request.specs.Asked.{Ask, Inits, Drops, Forks, Pushes, SendsPart, EndsParts, DropsParts, Updates, AsksObject, AsksTree, AsksRevisions, AsksBases, AsksReferences, Fetches, AsksUse, Prunes, NoRequest}
+use Rattle.fork_request.specs.Asked.{Ask, Inits, Drops, Forks, Pushes, SendsPart, EndsParts, DropsParts, Updates, SetsHead, AsksObject, AsksTree, AsksRevisions, AsksBases, AsksReferences, AsksHead, Fetches, AsksUse, Prunes, NoRequest}
 use Rattle.fork_request.specs.declared.reply.Reply.{Reply}
 use Rattle.fork_model.specs.Answer.{answer, left_by, without_upload}
 use Rattle.fork_model.specs.Sound.{IsOrderly, IsRight}
@@ -17,12 +17,14 @@ left_holds P without view (SendsPart body) holds = holds
 left_holds P without view (EndsParts repository) holds = without view holds
 left_holds P without view DropsParts holds = holds
 left_holds P without view (Updates repository body) holds = holds
+left_holds P without view (SetsHead repository reference) holds = holds
 left_holds P without view (AsksObject name) holds = holds
 left_holds P without view (AsksTree name) holds = holds
 left_holds P without view (AsksRevisions repository items) holds = holds
 left_holds P without view (AsksBases repository first second) holds = holds
 left_holds P without view (Fetches repository items) holds = holds
 left_holds P without view (AsksReferences repository prefix) holds = holds
+left_holds P without view (AsksHead repository) holds = holds
 left_holds P without view AsksUse holds = holds
 left_holds P without view Prunes holds = holds
 left_holds P without view NoRequest holds = holds

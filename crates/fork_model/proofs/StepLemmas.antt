@@ -1,6 +1,6 @@
 -- What a tenant's step leaves as it was.
 use Rattle.std.proofs.Common.{◌≡◌, false, refl, sym, ap}
-use Rattle.fork_request.specs.Asked.{Ask, Inits, Drops, Forks, Pushes, SendsPart, EndsParts, DropsParts, Updates, AsksObject, AsksTree, AsksRevisions, AsksBases, AsksReferences, Fetches, AsksUse, Prunes, NoRequest}
+use Rattle.fork_request.specs.Asked.{Ask, Inits, Drops, Forks, Pushes, SendsPart, EndsParts, DropsParts, Updates, SetsHead, AsksObject, AsksTree, AsksRevisions, AsksBases, AsksReferences, AsksHead, Fetches, AsksUse, Prunes, NoRequest}
 use Rattle.fork_request.specs.Told.{is_done, is_host_fault}
 use Rattle.fork_request.specs.declared.reply.Reply.{Reply}
 use Rattle.fork_request.specs.declared.reply.Reply.TheVariants.{Done, Refused, Failed}
@@ -33,12 +33,14 @@ left_but_upload view (SendsPart body) = refl
 left_but_upload view (EndsParts repository) = refl
 left_but_upload view DropsParts = refl
 left_but_upload view (Updates repository body) = refl
+left_but_upload view (SetsHead repository reference) = refl
 left_but_upload view (AsksObject name) = refl
 left_but_upload view (AsksTree name) = refl
 left_but_upload view (AsksRevisions repository items) = refl
 left_but_upload view (AsksBases repository first second) = refl
 left_but_upload view (Fetches repository items) = refl
 left_but_upload view (AsksReferences repository prefix) = refl
+left_but_upload view (AsksHead repository) = refl
 left_but_upload view AsksUse = refl
 left_but_upload view Prunes = refl
 left_but_upload view NoRequest = refl

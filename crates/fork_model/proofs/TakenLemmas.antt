@@ -14,6 +14,7 @@ use Rattle.git_object.specs.ObjectIn.{links_in}
 use Rattle.git_reftx.specs.declared.fault.TxRefusal.TheVariants.{TooMany}
 use Rattle.git_reftx.specs.Known.{Kinds}
 use Rattle.git_reftx.specs.Transaction
+use Rattle.git_reftx.specs.Repository.{Repository}
 use Rattle.git_reftx.specs.Transaction.{References, least_upper, refusal_of, transacted}
 use Rattle.push_stream.specs.Stream.{finished, stream_of}
 use Rattle.fork_push.specs.declared.refusal.PushRefusal.TheVariants.{Missing, OverQuota, WrongType}
@@ -113,16 +114,16 @@ fetched_judged receiver sender wanted excluded old right has references =
     judged_met receiver.objects (received receiver.objects sender.objects wanted excluded) old receiver.limit (map object_name (fetched_objects sender.objects wanted excluded)) references
     (fetched_met receiver.objects sender wanted excluded right has)
 
-taken_by : (view : View) (word : List ℕ) (objects : Objects) (old : References) (over : Bool)
-    → taken view word objects (cond over (Err OverQuota) (Ok old)) ≡ cond over (Refused TooMuch, view) (Done [], record view { repositories = insert view.repositories word old; objects = objects })
+taken_by : (view : View) (word : List ℕ) (objects : Objects) (old : Repository) (over : Bool)
+    → taken view word old objects (cond over (Err OverQuota) (Ok old.references)) ≡ cond over (Refused TooMuch, view) (Done [], record view { repositories = insert view.repositories word old; objects = objects })
 taken_by view word objects old true = refl
 taken_by view word objects old false = refl
 
-pub fetched_pushed : (receiver sender : View) (wanted excluded : List (List ℕ)) (word : List ℕ) (old : References) → IsRight sender → AreSendable sender.objects → HasPrerequisites receiver.objects sender.objects excluded
-    → AreReferences receiver.objects old
+pub fetched_pushed : (receiver sender : View) (wanted excluded : List (List ℕ)) (word : List ℕ) (old : Repository) → IsRight sender → AreSendable sender.objects → HasPrerequisites receiver.objects sender.objects excluded
+    → AreReferences receiver.objects old.references
     → pushed receiver word old (finished (stream_of (10 ∷ fetched sender.objects wanted excluded))) ≡ within_quota receiver word old (received receiver.objects sender.objects wanted excluded)
 fetched_pushed receiver sender wanted excluded word old right sendable has references =
     let objects = received receiver.objects sender.objects wanted excluded in
     ap (λ s. pushed receiver word old (finished s)) (fetched_flow sender.objects wanted excluded right.right sendable)
-    ∙ ap (taken receiver word objects) (fetched_judged receiver sender wanted excluded old right has references)
+    ∙ ap (taken receiver word old objects) (fetched_judged receiver sender wanted excluded old.references right has references)
     ∙ taken_by receiver word objects old (nat_lt receiver.limit (use_of objects))

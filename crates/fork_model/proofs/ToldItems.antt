@@ -4,7 +4,8 @@ use Rattle.std.specs.Prelude.{nat_lt, map}
 use Rattle.std.specs.FinMap.{get}
 use Rattle.std.proofs.lemmas.Bool.Decides.{nat_tests}
 use Rattle.git_name.specs.Object.{Object}
-use Rattle.git_reftx.specs.Transaction.{References, is_commit}
+use Rattle.git_reftx.specs.Repository.{Repository}
+use Rattle.git_reftx.specs.Transaction.{is_commit}
 use Rattle.fork_reach.specs.Source.{Objects, kind_in}
 use Rattle.fork_query.specs.Fetch.{fetched_of}
 use Rattle.fork_query.specs.Items.{commit_of, commit_of_item, found_commit, found_name, named_by, object_of_item}
@@ -24,18 +25,18 @@ use Rattle.fork_model.specs.Missing.{InRepository, LacksItem}
 use Rattle.fork_model.specs.View.{View}
 
 -- the item that decided
-pub item_of : (objects : Objects) (references : References) (judge : List ℕ → Result (List ℕ) Refusal) (items : List (List ℕ)) (name : List ℕ)
-    → ((item : List ℕ) → judge item ≡ Err (Missing name) → (named_by references item ≡ Some name) × (get objects name ≡ None))
-    → selected judge items ≡ Err (Missing name) → LacksItem objects references judge (map bare items) name
-item_of objects references judge [] name names is = absurd (cc)
-item_of objects references judge (one ∷ items) name names is = by (judge (bare one)) refl is (item_of objects references judge items name names)
+pub item_of : (objects : Objects) (repository : Repository) (judge : List ℕ → Result (List ℕ) Refusal) (items : List (List ℕ)) (name : List ℕ)
+    → ((item : List ℕ) → judge item ≡ Err (Missing name) → (named_by repository item ≡ Some name) × (get objects name ≡ None))
+    → selected judge items ≡ Err (Missing name) → LacksItem objects repository judge (map bare items) name
+item_of objects repository judge [] name names is = absurd (cc)
+item_of objects repository judge (one ∷ items) name names is = by (judge (bare one)) refl is (item_of objects repository judge items name names)
   where
     further : (r : Result Selection Refusal) (n : List ℕ) → with_rest (is_excluded one) n r ≡ Err (Missing name) → r ≡ Err (Missing name)
     further (Ok selection) n tells = absurd (cc)
     further (Err refusal) n tells = tells
 
     by : (r : Result (List ℕ) Refusal) → judge (bare one) ≡ r → with_item (is_excluded one) r (selected judge items) ≡ Err (Missing name)
-        → (selected judge items ≡ Err (Missing name) → LacksItem objects references judge (map bare items) name) → LacksItem objects references judge (map bare (one ∷ items)) name
+        → (selected judge items ≡ Err (Missing name) → LacksItem objects repository judge (map bare items) name) → LacksItem objects repository judge (map bare (one ∷ items)) name
     by (Ok n) at tells rest =
         let lacks = rest (further (selected judge items) n tells) in
         record {
@@ -50,19 +51,19 @@ item_of objects references judge (one ∷ items) name names is = by (judge (bare
         record { item = bare one; first = record { before = []; behind = map bare items; parts = refl; passed = tt }; named = found.0; unseen = found.1 }
 
 -- an item that is missing names what is not seen
-pub unseen_of : (objects : Objects) (references : References) (name item : List ℕ) → object_of_item objects references item ≡ Err (Missing name) → (named_by references item ≡ Some name) × (get objects name ≡ None)
-unseen_of objects references name item is = by (named_by references item) refl is
+pub unseen_of : (objects : Objects) (repository : Repository) (name item : List ℕ) → object_of_item objects repository item ≡ Err (Missing name) → (named_by repository item ≡ Some name) × (get objects name ≡ None)
+unseen_of objects repository name item is = by (named_by repository item) refl is
   where
     at : (n : List ℕ) (o : Option Object) → get objects n ≡ o → ◌≡◌ {A = Result (List ℕ) Refusal} (cond (is_some o) (Ok n) (Err (Missing n))) (Err (Missing name)) → (Some n ≡ Some name) × (get objects name ≡ None)
     at n None absent tells = (let same : n ≡ name = cc in (ap Some same, ap (get objects) (sym same) ∙ absent))
     at n (Some object) there tells = absurd (cc)
 
-    by : (o : Option (List ℕ)) → named_by references item ≡ o → found_name objects item o ≡ Err (Missing name) → (named_by references item ≡ Some name) × (get objects name ≡ None)
+    by : (o : Option (List ℕ)) → named_by repository item ≡ o → found_name objects item o ≡ Err (Missing name) → (named_by repository item ≡ Some name) × (get objects name ≡ None)
     by None named tells = absurd (cc)
     by (Some n) named tells = (let found = at n (get objects n) refl tells in (named ∙ found.0, found.1))
 
-pub commit_unseen_of : (objects : Objects) (references : References) (name item : List ℕ) → commit_of_item objects references item ≡ Err (Missing name) → (named_by references item ≡ Some name) × (get objects name ≡ None)
-commit_unseen_of objects references name item is = by (object_of_item objects references item) refl is
+pub commit_unseen_of : (objects : Objects) (repository : Repository) (name item : List ℕ) → commit_of_item objects repository item ≡ Err (Missing name) → (named_by repository item ≡ Some name) × (get objects name ≡ None)
+commit_unseen_of objects repository name item is = by (object_of_item objects repository item) refl is
   where
     no_commit : (n end : List ℕ) (b : Bool) → ◌≡◌ {A = Result (List ℕ) Refusal} (cond b (Ok end) (Err (NotACommit n))) (Err (Missing name)) → ⊥
     no_commit n end true tells = cc
@@ -72,26 +73,26 @@ commit_unseen_of objects references name item is = by (object_of_item objects re
     never n None tells = cc
     never n (Some end) tells = no_commit n end (is_commit (kind_in objects end)) tells
 
-    by : (r : Result (List ℕ) Refusal) → object_of_item objects references item ≡ r → commit_of objects r ≡ Err (Missing name) → (named_by references item ≡ Some name) × (get objects name ≡ None)
+    by : (r : Result (List ℕ) Refusal) → object_of_item objects repository item ≡ r → commit_of objects r ≡ Err (Missing name) → (named_by repository item ≡ Some name) × (get objects name ≡ None)
     by (Ok n) at tells = absurd (never n (peeled objects n) tells)
-    by (Err refusal) at tells = unseen_of objects references name item (at ∙ tells)
+    by (Err refusal) at tells = unseen_of objects repository name item (at ∙ tells)
 
 -- a row that tells what was found tells a refusal of it
 pub refused_of : (r : Result (List ℕ) Refusal) (refusal : Refusal) → told r ≡ Refused refusal → r ≡ Err refusal
 refused_of (Ok text) refusal is = absurd (cc)
 refused_of (Err other) refusal is = (let same : other ≡ refusal = cc in ap Err same)
 
--- a row over the references of a repository
-pub in_repository_of : (view : View) (repository name : List ℕ) (Holds : References → Type 0) (row : Option References → Reply × View) → ((row None).0 ≡ Refused (Missing name) → ⊥)
-    → ((references : References) → (row (Some references)).0 ≡ Refused (Missing name) → Holds references) → (named_repository view repository (row (get view.repositories repository))).0 ≡ Refused (Missing name) → InRepository view repository Holds
-in_repository_of view repository name Holds row none each is = by (is_plain_name 64 repository) refl is
+-- a row over a repository
+pub in_repository_of : (view : View) (word name : List ℕ) (Holds : Repository → Type 0) (row : Option Repository → Reply × View) → ((row None).0 ≡ Refused (Missing name) → ⊥)
+    → ((repository : Repository) → (row (Some repository)).0 ≡ Refused (Missing name) → Holds repository) → (named_repository view word (row (get view.repositories word))).0 ≡ Refused (Missing name) → InRepository view word Holds
+in_repository_of view word name Holds row none each is = by (is_plain_name 64 word) refl is
   where
-    at : is_plain_name 64 repository ≡ true → (o : Option References) → get view.repositories repository ≡ o → (row o).0 ≡ Refused (Missing name) → InRepository view repository Holds
+    at : is_plain_name 64 word ≡ true → (o : Option Repository) → get view.repositories word ≡ o → (row o).0 ≡ Refused (Missing name) → InRepository view word Holds
     at plain None absent tells = absurd (none tells)
-    at plain (Some references) found tells = record { named = plain; references = references; found = found; holds = each references tells }
+    at plain (Some repository) found tells = record { named = plain; repository = repository; found = found; holds = each repository tells }
 
-    by : (b : Bool) → is_plain_name 64 repository ≡ b → (cond b (row (get view.repositories repository)) (Refused (BadName repository), view)).0 ≡ Refused (Missing name) → InRepository view repository Holds
-    by true plain tells = at plain (get view.repositories repository) refl tells
+    by : (b : Bool) → is_plain_name 64 word ≡ b → (cond b (row (get view.repositories word)) (Refused (BadName word), view)).0 ≡ Refused (Missing name) → InRepository view word Holds
+    by true plain tells = at plain (get view.repositories word) refl tells
     by false plain tells = absurd (cc)
 
 pub few_of : (items : List (List ℕ)) (reply : Reply) (name : List ℕ) → few_items items reply ≡ Refused (Missing name) → (length items ≤ 64) × (reply ≡ Refused (Missing name))
@@ -110,18 +111,18 @@ fetched_selected (Ok selection) objects name is = absurd (cc)
 fetched_selected (Err refusal) objects name is = (let same : refusal ≡ Missing name = cc in ap Err same)
 
 -- of both words of `merge-base` the one that decided
-pub bases_lack_of : (objects : Objects) (references : References) (a b name : List ℕ) → bases_told objects references a b ≡ Err (Missing name) → LacksItem objects references (commit_of_item objects references) (a ∷ b ∷ []) name
+pub bases_lack_of : (objects : Objects) (repository : Repository) (a b name : List ℕ) → bases_told objects repository a b ≡ Err (Missing name) → LacksItem objects repository (commit_of_item objects repository) (a ∷ b ∷ []) name
 unfolding bases_told
-bases_lack_of objects references a b name is = by (commit_of_item objects references a) (commit_of_item objects references b) refl refl is
+bases_lack_of objects repository a b name is = by (commit_of_item objects repository a) (commit_of_item objects repository b) refl refl is
   where
-    by : (first second : Result (List ℕ) Refusal) → commit_of_item objects references a ≡ first → commit_of_item objects references b ≡ second → bases_of objects first second ≡ Err (Missing name)
-        → LacksItem objects references (commit_of_item objects references) (a ∷ b ∷ []) name
+    by : (first second : Result (List ℕ) Refusal) → commit_of_item objects repository a ≡ first → commit_of_item objects repository b ≡ second → bases_of objects first second ≡ Err (Missing name)
+        → LacksItem objects repository (commit_of_item objects repository) (a ∷ b ∷ []) name
     by (Ok one) (Ok other) at_a at_b tells = absurd (cc)
     by (Ok one) (Err refusal) at_a at_b tells =
-        let found = commit_unseen_of objects references name b (at_b ∙ tells) in
+        let found = commit_unseen_of objects repository name b (at_b ∙ tells) in
         record { item = b; first = record { before = a ∷ []; behind = []; parts = refl; passed = (ap is_ok at_a, tt) }; named = found.0; unseen = found.1 }
     by (Err refusal) second at_a at_b tells =
-        let found = commit_unseen_of objects references name a (at_a ∙ tells) in
+        let found = commit_unseen_of objects repository name a (at_a ∙ tells) in
         record { item = a; first = record { before = []; behind = b ∷ []; parts = refl; passed = tt }; named = found.0; unseen = found.1 }
 
 pub object_of : (objects : Objects) (asked name : List ℕ) (o : Option Object) → get objects asked ≡ o → told (record_found asked o) ≡ Refused (Missing name) → (asked ≡ name) × (get objects name ≡ None)

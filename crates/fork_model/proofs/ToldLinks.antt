@@ -8,6 +8,7 @@ use Rattle.git_name.specs.Object.{Object, object_name}
 use Rattle.git_object.specs.declared.link.Link.{Link}
 use Rattle.git_reftx.specs.declared.command.Command.{Command}
 use Rattle.git_reftx.specs.declared.fault.TxRefusal.{TxRefusal}
+use Rattle.git_reftx.specs.Repository.{Repository}
 use Rattle.git_reftx.specs.Transaction.{References, transacted}
 use Rattle.push_stream.specs.declared.fault.StreamFault.{StreamFault}
 use Rattle.push_stream.specs.declared.fault.StreamFault.TheVariants as stream
@@ -97,30 +98,30 @@ sent_of objects old limit commands sent refusal name is word =
         Pointed (ap (λ o. option_or (option_map (λ (link : Link). push.Missing link.name) o) (wrong_type both links)) missing_is ∙ ap (option_map (λ (link : Link). push.WrongType link.name)) wrong_is)
         (transacted_of objects sent old commands at.0 name at.1 at.2)
 
-pushed_of : (view : View) (repository : List ℕ) (old : References) (s : Stream) (name : List ℕ) → (pushed view repository old (finished s)).0 ≡ Refused (Missing name) → LacksInStream view.objects s name
+pushed_of : (view : View) (repository : List ℕ) (old : Repository) (s : Stream) (name : List ℕ) → (pushed view repository old (finished s)).0 ≡ Refused (Missing name) → LacksInStream view.objects s name
 unfolding judged
 pushed_of view repository old s name is = by (finished s) refl is
   where
-    by_verdict : (objects : Objects) (r : Result References PushRefusal) → (taken view repository objects r).0 ≡ Refused (Missing name) → (refusal : PushRefusal) × (r ≡ Err refusal) × (push_refusal refusal ≡ Missing name)
+    by_verdict : (objects : Objects) (r : Result References PushRefusal) → (taken view repository old objects r).0 ≡ Refused (Missing name) → (refusal : PushRefusal) × (r ≡ Err refusal) × (push_refusal refusal ≡ Missing name)
     by_verdict objects (Ok new) tells = absurd (cc)
     by_verdict objects (Err refusal) tells = (refusal, refl, cc)
 
     by : (held : Held) → finished s ≡ held → (pushed view repository old held).0 ≡ Refused (Missing name) → LacksInStream view.objects s name
     by (Ok held) whole tells =
-        let verdict = by_verdict (with_objects view.objects held.1) (judged (with_objects view.objects held.1) old view.limit (Ok (held.0, map object_name held.1))) tells in
-        record { commands = held.0; sent = held.1; whole = whole; lacks = sent_of view.objects old view.limit held.0 held.1 verdict.0 name verdict.1 verdict.2 }
+        let verdict = by_verdict (with_objects view.objects held.1) (judged (with_objects view.objects held.1) old.references view.limit (Ok (held.0, map object_name held.1))) tells in
+        record { commands = held.0; sent = held.1; whole = whole; lacks = sent_of view.objects old.references view.limit held.0 held.1 verdict.0 name verdict.1 verdict.2 }
     by (Err fault) whole tells =
         let words : stream_refusal fault ≡ Missing name = cc in
         absurd (stream_word fault name words)
 
-pub push_of : (view : View) (repository : List ℕ) (old : References) (body name : List ℕ) → (push_into view repository body (Some old)).0 ≡ Refused (Missing name) → (view.upload ≡ None) × LacksInStream view.objects (stream_of body) name
+pub push_of : (view : View) (repository : List ℕ) (old : Repository) (body name : List ℕ) → (push_into view repository body (Some old)).0 ≡ Refused (Missing name) → (view.upload ≡ None) × LacksInStream view.objects (stream_of body) name
 push_of view repository old body name is = by view.upload refl is
   where
     by : (o : Option UploadValue) → view.upload ≡ o → (cond (is_some o) (Refused UploadOpen, view) (pushed view repository old (finished (stream_of body)))).0 ≡ Refused (Missing name) → (view.upload ≡ None) × LacksInStream view.objects (stream_of body) name
     by None closed tells = (closed, pushed_of view repository old (stream_of body) name tells)
     by (Some upload) opened tells = absurd (cc)
 
-pub upload_of_end : (view : View) (repository : List ℕ) (old : References) (name : List ℕ) → (upload_into view repository old view.upload).0 ≡ Refused (Missing name) → LacksInUpload view.objects view.upload name
+pub upload_of_end : (view : View) (repository : List ℕ) (old : Repository) (name : List ℕ) → (upload_into view repository old view.upload).0 ≡ Refused (Missing name) → LacksInUpload view.objects view.upload name
 upload_of_end view repository old name is = by view.upload refl is
   where
     by : (o : Option UploadValue) → view.upload ≡ o → (upload_into view repository old o).0 ≡ Refused (Missing name) → LacksInUpload view.objects view.upload name

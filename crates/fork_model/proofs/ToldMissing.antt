@@ -1,22 +1,23 @@
 -- `missing` is told for no other reason than that the tenant lacks what it names.
-use Rattle.std.proofs.Common.{◌≡◌, ℕ, ◌+◌, Bool, true, false, cond, List, [], Option, None, Some, is_some, refl, sym, ap, ◌∙◌, length}
+use Rattle.std.proofs.Common.{◌≡◌, ℕ, ◌+◌, Bool, true, false, cond, List, [], Option, None, Some, is_some, refl, sym, ap, ◌∙◌, length, Ok}
 use Rattle.std.specs.Prelude.{nat_le, nat_lt}
-use Rattle.std.specs.FinMap.{get, contains_key, empty, insert, len, remove}
-use Rattle.git_reftx.specs.Transaction.{References}
+use Rattle.std.specs.FinMap.{get, contains_key, insert, len, remove}
+use Rattle.git_reftx.specs.Repository.{Repository, branch_in, new_repository}
 use Rattle.push_stream.specs.Upload.{continued}
 use Rattle.fork_query.specs.Fetch.{fetch_told}
+use Rattle.fork_query.specs.Head.{head_told}
 use Rattle.fork_query.specs.Items.{commit_of_item, object_of_item}
 use Rattle.fork_query.specs.MergeBase.{bases_told}
 use Rattle.fork_query.specs.Objects.{object_told}
 use Rattle.fork_query.specs.RevList.{revisions_told}
 use Rattle.fork_query.specs.Trees.{entries_at_end, tree_told}
 use Rattle.fork_query.specs.Peel.{peeled}
-use Rattle.fork_request.specs.Asked.{Ask, Inits, Drops, Forks, Pushes, SendsPart, EndsParts, DropsParts, Updates, AsksObject, AsksTree, AsksRevisions, AsksBases, AsksReferences, Fetches, AsksUse, Prunes, NoRequest}
+use Rattle.fork_request.specs.Asked.{Ask, Inits, Drops, Forks, Pushes, SendsPart, EndsParts, DropsParts, Updates, SetsHead, AsksObject, AsksTree, AsksRevisions, AsksBases, AsksReferences, AsksHead, Fetches, AsksUse, Prunes, NoRequest}
 use Rattle.fork_request.specs.Names.{is_plain_name}
 use Rattle.fork_request.specs.declared.refusal.Refusal.TheVariants.{BadName, Missing, NoRepository, NoUpload, RepositoryExists, StagedTooLong, TooMany}
 use Rattle.fork_request.specs.declared.reply.Reply.{Reply}
 use Rattle.fork_request.specs.declared.reply.Reply.TheVariants.{Done, Refused}
-use Rattle.fork_model.specs.Answer.{answer, init_answer, drop_answer, fork_answer, push_answer, part_answer, part_end_answer, part_drop_answer, update_answer, cat_file_answer, ls_tree_answer, rev_list_answer, merge_base_answer, fetch_answer, references_answer, quota_answer, prune_answer, copied, end_in, few_items, named_repository, new_repository, open_upload, push_into, told_over, told_references, update_in, without_upload}
+use Rattle.fork_model.specs.Answer.{answer, init_answer, drop_answer, fork_answer, push_answer, part_answer, part_end_answer, part_drop_answer, update_answer, set_head_answer, cat_file_answer, ls_tree_answer, rev_list_answer, merge_base_answer, fetch_answer, references_answer, head_answer, quota_answer, prune_answer, copied, end_in, few_items, named_repository, added, open_upload, push_into, told_over, told_references, update_in, without_upload, set_head_in, with_head}
 use Rattle.fork_model.specs.Missing.{IsMissing}
 use Rattle.fork_model.specs.Runs.{Asks, Answered, Unknown, Faulted}
 use Rattle.fork_model.specs.View.{View}
@@ -33,21 +34,33 @@ either : (name : List ℕ) (b : Bool) (x y : Reply × View) → Never name x →
 either name true x y left right = left
 either name false x y left right = right
 
-new_row : (view : View) (name word : List ℕ) (references : References) → Never name (new_repository view word references)
-new_row view name word references =
+added_row : (view : View) (name word : List ℕ) (repository : Repository) → Never name (added view word repository)
+added_row view name word repository =
     either name (contains_key view.repositories word) (Refused (RepositoryExists word), view) _ (λ is. cc)
-    (either name (nat_le 256 (len view.repositories)) (Refused TooMany, view) (Done [], record view { repositories = insert view.repositories word references }) (λ is. cc) (λ is. cc))
+    (either name (nat_le 256 (len view.repositories)) (Refused TooMany, view) (Done [], record view { repositories = insert view.repositories word repository }) (λ is. cc) (λ is. cc))
 
-copied_row : (view : View) (name source copy : List ℕ) (o : Option References) → Never name (copied view source copy o)
+copied_row : (view : View) (name source copy : List ℕ) (o : Option Repository) → Never name (copied view source copy o)
 copied_row view name source copy None is = cc
-copied_row view name source copy (Some references) is = new_row view name copy references is
+copied_row view name source copy (Some repository) is = added_row view name copy repository is
+
+with_head_row : (view : View) (name word : List ℕ) (old : Repository) (reference : List ℕ) (o : Option (List ℕ)) → Never name (with_head view word old reference o)
+with_head_row view name word old reference None is = cc
+with_head_row view name word old reference (Some branch) is = cc
+
+set_head_row : (view : View) (name word reference : List ℕ) (o : Option Repository) → Never name (set_head_in view word reference o)
+set_head_row view name word reference None is = cc
+set_head_row view name word reference (Some old) is = with_head_row view name word old reference (branch_in reference) is
+
+head_row : (name word : List ℕ) (o : Option Repository) → told_over word (λ repository. Ok (head_told repository)) o ≡ Refused (Missing name) → ⊥
+head_row name word None is = cc
+head_row name word (Some repository) is = cc
 
 named_never : (view : View) (name word : List ℕ) (row : Reply × View) → Never name row → Never name (named_repository view word row)
 named_never view name word row done = either name (is_plain_name 64 word) row (Refused (BadName word), view) done (λ is. cc)
 
-references_row : (view : View) (name word : List ℕ) (prefix : Option (List ℕ)) (o : Option References) → told_references view word prefix o ≡ Refused (Missing name) → ⊥
+references_row : (view : View) (name word : List ℕ) (prefix : Option (List ℕ)) (o : Option Repository) → told_references view word prefix o ≡ Refused (Missing name) → ⊥
 references_row view name word prefix None is = cc
-references_row view name word prefix (Some references) is = cc
+references_row view name word prefix (Some repository) is = cc
 
 part_row : (view : View) (name body : List ℕ) → Never name (part_answer view body)
 unfolding part_answer
@@ -59,11 +72,11 @@ part_drop_row view name = either name (is_some view.upload) (Done [], without_up
 
 -- request by request
 pub missing_of : (view : View) (name : List ℕ) (ask : Ask) → (answer view ask).0 ≡ Refused (Missing name) → IsMissing view name ask
-unfolding answer init_answer drop_answer fork_answer push_answer part_end_answer update_answer cat_file_answer ls_tree_answer rev_list_answer merge_base_answer fetch_answer references_answer quota_answer prune_answer object_told tree_told revisions_told fetch_told
+unfolding answer init_answer drop_answer fork_answer push_answer part_end_answer update_answer set_head_answer cat_file_answer ls_tree_answer rev_list_answer merge_base_answer fetch_answer references_answer head_answer quota_answer prune_answer object_told tree_told revisions_told fetch_told
 missing_of view name (AsksObject asked) is = object_of view.objects asked name (get view.objects asked) refl is
 missing_of view name (AsksTree asked) is = tree_of view.objects asked name (entries_at_end view.objects (peeled view.objects asked)) (get view.objects asked) refl is
 missing_of view name (AsksRevisions repository items) is =
-    in_repository_of view repository name _ (λ o. (few_items items (told_over repository (λ references. revisions_told view.objects references items) o), view)) (λ tells. absent_few items _ tells)
+    in_repository_of view repository name _ (λ o. (few_items items (told_over repository (λ r. revisions_told view.objects r items) o), view)) (λ tells. absent_few items _ tells)
     (λ references tells. (
     let few = few_of items _ name tells in (
       few.0,
@@ -74,10 +87,10 @@ missing_of view name (AsksRevisions repository items) is =
     absent_few : (xs : List (List ℕ)) (word : List ℕ) → few_items xs (Refused (NoRepository word)) ≡ Refused (Missing name) → ⊥
     absent_few xs word tells = (let few = few_of xs (Refused (NoRepository word)) name tells in let words = few.1 in cc)
 missing_of view name (AsksBases repository first second) is =
-    in_repository_of view repository name _ (λ o. (told_over repository (λ references. bases_told view.objects references first second) o, view)) (λ tells. cc)
+    in_repository_of view repository name _ (λ o. (told_over repository (λ r. bases_told view.objects r first second) o, view)) (λ tells. cc)
     (λ references tells. bases_lack_of view.objects references first second name (refused_of _ (Missing name) tells)) is
 missing_of view name (Fetches repository items) is =
-    in_repository_of view repository name _ (λ o. (few_items items (told_over repository (λ references. fetch_told view.objects references items) o), view)) (λ tells. absent_few items _ tells)
+    in_repository_of view repository name _ (λ o. (few_items items (told_over repository (λ r. fetch_told view.objects r items) o), view)) (λ tells. absent_few items _ tells)
     (λ references tells. (
     let few = few_of items _ name tells in (
       few.0,
@@ -90,13 +103,15 @@ missing_of view name (Fetches repository items) is =
 missing_of view name (Updates repository body) is = in_repository_of view repository name _ (update_in view repository body) (λ tells. cc) (λ references tells. moved_of view repository references body name tells) is
 missing_of view name (Pushes repository body) is = in_repository_of view repository name _ (push_into view repository body) (λ tells. cc) (λ references tells. push_of view repository references body name tells) is
 missing_of view name (EndsParts repository) is = in_repository_of view repository name _ (end_in view repository) (λ tells. cc) (λ references tells. upload_of_end view repository references name tells) is
-missing_of view name (Inits word) is = named_never view name word _ (new_row view name word empty) is
+missing_of view name (Inits word) is = named_never view name word _ (added_row view name word new_repository) is
 missing_of view name (Drops word) is =
     named_never view name word _ (either name (contains_key view.repositories word) (Done [], record view { repositories = remove view.repositories word }) (Refused (NoRepository word), view) (λ tells. cc) (λ tells. cc)) is
 missing_of view name (Forks source copy) is = named_never view name source _ (named_never view name copy _ (copied_row view name source copy (get view.repositories source))) is
 missing_of view name (SendsPart body) is = part_row view name body is
 missing_of view name DropsParts is = part_drop_row view name is
 missing_of view name (AsksReferences word prefix) is = named_never view name word _ (references_row view name word prefix (get view.repositories word)) is
+missing_of view name (SetsHead word reference) is = named_never view name word _ (set_head_row view name word reference (get view.repositories word)) is
+missing_of view name (AsksHead word) is = named_never view name word _ (head_row name word (get view.repositories word)) is
 missing_of view name AsksUse is = cc
 missing_of view name Prunes is = cc
 missing_of view name NoRequest is = cc

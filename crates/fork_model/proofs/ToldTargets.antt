@@ -15,6 +15,7 @@ use Rattle.git_reftx.specs.declared.fault.TxRefusal.{TxRefusal}
 use Rattle.git_reftx.specs.declared.fault.TxRefusal.TheVariants as tx
 use Rattle.git_reftx.specs.Known.{Kinds}
 use Rattle.git_reftx.specs.Reading.{commands_of}
+use Rattle.git_reftx.specs.Repository.{Repository}
 use Rattle.git_reftx.specs.Transaction.{References, bad_ref, changed, conflict, first_refusal, is_branch, meets, missing_object, not_a_commit, ref_conflict, refusal_of, repeated_ref, stale, too_many, transacted, unless_refused}
 use Rattle.fork_reach.specs.Objects.{with_objects}
 use Rattle.fork_reach.specs.Source.{Objects, kind_in}
@@ -176,15 +177,15 @@ command_word command.Syntax name is = cc
 command_word command.TooMany name is = cc
 command_word command.Truncated name is = cc
 
-pub moved_of : (view : View) (repository : List ℕ) (old : References) (body name : List ℕ) → (carried_out view repository old (commands_of body)).0 ≡ Refused (Missing name) → LacksInBody view.objects body name
-moved_of view repository old body name is = by (commands_of body) refl is
+pub moved_of : (view : View) (word : List ℕ) (old : Repository) (body name : List ℕ) → (carried_out view word old (commands_of body)).0 ≡ Refused (Missing name) → LacksInBody view.objects body name
+moved_of view word old body name is = by (commands_of body) refl is
   where
-    done : (commands : List Command) (r : Result References TxRefusal) → transacted old commands (kind_in view.objects) ≡ r → (with_references view repository r).0 ≡ Refused (Missing name) → LacksTarget view.objects [] commands name
+    done : (commands : List Command) (r : Result References TxRefusal) → transacted old.references commands (kind_in view.objects) ≡ r → (with_references view word old r).0 ≡ Refused (Missing name) → LacksTarget view.objects [] commands name
     done commands (Ok new) at tells = absurd (cc)
-    done commands (Err refusal) at tells = transacted_of view.objects [] old commands refusal name at (cc)
+    done commands (Err refusal) at tells = transacted_of view.objects [] old.references commands refusal name at (cc)
 
-    by : (r : Result (List Command) CommandFault) → commands_of body ≡ r → (carried_out view repository old r).0 ≡ Refused (Missing name) → LacksInBody view.objects body name
-    by (Ok commands) read tells = record { commands = commands; read = read; lacks = done commands (transacted old commands (kind_in view.objects)) refl tells }
+    by : (r : Result (List Command) CommandFault) → commands_of body ≡ r → (carried_out view word old r).0 ≡ Refused (Missing name) → LacksInBody view.objects body name
+    by (Ok commands) read tells = record { commands = commands; read = read; lacks = done commands (transacted old.references commands (kind_in view.objects)) refl tells }
     by (Err fault) read tells =
         let words : command_refusal fault ≡ Missing name = cc in
         absurd (command_word fault name words)

@@ -4,7 +4,7 @@ use Rattle.fork_request.specs.declared.name.TheConstants.{MAX_REPOSITORY_NAME}
 use Rattle.push_stream.specs.declared.upload.TheConstants.{MAX_UPLOAD}
 use Rattle.fork_model.specs.declared.limits.TheConstants.{MAX_ITEMS, MAX_REPOSITORIES}
 use Rattle.std.specs.List.{flat_map}
-use Rattle.std.specs.FinMap.{get, insert, remove, contains_key, len, empty, retain_keys, values}
+use Rattle.std.specs.FinMap.{get, insert, remove, contains_key, len, retain_keys, values}
 use Rattle.git_name.specs.Object.{Object}
 use Rattle.git_reftx.specs.declared.command.Command.{Command}
 use Rattle.git_reftx.specs.declared.fault.CommandFault.{CommandFault}
@@ -12,6 +12,7 @@ use Rattle.git_reftx.specs.declared.fault.CommandFault.TheVariants as command
 use Rattle.git_reftx.specs.declared.fault.TxRefusal.{TxRefusal}
 use Rattle.git_reftx.specs.declared.fault.TxRefusal.TheVariants as tx
 use Rattle.git_reftx.specs.Reading.{commands_of}
+use Rattle.git_reftx.specs.Repository.{Repository, branch_in, new_repository}
 use Rattle.git_reftx.specs.Transaction.{References, transacted}
 use Rattle.push_stream.specs.declared.fault.StreamFault.{StreamFault}
 use Rattle.push_stream.specs.declared.fault.StreamFault.TheVariants as stream
@@ -25,12 +26,13 @@ use Rattle.fork_reach.specs.Objects.{use_of, with_objects}
 use Rattle.fork_reach.specs.Reach.{is_reached, linked_names}
 use Rattle.fork_reach.specs.Source.{Objects, kind_in}
 use Rattle.fork_query.specs.Fetch.{fetch_told}
+use Rattle.fork_query.specs.Head.{head_told}
 use Rattle.fork_query.specs.MergeBase.{bases_told}
 use Rattle.fork_query.specs.Objects.{object_told}
 use Rattle.fork_query.specs.References.{listing}
 use Rattle.fork_query.specs.RevList.{revisions_told}
 use Rattle.fork_query.specs.Trees.{tree_told}
-use Rattle.fork_request.specs.Asked.{Ask, Inits, Drops, Forks, Pushes, SendsPart, EndsParts, DropsParts, Updates, AsksObject, AsksTree, AsksRevisions, AsksBases, AsksReferences, Fetches, AsksUse, Prunes, NoRequest}
+use Rattle.fork_request.specs.Asked.{Ask, Inits, Drops, Forks, Pushes, SendsPart, EndsParts, DropsParts, Updates, SetsHead, AsksObject, AsksTree, AsksRevisions, AsksBases, AsksReferences, AsksHead, Fetches, AsksUse, Prunes, NoRequest}
 use Rattle.fork_request.specs.Names.{is_plain_name}
 use Rattle.fork_request.specs.declared.refusal.Refusal.{Refusal}
 use Rattle.fork_request.specs.declared.refusal.Refusal.TheVariants.{BadRequest, BadName, RepositoryExists, NoRepository, BadRef, RepeatedRef, Stale, RefConflict, NotACommit, Missing, WrongType, OverQuota, TooMany, Syntax, WrongName, BadObject, Truncated, TooLarge, StagedTooLong, NoUpload, UploadOpen}
@@ -42,16 +44,16 @@ use Rattle.fork_model.specs.View.{View, Repositories}
 abbrev pub named_repository : View → List ℕ → Reply × View → Reply × View
 named_repository view word row = if is_plain_name MAX_REPOSITORY_NAME word then row else (Refused (BadName word), view)
 
--- a new repository with these references, where there is room for one more
-abbrev pub new_repository : View → List ℕ → References → Reply × View
-new_repository view repository references =
-    if contains_key view.repositories repository then (Refused (RepositoryExists repository), view)
+-- one more repository, where none has this name and there is room for it
+abbrev pub added : View → List ℕ → Repository → Reply × View
+added view word repository =
+    if contains_key view.repositories word then (Refused (RepositoryExists word), view)
     else if nat_le MAX_REPOSITORIES (len view.repositories) then (Refused TooMany, view)
-    else (Done [], record view { repositories = insert view.repositories repository references })
+    else (Done [], record view { repositories = insert view.repositories word repository })
 
--- `init REPO`: a new repository without references
+-- `init REPO`: a new repository, whose HEAD names `refs/heads/main`, without references
 unfoldable pub init_answer : View → List ℕ → Reply × View
-init_answer view word = named_repository view word (new_repository view word empty)
+init_answer view word = named_repository view word (added view word new_repository)
 
 -- `drop REPO`: the repository goes, and its references with it; objects stay
 abbrev pub dropped : View → List ℕ → Reply × View
@@ -62,10 +64,10 @@ dropped view repository =
 unfoldable pub drop_answer : View → List ℕ → Reply × View
 drop_answer view word = named_repository view word (dropped view word)
 
--- `fork SRC DST`: a new repository of the same tenant with the same references
-abbrev pub copied : View → List ℕ → List ℕ → Option References → Reply × View
+-- `fork SRC DST`: a new repository of the same tenant, with the same HEAD and references
+abbrev pub copied : View → List ℕ → List ℕ → Option Repository → Reply × View
 copied view source copy None = (Refused (NoRepository source), view)
-copied view source copy (Some references) = new_repository view copy references
+copied view source copy (Some repository) = added view copy repository
 
 unfoldable pub fork_answer : View → List ℕ → List ℕ → Reply × View
 fork_answer view source copy = named_repository view source (named_repository view copy (copied view source copy (get view.repositories source)))
@@ -113,18 +115,19 @@ both view (Ok held) = with_objects view.objects held.1
 both view (Err fault) = view.objects
 
 -- the repository has these references, and the sent objects are seen beside the others
-abbrev pub taken : View → List ℕ → Objects → Result References PushRefusal → Reply × View
-taken view repository objects (Ok references) = (Done [], record view { repositories = insert view.repositories repository references; objects = objects })
-taken view repository objects (Err refusal) = (Refused (push_refusal refusal), view)
+abbrev pub taken : View → List ℕ → Repository → Objects → Result References PushRefusal → Reply × View
+taken view word old objects (Ok references) =
+    (Done [], record view { repositories = insert view.repositories word (record old { references = references }); objects = objects })
+taken view word old objects (Err refusal) = (Refused (push_refusal refusal), view)
 
 -- what a push of a stream that is at its end does
-abbrev pub pushed : View → List ℕ → References → Held → Reply × View
-pushed view repository old held = taken view repository (both view held) (judged (both view held) old view.limit (brief_of held))
+abbrev pub pushed : View → List ℕ → Repository → Held → Reply × View
+pushed view word old held = taken view word old (both view held) (judged (both view held) old.references view.limit (brief_of held))
 
 -- `push REPO` and a body: the repository is there, no upload is open, and the body is judged
-abbrev pub push_into : View → List ℕ → List ℕ → Option References → Reply × View
-push_into view repository body None = (Refused (NoRepository repository), view)
-push_into view repository body (Some old) = if is_some view.upload then (Refused UploadOpen, view) else pushed view repository old (finished (stream_of body))
+abbrev pub push_into : View → List ℕ → List ℕ → Option Repository → Reply × View
+push_into view word body None = (Refused (NoRepository word), view)
+push_into view word body (Some old) = if is_some view.upload then (Refused UploadOpen, view) else pushed view word old (finished (stream_of body))
 
 unfoldable pub push_answer : View → List ℕ → List ℕ → Reply × View
 push_answer view word body = named_repository view word (push_into view word body (get view.repositories word))
@@ -149,13 +152,13 @@ abbrev pub upload_ended : Reply × View → Reply × View
 upload_ended row = (row.0, without_upload row.1)
 
 -- an upload that ends is judged as the body of a push
-abbrev pub upload_into : View → List ℕ → References → Option UploadValue → Reply × View
-upload_into view repository old None = (Refused NoUpload, view)
-upload_into view repository old (Some upload) = pushed view repository old (finished upload.stream)
+abbrev pub upload_into : View → List ℕ → Repository → Option UploadValue → Reply × View
+upload_into view word old None = (Refused NoUpload, view)
+upload_into view word old (Some upload) = pushed view word old (finished upload.stream)
 
-abbrev pub end_in : View → List ℕ → Option References → Reply × View
-end_in view repository None = (Refused (NoRepository repository), view)
-end_in view repository (Some old) = upload_into view repository old view.upload
+abbrev pub end_in : View → List ℕ → Option Repository → Reply × View
+end_in view word None = (Refused (NoRepository word), view)
+end_in view word (Some old) = upload_into view word old view.upload
 
 -- `part-end REPO`: the repository is there, an upload is open, and it is judged
 unfoldable pub part_end_answer : View → List ℕ → Reply × View
@@ -166,22 +169,35 @@ unfoldable pub part_drop_answer : View → Reply × View
 part_drop_answer view = if is_some view.upload then (Done [], without_upload view) else (Refused NoUpload, view)
 
 -- the repository has the references that the transaction leaves
-abbrev pub with_references : View → List ℕ → Result References TxRefusal → Reply × View
-with_references view repository (Ok references) = (Done [], record view { repositories = insert view.repositories repository references })
-with_references view repository (Err refusal) = (Refused (transaction_refusal refusal), view)
+abbrev pub with_references : View → List ℕ → Repository → Result References TxRefusal → Reply × View
+with_references view word old (Ok references) = (Done [], record view { repositories = insert view.repositories word (record old { references = references }) })
+with_references view word old (Err refusal) = (Refused (transaction_refusal refusal), view)
 
 -- the commands are carried out, over the objects that the tenant sees
-abbrev pub carried_out : View → List ℕ → References → Result (List Command) CommandFault → Reply × View
-carried_out view repository references (Ok commands) = with_references view repository (transacted references commands (kind_in view.objects))
-carried_out view repository references (Err fault) = (Refused (command_refusal fault), view)
+abbrev pub carried_out : View → List ℕ → Repository → Result (List Command) CommandFault → Reply × View
+carried_out view word old (Ok commands) = with_references view word old (transacted old.references commands (kind_in view.objects))
+carried_out view word old (Err fault) = (Refused (command_refusal fault), view)
 
 -- `update-refs REPO` and a body: a transaction of the repository's references
-abbrev pub update_in : View → List ℕ → List ℕ → Option References → Reply × View
-update_in view repository body None = (Refused (NoRepository repository), view)
-update_in view repository body (Some references) = carried_out view repository references (commands_of body)
+abbrev pub update_in : View → List ℕ → List ℕ → Option Repository → Reply × View
+update_in view word body None = (Refused (NoRepository word), view)
+update_in view word body (Some old) = carried_out view word old (commands_of body)
 
 unfoldable pub update_answer : View → List ℕ → List ℕ → Reply × View
 update_answer view word body = named_repository view word (update_in view word body (get view.repositories word))
+
+-- HEAD names this branch, be it there or not
+abbrev pub with_head : View → List ℕ → Repository → List ℕ → Option (List ℕ) → Reply × View
+with_head view word old reference (Some branch) = (Done [], record view { repositories = insert view.repositories word (record old { head = branch }) })
+with_head view word old reference None = (Refused (BadRef reference), view)
+
+-- `set-head REPO REF`: the word is the right name of a branch
+abbrev pub set_head_in : View → List ℕ → List ℕ → Option Repository → Reply × View
+set_head_in view word reference None = (Refused (NoRepository word), view)
+set_head_in view word reference (Some old) = with_head view word old reference (branch_in reference)
+
+unfoldable pub set_head_answer : View → List ℕ → List ℕ → Reply × View
+set_head_answer view word reference = named_repository view word (set_head_in view word reference (get view.repositories word))
 
 -- how a reply tells what was found
 abbrev pub told : Result (List ℕ) Refusal → Reply
@@ -196,10 +212,10 @@ cat_file_answer view name = (told (object_told view.objects name), view)
 unfoldable pub ls_tree_answer : View → List ℕ → Reply × View
 ls_tree_answer view name = (told (tree_told view.objects name), view)
 
--- what is asked over the references of a repository that is there
-abbrev pub told_over : List ℕ → (References → Result (List ℕ) Refusal) → Option References → Reply
-told_over repository query None = Refused (NoRepository repository)
-told_over repository query (Some references) = told (query references)
+-- what is asked over a repository that is there
+abbrev pub told_over : List ℕ → (Repository → Result (List ℕ) Refusal) → Option Repository → Reply
+told_over word query None = Refused (NoRepository word)
+told_over word query (Some repository) = told (query repository)
 
 -- items, of which there are not too many
 abbrev pub few_items : List (List ℕ) → Reply → Reply
@@ -208,25 +224,29 @@ few_items items reply = if nat_lt MAX_ITEMS (length items) then Refused TooMany 
 -- `rev-list REPO ITEM..`: the ancestors of the wanted commits that are none of the excluded ones, the newest first
 unfoldable pub rev_list_answer : View → List ℕ → List (List ℕ) → Reply × View
 rev_list_answer view word items =
-    named_repository view word (few_items items (told_over word (λ references. revisions_told view.objects references items) (get view.repositories word)), view)
+    named_repository view word (few_items items (told_over word (λ repository. revisions_told view.objects repository items) (get view.repositories word)), view)
 
 -- `merge-base REPO A B`: the best common ancestors
 unfoldable pub merge_base_answer : View → List ℕ → List ℕ → List ℕ → Reply × View
 merge_base_answer view word first second =
-    named_repository view word (told_over word (λ references. bases_told view.objects references first second) (get view.repositories word), view)
+    named_repository view word (told_over word (λ repository. bases_told view.objects repository first second) (get view.repositories word), view)
 
 -- `fetch REPO ITEM..`: the records of what the wanted objects reach and the excluded ones do not
 unfoldable pub fetch_answer : View → List ℕ → List (List ℕ) → Reply × View
 fetch_answer view word items =
-    named_repository view word (few_items items (told_over word (λ references. fetch_told view.objects references items) (get view.repositories word)), view)
+    named_repository view word (few_items items (told_over word (λ repository. fetch_told view.objects repository items) (get view.repositories word)), view)
 
 -- `for-each-ref REPO [PREFIX]`: the references, ascending by name
-abbrev pub told_references : View → List ℕ → Option (List ℕ) → Option References → Reply
-told_references view repository prefix None = Refused (NoRepository repository)
-told_references view repository prefix (Some references) = Done (listing view.objects references prefix)
+abbrev pub told_references : View → List ℕ → Option (List ℕ) → Option Repository → Reply
+told_references view word prefix None = Refused (NoRepository word)
+told_references view word prefix (Some repository) = Done (listing view.objects repository.references prefix)
 
 unfoldable pub references_answer : View → List ℕ → Option (List ℕ) → Reply × View
 references_answer view word prefix = named_repository view word (told_references view word prefix (get view.repositories word), view)
+
+-- `head REPO`: the branch that HEAD names, and where it is there SP and its target, LF
+unfoldable pub head_answer : View → List ℕ → Reply × View
+head_answer view word = named_repository view word (told_over word (λ repository. Ok (head_told repository)) (get view.repositories word), view)
 
 -- `quota`: what the objects use, SP, the limit, LF
 unfoldable pub quota_answer : View → Reply × View
@@ -234,7 +254,7 @@ quota_answer view = (Done (decimal (use_of view.objects) ++ codes " " ++ decimal
 
 -- the objects at which references of these repositories point
 abbrev pub targets_of : Repositories → List (List ℕ)
-targets_of repositories = flat_map values (values repositories)
+targets_of repositories = flat_map (λ repository. values repository.references) (values repositories)
 
 -- `prune`: objects that no reference of a repository reaches go
 abbrev pub pruned : View → View
@@ -253,11 +273,13 @@ answer view (SendsPart body) = part_answer view body
 answer view (EndsParts repository) = part_end_answer view repository
 answer view DropsParts = part_drop_answer view
 answer view (Updates repository body) = update_answer view repository body
+answer view (SetsHead repository reference) = set_head_answer view repository reference
 answer view (AsksObject name) = cat_file_answer view name
 answer view (AsksTree name) = ls_tree_answer view name
 answer view (AsksRevisions repository items) = rev_list_answer view repository items
 answer view (AsksBases repository first second) = merge_base_answer view repository first second
 answer view (AsksReferences repository prefix) = references_answer view repository prefix
+answer view (AsksHead repository) = head_answer view repository
 answer view (Fetches repository items) = fetch_answer view repository items
 answer view AsksUse = quota_answer view
 answer view Prunes = prune_answer view

@@ -8,7 +8,8 @@ use Rattle.git_object.specs.declared.link.Link.{Link}
 use Rattle.git_reftx.specs.declared.command.Change.TheVariants.{Point}
 use Rattle.git_reftx.specs.declared.command.Command.{Command}
 use Rattle.git_reftx.specs.Reading.{commands_of}
-use Rattle.git_reftx.specs.Transaction.{References, bad_ref, first_refusal, missing_object, repeated_ref}
+use Rattle.git_reftx.specs.Repository.{Repository}
+use Rattle.git_reftx.specs.Transaction.{bad_ref, first_refusal, missing_object, repeated_ref}
 use Rattle.push_stream.specs.Stream.{Stream, finished, stream_of}
 use Rattle.push_stream.specs.Upload.{UploadValue}
 use Rattle.fork_reach.specs.Objects.{with_objects}
@@ -36,10 +37,10 @@ pub record IsLacking (objects : Objects) (sent : List Object) (name : List ℕ) 
   pub unsent : (object : Object) → Contains sent object → object_name object ≢ name
 
 -- the first item that is not judged right names an object that is not seen
-pub record LacksItem (objects : Objects) (references : References) (judge : List ℕ → Result (List ℕ) Refusal) (items : List (List ℕ)) (name : List ℕ) : Type 0 where
+pub record LacksItem (objects : Objects) (repository : Repository) (judge : List ℕ → Result (List ℕ) Refusal) (items : List (List ℕ)) (name : List ℕ) : Type 0 where
   pub item : List ℕ
   pub first : IsFirst (λ other. is_ok (judge other)) items item
-  pub named : named_by references item ≡ Some name
+  pub named : named_by repository item ≡ Some name
   pub unseen : get objects name ≡ None
 
 -- where all references have right names, and none stands twice, the first command whose object is not there points at this name
@@ -88,21 +89,21 @@ pub record LacksInBody (objects : Objects) (body : List ℕ) (name : List ℕ) :
   pub read : commands_of body ≡ Ok commands
   pub lacks : LacksTarget objects [] commands name
 
--- the word is a repository's name, the tenant has this repository, and of its references this holds
-pub record InRepository (view : View) (repository : List ℕ) (Holds : References → Type 0) : Type 0 where
-  pub named : is_plain_name MAX_REPOSITORY_NAME repository ≡ true
-  pub references : References
-  pub found : get view.repositories repository ≡ Some references
-  pub holds : Holds references
+-- the word is a repository's name, the tenant has this repository, and of it this holds
+pub record InRepository (view : View) (word : List ℕ) (Holds : Repository → Type 0) : Type 0 where
+  pub named : is_plain_name MAX_REPOSITORY_NAME word ≡ true
+  pub repository : Repository
+  pub found : get view.repositories word ≡ Some repository
+  pub holds : Holds repository
 
 -- a request names an object that a tenant of this view lacks, and nothing stands against the request before; other requests name none
 abbrev pub IsMissing : View → List ℕ → Ask → Type 0
 IsMissing view name (AsksObject asked) = (asked ≡ name) × (get view.objects name ≡ None)
 IsMissing view name (AsksTree asked) = (asked ≡ name) × (get view.objects name ≡ None)
-IsMissing view name (AsksRevisions repository items) = InRepository view repository (λ references. (length items ≤ MAX_ITEMS) × LacksItem view.objects references (commit_of_item view.objects references) (map bare items) name)
-IsMissing view name (AsksBases repository first second) = InRepository view repository (λ references. LacksItem view.objects references (commit_of_item view.objects references) (first ∷ second ∷ []) name)
-IsMissing view name (Fetches repository items) = InRepository view repository (λ references. (length items ≤ MAX_ITEMS) × LacksItem view.objects references (object_of_item view.objects references) (map bare items) name)
-IsMissing view name (Updates repository body) = InRepository view repository (λ references. LacksInBody view.objects body name)
-IsMissing view name (Pushes repository body) = InRepository view repository (λ references. (view.upload ≡ None) × LacksInStream view.objects (stream_of body) name)
-IsMissing view name (EndsParts repository) = InRepository view repository (λ references. LacksInUpload view.objects view.upload name)
+IsMissing view name (AsksRevisions word items) = InRepository view word (λ repository. (length items ≤ MAX_ITEMS) × LacksItem view.objects repository (commit_of_item view.objects repository) (map bare items) name)
+IsMissing view name (AsksBases word first second) = InRepository view word (λ repository. LacksItem view.objects repository (commit_of_item view.objects repository) (first ∷ second ∷ []) name)
+IsMissing view name (Fetches word items) = InRepository view word (λ repository. (length items ≤ MAX_ITEMS) × LacksItem view.objects repository (object_of_item view.objects repository) (map bare items) name)
+IsMissing view name (Updates word body) = InRepository view word (λ repository. LacksInBody view.objects body name)
+IsMissing view name (Pushes word body) = InRepository view word (λ repository. (view.upload ≡ None) × LacksInStream view.objects (stream_of body) name)
+IsMissing view name (EndsParts word) = InRepository view word (λ repository. LacksInUpload view.objects view.upload name)
 IsMissing view name ask = ⊥

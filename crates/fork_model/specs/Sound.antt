@@ -8,6 +8,7 @@ use Rattle.fork_model.specs.declared.limits.TheConstants.{MAX_REPOSITORIES, MAX_
 use Rattle.std.specs.List.{AllByRecursion}
 use Rattle.std.specs.FinMap.{get, contains_key, keys, len}
 use Rattle.git_refname.specs.Rule.{IsRefName}
+use Rattle.git_reftx.specs.Repository.{IsBranch, Repository}
 use Rattle.git_reftx.specs.Transaction.{References, is_branch, is_commit, least_upper}
 use Rattle.git_name.specs.Object.{Object}
 use Rattle.git_object.specs.declared.link.Link.{Link}
@@ -50,8 +51,9 @@ pub record IsOrderly (view : View) : Type 0 where
   pub within_limit : use_of view.objects ≤ view.limit
   pub limit : view.limit ≤ MAX_LIMIT
   pub few_repositories : len view.repositories ≤ MAX_REPOSITORIES
-  pub repositories : (name : List ℕ) (references : References) → get view.repositories name ≡ Some references → IsRepositoryName name
-  pub references : (name : List ℕ) (references : References) → get view.repositories name ≡ Some references → AreReferences view.objects references
+  pub repositories : (name : List ℕ) (repository : Repository) → get view.repositories name ≡ Some repository → IsRepositoryName name
+  pub heads : (name : List ℕ) (repository : Repository) → get view.repositories name ≡ Some repository → IsBranch repository.head
+  pub references : (name : List ℕ) (repository : Repository) → get view.repositories name ≡ Some repository → AreReferences view.objects repository.references
 
 -- what bytes decide of a view: it holds where the store is honest
 pub record IsRight (view : View) : Type 0 where

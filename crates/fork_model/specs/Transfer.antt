@@ -2,7 +2,7 @@
 use Rattle.std.specs.Prelude.{◌≡◌, ℕ, ◌≤◌, nat_lt, true, List, [], Some, length, if◌then◌else◌}
 use Rattle.std.specs.FinMap.{get, insert, contains_key, values}
 use Rattle.git_name.specs.Object.{Object}
-use Rattle.git_reftx.specs.Transaction.{References}
+use Rattle.git_reftx.specs.Repository.{Repository}
 use Rattle.push_stream.specs.declared.record.TheConstants.{MAX_CONTENT}
 use Rattle.push_stream.specs.Spelling.{AreWithin}
 use Rattle.push_stream.specs.Stream.{sent_in}
@@ -48,7 +48,7 @@ abbrev pub received : Objects → Objects → List (List ℕ) → List (List ℕ
 received receiver sender wanted excluded = with_objects receiver (fetched_objects sender wanted excluded)
 
 -- the answer to a push without commands of which the limit alone is in question
-abbrev pub within_quota : View → List ℕ → References → Objects → Reply × View
-within_quota view repository references objects =
+abbrev pub within_quota : View → List ℕ → Repository → Objects → Reply × View
+within_quota view word repository objects =
     if nat_lt view.limit (use_of objects) then (Refused OverQuota, view)
-    else (Done [], record view { repositories = insert view.repositories repository references; objects = objects })
+    else (Done [], record view { repositories = insert view.repositories word repository; objects = objects })

@@ -1,6 +1,7 @@
 ghost use Rattle.std.specs.Prelude.{◌≡◌, ◌∷◌, [], ℕ, nat_lt, Contains, List, map, None, Some, Ok, Err, true, if◌then◌else◌};
 ghost use Rattle.std.specs.FinMap.{contains_key, get};
 ghost use Rattle.git_name.specs.Object.{object_name};
+ghost use Rattle.git_reftx.specs.Repository.{Repository};
 ghost use Rattle.git_reftx.specs.Transaction.{References};
 ghost use Rattle.push_stream.specs.Stream.{finished, stream_of};
 ghost use Rattle.fork_push.specs.declared.refusal.PushRefusal.TheVariants.{OverQuota};
@@ -42,21 +43,21 @@ pub fn what_is_fetched_is_taken()
         → IsRight sender → HasPrerequisites receiver.objects sender.objects excluded → AreReferences receiver.objects old
         → judged (received receiver.objects sender.objects wanted excluded) old receiver.limit (Ok ([], map object_name (fetched_objects sender.objects wanted excluded)))
         ≡ (if nat_lt receiver.limit (use_of (received receiver.objects sender.objects wanted excluded)) then Err OverQuota else Ok old) }
-    ensures push { (receiver sender : View) (wanted excluded : List (List ℕ)) (repository : List ℕ) (old : References)
-        → IsRight sender → AreSendable sender.objects → HasPrerequisites receiver.objects sender.objects excluded → AreReferences receiver.objects old
-        → pushed receiver repository old (finished (stream_of (10 ∷ fetched sender.objects wanted excluded))) ≡ within_quota receiver repository old (received receiver.objects sender.objects wanted excluded) }
+    ensures push { (receiver sender : View) (wanted excluded : List (List ℕ)) (word : List ℕ) (old : Repository)
+        → IsRight sender → AreSendable sender.objects → HasPrerequisites receiver.objects sender.objects excluded → AreReferences receiver.objects old.references
+        → pushed receiver word old (finished (stream_of (10 ∷ fetched sender.objects wanted excluded))) ≡ within_quota receiver word old (received receiver.objects sender.objects wanted excluded) }
 {}
 
 /// The data of a `fetch`, pushed behind an empty line by another tenant that holds what was
 /// excluded: it is answered as one with the objects there, where its limit has room for them.
 pub fn what_is_fetched_can_be_pushed()
-    ensures { (receiver sender : View) (source repository : List ℕ) (items : List (List ℕ)) (references old : References) (selection : Selection) (text : List ℕ)
+    ensures { (receiver sender : View) (source word : List ℕ) (items : List (List ℕ)) (repository old : Repository) (selection : Selection) (text : List ℕ)
         → IsRight sender → AreSendable sender.objects → IsOrderly receiver
-        → get sender.repositories source ≡ Some references → selected (object_of_item sender.objects references) items ≡ Ok selection
+        → get sender.repositories source ≡ Some repository → selected (object_of_item sender.objects repository) items ≡ Ok selection
         → (answer sender (Fetches source items)).0 ≡ Done text
         → HasPrerequisites receiver.objects sender.objects selection.excluded
-        → get receiver.repositories repository ≡ Some old → receiver.upload ≡ None
-        → answer receiver (Pushes repository (10 ∷ text)) ≡ within_quota receiver repository old (received receiver.objects sender.objects selection.wanted selection.excluded) }
+        → get receiver.repositories word ≡ Some old → receiver.upload ≡ None
+        → answer receiver (Pushes word (10 ∷ text)) ≡ within_quota receiver word old (received receiver.objects sender.objects selection.wanted selection.excluded) }
 {}
 
 /// A receiver whose objects link to what is there has the prerequisites as soon as it has the

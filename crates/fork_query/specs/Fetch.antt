@@ -4,7 +4,7 @@ use Rattle.std.specs.Prelude.{ℕ, List, [], Option, None, Some, Result, Ok, Err
 use Rattle.std.specs.List.{flat_map}
 use Rattle.std.specs.FinMap.{get, keys}
 use Rattle.git_name.specs.Object.{Object}
-use Rattle.git_reftx.specs.Transaction.{References}
+use Rattle.git_reftx.specs.Repository.{Repository}
 use Rattle.push_stream.specs.Record.{record_of}
 use Rattle.fork_reach.specs.Reach.{linked_names}
 use Rattle.fork_reach.specs.Source.{Objects}
@@ -29,5 +29,5 @@ abbrev pub fetched_of : Objects → Result Selection Refusal → Result (List �
 fetched_of objects (Ok selection) = Ok (fetched objects selection.wanted selection.excluded)
 fetched_of objects (Err refusal) = Err refusal
 
-unfoldable pub fetch_told : Objects → References → List (List ℕ) → Result (List ℕ) Refusal
-fetch_told objects references items = fetched_of objects (selected (object_of_item objects references) items)
+unfoldable pub fetch_told : Objects → Repository → List (List ℕ) → Result (List ℕ) Refusal
+fetch_told objects repository items = fetched_of objects (selected (object_of_item objects repository) items)

@@ -1,9 +1,11 @@
 -- What an item of a request names (gitrevisions(7); that it is an object's name or a reference's, and no more, is own).
-use Rattle.std.specs.Prelude.{ℕ, List, Option, None, Some, Result, Ok, Err, if◌then◌else◌}
+use Rattle.std.specs.Prelude.{ℕ, List, Option, None, Some, Result, Ok, Err, codes, if◌then◌else◌}
 use Rattle.std.specs.Option.{option_or}
 use Rattle.std.specs.FinMap.{contains_key, get}
+use Rattle.std.specs.Str.{bytes_eq}
 use Rattle.git_name.specs.Name.{name_in}
-use Rattle.git_reftx.specs.Transaction.{References, is_commit}
+use Rattle.git_reftx.specs.Repository.{Repository}
+use Rattle.git_reftx.specs.Transaction.{is_commit}
 use Rattle.fork_reach.specs.Source.{Objects, kind_in}
 use Rattle.fork_request.specs.declared.refusal.Refusal.{Refusal}
 use Rattle.fork_request.specs.declared.refusal.Refusal.TheVariants.{Missing, NoRef, NotACommit}
@@ -11,9 +13,13 @@ use Rattle.fork_query.specs.declared.want.Want.{Want}
 use Rattle.fork_query.specs.declared.want.Want.TheVariants as want
 use Rattle.fork_query.specs.Peel.{peeled}
 
+-- `HEAD` is the branch that the repository's HEAD names, and any other item is itself
+abbrev pub reference_of : Repository → List ℕ → List ℕ
+reference_of repository item = if bytes_eq item (codes "HEAD") then repository.head else item
+
 -- 64 digits are a name, and any other item is a reference, which names its target
-abbrev pub named_by : References → List ℕ → Option (List ℕ)
-named_by references item = option_or (name_in item) (get references item)
+abbrev pub named_by : Repository → List ℕ → Option (List ℕ)
+named_by repository item = option_or (name_in item) (get repository.references (reference_of repository item))
 
 -- a name whose object is there
 abbrev pub found_name : Objects → List ℕ → Option (List ℕ) → Result (List ℕ) Refusal
@@ -21,8 +27,8 @@ found_name objects item None = Err (NoRef item)
 found_name objects item (Some name) = if contains_key objects name then Ok name else Err (Missing name)
 
 -- the name of an item's object
-abbrev pub object_of_item : Objects → References → List ℕ → Result (List ℕ) Refusal
-object_of_item objects references item = found_name objects item (named_by references item)
+abbrev pub object_of_item : Objects → Repository → List ℕ → Result (List ℕ) Refusal
+object_of_item objects repository item = found_name objects item (named_by repository item)
 
 -- what a name leads to is a commit
 abbrev pub found_commit : Objects → List ℕ → Option (List ℕ) → Result (List ℕ) Refusal
@@ -34,10 +40,10 @@ commit_of objects (Ok name) = found_commit objects name (peeled objects name)
 commit_of objects (Err refusal) = Err refusal
 
 -- the name of an item's commit: tags are followed
-abbrev pub commit_of_item : Objects → References → List ℕ → Result (List ℕ) Refusal
-commit_of_item objects references item = commit_of objects (object_of_item objects references item)
+abbrev pub commit_of_item : Objects → Repository → List ℕ → Result (List ℕ) Refusal
+commit_of_item objects repository item = commit_of objects (object_of_item objects repository item)
 
 -- as objects or as commits are wanted
-abbrev pub named_item : Want → Objects → References → List ℕ → Result (List ℕ) Refusal
-named_item want.Object objects references item = object_of_item objects references item
-named_item want.Commit objects references item = commit_of_item objects references item
+abbrev pub named_item : Want → Objects → Repository → List ℕ → Result (List ℕ) Refusal
+named_item want.Object objects repository item = object_of_item objects repository item
+named_item want.Commit objects repository item = commit_of_item objects repository item

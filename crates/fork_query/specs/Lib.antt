@@ -1,6 +1,7 @@
 pub mod Dates
 pub mod Fetch
 pub mod Followed
+pub mod Head
 pub mod Items
 pub mod Lent
 pub mod MergeBase

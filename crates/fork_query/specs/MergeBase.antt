@@ -3,7 +3,7 @@ use Rattle.std.specs.Prelude.{ℕ, ◌&&◌, not, Bool, List, [], ◌∷◌, Res
 use Rattle.std.specs.List.{list_any}
 use Rattle.std.specs.Str.{bytes_eq}
 use Rattle.std.specs.FinMap.{keys, retain_keys}
-use Rattle.git_reftx.specs.Transaction.{References}
+use Rattle.git_reftx.specs.Repository.{Repository}
 use Rattle.fork_reach.specs.Reach.{is_reached, parent_names}
 use Rattle.fork_reach.specs.Source.{Objects}
 use Rattle.fork_request.specs.declared.refusal.Refusal.{Refusal}
@@ -34,5 +34,5 @@ bases_of objects (Ok a) (Ok b) = Ok (name_lines (merge_bases objects a b))
 bases_of objects (Ok a) (Err refusal) = Err refusal
 bases_of objects (Err refusal) b = Err refusal
 
-unfoldable pub bases_told : Objects → References → List ℕ → List ℕ → Result (List ℕ) Refusal
-bases_told objects references a b = bases_of objects (commit_of_item objects references a) (commit_of_item objects references b)
+unfoldable pub bases_told : Objects → Repository → List ℕ → List ℕ → Result (List ℕ) Refusal
+bases_told objects repository a b = bases_of objects (commit_of_item objects repository a) (commit_of_item objects repository b)

@@ -2,7 +2,7 @@
 -- (git-rev-list(1); the order is own).
 use Rattle.std.specs.Prelude.{ℕ, List, map, Result, Ok, Err}
 use Rattle.std.specs.FinMap.{entries}
-use Rattle.git_reftx.specs.Transaction.{References}
+use Rattle.git_reftx.specs.Repository.{Repository}
 use Rattle.fork_reach.specs.Reach.{parent_names}
 use Rattle.fork_reach.specs.Source.{Objects}
 use Rattle.fork_request.specs.declared.refusal.Refusal.{Refusal}
@@ -20,5 +20,5 @@ abbrev pub revisions_of : Objects → Result Selection Refusal → Result (List 
 revisions_of objects (Ok selection) = Ok (name_lines (revision_list objects selection.wanted selection.excluded))
 revisions_of objects (Err refusal) = Err refusal
 
-unfoldable pub revisions_told : Objects → References → List (List ℕ) → Result (List ℕ) Refusal
-revisions_told objects references items = revisions_of objects (selected (commit_of_item objects references) items)
+unfoldable pub revisions_told : Objects → Repository → List (List ℕ) → Result (List ℕ) Refusal
+revisions_told objects repository items = revisions_of objects (selected (commit_of_item objects repository) items)

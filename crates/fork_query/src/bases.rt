@@ -13,7 +13,7 @@ use crate::query_error::QueryError;
 use crate::want::Want;
 use fork_reach::{Source, SourceFault, ascending, known_bases, read_history};
 use git_name::{Hashing, Name};
-use git_reftx::Refs;
+use git_reftx::Repository;
 use indexmap::IndexSet;
 use std::alloc::Global;
 
@@ -77,16 +77,16 @@ fn bases<S: Source>(alloc: Global, source: &mut S, a: Name, b: Name) -> Result<V
 pub fn merge_base<S: Source>(
     alloc: Global,
     source: &mut S,
-    references: &Refs,
+    repository: &Repository,
     a: &[u8],
     b: &[u8],
 ) -> Result<Vec<u8>, QueryError>
-    ensures told { IsTrue (S.state source.old).honest → Tells (λ text. text.items) (bases_told (S.state source.old).objects references.now a.now b.now) result }
+    ensures told { IsTrue (S.state source.old).honest → Tells (λ text. text.items) (bases_told (S.state source.old).objects repository.now a.now b.now) result }
     // Over any source.
     ensures asked { IsAsked (S.state source.old) (S.state source.new) (fault_told result) }
 {
     let mut followed = Followed::new(alloc);
-    let a = named_item(alloc, Want::Commit, source, &mut followed, references, a)?;
-    let b = named_item(alloc, Want::Commit, source, &mut followed, references, b)?;
+    let a = named_item(alloc, Want::Commit, source, &mut followed, repository, a)?;
+    let b = named_item(alloc, Want::Commit, source, &mut followed, repository, b)?;
     Ok(bases(alloc, source, a, b)?)
 }

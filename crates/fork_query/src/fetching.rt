@@ -15,7 +15,7 @@ use crate::sides::{Sides, select};
 use crate::want::Want;
 use fork_reach::{Source, SourceFault, ascending, reach, reach_past};
 use git_name::{Hashing, Name};
-use git_reftx::Refs;
+use git_reftx::Repository;
 use indexmap::IndexSet;
 use push_stream::add_record;
 use std::alloc::Global;
@@ -114,14 +114,14 @@ fn records<S: Source>(alloc: Global, source: &mut S, sides: &Sides) -> Result<Ve
 pub fn fetch<S: Source>(
     alloc: Global,
     source: &mut S,
-    references: &Refs,
+    repository: &Repository,
     items: &[u8],
 ) -> Result<Vec<u8>, QueryError>
-    ensures told { IsTrue (S.state source.old).honest → Tells (λ text. text.items) (fetch_told (S.state source.old).objects references.now (words_of items.now)) result }
+    ensures told { IsTrue (S.state source.old).honest → Tells (λ text. text.items) (fetch_told (S.state source.old).objects repository.now (words_of items.now)) result }
     // Over any source.
     ensures named { IfOk result (λ text. AreRecords text.items) }
     ensures asked { IsAsked (S.state source.old) (S.state source.new) (fault_told result) }
 {
-    let sides = select(alloc, Want::Object, source, references, items)?;
+    let sides = select(alloc, Want::Object, source, repository, items)?;
     Ok(records(alloc, source, &sides)?)
 }

@@ -4,7 +4,7 @@ ghost use Rattle.git_reftx.specs.Transaction.{is_commit};
 ghost use Rattle.fork_reach.specs.Faults.{IsAsked};
 ghost use Rattle.fork_reach.specs.Source.{kind_in};
 ghost use Rattle.fork_query.specs.Followed.{AreEnds};
-ghost use Rattle.fork_query.specs.Items.{found_commit, named_by, named_item, object_of_item};
+ghost use Rattle.fork_query.specs.Items.{found_commit, named_by, named_item, object_of_item, reference_of};
 ghost use Rattle.fork_query.specs.Peel.{peeled};
 ghost use Rattle.fork_query.specs.Told.{Tells, fault_told};
 
@@ -16,14 +16,18 @@ use fork_reach::{Source, SourceFault};
 use fork_request::{ByteString, Refusal};
 use git_name::{Kind, Name};
 use git_refname::RefName;
-use git_reftx::Refs;
+use git_reftx::Repository;
 use std::alloc::Global;
 
-// The object at which the reference of this name points.
-fn target_of(references: &Refs, item: &[u8]) -> Option<Name>
-    ensures { result ≡ map.get references.now item.now }
+// The object at which the reference of this name points. `HEAD` has no `/`, so it is never a
+// reference's own name: it is the branch that HEAD names.
+fn target_of(repository: &Repository, item: &[u8]) -> Option<Name>
+    ensures { result ≡ map.get repository.now.references (reference_of repository.now item.now) }
 {
-    let _references = references.len();
+    let references = repository.references();
+    if item == b"HEAD".as_slice() {
+        return references.get(repository.head().name());
+    }
     match RefName::read(item) {
         Ok(name) => references.get(&name),
         Err(_) => None,
@@ -31,12 +35,12 @@ fn target_of(references: &Refs, item: &[u8]) -> Option<Name>
 }
 
 // The name that the digits write, or else the target of the reference.
-fn named_by(references: &Refs, item: &[u8]) -> Option<Name>
-    ensures { result ≡ named_by references.now item.now }
+fn named_by(repository: &Repository, item: &[u8]) -> Option<Name>
+    ensures { result ≡ named_by repository.now item.now }
 {
     match Name::parse_hex(item) {
         Some(name) => Some(name),
-        None => target_of(references, item),
+        None => target_of(repository, item),
     }
 }
 
@@ -44,13 +48,13 @@ fn named_by(references: &Refs, item: &[u8]) -> Option<Name>
 fn object_of_item<S: Source>(
     alloc: Global,
     source: &S,
-    references: &Refs,
+    repository: &Repository,
     item: &[u8],
 ) -> Result<Name, QueryError>
-    ensures told { Tells (λ name. name) (object_of_item (S.state source.now).objects references.now item.now) result }
+    ensures told { Tells (λ name. name) (object_of_item (S.state source.now).objects repository.now item.now) result }
     ensures asked { IsAsked (S.state source.now) (S.state source.now) (fault_told result) }
 {
-    let Some(name) = named_by(references, item) else {
+    let Some(name) = named_by(repository, item) else {
         let Ok(word) = item.to_vec(alloc) else {
             return Err(QueryError::Failed(SourceFault::Memory));
         };
@@ -98,14 +102,14 @@ pub(crate) fn named_item<S: Source>(
     want: Want,
     source: &mut S,
     followed: &mut Followed,
-    references: &Refs,
+    repository: &Repository,
     item: &[u8],
 ) -> Result<Name, QueryError>
-    ensures told { IsTrue (S.state source.old).honest → AreEnds (S.state source.old).objects followed.old → Tells (λ name. name) (named_item want (S.state source.old).objects references.now item.now) result }
+    ensures told { IsTrue (S.state source.old).honest → AreEnds (S.state source.old).objects followed.old → Tells (λ name. name) (named_item want (S.state source.old).objects repository.now item.now) result }
     ensures known { IsTrue (S.state source.old).honest → AreEnds (S.state source.old).objects followed.old → OnOk result (AreEnds (S.state source.old).objects followed.new) }
     ensures asked { IsAsked (S.state source.old) (S.state source.new) (fault_told result) }
 {
-    let name = object_of_item(alloc, source, references, item)?;
+    let name = object_of_item(alloc, source, repository, item)?;
     match want {
         Want::Object => Ok(name),
         Want::Commit => commit_at(alloc, source, followed, name),

@@ -1,4 +1,4 @@
-//! What is asked of a tenant's objects and references.
+//! What is asked of a tenant's objects and of a repository.
 //! Each answer is its definition, over whatever answers as a `Source`.
 #![tactic(auto)]
 
@@ -6,6 +6,7 @@ mod bases;
 mod dated;
 mod fetching;
 mod followed;
+mod heads;
 mod items;
 mod laws;
 mod lent;
@@ -21,6 +22,7 @@ mod want;
 
 pub use crate::bases::merge_base;
 pub use crate::fetching::fetch;
+pub use crate::heads::head;
 pub use crate::laws::peeled_is_led_to;
 pub use crate::objects::cat_file;
 pub use crate::query_error::QueryError;

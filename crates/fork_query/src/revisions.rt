@@ -13,7 +13,7 @@ use crate::query_error::QueryError;
 use crate::sides::{Sides, select};
 use crate::want::Want;
 use fork_reach::{History, Source, SourceFault, ancestors, read_history};
-use git_reftx::Refs;
+use git_reftx::Repository;
 use std::alloc::{AllocError, Global};
 use std::cmp::Reverse;
 
@@ -73,13 +73,13 @@ fn revisions<S: Source>(
 pub fn rev_list<S: Source>(
     alloc: Global,
     source: &mut S,
-    references: &Refs,
+    repository: &Repository,
     items: &[u8],
 ) -> Result<Vec<u8>, QueryError>
-    ensures told { IsTrue (S.state source.old).honest → Tells (λ text. text.items) (revisions_told (S.state source.old).objects references.now (words_of items.now)) result }
+    ensures told { IsTrue (S.state source.old).honest → Tells (λ text. text.items) (revisions_told (S.state source.old).objects repository.now (words_of items.now)) result }
     // Over any source.
     ensures asked { IsAsked (S.state source.old) (S.state source.new) (fault_told result) }
 {
-    let sides = select(alloc, Want::Commit, source, references, items)?;
+    let sides = select(alloc, Want::Commit, source, repository, items)?;
     Ok(revisions(alloc, source, &sides)?)
 }

@@ -12,7 +12,7 @@ use crate::query_error::QueryError;
 use crate::want::Want;
 use fork_reach::{Source, SourceFault};
 use git_name::{Name, first_word};
-use git_reftx::Refs;
+use git_reftx::Repository;
 use std::alloc::{AllocError, Global};
 
 // The names of items: those that are wanted, and those that are excluded.
@@ -53,15 +53,15 @@ fn put_item<S: Source>(
     want: Want,
     source: &mut S,
     followed: &mut Followed,
-    references: &Refs,
+    repository: &Repository,
     item: &[u8],
     sides: &mut Sides,
 ) -> Result<(), QueryError>
-    ensures told { IsTrue (S.state source.old).honest → AreEnds (S.state source.old).objects followed.old → Tells (λ _. selection_of sides.new) (added_item (selection_of sides.old) (is_excluded item.now) (named_item want (S.state source.old).objects references.now (bare item.now))) result }
+    ensures told { IsTrue (S.state source.old).honest → AreEnds (S.state source.old).objects followed.old → Tells (λ _. selection_of sides.new) (added_item (selection_of sides.old) (is_excluded item.now) (named_item want (S.state source.old).objects repository.now (bare item.now))) result }
     ensures known { IsTrue (S.state source.old).honest → AreEnds (S.state source.old).objects followed.old → OnOk result (AreEnds (S.state source.old).objects followed.new) }
     ensures asked { IsAsked (S.state source.old) (S.state source.new) (fault_told result) }
 {
-    let name = named_item(alloc, want, source, followed, references, bare(item))?;
+    let name = named_item(alloc, want, source, followed, repository, bare(item))?;
     match put(name, is_excluded(item), sides) {
         Ok(()) => Ok(()),
         Err(_) => Err(QueryError::Failed(SourceFault::Memory)),
@@ -73,10 +73,10 @@ pub(crate) fn select<S: Source>(
     alloc: Global,
     want: Want,
     source: &mut S,
-    references: &Refs,
+    repository: &Repository,
     items: &[u8],
 ) -> Result<Sides, QueryError>
-    ensures told { IsTrue (S.state source.old).honest → Tells selection_of (selected (named_item want (S.state source.old).objects references.now) (words_of items.now)) result }
+    ensures told { IsTrue (S.state source.old).honest → Tells selection_of (selected (named_item want (S.state source.old).objects repository.now) (words_of items.now)) result }
     ensures asked { IsAsked (S.state source.old) (S.state source.new) (fault_told result) }
 {
     let mut followed = Followed::new(alloc);
@@ -91,7 +91,7 @@ pub(crate) fn select<S: Source>(
             want,
             source,
             &mut followed,
-            references,
+            repository,
             item,
             &mut sides,
         )?;
@@ -102,7 +102,7 @@ pub(crate) fn select<S: Source>(
         want,
         source,
         &mut followed,
-        references,
+        repository,
         rest,
         &mut sides,
     ) {

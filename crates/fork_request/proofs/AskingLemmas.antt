@@ -12,7 +12,7 @@ use Rattle.git_name.specs.Name.{IsName, name_in, same_again}
 use Rattle.git_name.specs.Text.{Lacks, split_once, words_of}
 use Rattle.git_name.proofs.ReadingLemmas.{written_name}
 use Rattle.git_name.proofs.TextLemmas.{split_once-append, split_once-none, words_of-append, words_of-plain}
-use Rattle.fork_request.specs.Asked.{Ask, NoRequest, DropsParts, AsksUse, Prunes, asked, asked_alone, asked_bases, asked_cat_file, asked_drop, asked_fetch, asked_fork, asked_init, asked_ls_tree, asked_object, asked_part_end, asked_parts, asked_plain, asked_push, asked_query, asked_references, asked_revisions, asked_tree, asked_update, asked_verb, asked_words}
+use Rattle.fork_request.specs.Asked.{Ask, NoRequest, DropsParts, AsksUse, Prunes, asked, asked_alone, asked_bases, asked_cat_file, asked_drop, asked_fetch, asked_fork, asked_head, asked_init, asked_ls_tree, asked_object, asked_part_end, asked_parts, asked_plain, asked_push, asked_query, asked_references, asked_revisions, asked_set_head, asked_tree, asked_update, asked_verb, asked_words}
 use Rattle.fork_request.specs.declared.request.TheConstants.{MAX_PAYLOAD}
 use Rattle.fork_request.specs.Spelling.{IsWord, Spells}
 use Rattle.fork_request.specs.Words.{one_or_two, pair, sole, three, word_and_items}
@@ -57,6 +57,11 @@ push_right payload rest body words is (inr some) = right_at payload _ _ (ap (λ 
 update_right : (payload rest body : List ℕ) (words : Option (List ℕ)) → payload ≡ codes "update-refs " ++ rest ++ 10 ∷ body → IsSole rest words → Right payload (asked_update words body)
 update_right payload rest body words is (inl none) = inl (ap (λ o. asked_update o body) none)
 update_right payload rest body words is (inr some) = right_at payload _ _ (ap (λ o. asked_update o body) some.0) (some.1, is ∙ line_end (codes "update-refs " ++ rest) body)
+
+head_right : (payload rest body : List ℕ) (words : Option (List ℕ)) → payload ≡ codes "head " ++ rest ++ 10 ∷ body → IsSole rest words → Right payload (asked_head words body)
+head_right payload rest body words is (inl none) = inl (ap (λ o. asked_head o body) none)
+head_right payload rest [] words is (inr some) = right_at payload _ _ (ap (λ o. asked_head o []) some.0) (some.1, is)
+head_right payload rest (b ∷ body) words is (inr some) = inl (ap (λ o. asked_head o (b ∷ body)) some.0)
 
 kept : (b : Bool) (found name : List ℕ) → cond b (Some found) None ≡ Some name → found ≡ name
 kept true found name is = cc
@@ -134,6 +139,12 @@ fork_right payload rest [] words is (inr some) =
     right_at payload _ _ (ap (λ o. asked_fork o []) some.1) (some.0.is_first, some.0.is_second, is ∙ two_words (codes "fork ") some.0.first some.0.second rest (10 ∷ []) some.0.whole)
 fork_right payload rest (b ∷ body) words is (inr some) = inl (ap (λ o. asked_fork o (b ∷ body)) some.1)
 
+set_head_right : (payload rest body : List ℕ) (words : Option (List ℕ × List ℕ)) → payload ≡ codes "set-head " ++ rest ++ 10 ∷ body → (words ≡ None) ⊎ ((t : TwoWords rest) × (words ≡ Some (t.first, t.second))) → Right payload (asked_set_head words body)
+set_head_right payload rest body words is (inl none) = inl (ap (λ o. asked_set_head o body) none)
+set_head_right payload rest [] words is (inr some) =
+    right_at payload _ _ (ap (λ o. asked_set_head o []) some.1) (some.0.is_first, some.0.is_second, is ∙ two_words (codes "set-head ") some.0.first some.0.second rest (10 ∷ []) some.0.whole)
+set_head_right payload rest (b ∷ body) words is (inr some) = inl (ap (λ o. asked_set_head o (b ∷ body)) some.1)
+
 references_right : (payload rest body : List ℕ) (words : Option (List ℕ × Option (List ℕ))) → payload ≡ codes "for-each-ref " ++ rest ++ 10 ∷ body
     → (words ≡ None) ⊎ ((words ≡ Some (rest, None)) × IsWord rest) ⊎ ((t : TwoWords rest) × (words ≡ Some (t.first, Some t.second))) → Right payload (asked_references words body)
 references_right payload rest body words is (inl none) = inl (ap (λ o. asked_references o body) none)
@@ -161,7 +172,8 @@ query_right payload verb rest body is ends =
     (by_word (Right payload) verb (codes "rev-list") _ _ (λ v. revisions_right payload rest body (word_and_items (words_of rest)) (at (codes "rev-list") v) items)
     (by_word (Right payload) verb (codes "merge-base") _ _ (λ v. bases_right payload rest body (three (words_of rest)) (at (codes "merge-base") v) (three_right rest ends))
     (by_word (Right payload) verb (codes "for-each-ref") _ _ (λ v. references_right payload rest body (one_or_two (words_of rest)) (at (codes "for-each-ref") v) (one_or_two_right rest ends))
-    (by_word (Right payload) verb (codes "fetch") _ _ (λ v. fetch_right payload rest body (word_and_items (words_of rest)) (at (codes "fetch") v) items) (inl refl))))))
+    (by_word (Right payload) verb (codes "head") _ _ (λ v. head_right payload rest body (sole (words_of rest)) (at (codes "head") v) one)
+    (by_word (Right payload) verb (codes "fetch") _ _ (λ v. fetch_right payload rest body (word_and_items (words_of rest)) (at (codes "fetch") v) items) (inl refl)))))))
 
 verb_right : (payload verb rest body : List ℕ) → payload ≡ (verb ++ 32 ∷ rest) ++ 10 ∷ body → Lacks 10 rest → Right payload (asked_verb verb (words_of rest) body)
 verb_right payload verb rest body is ends =
@@ -173,7 +185,8 @@ verb_right payload verb rest body is ends =
     (by_word (Right payload) verb (codes "fork") _ _ (λ v. fork_right payload rest body (pair (words_of rest)) (at (codes "fork") v) two)
     (by_word (Right payload) verb (codes "push") _ _ (λ v. push_right payload rest body (sole (words_of rest)) (at (codes "push") v) one)
     (by_word (Right payload) verb (codes "part-end") _ _ (λ v. part_end_right payload rest body (sole (words_of rest)) (at (codes "part-end") v) one)
-    (by_word (Right payload) verb (codes "update-refs") _ _ (λ v. update_right payload rest body (sole (words_of rest)) (at (codes "update-refs") v) one) (query_right payload verb rest body is ends))))))
+    (by_word (Right payload) verb (codes "update-refs") _ _ (λ v. update_right payload rest body (sole (words_of rest)) (at (codes "update-refs") v) one)
+    (by_word (Right payload) verb (codes "set-head") _ _ (λ v. set_head_right payload rest body (pair (words_of rest)) (at (codes "set-head") v) two) (query_right payload verb rest body is ends)))))))
 
 plain_right : (payload body end : List ℕ) (ask : Ask) → (body ≡ [] → Spells ask payload) → Right payload (asked_plain ask body)
 plain_right payload [] end ask spells = inr (spells refl)

@@ -2,7 +2,7 @@
 use Rattle.std.proofs.Common.{◌≡◌, ◌++◌, ℕ, List, [], ◌∷◌, codes, refl}
 use Rattle.hex.specs.Hex.{encode_lower}
 use Rattle.git_name.specs.Text.{words_of}
-use Rattle.fork_request.specs.Asked.{AsksBases, AsksRevisions, Fetches, NoRequest, asked_words, host_words}
+use Rattle.fork_request.specs.Asked.{AsksBases, AsksHead, AsksRevisions, Fetches, NoRequest, SetsHead, asked_words, host_words}
 use Rattle.fork_request.specs.declared.host_request.HostRequest.TheVariants.{Bad, Collect, Fsck}
 use Rattle.fork_request.specs.declared.harm.Harm.TheVariants.{Lost, Damaged}
 use Rattle.fork_request.specs.Harms.{harm_line}
@@ -27,6 +27,21 @@ three_items_are_bad = refl
 
 pub a_body_is_bad : asked_words (words_of (codes "fetch r a")) (codes "x") ≡ NoRequest
 a_body_is_bad = refl
+
+pub a_head_is_asked : asked_words (words_of (codes "head r")) [] ≡ AsksHead (codes "r")
+a_head_is_asked = refl
+
+pub a_second_word_behind_head_is_bad : asked_words (words_of (codes "head r HEAD")) [] ≡ NoRequest
+a_second_word_behind_head_is_bad = refl
+
+pub a_head_is_set : asked_words (words_of (codes "set-head r refs/tags/v")) [] ≡ SetsHead (codes "r") (codes "refs/tags/v")
+a_head_is_set = refl
+
+pub a_branch_is_wanted : asked_words (words_of (codes "set-head r")) [] ≡ NoRequest
+a_branch_is_wanted = refl
+
+pub a_body_behind_set_head_is_bad : asked_words (words_of (codes "set-head r refs/heads/x")) (codes "\n") ≡ NoRequest
+a_body_behind_set_head_is_bad = refl
 
 pub a_collection_is_asked : host_words (words_of (codes "collect")) [] ≡ Collect
 a_collection_is_asked = refl

@@ -10,7 +10,7 @@ use Rattle.git_name.specs.Name.{IsName}
 use Rattle.git_name.specs.Text.{Lacks, split_once, words_of}
 use Rattle.git_name.proofs.ReadingLemmas.{name_in-encode_lower}
 use Rattle.git_name.proofs.TextLemmas.{split_once-append, words_of-append, words_of-plain}
-use Rattle.fork_request.specs.Asked.{Ask, Inits, Drops, Forks, Pushes, SendsPart, EndsParts, DropsParts, Updates, AsksObject, AsksTree, AsksRevisions, AsksBases, AsksReferences, Fetches, AsksUse, Prunes, NoRequest, asked, asked_bases, asked_cat_file, asked_drop, asked_fetch, asked_fork, asked_init, asked_ls_tree, asked_object, asked_part_end, asked_parts, asked_push, asked_references, asked_revisions, asked_tree, asked_update, asked_words}
+use Rattle.fork_request.specs.Asked.{Ask, Inits, Drops, Forks, Pushes, SendsPart, EndsParts, DropsParts, Updates, SetsHead, AsksObject, AsksTree, AsksRevisions, AsksBases, AsksReferences, AsksHead, Fetches, AsksUse, Prunes, NoRequest, asked, asked_bases, asked_cat_file, asked_drop, asked_fetch, asked_fork, asked_head, asked_init, asked_ls_tree, asked_object, asked_part_end, asked_parts, asked_push, asked_references, asked_revisions, asked_set_head, asked_tree, asked_update, asked_words}
 use Rattle.fork_request.specs.declared.request.TheConstants.{MAX_PAYLOAD}
 use Rattle.fork_request.specs.Spelling.{AreItems, IsItem, IsWord, Spells, behind_spaces}
 use Rattle.fork_request.specs.Words.{all_words, and_items, and_word, both_words, items_in, some_word}
@@ -123,6 +123,9 @@ spelled_asked payload DropsParts fits spells = alone payload (codes "part-drop")
 spelled_asked payload (Updates repository body) fits spells =
     with_word payload (codes "update-refs") repository body (verb_by (codes "update-refs") refl refl) spells.0 (line_end payload (codes "update-refs " ++ repository) body spells.1) fits
     ∙ ap (λ o. asked_update o body) (some_there repository spells.0.some)
+spelled_asked payload (SetsHead repository reference) fits spells =
+    with_two payload (codes "set-head") repository reference [] (verb_by (codes "set-head") refl refl) spells.0 spells.1 (two_words payload (codes "set-head ") repository reference spells.2) fits
+    ∙ ap (λ o. asked_set_head o []) (two_there repository reference spells.0 spells.1)
 spelled_asked payload (AsksObject name) fits spells =
     let word = digits_word name spells.0 in
     with_word payload (codes "cat-file") (encode_lower name) [] (verb_by (codes "cat-file") refl refl) word spells.1 fits
@@ -145,6 +148,8 @@ spelled_asked payload (AsksReferences repository None) fits spells =
 spelled_asked payload (AsksReferences repository (Some prefix)) fits spells =
     with_two payload (codes "for-each-ref") repository prefix [] (verb_by (codes "for-each-ref") refl refl) spells.0 spells.1 (two_words payload (codes "for-each-ref ") repository prefix spells.2) fits
     ∙ ap (λ o. asked_references (and_word o) []) (two_there repository prefix spells.0 spells.1)
+spelled_asked payload (AsksHead repository) fits spells =
+    with_word payload (codes "head") repository [] (verb_by (codes "head") refl refl) spells.0 spells.1 fits ∙ ap (λ o. asked_head o []) (some_there repository spells.0.some)
 spelled_asked payload (Fetches repository items) fits spells =
     with_words payload (codes "fetch") (repository ∷ items) [] (verb_by (codes "fetch") refl refl) (words_are repository items spells.0 spells.1) spells.2 fits
     ∙ ap (λ o. asked_fetch o []) (items_read repository items spells.0 spells.1)

@@ -5,7 +5,7 @@ use Rattle.git_name.specs.Name.{name_in}
 use Rattle.git_name.specs.Number.{number_in}
 use Rattle.git_name.specs.Text.{split_once, words_of}
 use Rattle.fork_request.specs.declared.request.Request.{Request}
-use Rattle.fork_request.specs.declared.request.Request.TheVariants.{Init, Drop, Fork, Push, Part, PartEnd, PartDrop, UpdateRefs, CatFile, LsTree, RevList, MergeBase, ForEachRef, Fetch, Quota, Prune, Bad}
+use Rattle.fork_request.specs.declared.request.Request.TheVariants.{Init, Drop, Fork, Push, Part, PartEnd, PartDrop, UpdateRefs, SetHead, CatFile, LsTree, RevList, MergeBase, ForEachRef, Head, Fetch, Quota, Prune, Bad}
 use Rattle.fork_request.specs.declared.request.TheConstants.{MAX_PAYLOAD}
 use Rattle.fork_request.specs.declared.host_request.HostRequest.{HostRequest}
 use Rattle.fork_request.specs.declared.host_request.HostRequest.TheVariants.{Sweep, Collect, Census, Fsck, Bad as Bad_host}
@@ -22,11 +22,13 @@ pub data Ask : Type 0 where
   EndsParts : (repository : List ℕ) → Ask
   DropsParts : Ask
   Updates : (repository : List ℕ) (body : List ℕ) → Ask
+  SetsHead : (repository : List ℕ) (reference : List ℕ) → Ask
   AsksObject : (name : List ℕ) → Ask
   AsksTree : (name : List ℕ) → Ask
   AsksRevisions : (repository : List ℕ) (items : List (List ℕ)) → Ask
   AsksBases : (repository : List ℕ) (first : List ℕ) (second : List ℕ) → Ask
   AsksReferences : (repository : List ℕ) (prefix : Option (List ℕ)) → Ask
+  AsksHead : (repository : List ℕ) → Ask
   Fetches : (repository : List ℕ) (items : List (List ℕ)) → Ask
   AsksUse : Ask
   Prunes : Ask
@@ -42,11 +44,13 @@ ask_of (Part body) = SendsPart body.now
 ask_of (PartEnd repository) = EndsParts repository.now
 ask_of PartDrop = DropsParts
 ask_of (UpdateRefs repository body) = Updates repository.now body.now
+ask_of (SetHead repository reference) = SetsHead repository.now reference.now
 ask_of (CatFile name) = AsksObject name
 ask_of (LsTree name) = AsksTree name
 ask_of (RevList repository items) = AsksRevisions repository.now (words_of items.now)
 ask_of (MergeBase repository first second) = AsksBases repository.now first.now second.now
 ask_of (ForEachRef repository prefix) = AsksReferences repository.now (option_map (λ word. word.now) prefix)
+ask_of (Head repository) = AsksHead repository.now
 ask_of (Fetch repository items) = Fetches repository.now (words_of items.now)
 ask_of Quota = AsksUse
 ask_of Prune = Prunes
@@ -91,6 +95,11 @@ abbrev pub asked_update : Option (List ℕ) → List ℕ → Ask
 asked_update (Some repository) body = Updates repository body
 asked_update None body = NoRequest
 
+-- `set-head REPO REF`
+abbrev pub asked_set_head : Option (List ℕ × List ℕ) → List ℕ → Ask
+asked_set_head (Some p) body = asked_plain (SetsHead p.0 p.1) body
+asked_set_head None body = NoRequest
+
 -- the object of a name, where there is a name and nothing behind it
 abbrev pub asked_object : Option (List ℕ) → List ℕ → Ask
 asked_object (Some name) [] = AsksObject name
@@ -128,6 +137,11 @@ asked_references (Some p) [] = AsksReferences p.0 p.1
 asked_references (Some p) (b ∷ body) = NoRequest
 asked_references None body = NoRequest
 
+-- `head REPO`
+abbrev pub asked_head : Option (List ℕ) → List ℕ → Ask
+asked_head (Some repository) body = asked_plain (AsksHead repository) body
+asked_head None body = NoRequest
+
 -- `fetch REPO ITEM..`
 abbrev pub asked_fetch : Option (List ℕ × List (List ℕ)) → List ℕ → Ask
 asked_fetch (Some p) body = asked_plain (Fetches p.0 p.1) body
@@ -141,6 +155,7 @@ asked_query verb words body =
     else if bytes_eq verb (codes "rev-list") then asked_revisions (word_and_items words) body
     else if bytes_eq verb (codes "merge-base") then asked_bases (three words) body
     else if bytes_eq verb (codes "for-each-ref") then asked_references (one_or_two words) body
+    else if bytes_eq verb (codes "head") then asked_head (sole words) body
     else if bytes_eq verb (codes "fetch") then asked_fetch (word_and_items words) body
     else NoRequest
 
@@ -153,6 +168,7 @@ asked_verb verb words body =
     else if bytes_eq verb (codes "push") then asked_push (sole words) body
     else if bytes_eq verb (codes "part-end") then asked_part_end (sole words) body
     else if bytes_eq verb (codes "update-refs") then asked_update (sole words) body
+    else if bytes_eq verb (codes "set-head") then asked_set_head (pair words) body
     else asked_query verb words body
 
 -- by a verb that stands alone: `part` and a body, `part-drop`, `quota`, `prune`

@@ -4,7 +4,7 @@ mod changes;
 mod queries;
 
 use crate::words::{is_word, sole_word, two_words};
-use changes::{drop_of, fork, init, part_end, push, update_refs};
+use changes::{drop_of, fork, init, part_end, push, set_head, update_refs};
 use git_name::{first_word, split_once};
 use queries::read_query;
 
@@ -31,6 +31,8 @@ pub enum Request<'a> {
     PartDrop,
     /// `update-refs REPO` and a body: a transaction of references.
     UpdateRefs(&'a [u8], &'a [u8]),
+    /// `set-head REPO REF`: HEAD of a repository names another branch.
+    SetHead(&'a [u8], &'a [u8]),
     /// `cat-file NAME`: the record of an object.
     CatFile([u8; 32]),
     /// `ls-tree NAME`: the rows of the tree that a name leads to.
@@ -43,6 +45,8 @@ pub enum Request<'a> {
     MergeBase(&'a [u8], &'a [u8], &'a [u8]),
     /// `for-each-ref REPO [PREFIX]`: the references of a repository.
     ForEachRef(&'a [u8], Option<&'a [u8]>),
+    /// `head REPO`: the branch that HEAD of a repository names.
+    Head(&'a [u8]),
     /// `fetch REPO ITEM..`: the records of the objects that the items reach, less those that the
     /// items with `^` reach. The items stand as in `RevList`.
     Fetch(&'a [u8], &'a [u8]),
@@ -126,9 +130,13 @@ fn read_words<'a>(verb: &'a [u8], words: &'a [u8], body: &'a [u8]) -> Request<'a
     if is_word(verb, b"update-refs") {
         return update_refs(sole_word(words), body);
     }
+    if is_word(verb, b"set-head") {
+        return set_head(two_words(words), body);
+    }
     read_query(verb, words, body)
 }
 
+// This, where nothing stands behind the line.
 fn plain<'a>(request: Request<'a>, body: &'a [u8]) -> Request<'a>
     ensures { ask_of result ≡ asked_plain (ask_of request.entry) body.now }
 {

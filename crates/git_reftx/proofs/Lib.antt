@@ -1,4 +1,6 @@
 pub mod AboveLemmas
+pub mod BranchExamples
+pub mod BranchLemmas
 pub mod FrontLemmas
 pub mod MapLemmas
 pub mod MemberLemmas

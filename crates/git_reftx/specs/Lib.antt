@@ -5,6 +5,7 @@ pub mod Known
 pub mod Line
 pub mod Push
 pub mod Reading
+pub mod Repository
 pub mod Shown
 pub mod Sound
 pub mod Transaction

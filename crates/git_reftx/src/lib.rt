@@ -1,9 +1,10 @@
-//! References of a repository, and transactions of them, as git-update-ref(1) has them: all commands
-//! are carried out, or none.
+//! Repositories, each with its HEAD and its references, and transactions of these, as git-update-ref(1)
+//! has them: all commands are carried out, or none.
 //! Each demand is judged on the references before; a refusal leaves them as they were.
 #![tactic(auto)]
 
 mod above;
+mod branch;
 mod carrying;
 mod command;
 mod command_line;
@@ -18,8 +19,10 @@ mod ref_map;
 mod ref_word;
 mod refs;
 mod repeated;
+mod repository;
 mod transact;
 
+pub use crate::branch::Branch;
 pub use crate::command::{Change, Command, Demand};
 pub use crate::fault::{ApplyError, CommandFault, PushRefError, ReadError, TxRefusal};
 pub use crate::known::Known;
@@ -27,4 +30,5 @@ pub use crate::line::{Line, first_line};
 pub use crate::reading::{MAX_COMMANDS, first_command, read_commands};
 pub use crate::ref_word::RefWord;
 pub use crate::refs::Refs;
+pub use crate::repository::Repository;
 pub use crate::transact::MAX_REFERENCES;

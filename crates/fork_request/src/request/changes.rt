@@ -1,8 +1,8 @@
 // Requests that change a tenant's repositories, references or objects.
 ghost use Rattle.std.specs.Prelude.{◌≡◌, option_map};
-ghost use Rattle.fork_request.specs.Asked.{ask_of, asked_drop, asked_fork, asked_init, asked_part_end, asked_push, asked_update};
+ghost use Rattle.fork_request.specs.Asked.{ask_of, asked_drop, asked_fork, asked_init, asked_part_end, asked_push, asked_set_head, asked_update};
 
-use super::Request;
+use super::{Request, plain};
 
 pub(super) fn init<'a>(sole: Option<&'a [u8]>, body: &'a [u8]) -> Request<'a>
     ensures { ask_of result ≡ asked_init (option_map (λ word. word.now) sole.entry) body.now }
@@ -54,6 +54,15 @@ pub(super) fn update_refs<'a>(sole: Option<&'a [u8]>, body: &'a [u8]) -> Request
 {
     match sole {
         Some(repository) => Request::UpdateRefs(repository, body),
+        None => Request::Bad,
+    }
+}
+
+pub(super) fn set_head<'a>(pair: Option<(&'a [u8], &'a [u8])>, body: &'a [u8]) -> Request<'a>
+    ensures { ask_of result ≡ asked_set_head (option_map (λ p. (p.0.now, p.1.now)) pair.entry) body.now }
+{
+    match pair {
+        Some((repository, reference)) => plain(Request::SetHead(repository, reference), body),
         None => Request::Bad,
     }
 }

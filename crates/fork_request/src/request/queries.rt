@@ -1,7 +1,7 @@
 // Queries: requests that leave what the tenant has.
 ghost use Rattle.std.specs.Prelude.{◌≡◌, ◌∷◌, option_map};
 ghost use Rattle.git_name.specs.Text.{words_of};
-ghost use Rattle.fork_request.specs.Asked.{ask_of, asked_bases, asked_cat_file, asked_fetch, asked_ls_tree, asked_query, asked_references, asked_revisions};
+ghost use Rattle.fork_request.specs.Asked.{ask_of, asked_bases, asked_cat_file, asked_fetch, asked_head, asked_ls_tree, asked_query, asked_references, asked_revisions};
 
 use super::{Request, plain};
 use crate::words::{is_word, one_or_two_words, sole_word, three_words, word_and_items};
@@ -25,6 +25,9 @@ pub(super) fn read_query<'a>(verb: &'a [u8], words: &'a [u8], body: &'a [u8]) ->
     }
     if is_word(verb, b"for-each-ref") {
         return for_each_ref(one_or_two_words(words), body);
+    }
+    if is_word(verb, b"head") {
+        return head(sole_word(words), body);
     }
     if is_word(verb, b"fetch") {
         return fetch(word_and_items(words), body);
@@ -82,6 +85,15 @@ fn for_each_ref<'a>(words: Option<(&'a [u8], Option<&'a [u8]>)>, body: &'a [u8])
     match words {
         Some((repository, prefix)) if body.is_empty() => Request::ForEachRef(repository, prefix),
         _ => Request::Bad,
+    }
+}
+
+fn head<'a>(sole: Option<&'a [u8]>, body: &'a [u8]) -> Request<'a>
+    ensures { ask_of result ≡ asked_head (option_map (λ word. word.now) sole.entry) body.now }
+{
+    match sole {
+        Some(repository) => plain(Request::Head(repository), body),
+        None => Request::Bad,
     }
 }
 

@@ -11,7 +11,7 @@ use Rattle.fork_query.proofs.sides.select.Given as goal
 abbrev pub invariant-items : goal.invariant-items
 invariant-items g l =
     let old = g.S.Source.state l.fn.source in
-    let judge = named_item l.want old.objects l.fn.references in
+    let judge = named_item l.want old.objects l.fn.repository in
     record {
       asked : IsAsked old (g.S.Source.state l.source) None;
       known : IsTrue old.honest → AreEnds old.objects l.followed;

@@ -25,11 +25,10 @@ use crate::add_error::AddError;
 use crate::open_error::OpenError;
 use crate::step::HostStep;
 use crate::tending::tend;
-use fork_ledger::{Vault, VaultFault, sharp_slices};
+use fork_ledger::{Survey, Vault, VaultFault, sharp_slices};
 use fork_model::{MAX_TENANTS, a_run_is_private, what_runs_show_was_seen_or_sent};
 use fork_request::{HostFault, HostRequest, MAX_LIMIT, Reply, Request, TenantName};
 use loose_store::LooseFiles;
-use read_cache::CachedStore;
 use state_text::States;
 use std::alloc::{AllocError, Global};
 use std::marker::Model;
@@ -66,19 +65,19 @@ impl<S: LooseFiles + Drop> Host<S> {
         ensures trusted { IfOk result (λ host. IsTrue (S.honest files) → Trusted host) }
         ensures store { IfOk result (λ host. IsOver (S.contents files) (S.honest files) (S.failures files) host.vault) }
     {
-        let Ok(files) = CachedStore::new(alloc, files) else {
+        let Ok(survey) = Survey::new(alloc, files) else {
             return Err(OpenError::Memory);
         };
-        Host::over(alloc, files)
+        Host::over(alloc, survey)
     }
 
-    // The same over a store of which a survey may have been made.
-    pub(crate) fn over(alloc: Global, files: CachedStore<S>) -> Result<Host<S>, OpenError>
+    // The same over the store of a survey.
+    pub(crate) fn over(alloc: Global, survey: Survey<S>) -> Result<Host<S>, OpenError>
         ensures empty { IfOk result (λ host. world_of host ≡ map.empty) }
-        ensures trusted { IfOk result (λ host. IsTrue files.honest → Trusted host) }
-        ensures store { IfOk result (λ host. IsOver files.contents files.honest files.failures host.vault) }
+        ensures trusted { IfOk result (λ host. IsTrue survey.honest → Trusted host) }
+        ensures store { IfOk result (λ host. IsOver survey.contents survey.honest survey.failures host.vault) }
     {
-        match Vault::over(alloc, files) {
+        match Vault::over(alloc, survey) {
             Ok(vault) => Ok(Host {
                 accounts: Accounts::new(alloc),
                 vault,

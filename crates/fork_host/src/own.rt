@@ -7,7 +7,6 @@ ghost use Rattle.git_reftx.specs.Transaction.{References};
 ghost use Rattle.looks.specs.Growth.{GrowsBy};
 ghost use Rattle.push_stream.specs.Brief.{brief_shown};
 ghost use Rattle.fork_reach.specs.Faults.{fault_in as source_fault_in};
-ghost use Rattle.fork_reach.specs.Known.{AreParents};
 ghost use Rattle.fork_reach.specs.Objects.{use_of};
 ghost use Rattle.fork_reach.specs.Reach.{is_reached, linked_names};
 ghost use Rattle.fork_reach.specs.Source.{kind_in};
@@ -24,10 +23,10 @@ ghost use Rattle.std.specs.Prelude.{ℕ, List, Contains, Some, true};
 ghost use Rattle.std.specs.List.{AllByRecursion};
 
 use crate::both::Both;
-use commit_graph::Graph;
+use crate::vault_fault::told;
 use fork_ledger::{Held, RecallFault, Vault, VaultFault};
 use fork_push::{Verdict, judge};
-use fork_reach::{SourceFault, reach};
+use fork_reach::{Ancestry, SourceFault, reach};
 use fork_request::TenantName;
 use git_name::{Hashing, Kind, Name, Sealed};
 use git_reftx::Refs;
@@ -89,26 +88,6 @@ impl<'a, S: LooseFiles> Own<'a, S> {
         ensures named { IfSome result (λ lent. object_name (record { kind = lent.0; bytes = lent.1.now }) ≡ name) }
     {
         self.vault.lend(self.tenant, name)
-    }
-
-    // The commits whose parents are known without reading them.
-    pub(crate) fn known(&self) -> &Graph
-        ensures { IsTrue self.now.vault.now.honest → AreParents (visible_by self.now) result.now }
-    {
-        self.vault.graph()
-    }
-
-    // Comes to know the parents of a commit that the tenant sees, and of those that they lead to.
-    pub(crate) fn learn_seen(&mut self, alloc: Global, commit: Name) -> Result<(), VaultFault>
-        ensures kept { IsTrue self.old.vault.now.honest → self.new.vault.now.tenants ≡ self.old.vault.now.tenants }
-        ensures files { IsTrue self.old.vault.now.honest → self.new.vault.now.files ≡ self.old.vault.now.files }
-        ensures shape { shape_of self.new.vault.now.tenants ≡ shape_of self.old.vault.now.tenants }
-        ensures store { AsksStore self.old.vault.now self.new.vault.now (fault_in result) }
-        ensures places { self.new.vault.now.places ≡ self.old.vault.now.places }
-        ensures apart { IfErr result (λ fault. fault ≢ VaultFault.Collision) }
-        ensures same { IsSame self.old self.new }
-    {
-        self.vault.learn(alloc, self.tenant, commit)
     }
 
     // The object that the tenant has staged under this name.
@@ -249,6 +228,31 @@ impl<'a, S: LooseFiles> Own<'a, S> {
             tenant: self.tenant,
         };
         judge(alloc, &mut both, finished, references, limit)
+    }
+}
+
+// Of commits, their parents: those of the commits that the tenant sees.
+impl<S: LooseFiles> Ancestry for Own<'_, S> {
+    ghost commits = { λ own. own.vault.now.commits };
+
+    fn learn(&mut self, alloc: Global, commit: Name) -> Result<(), SourceFault> {
+        told(self.vault.learn(alloc, self.tenant, commit))
+    }
+
+    fn commit_count(&self) -> usize {
+        self.vault.commit_count()
+    }
+
+    fn place_of(&self, name: Name) -> Option<usize> {
+        self.vault.commit_place(self.tenant, name)
+    }
+
+    fn commit_at(&self, place: usize) -> Option<Name> {
+        self.vault.commit_at(self.tenant, place)
+    }
+
+    fn parents_at(&self, place: usize) -> &[usize] {
+        self.vault.parents_at(self.tenant, place)
     }
 }
 

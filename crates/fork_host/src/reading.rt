@@ -6,27 +6,27 @@ ghost use Rattle.fork_host.specs.Read.{AreRead, Reads};
 ghost use Rattle.state_text.specs.States.{TenantState as State};
 
 use crate::open_error::OpenError;
+use fork_ledger::{Survey, VaultFault};
 use fork_sound::{Reading, Readings};
 use git_name::{Name, Sealed};
-use loose_store::{LooseFiles, StoreFault};
-use read_cache::CachedStore;
+use loose_store::LooseFiles;
 use state_text::TenantState;
 use std::alloc::Global;
 
 // Reads the objects of the names that these tenants saw, each name once.
 pub(crate) fn read_states<S: LooseFiles>(
     alloc: Global,
-    files: &mut CachedStore<S>,
+    survey: &mut Survey<S>,
     states: &[TenantState],
 ) -> Result<Readings, OpenError>
-    ensures read { IfOk result (λ readings. (state : State) → Contains states.now state → AreRead files.old.honest files.old.contents state.seen readings) }
-    ensures kept { IsTrue files.old.honest → files.new.contents ≡ files.old.contents }
-    ensures honest { files.new.honest ≡ files.old.honest }
-    ensures failures { IfOk result (λ _. files.new.failures ≡ files.old.failures) }
+    ensures read { IfOk result (λ readings. (state : State) → Contains states.now state → AreRead survey.old.honest survey.old.contents state.seen readings) }
+    ensures kept { IsTrue survey.old.honest → survey.new.contents ≡ survey.old.contents }
+    ensures honest { survey.new.honest ≡ survey.old.honest }
+    ensures failures { IfOk result (λ _. survey.new.failures ≡ survey.old.failures) }
 {
     let mut readings = Readings::new(alloc);
     for state in states {
-        read_seen(alloc, files, &mut readings, state.seen())?;
+        read_seen(alloc, survey, &mut readings, state.seen())?;
     }
     Ok(readings)
 }
@@ -34,17 +34,17 @@ pub(crate) fn read_states<S: LooseFiles>(
 // Reads the objects of these names, but those that were read.
 fn read_seen<S: LooseFiles>(
     alloc: Global,
-    files: &mut CachedStore<S>,
+    survey: &mut Survey<S>,
     readings: &mut Readings,
     names: &[Name],
 ) -> Result<(), OpenError>
-    ensures reads { OnOk result (Reads files.old.honest files.old.contents names.now readings.old readings.new) }
-    ensures kept { IsTrue files.old.honest → files.new.contents ≡ files.old.contents }
-    ensures honest { files.new.honest ≡ files.old.honest }
-    ensures failures { OnOk result (files.new.failures ≡ files.old.failures) }
+    ensures reads { OnOk result (Reads survey.old.honest survey.old.contents names.now readings.old readings.new) }
+    ensures kept { IsTrue survey.old.honest → survey.new.contents ≡ survey.old.contents }
+    ensures honest { survey.new.honest ≡ survey.old.honest }
+    ensures failures { OnOk result (survey.new.failures ≡ survey.old.failures) }
 {
     for name in names {
-        read_new(alloc, files, readings, *name)?;
+        read_new(alloc, survey, readings, *name)?;
     }
     Ok(())
 }
@@ -52,40 +52,39 @@ fn read_seen<S: LooseFiles>(
 // Reads the object of this name, unless it was read.
 fn read_new<S: LooseFiles>(
     alloc: Global,
-    files: &mut CachedStore<S>,
+    survey: &mut Survey<S>,
     readings: &mut Readings,
     name: Name,
 ) -> Result<(), OpenError>
-    ensures reads { OnOk result (Reads files.old.honest files.old.contents (name ∷ []) readings.old readings.new) }
-    ensures kept { IsTrue files.old.honest → files.new.contents ≡ files.old.contents }
-    ensures honest { files.new.honest ≡ files.old.honest }
-    ensures failures { OnOk result (files.new.failures ≡ files.old.failures) }
+    ensures reads { OnOk result (Reads survey.old.honest survey.old.contents (name ∷ []) readings.old readings.new) }
+    ensures kept { IsTrue survey.old.honest → survey.new.contents ≡ survey.old.contents }
+    ensures honest { survey.new.honest ≡ survey.old.honest }
+    ensures failures { OnOk result (survey.new.failures ≡ survey.old.failures) }
 {
     if readings.contains(name) {
         return Ok(());
     }
-    read_one(alloc, files, readings, name)
+    read_one(alloc, survey, readings, name)
 }
 
 // Reads the object of this name, where the store has it whole.
 fn read_one<S: LooseFiles>(
     alloc: Global,
-    files: &mut CachedStore<S>,
+    survey: &mut Survey<S>,
     readings: &mut Readings,
     name: Name,
 ) -> Result<(), OpenError>
-    ensures reads { OnOk result (Reads files.old.honest files.old.contents (name ∷ []) readings.old readings.new) }
-    ensures kept { IsTrue files.old.honest → files.new.contents ≡ files.old.contents }
-    ensures honest { files.new.honest ≡ files.old.honest }
-    ensures failures { OnOk result (files.new.failures ≡ files.old.failures) }
+    ensures reads { OnOk result (Reads survey.old.honest survey.old.contents (name ∷ []) readings.old readings.new) }
+    ensures kept { IsTrue survey.old.honest → survey.new.contents ≡ survey.old.contents }
+    ensures honest { survey.new.honest ≡ survey.old.honest }
+    ensures failures { OnOk result (survey.new.failures ≡ survey.old.failures) }
 {
-    match files.survey(alloc, name) {
+    match survey.read(alloc, name) {
         Ok(Some(sealed)) => keep(alloc, readings, name, &sealed),
         // What is not there whole is judged once all is there that is.
         Ok(None) => Ok(()),
-        Err(StoreFault::Damaged) => Ok(()),
-        Err(StoreFault::Device) => Err(OpenError::Store),
-        Err(StoreFault::Memory) => Err(OpenError::Memory),
+        Err(VaultFault::Memory) => Err(OpenError::Memory),
+        Err(_) => Err(OpenError::Store),
     }
 }
 

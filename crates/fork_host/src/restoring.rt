@@ -22,13 +22,12 @@ use crate::reading::read_states;
 use crate::repositories::Repositories;
 use crate::restore_error::RestoreError;
 use crate::seeing::{Against, see_again};
-use fork_ledger::Vault;
+use fork_ledger::{Survey, Vault};
 use fork_request::{RepositoryName, TenantName};
 use fork_sound::Readings;
 use git_name::Name;
 use git_reftx::Refs;
 use loose_store::{LooseFiles, StoreFault, read_checked};
-use read_cache::CachedStore;
 use state_text::{States, TenantState};
 use std::alloc::{AllocError, Global};
 
@@ -43,11 +42,11 @@ impl<S: LooseFiles + Drop> Host<S> {
         ensures refused { IfErr result (λ error. IsTrue (S.honest files) → IsRefused (S.contents files) states error) }
         ensures store { IfOk result (λ host. IsOver (S.contents files) (S.honest files) (S.failures files) host.vault) }
     {
-        let Ok(mut files) = CachedStore::new(alloc, files) else {
+        let Ok(mut survey) = Survey::new(alloc, files) else {
             return Err(RestoreError::Memory);
         };
-        let readings = read_states(alloc, &mut files, states.as_slice())?;
-        let mut host = Host::over(alloc, files)?;
+        let readings = read_states(alloc, &mut survey, states.as_slice())?;
+        let mut host = Host::over(alloc, survey)?;
         let mut later = Later::Nothing;
         for state in states.as_slice() {
             let judged = host.restore_tenant(alloc, &readings, state);

@@ -1,6 +1,5 @@
 use crate::own::Own;
 use crate::vault_fault::told;
-use commit_graph::Graph;
 use fork_reach::{Source, SourceFault};
 use git_name::{Hashing, Kind, Name, Sealed};
 use git_reftx::Known;
@@ -42,13 +41,5 @@ impl<S: LooseFiles> Source for Own<'_, S> {
 
     fn read(&mut self, alloc: Global, name: Name) -> Result<Option<Sealed>, SourceFault> {
         told(self.get(alloc, name))
-    }
-
-    fn graph(&self) -> Option<&Graph> {
-        Some(self.known())
-    }
-
-    fn learn(&mut self, alloc: Global, commit: Name) -> Result<(), SourceFault> {
-        told(self.learn_seen(alloc, commit))
     }
 }

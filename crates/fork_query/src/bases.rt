@@ -11,7 +11,7 @@ use crate::items::named_item;
 use crate::name_lines::write_names;
 use crate::query_error::QueryError;
 use crate::want::Want;
-use fork_reach::{Source, SourceFault, ascending, known_bases, read_history};
+use fork_reach::{Ancestry, Source, SourceFault, ascending, known_bases, read_history};
 use git_name::{Hashing, Name};
 use git_reftx::Repository;
 use indexmap::IndexSet;
@@ -35,8 +35,8 @@ fn read_bases<S: Source>(
     }
 }
 
-// The same by the parents that the source knows, which it learns where it can.
-fn best<S: Source>(
+// The same by the parents that the source tells, which it learns where it can.
+fn best<S: Ancestry>(
     alloc: Global,
     source: &mut S,
     a: Name,
@@ -56,7 +56,7 @@ fn best<S: Source>(
 
 #[tactic(auto, unfolding(crate::specs::MergeBase::merge_bases))]
 // The best common ancestors, one a line.
-fn bases<S: Source>(alloc: Global, source: &mut S, a: Name, b: Name) -> Result<Vec<u8>, SourceFault>
+fn bases<S: Ancestry>(alloc: Global, source: &mut S, a: Name, b: Name) -> Result<Vec<u8>, SourceFault>
     ensures listed { IsTrue (S.state source.old).honest → IfOk result (λ text. text.items ≡ name_lines (merge_bases (S.state source.old).objects a b)) }
     ensures asked { IsAsked (S.state source.old) (S.state source.new) (fault_in result) }
 {
@@ -74,7 +74,7 @@ fn bases<S: Source>(alloc: Global, source: &mut S, a: Name, b: Name) -> Result<V
 /// The best common ancestors of two commits, one a line, ascending by name: those that no other common
 /// ancestor has among its own. Each commit is read once, and none whose parents the source knows. A `^` is
 /// part of an item.
-pub fn merge_base<S: Source>(
+pub fn merge_base<S: Ancestry>(
     alloc: Global,
     source: &mut S,
     repository: &Repository,

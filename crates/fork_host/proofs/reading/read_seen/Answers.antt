@@ -4,8 +4,8 @@ use Rattle.fork_host.proofs.reading.read_seen.Goals as goal
 
 pub loop-name-preserved : goal.loop-name-preserved
 loop-name-preserved g c =
-    let first = c.args.files.now in
-    let mid = c.loop-name.files in
+    let first = c.args.survey.now in
+    let mid = c.loop-name.survey in
     let before = c.loop-name.invariant in
     let told = c.read_new.ensures in
     record {

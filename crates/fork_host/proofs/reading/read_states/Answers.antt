@@ -5,7 +5,7 @@ use Rattle.fork_host.proofs.reading.read_states.Goals as goal
 
 pub loop-state-init : goal.loop-state-init
 loop-state-init g c = record {
-  read = states_none c.args.files.now.honest c.args.files.now.contents c.new-readings.result c.new-readings.ensures;
+  read = states_none c.args.survey.now.honest c.args.survey.now.contents c.new-readings.result c.new-readings.ensures;
   kept = λ h. refl;
   honest = refl;
   failures = refl;
@@ -13,8 +13,8 @@ loop-state-init g c = record {
 
 pub loop-state-preserved : goal.loop-state-preserved
 loop-state-preserved g c =
-    let first = c.args.files.now in
-    let mid = c.loop-state.files in
+    let first = c.args.survey.now in
+    let mid = c.loop-state.survey in
     let before = c.loop-state.invariant in
     let told = c.read_seen.ensures in
     let state = c.state-item.result in
@@ -29,4 +29,4 @@ loop-state-preserved g c =
 
 pub returns-clause-read : goal.returns-clause-read
 returns-clause-read g c =
-    states_all c.args.files.now.honest c.args.files.now.contents c.args.states.now c.loop-state.state-index c.loop-state.readings (omega arith) c.loop-state.invariant.read
+    states_all c.args.survey.now.honest c.args.survey.now.contents c.args.states.now c.loop-state.state-index c.loop-state.readings (omega arith) c.loop-state.invariant.read

@@ -3,20 +3,20 @@ use Rattle.fork_reach.specs.Objects.{measures_of}
 use Rattle.fork_ledger.specs.Tenants.{private_of}
 use Rattle.fork_ledger.proofs.BothLemmas.{same_measures}
 use Rattle.fork_host.proofs.ReadLemmas.{told_counts, told_undamaged}
-use Rattle.fork_host.proofs.visible.OwnSource.learn.Goals as goal
+use Rattle.fork_host.proofs.own.OwnAncestry.learn.Goals as goal
 
 pub returns : goal.returns
 returns g c =
     let old = c.args.self.now in
-    let new = c.learn_seen.new.self in
-    let told = c.learn_seen.ensures in
+    let new = c.learn.new.self in
+    let told = c.learn.ensures in
     record {
       measures = ap (λ r. measures_of (private_of new.vault.now.tenants r.now).visible) told.same.tenant
           ∙ ap (λ p. p.0) (same_measures old.vault.now.tenants new.vault.now.tenants old.tenant.now told.shape);
       honest = told.store.honest;
       base = λ i. ((told.same.vault i, told.same.tenant i), told.shape i, told.places i);
-      counted = told_counts c.learn_seen.result c.told.result old.vault.now.failures new.vault.now.failures c.told.ensures told.store.counted;
+      counted = told_counts c.learn.result c.told.result old.vault.now.failures new.vault.now.failures c.told.ensures told.store.counted;
       objects = λ honest. ap (λ r. (private_of new.vault.now.tenants r.now).visible) told.same.tenant ∙ ap (λ m. (private_of m old.tenant.now).visible) (told.kept honest);
       rest = λ honest i. (told.kept honest i, told.files honest i);
-      undamaged = λ honest. told_undamaged c.learn_seen.result c.told.result c.told.ensures told.apart (told.store.undamaged honest);
+      undamaged = λ honest. told_undamaged c.learn.result c.told.result c.told.ensures told.apart (told.store.undamaged honest);
     }

@@ -32,6 +32,13 @@ reached_is_there : {X : Type 0} (next : List ℕ → List (List ℕ)) (objects :
 reached_is_there next objects roots _ (Root name root there) = there
 reached_is_there next objects roots _ (Next from name reached linked there) = there
 
+-- the best of a history are noted there
+pub best_there : (notes : Notes) (a b name : List ℕ) → is_best_noted notes a b name ≡ true → contains_key notes name ≡ true
+best_there notes a b name is =
+    let common = (and_parts _ (is_common_noted notes a b name) is).1 in
+    let own = (and_parts (is_ancestor_noted notes b name) _ common).0 in
+    reached_is_there (noted_parents notes) notes (b ∷ []) name (reached_led_to (noted_parents notes) notes (b ∷ []) name own)
+
 -- more roots reach no less
 wider : (next : List ℕ → List (List ℕ)) (objects : Objects) (some all : List (List ℕ)) → ((name : List ℕ) → Contains some name → Contains all name) → (name : List ℕ) → IsReached next objects some name → IsReached next objects all name
 wider next objects some all within _ (Root name root there) = Root name (within name root) there

@@ -1,8 +1,9 @@
-ghost use Rattle.std.specs.Prelude.{◌≡◌, List, ℕ, IsTrue, IfOk};
+ghost use Rattle.std.specs.Prelude.{◌≡◌, List, ℕ, true, IsTrue, IfOk};
+ghost use Rattle.std.specs.FinMap.{contains_key};
 ghost use Rattle.std.specs.HashSet.{contains};
 ghost use Rattle.git_name.specs.Same.{same_name};
 ghost use Rattle.fork_reach.specs.Faults.{IsAsked, fault_in};
-ghost use Rattle.fork_query.specs.MergeBase.{bases_told, is_base, merge_bases};
+ghost use Rattle.fork_query.specs.MergeBase.{ListsSeen, bases_told, is_base, merge_bases};
 ghost use Rattle.fork_query.specs.Objects.{name_lines};
 ghost use Rattle.fork_query.specs.Told.{Tells, fault_told};
 
@@ -25,6 +26,8 @@ fn read_bases<S: Source>(
     b: Name,
 ) -> Result<IndexSet<Name, Hashing>, SourceFault>
     ensures best { IsTrue (S.state source.old).honest → IfOk result (λ best. (name : List ℕ) → contains same_name best name ≡ is_base (S.state source.old).objects a b name) }
+    // Over any source.
+    ensures seen { IfOk result (λ best. (name : List ℕ) → contains same_name best name ≡ true → contains_key (S.state source.old).objects name ≡ true) }
     ensures asked { IsAsked (S.state source.old) (S.state source.new) (fault_in result) }
 {
     let none = IndexSet::with_hasher(alloc, source.hashing());
@@ -43,6 +46,8 @@ fn best<S: Ancestry>(
     b: Name,
 ) -> Result<IndexSet<Name, Hashing>, SourceFault>
     ensures best { IsTrue (S.state source.old).honest → IfOk result (λ best. (name : List ℕ) → contains same_name best name ≡ is_base (S.state source.old).objects a b name) }
+    // Over any source.
+    ensures seen { IfOk result (λ best. (name : List ℕ) → contains same_name best name ≡ true → contains_key (S.state source.old).objects name ≡ true) }
     ensures asked { IsAsked (S.state source.old) (S.state source.new) (fault_in result) }
 {
     source.learn(alloc, a)?;
@@ -58,6 +63,8 @@ fn best<S: Ancestry>(
 // The best common ancestors, one a line.
 fn bases<S: Ancestry>(alloc: Global, source: &mut S, a: Name, b: Name) -> Result<Vec<u8>, SourceFault>
     ensures listed { IsTrue (S.state source.old).honest → IfOk result (λ text. text.items ≡ name_lines (merge_bases (S.state source.old).objects a b)) }
+    // Over any source.
+    ensures seen { IfOk result (λ text. ListsSeen (S.state source.old).objects text.items) }
     ensures asked { IsAsked (S.state source.old) (S.state source.new) (fault_in result) }
 {
     let best = best(alloc, source, a, b)?;
@@ -83,6 +90,7 @@ pub fn merge_base<S: Ancestry>(
 ) -> Result<Vec<u8>, QueryError>
     ensures told { IsTrue (S.state source.old).honest → Tells (λ text. text.items) (bases_told (S.state source.old).objects repository.now a.now b.now) result }
     // Over any source.
+    ensures seen { IfOk result (λ text. ListsSeen (S.state source.old).objects text.items) }
     ensures asked { IsAsked (S.state source.old) (S.state source.new) (fault_told result) }
 {
     let mut followed = Followed::new(alloc);

@@ -15,11 +15,15 @@ use Rattle.fork_reach.specs.Queuing.{stands_in}
 use Rattle.fork_reach.specs.Reach.{parent_names, parents_of_found}
 use Rattle.fork_reach.specs.Source.{Objects}
 use Rattle.fork_reach.proofs.HiddenLemmas.{get_kept}
-use Rattle.fork_reach.proofs.NoteLemmas.{noted_by}
+use Rattle.fork_reach.proofs.NoteLemmas.{noted_by, noted_stands}
 
 some_noted : (found : Option Object) → is_some found ≡ true → Some (note_of_found found) ≡ option_map note_of found
 some_noted None there = (let no : ⊥ = cc in absurd no)
 some_noted (Some object) there = refl
+
+-- who has a note stands in the queue
+pub noted_queued : (queue : List (List ℕ)) (notes : List Note) (name : List ℕ) → contains_key (notes_under queue notes) name ≡ true → stands_in queue name ≡ true
+noted_queued queue notes name there = noted_stands queue notes name (ap is_some (sym (get_of_hashed (zip queue notes) name)) ∙ there)
 
 -- the notes of a queue that was walked to its end are those of what was reached
 pub notes_end : (objects : Objects) (queue : List (List ℕ)) (notes : List Note) (reached : List ℕ → Bool) → notes ≡ map (note_at objects) queue → ((name : List ℕ) → stands_in queue name ≡ reached name) → ((name : List ℕ) → stands_in queue name ≡ true → contains_key objects name ≡ true)

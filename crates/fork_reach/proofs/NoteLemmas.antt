@@ -56,3 +56,13 @@ by_rule rule name first false found among other is = is
 pub noted_by : {X : Type 0} (rule : List ℕ → X) (names : List (List ℕ)) (name : List ℕ) → lookup (same_name name) (zip names (map rule names)) ≡ cond (list_any (same_name name) names) (Some (rule name)) None
 noted_by rule [] name = refl
 noted_by rule (first ∷ names) name = by_rule rule name first (same_name name first) (lookup (same_name name) (zip names (map rule names))) (list_any (same_name name) names) refl (noted_by rule names name)
+
+either_stands : {X : Type 0} (note : X) (same : Bool) (found : Option X) (among : Bool) → (is_some found ≡ true → among ≡ true) → is_some (cond same (Some note) found) ≡ true → (same || among) ≡ true
+either_stands note true found among rest there = refl
+either_stands note false found among rest there = rest there
+
+-- what is noted of a name stands under it
+pub noted_stands : {X : Type 0} (names : List (List ℕ)) (notes : List X) (name : List ℕ) → is_some (lookup (same_name name) (zip names notes)) ≡ true → list_any (same_name name) names ≡ true
+noted_stands [] notes name there = absurd (cc)
+noted_stands (first ∷ names) [] name there = absurd (cc)
+noted_stands (first ∷ names) (note ∷ notes) name there = either_stands note (same_name name first) (lookup (same_name name) (zip names notes)) (list_any (same_name name) names) (noted_stands names notes name) there

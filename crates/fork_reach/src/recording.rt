@@ -1,4 +1,4 @@
-ghost use Rattle.std.specs.Prelude.{◌≡◌, ◌≢◌, Some, IsTrue, IfOk};
+ghost use Rattle.std.specs.Prelude.{◌≡◌, ◌≢◌, ℕ, List, true, Some, IsTrue, IfOk};
 ghost use Rattle.std.specs.Bool.{OnFalse};
 ghost use Rattle.std.specs.HashSet.{contains};
 ghost use Rattle.std.specs.FinMap as map;
@@ -59,6 +59,8 @@ pub fn read_history<S: Source>(
     hidden: &IndexSet<Name, Hashing>,
 ) -> Result<History, SourceFault>
     ensures found { IsTrue (S.state source.old).honest → IfOk result (λ history. history ≡ map_values note_of (map.retain_keys (S.state source.old).objects (is_reached (parent_names (S.state source.old).objects) (without (S.state source.old).objects (contains same_name hidden.now)) commits.now))) }
+    // Over any store.
+    ensures seen { IfOk result (λ history. (name : List ℕ) → map.contains_key history name ≡ true → map.contains_key (S.state source.old).objects name ≡ true) }
     ensures asked { IsAsked (S.state source.old) (S.state source.new) (fault_in result) }
 {
     let mut names = IndexSet::with_hasher(alloc, source.hashing());

@@ -12,7 +12,7 @@ use Rattle.fork_reach.specs.Queuing.{Queues, stands_in}
 use Rattle.fork_reach.specs.Reach.{is_reached, parent_names}
 use Rattle.fork_reach.proofs.AskedLemmas.{asked_again, not_asked}
 use Rattle.fork_reach.proofs.HiddenLemmas.{measured_without, there_without}
-use Rattle.fork_reach.proofs.HistoryLemmas.{note_parents, notes_end}
+use Rattle.fork_reach.proofs.HistoryLemmas.{note_parents, noted_queued, notes_end}
 use Rattle.fork_reach.proofs.NameLemmas.{empty_holds_none}
 use Rattle.fork_reach.proofs.QueueLemmas.{front_more, none_left, read_at, rest_more, sees_behind}
 use Rattle.fork_reach.proofs.ReachLemmas.{reached_alike}
@@ -94,3 +94,11 @@ returns-clause-found g c = λ honest.
     (λ name. walks_end next there c.args.commits.now old.honest (stands_in queue) (drop at queue) ended.0 before.walks honest name
     ∙ reached_alike next there (without old.objects hides) c.args.commits.now (measured_without old.objects hides) name)
     (λ name is. (and_parts (contains_key old.objects name) _ (sym (there_without old.objects hides name) ∙ sym (measured_without old.objects hides name) ∙ before.walks.there name is)).0)
+
+pub returns-clause-seen : goal.returns-clause-seen
+returns-clause-seen g c = λ name noted.
+    let old = g.S.Source.state c.args.source.now in
+    let hides = contains same_name c.args.hidden.now in
+    let queue = c.queued.names.keys in
+    let stands = noted_queued queue c.queued.notes.items name (ap (λ notes. contains_key notes name) (sym c.of.ensures) ∙ noted) in
+    (and_parts (contains_key old.objects name) _ (sym (there_without old.objects hides name) ∙ sym (measured_without old.objects hides name) ∙ c.queued.invariant.walks.there name stands)).0

@@ -3,7 +3,7 @@ use Rattle.std.proofs.Common.{◌≡◌, ◌≢◌, ◌∙◌, inl, inr, sym, ap
 use Rattle.std.proofs.lemmas.List.Elements.{All-drop}
 use Rattle.clap.specs.Words.{Row, Text}
 use Rattle.fork_command.specs.declared.command.Command.{Command}
-use Rattle.fork_command.specs.declared.command.Command.TheVariants.{HashObject, Run, Serve, Check}
+use Rattle.fork_command.specs.declared.command.Command.TheVariants.{HashObject, Run, Serve, Check, Upgrade}
 use Rattle.fork_command.specs.declared.error.CommandError.{CommandError}
 use Rattle.fork_command.specs.declared.error.CommandError.TheVariants.{Help, Usage, BadTenant, Memory}
 use Rattle.fork_command.specs.declared.grant.Grant.{Grant}
@@ -33,6 +33,7 @@ type_is_good met (HashObject kind) asked bad = bad.2 kind (ap (λ (m : Option (T
 type_is_good met (Run hosting) asked bad = apart met 114 104 (ap first_letter asked.1) (ap first_letter bad.1) (omega arith)
 type_is_good met (Serve socket connections hosting) asked bad = apart met 115 104 (ap first_letter asked.1) (ap first_letter bad.1) (omega arith)
 type_is_good met (Check dir) asked bad = apart met 99 104 (ap first_letter asked.1) (ap first_letter bad.1) (omega arith)
+type_is_good met (Upgrade dir) asked bad = apart met 117 104 (ap first_letter asked.1) (ap first_letter bad.1) (omega arith)
 
 -- and so are the tenants
 tenants_are_good : (met : Option (Text × List Row)) (command : Command) (word : List ℕ) → Asks met command → IsBadTenant met word → ⊥
@@ -48,6 +49,8 @@ tenants_are_good met (Serve socket connections hosting) word asked (rows, inr se
     (subst (λ (rs : List Row). AreGrants hosting.tenants.items (tenants_given rs)) (ap rows_met (sym asked.1 ∙ serve)) asked.2.hosted.tenants) first
 tenants_are_good met (Check dir) word asked (rows, inl run, first) = apart met 99 114 (ap first_letter asked.1) (ap first_letter run) (omega arith)
 tenants_are_good met (Check dir) word asked (rows, inr serve, first) = apart met 99 115 (ap first_letter asked.1) (ap first_letter serve) (omega arith)
+tenants_are_good met (Upgrade dir) word asked (rows, inl run, first) = apart met 117 114 (ap first_letter asked.1) (ap first_letter run) (omega arith)
+tenants_are_good met (Upgrade dir) word asked (rows, inr serve, first) = apart met 117 115 (ap first_letter asked.1) (ap first_letter serve) (omega arith)
 
 pub only_memory : (met : Option (Text × List Row)) (command : Command) (error : CommandError) → Asks met command → IsRefused [] met error → error ≡ Memory
 only_memory met command (Help error) asked refused = absurd refused.1

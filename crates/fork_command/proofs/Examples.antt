@@ -95,3 +95,12 @@ check_takes_no_tenant = refl
 pub help_is_asked : fault_of table_app (codes "forkhost" ∷ codes "run" ∷ codes "--help" ∷ []) ≡ DisplayHelp ∷ []
 unfolding clap_on_literals table_app
 help_is_asked = refl
+
+-- ---- `upgrade`
+pub upgrade_is_asked : option_map {U = Text × Option Text} (λ p. (p.0, first_of (codes "dir") p.1)) (subcommand_of table_app (codes "forkhost" ∷ codes "upgrade" ∷ codes "--dir" ∷ codes "d" ∷ [])) ≡ Some (codes "upgrade", Some (codes "d"))
+unfolding clap_on_literals table_app
+upgrade_is_asked = refl
+
+pub upgrade_wants_its_dir : fault_of table_app (codes "forkhost" ∷ codes "upgrade" ∷ []) ≡ MissingRequiredArgument ∷ []
+unfolding clap_on_literals table_app
+upgrade_wants_its_dir = refl

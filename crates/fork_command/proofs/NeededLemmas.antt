@@ -1,4 +1,4 @@
--- Words in which `clap` finds no fault give `serve` and `check` what they need.
+-- Words in which `clap` finds no fault give `serve`, `check` and `upgrade` what they need.
 use Rattle.std.proofs.Common.{◌≡◌, ◌||◌, not, Bool, true, false, List, [], drop, Option, Some, None, is_some, codes, refl, IfSome, slice_get, pos}
 use Rattle.std.specs.Option.{option_and_then, option_map_or}
 use Rattle.clap.specs.Words.{App, IsSignedIn, Kinds, Row, Rule, Shape, Text, built, first_of, without_minus}
@@ -11,7 +11,7 @@ use Rattle.clap.specs.Walk.{Names, nothing_held, row_text, rows_after, settled, 
 use Rattle.clap.specs.declared.builder.value_parser.ValueParser.TheVariants.{Signed}
 use Rattle.clap.proofs.ValueTestLemmas.{accepts-Accepts}
 use Rattle.fork_command.specs.Command.{HasServeWords}
-use Rattle.fork_command.specs.Table.{check_app, connections_rule, needed_rule, serve_app, table_app}
+use Rattle.fork_command.specs.Table.{connections_rule, folder_app, needed_rule, serve_app, table_app}
 use Rattle.fork_command.proofs.GivenLemmas.{Holds, found_keeps, other_keeps, others_keep, own_keeps, row_at}
 use Rattle.fork_command.proofs.KeptLemmas.{EachKeeps, level_keeps, or_else_first, or_else_last}
 
@@ -84,10 +84,10 @@ connections_kept =
       ),
     )
 
-dir_kept : EachKeeps (standing check_app) (Holds (codes "dir") HasValue)
+dir_kept : (name : Text) → EachKeeps (standing (folder_app name)) (Holds (codes "dir") HasValue)
 unfolding table_app
-dir_kept =
-    let s = standing check_app in
+dir_kept name =
+    let s = standing (folder_app name) in
     found_keeps s (Holds (codes "dir") HasValue) s.rules (own_keeps s dir_built HasValue refl refl refl (λ v vs passed. refl), others_keep s (codes "dir") HasValue (drop 1 s.rules) refl)
 
 pub serve_words : (words : List Text) → level_fault (standing serve_app) [] nothing_held words false [] ≡ [] → HasServeWords (rows_after (standing serve_app).rules [] words)
@@ -104,9 +104,9 @@ serve_words words none =
       number = number.2;
     }
 
-pub check_words : (words : List Text) → level_fault (standing check_app) [] nothing_held words false [] ≡ [] → is_some (first_of (codes "dir") (rows_after (standing check_app).rules [] words)) ≡ true
+pub folder_words : (name : Text) (words : List Text) → level_fault (standing (folder_app name)) [] nothing_held words false [] ≡ [] → is_some (first_of (codes "dir") (rows_after (standing (folder_app name)).rules [] words)) ≡ true
 unfolding table_app
-check_words words none =
-    let s = standing check_app in
+folder_words name words none =
+    let s = standing (folder_app name) in
     let rows = rows_after s.rules [] words in
-    value_given (row_at (codes "dir") rows) (one_given (is_given (codes "dir") rows) (level_last s [] words false [] none)) (level_keeps s (Holds (codes "dir") HasValue) dir_kept [] words false [] refl tt none)
+    value_given (row_at (codes "dir") rows) (one_given (is_given (codes "dir") rows) (level_last s [] words false [] none)) (level_keeps s (Holds (codes "dir") HasValue) (dir_kept name) [] words false [] refl tt none)

@@ -6,7 +6,7 @@ use Rattle.clap.specs.declared.error.kind.ErrorKind.TheVariants.{DisplayHelp}
 use Rattle.git_name.specs.declared.kind.Kind.{Kind}
 use Rattle.git_name.specs.Kind.{type_word}
 use Rattle.fork_command.specs.declared.command.Command.{Command}
-use Rattle.fork_command.specs.declared.command.Command.TheVariants.{HashObject, Run, Serve, Check}
+use Rattle.fork_command.specs.declared.command.Command.TheVariants.{HashObject, Run, Serve, Check, Upgrade}
 use Rattle.fork_command.specs.declared.hosting.Hosting.{Hosting}
 use Rattle.fork_command.specs.declared.error.CommandError.{CommandError}
 use Rattle.fork_command.specs.declared.error.CommandError.TheVariants.{Help, Usage, BadTenant, Memory}
@@ -37,12 +37,17 @@ pub record IsServing (rows : List Row) (path : Text) (n : ℕ) (hosting : Hostin
   pub most : n ≤ 1000000
   pub hosted : IsHosting rows hosting
 
+-- a subcommand of this name was met, and this folder was given to it
+abbrev pub AsksOfFolder : Text → Option (Text × List Row) → Text → Type 0
+AsksOfFolder name met dir = (rows : List Row) × (met ≡ Some (name, rows)) × (first_of (codes "dir") rows ≡ Some dir)
+
 -- the subcommand that `clap` met, and the words given to it, ask for this command
 abbrev pub Asks : Option (Text × List Row) → Command → Type 0
 Asks met (HashObject kind) = (rows : List Row) × (met ≡ Some (codes "hash-object", rows)) × (type_given rows ≡ type_word kind)
 Asks met (Run hosting) = (rows : List Row) × (met ≡ Some (codes "run", rows)) × IsHosting rows hosting
 Asks met (Serve socket connections hosting) = (rows : List Row) × (met ≡ Some (codes "serve", rows)) × IsServing rows socket.now connections hosting
-Asks met (Check dir) = (rows : List Row) × (met ≡ Some (codes "check", rows)) × (first_of (codes "dir") rows ≡ Some dir.now)
+Asks met (Check dir) = AsksOfFolder (codes "check") met dir.now
+Asks met (Upgrade dir) = AsksOfFolder (codes "upgrade") met dir.now
 
 -- the words have what `serve` needs: a socket, and a text that `clap` takes for N
 pub record HasServeWords (rows : List Row) : Type 0 where
@@ -57,6 +62,7 @@ pub data IsMet (met : Option (Text × List Row)) : Type 0 where
   ToRun : (rows : List Row) → met ≡ Some (codes "run", rows) → IsMet met
   ToServe : (rows : List Row) → met ≡ Some (codes "serve", rows) → HasServeWords rows → IsMet met
   ToCheck : (rows : List Row) → met ≡ Some (codes "check", rows) → is_some (first_of (codes "dir") rows) ≡ true → IsMet met
+  ToUpgrade : (rows : List Row) → met ≡ Some (codes "upgrade", rows) → is_some (first_of (codes "dir") rows) ≡ true → IsMet met
 
 -- the word given as TYPE is the type of no object
 abbrev pub IsBadType : Option (Text × List Row) → Type 0

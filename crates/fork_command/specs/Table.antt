@@ -36,13 +36,20 @@ serve_app =
     (with_rule (with_rule (new_app (codes "serve")) (needed_rule (codes "socket"))) connections_rule)
     (option_rule (codes "dir"))) tenants_rule
 
--- `check --dir PATH`
+-- a subcommand that is given a folder, `--dir PATH`
+abbrev pub folder_app : Text → App
+folder_app name = with_rule (new_app name) (needed_rule (codes "dir"))
+
+-- `check --dir PATH` and `upgrade --dir PATH`
 abbrev pub check_app : App
-check_app = with_rule (new_app (codes "check")) (needed_rule (codes "dir"))
+check_app = folder_app (codes "check")
+
+abbrev pub upgrade_app : App
+upgrade_app = folder_app (codes "upgrade")
 
 -- `forkhost` and one of its subcommands
 abbrev pub top_app : App
 top_app = let top = new_app (codes "forkhost") in record top { top = record top.top { subcommand_required = true; disable_help_subcommand = true } }
 
 unfoldable pub table_app : App
-table_app = with_subcommand (with_subcommand (with_subcommand (with_subcommand top_app hash_object_app.top) run_app.top) serve_app.top) check_app.top
+table_app = with_subcommand (with_subcommand (with_subcommand (with_subcommand (with_subcommand top_app hash_object_app.top) run_app.top) serve_app.top) check_app.top) upgrade_app.top

@@ -35,6 +35,10 @@ pub enum Command<'a> {
     Check {
         dir: &'a str,
     },
+    /// To save what a folder keeps in the newest form.
+    Upgrade {
+        dir: &'a str,
+    },
 }
 
 // What clap's refusal of the words is.
@@ -112,6 +116,12 @@ fn asked<'a>(
             unreachable!();
         };
         return Ok(Some(Command::Check { dir }));
+    }
+    if name == "upgrade" {
+        let Some(dir) = matches.get_str("dir") else {
+            unreachable!();
+        };
+        return Ok(Some(Command::Upgrade { dir }));
     }
     unreachable!()
 }

@@ -2,7 +2,7 @@ ghost use Rattle.std.specs.Prelude.{◌≡◌, IfOk, codes, false};
 ghost use Rattle.clap.specs.Walk.{rule_of};
 ghost use Rattle.clap.specs.Words.{app_of};
 ghost use Rattle.clap.specs.declared.builder.command.Command.TheViews.{out-Command};
-ghost use Rattle.fork_command.specs.Table.{check_app, connections_rule, hash_object_app, needed_rule, option_rule, run_app, serve_app, table_app, tenants_rule};
+ghost use Rattle.fork_command.specs.Table.{connections_rule, folder_app, hash_object_app, needed_rule, option_rule, run_app, serve_app, table_app, tenants_rule};
 
 use clap::{Arg, ArgAction, Command, value_parser};
 use std::alloc::{AllocError, Global};
@@ -89,12 +89,13 @@ fn serve<'a>(alloc: Global) -> Result<Command<'a>, AllocError>
         .arg(tenants(alloc))
 }
 
-fn check<'a>(alloc: Global) -> Result<Command<'a>, AllocError>
-    ensures table { IfOk result (λ c. app_of c ≡ check_app) }
+// A subcommand that is given a folder.
+fn of_folder<'a>(alloc: Global, name: &'a str, about: &'a str) -> Result<Command<'a>, AllocError>
+    ensures table { IfOk result (λ c. app_of c ≡ folder_app name.entry.now) }
     ensures local { IfOk result (λ c. (out-Command c).has_globals ≡ false) }
 {
-    Command::new(alloc, "check")
-        .about("Read all that a folder keeps, and tell what is wrong with it")
+    Command::new(alloc, name)
+        .about(about)
         .arg(dir(alloc).required(true))
 }
 
@@ -102,6 +103,16 @@ fn check<'a>(alloc: Global) -> Result<Command<'a>, AllocError>
 pub(crate) fn table<'a>(alloc: Global) -> Result<Command<'a>, AllocError>
     ensures table { IfOk result (λ c. app_of c ≡ table_app) }
 {
+    let check = of_folder(
+        alloc,
+        "check",
+        "Read all that a folder keeps, and tell what is wrong with it",
+    )?;
+    let upgrade = of_folder(
+        alloc,
+        "upgrade",
+        "Save what a folder keeps in the newest form, and print its version",
+    )?;
     let top = Command::new(alloc, "forkhost")
         .about("The core of a Git host for many tenants")
         .subcommand_required(true)
@@ -109,5 +120,6 @@ pub(crate) fn table<'a>(alloc: Global) -> Result<Command<'a>, AllocError>
     top.subcommand(hash_object(alloc)?)?
         .subcommand(run(alloc)?)?
         .subcommand(serve(alloc)?)?
-        .subcommand(check(alloc)?)
+        .subcommand(check)?
+        .subcommand(upgrade)
 }

@@ -14,8 +14,8 @@ use Rattle.fork_ledger.specs.Tenants.{VaultState, shape_of}
 use Rattle.fork_host.specs.Bounds.{IsBounded}
 use Rattle.fork_host.specs.Faults.{HostFaults}
 use Rattle.fork_host.specs.Given.{asker_of}
-use Rattle.fork_host.specs.Safe.{IsNamedReply}
-use Rattle.fork_host.specs.Sent.{sent_in_world, sent_names}
+use Rattle.fork_host.specs.Safe.{IsNamedReply, TellsSeen}
+use Rattle.fork_host.specs.Sent.{seen_in_world, sent_in_world, sent_names}
 use Rattle.fork_host.specs.Shape.{SameShape, shape_of as shape_seen}
 use Rattle.fork_host.specs.Shown.{Accounts, HostState, IsWhole, Trusted, state_of, world_of}
 use Rattle.fork_host.specs.Step.{AreNamed, IsRun, IsStep}
@@ -25,14 +25,15 @@ use Rattle.fork_host.proofs.TendingLemmas.{own_step, shape_tended, whole_tended,
 -- a tenant was answered
 pub answered_step : (old new : HostState) (t : List ℕ) (ask : Ask) (reply : Reply) → (Trusted old → Steps (world_of old) (Asks t ask) reply (world_of new)) → IsWhole new → new.vault.honest ≡ old.vault.honest
     → (is_done reply ≡ false → (tenant : List ℕ) → SameShape tenant (world_of old) (world_of new)) → ((tenant : List ℕ) → tenant ≢ t → SameShape tenant (world_of old) (world_of new))
-    → IsNamedReply ask reply → IsBounded (sent_in_world (world_of old) t ask) old.vault new.vault reply → GrowsBy (sent_names (sent_in_world (world_of old) t ask)) old.vault.places new.vault.places → IsStep old (Asks t ask) reply new
-answered_step old new t ask reply explained whole honest kept others named bounded grows = record {
+    → IsNamedReply ask reply → TellsSeen (seen_in_world (world_of old) t) ask reply → IsBounded (sent_in_world (world_of old) t ask) old.vault new.vault reply → GrowsBy (sent_names (sent_in_world (world_of old) t ask)) old.vault.places new.vault.places → IsStep old (Asks t ask) reply new
+answered_step old new t ask reply explained whole honest kept others named seen bounded grows = record {
   explained = explained;
   honest = honest;
   whole = whole;
   kept = kept;
   others = λ tenant differs. others tenant (λ same. differs (ap Some (sym same)));
   named = named;
+  seen = seen;
   faults = bounded;
   tends = grows;
 }
@@ -47,6 +48,7 @@ tended_step accounts old new request reply says tends same faults bounded whole 
   kept = λ is tenant. shape_tended accounts old new same tenant;
   others = λ tenant differs. shape_tended accounts old new same tenant;
   named = tt;
+  seen = tt;
   faults = (faults, bounded);
   tends = tends;
 }

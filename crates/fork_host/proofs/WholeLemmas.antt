@@ -29,7 +29,7 @@ use Rattle.fork_host.specs.Adding.{new_account, new_view}
 use Rattle.fork_host.specs.Own.{IsOwn, IsReady, staged_in, visible_in}
 use Rattle.fork_host.specs.Rows.{Yields}
 use Rattle.fork_host.specs.Safe.{IsSafe}
-use Rattle.fork_host.specs.Sent.{sent_by, sent_in_world, sent_of}
+use Rattle.fork_host.specs.Sent.{seen_in_world, seen_of, sent_by, sent_in_world, sent_of}
 use Rattle.fork_host.specs.Shape.{SameShape, shape_of}
 use Rattle.fork_host.specs.Shown.{Account, Accounts, HostState, IsWhole, Trusted, shown, state_of, world_of}
 use Rattle.fork_host.specs.Staged.{IsStaged}
@@ -236,5 +236,8 @@ whole_after Within old new t ask account after reply whole here set step safe ow
 }
 
 -- what a tenant that is there sends
+pub seen_here : (state : HostState) (t : List ℕ) (account : Account) → get state.accounts t ≡ Some account → seen_in_world (world_of state) t ≡ visible_in state.vault t
+seen_here state t account here = ap seen_of (get_world state t ∙ ap (option_map (λ a. shown a state.vault t)) here)
+
 pub sent_here : (state : HostState) (t : List ℕ) (ask : Ask) (account : Account) → get state.accounts t ≡ Some account → sent_in_world (world_of state) t ask ≡ sent_by (shown account state.vault t) ask
 sent_here state t ask account here = ap (λ o. sent_of o ask) (get_world state t ∙ ap (option_map (λ a. shown a state.vault t)) here)

@@ -1,7 +1,9 @@
 -- What holds of an answer over any store, also over one that does not give what it was given.
 use Rattle.std.specs.Prelude.{◌≡◌, ℕ, false, List, ⊤}
+use Rattle.fork_query.specs.MergeBase.{ListsSeen}
 use Rattle.fork_query.specs.Objects.{AreRecords, IsRecordUnder}
-use Rattle.fork_request.specs.Asked.{Ask, AsksObject, Fetches}
+use Rattle.fork_reach.specs.Source.{Objects}
+use Rattle.fork_request.specs.Asked.{Ask, AsksBases, AsksObject, Fetches}
 use Rattle.fork_request.specs.declared.reply.Reply.TheVariants.{Done}
 use Rattle.fork_request.specs.Told.{is_done}
 use Rattle.fork_request.specs.declared.reply.Reply.{Reply}
@@ -24,3 +26,11 @@ IsNamedText ask text = ⊤
 
 abbrev pub IsNamedReply : Ask → Reply → Type 0
 IsNamedReply ask reply = (text : List ℕ) → reply ≡ Done text → IsNamedText ask text
+
+-- `merge-base` tells names of objects that are seen, whatever the parents are that a store gives
+abbrev pub IsSeenText : Objects → Ask → List ℕ → Type 0
+IsSeenText seen (AsksBases repository first second) text = ListsSeen seen text
+IsSeenText seen ask text = ⊤
+
+abbrev pub TellsSeen : Objects → Ask → Reply → Type 0
+TellsSeen seen ask reply = (text : List ℕ) → reply ≡ Done text → IsSeenText seen ask text

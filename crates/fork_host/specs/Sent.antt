@@ -1,9 +1,10 @@
 -- The objects that a request brings with it, those of the upload that is open among them.
 use Rattle.std.specs.Prelude.{ℕ, List, [], Option, None, Some, map}
-use Rattle.std.specs.FinMap.{get}
+use Rattle.std.specs.FinMap.{empty, get}
 use Rattle.git_name.specs.Object.{Object, object_name}
 use Rattle.push_stream.specs.Stream.{sent_in, stream_of}
 use Rattle.push_stream.specs.Upload.{continued}
+use Rattle.fork_reach.specs.Source.{Objects}
 use Rattle.fork_request.specs.Asked.{Ask, Inits, Drops, Forks, Pushes, SendsPart, EndsParts, DropsParts, Updates, AsksObject, AsksTree, AsksRevisions, AsksBases, AsksReferences, Fetches, AsksUse, Prunes, NoRequest}
 use Rattle.fork_model.specs.Answer.{open_upload}
 use Rattle.fork_model.specs.View.{View}
@@ -37,6 +38,14 @@ sent_of (Some view) ask = sent_by view ask
 -- those of a tenant of a world
 abbrev pub sent_in_world : World → List ℕ → Ask → List Object
 sent_in_world world tenant ask = sent_of (get world tenant) ask
+
+-- what a tenant of a world sees; an unknown one sees nothing
+abbrev pub seen_of : Option View → Objects
+seen_of None = empty
+seen_of (Some view) = view.objects
+
+abbrev pub seen_in_world : World → List ℕ → Objects
+seen_in_world world tenant = seen_of (get world tenant)
 
 -- the names of what is sent
 abbrev pub sent_names : List Object → List (List ℕ)

@@ -3,10 +3,11 @@ use Rattle.std.specs.Prelude.{◌≡◌, ◌≢◌, ℕ, false, List, [], ◌∷
 use Rattle.fork_request.specs.Told.{is_done}
 use Rattle.fork_request.specs.declared.reply.Reply.{Reply}
 use Rattle.fork_model.specs.Runs.{Asks, HostAsks}
-use Rattle.fork_model.specs.World.{Event, Steps}
+use Rattle.fork_model.specs.World.{Event, Steps, World}
 use Rattle.fork_host.specs.Faults.{FaultsWithin}
 use Rattle.fork_host.specs.Given.{asker_of}
-use Rattle.fork_host.specs.Safe.{IsNamedReply}
+use Rattle.fork_host.specs.Safe.{IsNamedReply, TellsSeen}
+use Rattle.fork_host.specs.Sent.{seen_in_world}
 use Rattle.fork_host.specs.Shape.{SameShape}
 use Rattle.fork_host.specs.Shown.{HostState, IsWhole, Trusted, world_of}
 use Rattle.fork_host.specs.Swept.{TendsAt}
@@ -16,9 +17,14 @@ abbrev pub IsNamedAt : Event → Reply → Type 0
 IsNamedAt (Asks tenant ask) reply = IsNamedReply ask reply
 IsNamedAt (HostAsks request) reply = ⊤
 
+-- and merge bases are names of what the tenant sees
+abbrev pub TellsSeenAt : World → Event → Reply → Type 0
+TellsSeenAt world (Asks tenant ask) reply = TellsSeen (seen_in_world world tenant) ask reply
+TellsSeenAt world (HostAsks request) reply = ⊤
+
 -- a step from state to state. Over an honest store it is a step of the world. Over any store the honesty stays, and the new state is
 -- a host's; what is refused or failed keeps each view's shape, and a step that a tenant does not ask keeps that tenant's; what is told
--- under a name has it; the host faults and what is done with the store keep their bounds
+-- under a name has it, and merge bases are names of what the tenant sees; the host faults and what is done with the store keep their bounds
 pub record IsStep (old : HostState) (event : Event) (reply : Reply) (new : HostState) : Type 0 where
   pub explained : Trusted old → Steps (world_of old) event reply (world_of new)
   pub honest : new.vault.honest ≡ old.vault.honest
@@ -26,6 +32,7 @@ pub record IsStep (old : HostState) (event : Event) (reply : Reply) (new : HostS
   pub kept : is_done reply ≡ false → (tenant : List ℕ) → SameShape tenant (world_of old) (world_of new)
   pub others : (tenant : List ℕ) → asker_of event ≢ Some tenant → SameShape tenant (world_of old) (world_of new)
   pub named : IsNamedAt event reply
+  pub seen : TellsSeenAt (world_of old) event reply
   pub faults : FaultsWithin old event reply new
   pub tends : TendsAt old event reply new
 

@@ -17,8 +17,8 @@ ghost use Rattle.fork_model.specs.Answer.{answer};
 ghost use Rattle.fork_host.specs.Opening.{reading_told};
 ghost use Rattle.fork_host.specs.Own.{IsOwn, IsReady, staged_in};
 ghost use Rattle.fork_host.specs.Rows.{YieldsOver};
-ghost use Rattle.fork_host.specs.Safe.{IsNamedReply, IsSafe};
-ghost use Rattle.fork_host.specs.Sent.{sent_by, sent_in_world, sent_names};
+ghost use Rattle.fork_host.specs.Safe.{IsNamedReply, IsSafe, TellsSeen};
+ghost use Rattle.fork_host.specs.Sent.{seen_in_world, sent_by, sent_in_world, sent_names};
 ghost use Rattle.fork_host.specs.Shape.{SameShape};
 ghost use Rattle.fork_host.specs.Uploads.{upload_at, uploading_in};
 ghost use Rattle.fork_host.specs.Shown.{Account, IsWhole, Trusted, shown, state_of, world_of};
@@ -181,6 +181,7 @@ impl Accounts {
         ensures kept { is_done result ≡ false → (tenant : List ℕ) → SameShape tenant (world_of (state_of self.old vault.old)) (world_of (state_of self.new vault.new)) }
         ensures others { (tenant : List ℕ) → tenant ≢ name.now → SameShape tenant (world_of (state_of self.old vault.old)) (world_of (state_of self.new vault.new)) }
         ensures named { IsNamedReply (ask_of request.entry) result }
+        ensures seen { TellsSeen (seen_in_world (world_of (state_of self.old vault.old)) name.now) (ask_of request.entry) result }
         ensures faults { IsBounded (sent_in_world (world_of (state_of self.old vault.old)) name.now (ask_of request.entry)) vault.old vault.new result }
         ensures grows { GrowsBy (sent_names (sent_in_world (world_of (state_of self.old vault.old)) name.now (ask_of request.entry))) vault.old.places vault.new.places }
     {
@@ -221,6 +222,7 @@ fn answer_from<S: LooseFiles>(
     ensures row { YieldsOver vault.old.honest (answer (shown tenant.old vault.old name.now) (ask_of request.entry)) (shown tenant.old vault.old name.now) result (shown tenant.new vault.new name.now) }
     ensures safe { IsSafe (IsBounded (sent_by (shown tenant.old vault.old name.now) (ask_of request.entry)) vault.old vault.new) (shown tenant.old vault.old name.now) result (shown tenant.new vault.new name.now) }
     ensures named { IsNamedReply (ask_of request.entry) result }
+    ensures seen { TellsSeen (visible_in vault.old name.now) (ask_of request.entry) result }
     ensures own { IsOwn name.now vault.old vault.new }
     ensures grows { GrowsBy (sent_names (sent_by (shown tenant.old vault.old name.now) (ask_of request.entry))) vault.old.places vault.new.places }
     ensures staged { IsStaged vault.old.honest tenant.new.upload (staged_in vault.new name.now) }

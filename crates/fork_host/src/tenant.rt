@@ -6,7 +6,8 @@ ghost use Rattle.fork_host.specs.Bounds.{IsBounded};
 ghost use Rattle.fork_host.specs.Handle.{Ready, Touches, shown_by, staged_by};
 ghost use Rattle.fork_host.specs.Own.{staged_in};
 ghost use Rattle.fork_host.specs.Rows.{YieldsOver};
-ghost use Rattle.fork_host.specs.Safe.{IsNamedReply, IsSafe};
+ghost use Rattle.fork_host.specs.Handle.{visible_by};
+ghost use Rattle.fork_host.specs.Safe.{IsNamedReply, IsSafe, TellsSeen};
 ghost use Rattle.fork_host.specs.Sent.{sent_by, sent_names};
 ghost use Rattle.fork_host.specs.Shown.{shown};
 ghost use Rattle.fork_host.specs.Staged.{IsStaged};
@@ -79,6 +80,7 @@ impl Tenant {
         ensures row { YieldsOver own.old.vault.now.honest (answer (shown_by self.old own.old) (ask_of request.entry)) (shown_by self.old own.old) result (shown self.new own.new.vault.now own.old.tenant.now) }
         ensures safe { IsSafe (IsBounded (sent_by (shown_by self.old own.old) (ask_of request.entry)) own.old.vault.now own.new.vault.now) (shown_by self.old own.old) result (shown self.new own.new.vault.now own.old.tenant.now) }
         ensures named { IsNamedReply (ask_of request.entry) result }
+        ensures seen { TellsSeen (visible_by own.old) (ask_of request.entry) result }
         ensures own { Touches (sent_names (sent_by (shown_by self.old own.old) (ask_of request.entry))) own.old own.new }
         ensures staged { IsStaged own.old.vault.now.honest self.new.upload (staged_in own.new.vault.now own.old.tenant.now) }
     {

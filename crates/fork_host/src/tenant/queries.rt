@@ -5,8 +5,8 @@ ghost use Rattle.fork_model.specs.Answer.{cat_file_answer, fetch_answer, ls_tree
 ghost use Rattle.fork_host.specs.Bounds.{IsBounded};
 ghost use Rattle.fork_host.specs.Handle.{Ready, Uses, shown_by};
 ghost use Rattle.fork_host.specs.Rows.{Yields};
-ghost use Rattle.fork_host.specs.Safe.{IsNamedReply, IsSafe};
-ghost use Rattle.fork_request.specs.Asked.{AsksObject, Fetches};
+ghost use Rattle.fork_host.specs.Safe.{IsNamedReply, IsSafe, TellsSeen};
+ghost use Rattle.fork_request.specs.Asked.{AsksBases, AsksObject, Fetches};
 ghost use Rattle.fork_host.specs.Shown.{shown};
 
 use crate::items::has_many;
@@ -92,6 +92,7 @@ impl Tenant {
         requires ready { Ready own.old self.now.limit }
         ensures row { IsTrue own.old.vault.now.honest → Yields (merge_base_answer (shown_by self.now own.old) word.now first.now second.now) (shown_by self.now own.old) result (shown self.now own.new.vault.now own.old.tenant.now) }
         ensures safe { IsSafe (IsBounded [] own.old.vault.now own.new.vault.now) (shown_by self.now own.old) result (shown self.now own.new.vault.now own.old.tenant.now) }
+        ensures seen { TellsSeen (visible_by own.old) (AsksBases word.now first.now second.now) result }
         ensures own { Uses [] own.old own.new }
     {
         let Some(name) = RepositoryName::read(word) else {

@@ -4,7 +4,7 @@ ghost use Rattle.std.specs.FinMap as map;
 ghost use Rattle.git_name.specs.Name.{name_cmp};
 
 use fork_push::Sides;
-use fork_reach::{Source, SourceFault};
+use fork_reach::{Ancestry, Source, SourceFault};
 use git_name::{Kind, Name, Sealed};
 use std::alloc::{AllocError, Global};
 use std::collections::BTreeMap;
@@ -83,6 +83,33 @@ impl Source for Kept {
             Ok(copy) => Ok(Some(copy)),
             Err(_) => Err(SourceFault::Memory),
         }
+    }
+}
+
+// No parents are known.
+impl Ancestry for Kept {
+    ghost use Rattle.std.specs.Prelude.{[]};
+
+    ghost commits = { λ kept. [] };
+
+    fn learn(&mut self, _alloc: Global, _commit: Name) -> Result<(), SourceFault> {
+        Ok(())
+    }
+
+    fn commit_count(&self) -> usize {
+        0
+    }
+
+    fn place_of(&self, _name: Name) -> Option<usize> {
+        None
+    }
+
+    fn commit_at(&self, _place: usize) -> Option<Name> {
+        None
+    }
+
+    fn parents_at(&self, _place: usize) -> &[usize] {
+        &[]
     }
 }
 

@@ -1,4 +1,4 @@
-use fork_ledger::Vault;
+use fork_ledger::{Survey, Vault};
 use fork_request::TenantName;
 use git_name::{Hashing, Kind, Name, Sealed, name_of, seal};
 use indexmap::IndexSet;
@@ -94,7 +94,8 @@ fn goes_its_way(
 fn objects_are_staged_in_one_call(rt: HostRuntime) -> Result<(), Fail> {
     let alloc = rt.alloc();
     let alice = TenantName::read(b"alice").ok_or("no name")?;
-    let mut vault = Vault::open(alloc, Memory::new(alloc)).or(Err("open"))?;
+    let survey = Survey::new(alloc, Memory::new(alloc))?;
+    let mut vault = Vault::over(alloc, survey).or(Err("over"))?;
     let is_right = goes_its_way(alloc, &mut vault, &alice);
     drop(vault);
     assert!(rt; is_right?);

@@ -10,11 +10,12 @@ use Rattle.fork_model.specs.World.{Steps}
 use Rattle.looks.specs.Growth.{GrowsBy}
 use Rattle.looks.proofs.GrowthLemmas.{grows_none}
 use Rattle.fork_host.specs.Bounds.{IsBounded}
+use Rattle.fork_host.specs.Safe.{TellsSeen}
 use Rattle.fork_host.specs.Sent.{sent_in_world, sent_names}
 use Rattle.fork_host.specs.Shown.{state_of, world_of}
 use Rattle.fork_ledger.proofs.UpdateLemmas.{found_in, written_back}
 use Rattle.fork_host.proofs.BoundLemmas.{bounded_still}
-use Rattle.fork_host.proofs.WholeLemmas.{all_stay, answered_step, others_stay, ready, sent_here, unknown_step, whole_after}
+use Rattle.fork_host.proofs.WholeLemmas.{all_stay, answered_step, others_stay, ready, seen_here, sent_here, unknown_step, whole_after}
 use Rattle.fork_host.proofs.accounts.Accounts.answer.Goals as goal
 
 pub returns-in_default-clause-explained : goal.returns-in_default-clause-explained
@@ -78,6 +79,12 @@ returns-clause-faults g c =
     let here = found_in c.args.self.now c.self.inside.tenants.entries c.args.name.now (Some c.in-Some.tenant.now) c.self.view_is c.in-Some.ensures.value in
     let old = state_of c.args.self.now c.args.vault.now in
     subst (λ sent. IsBounded sent c.args.vault.now c.answer_from.new.vault c.answer_from.result) (sym (sent_here old c.args.name.now (ask_of c.args.request) c.in-Some.tenant.now here)) c.answer_from.ensures.safe.faults
+
+pub returns-clause-seen : goal.returns-clause-seen
+returns-clause-seen g c =
+    let here = found_in c.args.self.now c.self.inside.tenants.entries c.args.name.now (Some c.in-Some.tenant.now) c.self.view_is c.in-Some.ensures.value in
+    let old = state_of c.args.self.now c.args.vault.now in
+    subst (λ seen. TellsSeen seen (ask_of c.args.request) c.answer_from.result) (sym (seen_here old c.args.name.now c.in-Some.tenant.now here)) c.answer_from.ensures.seen
 
 pub returns-in_default-clause-grows : goal.returns-in_default-clause-grows
 returns-in_default-clause-grows g c = grows_none (sent_names (sent_in_world (world_of (state_of c.args.self.now c.args.vault.now)) c.args.name.now (ask_of c.args.request))) c.args.vault.now.places

@@ -8,7 +8,7 @@ use Rattle.std.specs.BTreeMap.{is_at}
 use Rattle.std.specs.FinMap.{get, get-insert, get-empty, insert, contains_key, len, len-insert, len-empty, empty, from_entries}
 use Rattle.git_name.specs.Name.{name_cmp}
 use Rattle.git_name.proofs.Names.{name_total}
-use Rattle.git_reftx.specs.Transaction.{References}
+use Rattle.git_reftx.specs.Repository.{Repository}
 use Rattle.fork_reach.specs.Objects.{IsNamed}
 use Rattle.fork_request.specs.Names.{IsTenantName}
 use Rattle.fork_model.specs.Sound.{IsOrderly, IsOrderlyWorld, IsRight, IsRightWorld}
@@ -71,9 +71,10 @@ orderly_new_view limit low = record {
   upload = λ upload is. absurd (no_upload upload is);
   within_limit = (let none = use_of-empty in omega arith);
   limit = low;
-  few_repositories = (let none = len-empty name_cmp References in omega arith);
-  repositories = λ name references is. absurd (nothing_at name references is);
-  references = λ name references is. absurd (nothing_at name references is);
+  few_repositories = (let none = len-empty name_cmp Repository in omega arith);
+  repositories = λ name repository is. absurd (nothing_at name repository is);
+  heads = λ name repository is. absurd (nothing_at name repository is);
+  references = λ name repository is. absurd (nothing_at name repository is);
 }
 
 pub right_new_view : (limit : ℕ) → IsRight (new_view limit)

@@ -8,7 +8,7 @@ use Rattle.std.specs.FinMap.{empty, entries, insert, len-empty, len-entries}
 use Rattle.std.specs.declared.cmp.Ordering.TheVariants.{Less}
 use Rattle.git_name.specs.Name.{name_cmp}
 use Rattle.git_name.proofs.Names.{name_total}
-use Rattle.git_reftx.specs.Transaction.{References}
+use Rattle.git_reftx.specs.Repository.{Repository}
 use Rattle.git_reftx.proofs.PushLemmas.{entries_behind}
 use Rattle.fork_model.specs.View.{Repositories}
 use Rattle.state_text.specs.Adding.{AreBefore}
@@ -44,16 +44,16 @@ set_more names i name old new ascend inside is put so_far =
     put ∙ ap (λ ks. insert_key name_cmp ks name) so_far ∙ set_behind (take i names) name before ∙ sym (taken_more names i name inside is)
 
 -- repositories of a list, as the next one comes to them
-pub gathered_more : (list : List (List ℕ × References)) (old new : Repositories) (i : ℕ) (item : List ℕ × References) (name : List ℕ) (references : References) → Ascend (map (λ repository. repository.0) list) → i < length list → item ≡ get_or list i item
-    → name ≡ item.0 → references ≡ item.1 → new ≡ insert old name references → entries old ≡ take i list → entries new ≡ take (i + 1) list
-gathered_more list old new i item name references ascend inside is named same set so_far =
-    let before = subst (λ es. AreBefore (map (λ e. e.0) es) name) (sym so_far) (subst (AreBefore (map (λ e. e.0) (take i list))) (sym named) (next_by (λ repository. repository.0) list i item ascend inside is)) in
-    ap (λ (m : Repositories). entries m) set ∙ entries_behind old name references before
-    ∙ ap (λ es. es ++ (name, references) ∷ []) so_far ∙ ap (λ (e : List ℕ × References). take i list ++ e ∷ []) (λ k. (named k, same k))
+pub gathered_more : (list : List (List ℕ × Repository)) (old new : Repositories) (i : ℕ) (item : List ℕ × Repository) (name : List ℕ) (repository : Repository) → Ascend (map (λ row. row.0) list) → i < length list → item ≡ get_or list i item
+    → name ≡ item.0 → repository ≡ item.1 → new ≡ insert old name repository → entries old ≡ take i list → entries new ≡ take (i + 1) list
+gathered_more list old new i item name repository ascend inside is named same set so_far =
+    let before = subst (λ es. AreBefore (map (λ e. e.0) es) name) (sym so_far) (subst (AreBefore (map (λ e. e.0) (take i list))) (sym named) (next_by (λ row. row.0) list i item ascend inside is)) in
+    ap (λ (m : Repositories). entries m) set ∙ entries_behind old name repository before
+    ∙ ap (λ es. es ++ (name, repository) ∷ []) so_far ∙ ap (λ (e : List ℕ × Repository). take i list ++ e ∷ []) (λ k. (named k, same k))
     ∙ sym (taken_more list i item inside is)
 
-pub none_gathered : entries (empty {K = List ℕ} {X = References} {R = name_cmp}) ≡ []
-none_gathered = no_elements (entries (empty {K = List ℕ} {X = References} {R = name_cmp})) (sym (len-entries (empty {K = List ℕ} {X = References} {R = name_cmp})) ∙ len-empty name_cmp References)
+pub none_gathered : entries (empty {K = List ℕ} {X = Repository} {R = name_cmp}) ≡ []
+none_gathered = no_elements (entries (empty {K = List ℕ} {X = Repository} {R = name_cmp})) (sym (len-entries (empty {K = List ℕ} {X = Repository} {R = name_cmp})) ∙ len-empty name_cmp Repository)
   where
     no_elements : {A : Type 0} (xs : List A) → length xs ≡ 0 → xs ≡ []
     no_elements [] is = refl

@@ -154,6 +154,7 @@ orderly_opened repositories objects upload other limit few orderly = record {
   limit = orderly.limit;
   few_repositories = orderly.few_repositories;
   repositories = orderly.repositories;
+  heads = orderly.heads;
   references = orderly.references;
 }
 

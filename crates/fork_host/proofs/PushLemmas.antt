@@ -3,7 +3,7 @@ use Rattle.std.proofs.Common.{◌≡◌, ℕ, true, false, cond, List, [], ◌�
 use Rattle.std.specs.Prelude.{IfErr, IfOk}
 use Rattle.git_name.specs.Object.{Object, object_name}
 use Rattle.git_reftx.specs.declared.command.Command.{Command}
-use Rattle.git_reftx.specs.Transaction.{References}
+use Rattle.git_reftx.specs.Repository.{Repository}
 use Rattle.push_stream.specs.Brief.{BriefValue, brief_of}
 use Rattle.push_stream.specs.declared.body.Body.{Body}
 use Rattle.push_stream.specs.declared.fault.BodyError.{BodyError}
@@ -57,13 +57,13 @@ held_by (Flows asked objects false rest) commands names is = absurd (cc)
 held_by (Breaks fault) commands names is = absurd (cc)
 
 -- a push into a repository that is there, where no upload is open
-pub push_is : (view : View) (word body : List ℕ) (o : Option References) (references : References) → o ≡ Some references → is_some view.upload ≡ false → push_into view word body o ≡ pushed view word references (finished (stream_of body))
-push_is view word body o references here none =
-    ap (push_into view word body) here ∙ ap (λ b. cond b (Refused UploadOpen, view) (pushed view word references (finished (stream_of body)))) none
+pub push_is : (view : View) (word body : List ℕ) (o : Option Repository) (was : Repository) → o ≡ Some was → is_some view.upload ≡ false → push_into view word body o ≡ pushed view word was (finished (stream_of body))
+push_is view word body o was here none =
+    ap (push_into view word body) here ∙ ap (λ b. cond b (Refused UploadOpen, view) (pushed view word was (finished (stream_of body)))) none
 
 -- the end of an upload that is open
-pub end_is : (view : View) (word : List ℕ) (o : Option References) (references : References) (upload : UploadValue) → o ≡ Some references → view.upload ≡ Some upload → end_in view word o ≡ pushed view word references (finished upload.stream)
-end_is view word o references upload here waits = ap (end_in view word) here ∙ ap (upload_into view word references) waits
+pub end_is : (view : View) (word : List ℕ) (o : Option Repository) (was : Repository) (upload : UploadValue) → o ≡ Some was → view.upload ≡ Some upload → end_in view word o ≡ pushed view word was (finished upload.stream)
+end_is view word o was upload here waits = ap (end_in view word) here ∙ ap (upload_into view word was) waits
 
 -- a row that ends the upload is answered with a host fault: the upload stays
 pub ended_failed : (row : Reply × View) (old : View) (reply : Reply) (new : View) → is_host_fault row.0 ≡ false → is_host_fault reply ≡ true → Yields row old reply new → Yields (upload_ended row) old reply new

@@ -1,7 +1,7 @@
 -- Queries, which leave what a tenant sees.
 use Rattle.std.proofs.Common.{◌≡◌, ℕ, true, false, cond, IsTrue, inl, List, [], length, Option, Some, Result, Ok, Err, refl, sym, ap, subst, ◌∙◌}
 use Rattle.std.specs.Prelude.{nat_lt}
-use Rattle.git_reftx.specs.Transaction.{References}
+use Rattle.git_reftx.specs.Repository.{Repository}
 use Rattle.fork_reach.specs.declared.source.SourceFault.{SourceFault}
 use Rattle.fork_reach.specs.Faults.{IsAsked}
 use Rattle.fork_ledger.specs.Tenants.{private_of}
@@ -60,8 +60,8 @@ query_gives view account old new model (Err (query.Failed fault)) reply honest t
 pub named_is : (view : View) (word : List ℕ) (row : Reply × View) → is_plain_name 64 word ≡ true → named_repository view word row ≡ row
 named_is view word row is = ap (λ b. cond b row (Refused (BadName word), view)) is
 
-pub over_is : (word : List ℕ) (query : References → Result (List ℕ) Refusal) (o : Option References) (references : References) → o ≡ Some references → told_over word query o ≡ told (query references)
-over_is word query o references is = ap (told_over word query) is
+pub over_is : (word : List ℕ) (query : Repository → Result (List ℕ) Refusal) (o : Option Repository) (repository : Repository) → o ≡ Some repository → told_over word query o ≡ told (query repository)
+over_is word query o repository is = ap (told_over word query) is
 
 pub few_is : (items : List (List ℕ)) (reply : Reply) → nat_lt 64 (length items) ≡ false → few_items items reply ≡ reply
 few_is items reply is = ap (λ b. cond b (Refused TooMany) reply) is

@@ -13,7 +13,8 @@ use Rattle.git_name.specs.Object.{Object}
 use Rattle.git_name.specs.declared.kind.Kind.{Kind}
 use Rattle.git_name.proofs.Names.{name_total}
 use Rattle.git_name.proofs.TreeMaps.{find_is_lookup}
-use Rattle.git_reftx.specs.Transaction.{References, is_branch, is_commit}
+use Rattle.git_reftx.specs.Repository.{Repository}
+use Rattle.git_reftx.specs.Transaction.{is_branch, is_commit}
 use Rattle.push_stream.specs.Upload.{UploadValue}
 use Rattle.fork_reach.specs.Source.{Objects, kind_in}
 use Rattle.fork_reach.proofs.KeptObjects.{tied_names}
@@ -62,16 +63,17 @@ second_of : (o p : Option Reference) → option_or o p ≡ None → p ≡ None
 second_of None p is = is
 second_of (Some x) p is = absurd (cc)
 
-none_in_each : (bad : Reference → Bool) (list : List (List ℕ × References)) → find bad (flat_map references_in list) ≡ None → AllByRecursion (λ r. find bad (references_in r) ≡ None) list
+none_in_each : (bad : Reference → Bool) (list : List (List ℕ × Repository)) → find bad (flat_map references_in list) ≡ None → AllByRecursion (λ r. find bad (references_in r) ≡ None) list
 none_in_each bad [] none = tt
 none_in_each bad (r ∷ list) none =
     let parted = sym (find-append bad (references_in r) (flat_map references_in list)) ∙ none in
     (first_of (find bad (references_in r)) (find bad (flat_map references_in list)) parted, none_in_each bad list (second_of (find bad (references_in r)) (find bad (flat_map references_in list)) parted))
 
-good_reference : (bad : Reference → Bool) (list : List (List ℕ × References)) (name : List ℕ) (references : References) (reference target : List ℕ) → find bad (flat_map references_in list) ≡ None → Contains list (name, references)
-    → get references reference ≡ Some target → bad (reference, target) ≡ false
-good_reference bad list name references reference target none among points =
-    let here = each_of (λ (r : List ℕ × References). find bad (references_in r) ≡ None) list (name, references) (none_in_each bad list none) among in
+good_reference : (bad : Reference → Bool) (list : List (List ℕ × Repository)) (name : List ℕ) (repository : Repository) (reference target : List ℕ) → find bad (flat_map references_in list) ≡ None → Contains list (name, repository)
+    → get repository.references reference ≡ Some target → bad (reference, target) ≡ false
+good_reference bad list name repository reference target none among points =
+    let references = repository.references in
+    let here = each_of (λ (r : List ℕ × Repository). find bad (references_in r) ≡ None) list (name, repository) (none_in_each bad list none) among in
     let entry = Contains-from_lookup {eq = eq_by_cmp name_cmp} tied_names reference target (entries references) (sym (get-entries references reference ∙ find_is_lookup name_cmp (entries references) reference) ∙ points) in
     each_of (λ (x : Reference). bad x ≡ false) (entries references) (reference, target) (none_passes bad (entries references) here) entry
 
@@ -96,20 +98,20 @@ commit_of_branch true false is on = absurd (cc)
 commit_of_branch false commit is on = absurd (cc)
 
 -- references that were judged are such as a repository may have
-references_restored : (objects : Objects) (list : List (List ℕ × References)) (name : List ℕ) (references : References) → AllByRecursion IsRepository list → find (is_bad_target (kind_in objects)) (flat_map references_in list) ≡ None
-    → Contains list (name, references) → AreReferences objects references
-references_restored objects list name references right none among =
-    let repository = each_of IsRepository list (name, references) right among in
+references_restored : (objects : Objects) (list : List (List ℕ × Repository)) (name : List ℕ) (repository : Repository) → AllByRecursion IsRepository list → find (is_bad_target (kind_in objects)) (flat_map references_in list) ≡ None
+    → Contains list (name, repository) → AreReferences objects repository.references
+references_restored objects list name repository right none among =
+    let told = (each_of IsRepository list (name, repository) right among).told in
     record {
       each = λ reference target points.
-          let parts = either_false (is_none (kind_in objects target)) (is_branch reference && not (is_commit (kind_in objects target))) (good_reference (is_bad_target (kind_in objects)) list name references reference target none among points) in
+          let parts = either_false (is_none (kind_in objects target)) (is_branch reference && not (is_commit (kind_in objects target))) (good_reference (is_bad_target (kind_in objects)) list name repository reference target none among points) in
           record {
-            named = repository.references.named reference (ap is_some points);
+            named = told.references.named reference (ap is_some points);
             there = there_by_kind objects target (known (kind_in objects target) parts.0);
             commit = commit_of_branch (is_branch reference) (is_commit (kind_in objects target)) parts.1;
           };
-      apart = repository.references.free;
-      few = repository.references.few;
+      apart = told.references.free;
+      few = told.references.few;
     }
 
 -- the account of a tenant that is filled again
@@ -120,23 +122,24 @@ none_open : (upload : UploadValue) (G : Type 0) → ◌≡◌ {A = Option Upload
 none_open upload G is = absurd (cc)
 
 -- a repository that was gathered is of the list
-gathered_among : (repositories : Repositories) (list : List (List ℕ × References)) (name : List ℕ) (references : References) → entries repositories ≡ list → get repositories name ≡ Some references → Contains list (name, references)
-gathered_among repositories list name references are here =
-    subst (λ es. Contains es (name, references)) are
-    (Contains-from_lookup {eq = eq_by_cmp name_cmp} tied_names name references (entries repositories) (sym (get-entries repositories name ∙ find_is_lookup name_cmp (entries repositories) name) ∙ here))
+gathered_among : (repositories : Repositories) (list : List (List ℕ × Repository)) (name : List ℕ) (repository : Repository) → entries repositories ≡ list → get repositories name ≡ Some repository → Contains list (name, repository)
+gathered_among repositories list name repository are here =
+    subst (λ es. Contains es (name, repository)) are
+    (Contains-from_lookup {eq = eq_by_cmp name_cmp} tied_names name repository (entries repositories) (sym (get-entries repositories name ∙ find_is_lookup name_cmp (entries repositories) name) ∙ here))
 
-pub orderly_refilled : (own : List ℕ) (names : List (List ℕ)) (list : List (List ℕ × References)) (repositories : Repositories) (limit : ℕ) (old new : VaultState) → limit ≤ 1099511627776 → length list ≤ 256 → AllByRecursion IsRepository list
+pub orderly_refilled : (own : List ℕ) (names : List (List ℕ)) (list : List (List ℕ × Repository)) (repositories : Repositories) (limit : ℕ) (old new : VaultState) → limit ≤ 1099511627776 → length list ≤ 256 → AllByRecursion IsRepository list
     → entries repositories ≡ list → IsRefilled own names list limit old new → IsOrderly (shown (refilled repositories limit) new own)
 orderly_refilled own names list repositories limit old new low few right are restored = record {
   upload = λ upload is. none_open upload _ is;
   within_limit = restored.within;
   limit = low;
-  few_repositories = (let counted = len-entries repositories in let same = ap (λ (es : List (List ℕ × References)). length es) are in omega (arith, counted, same, few));
-  repositories = λ name references here. (each_of IsRepository list (name, references) right (gathered_among repositories list name references are here)).named;
-  references = λ name references here. references_restored (visible_in new own) list name references right restored.targets (gathered_among repositories list name references are here);
+  few_repositories = (let counted = len-entries repositories in let same = ap (λ (es : List (List ℕ × Repository)). length es) are in omega (arith, counted, same, few));
+  repositories = λ name repository here. (each_of IsRepository list (name, repository) right (gathered_among repositories list name repository are here)).named;
+  heads = λ name repository here. (each_of IsRepository list (name, repository) right (gathered_among repositories list name repository are here)).told.branch;
+  references = λ name repository here. references_restored (visible_in new own) list name repository right restored.targets (gathered_among repositories list name repository are here);
 }
 
-pub right_refilled : (own : List ℕ) (names : List (List ℕ)) (list : List (List ℕ × References)) (repositories : Repositories) (limit : ℕ) (old new : VaultState) → IsTrue old.honest → IsRefilled own names list limit old new → IsRight (shown (refilled repositories limit) new own)
+pub right_refilled : (own : List ℕ) (names : List (List ℕ)) (list : List (List ℕ × Repository)) (repositories : Repositories) (limit : ℕ) (old new : VaultState) → IsTrue old.honest → IsRefilled own names list limit old new → IsRight (shown (refilled repositories limit) new own)
 right_refilled own names list repositories limit old new honest restored =
     subst (λ objects. IsRight (view_of repositories objects None limit)) (sym (seen_itself old new own restored.objects restored.changes honest)) (record {
       named = restored.named honest;
@@ -196,7 +199,7 @@ added_there world after t name view same added =
     ap (λ (w : World). get w t) (added ∙ ap (λ n. insert world n view) same) ∙ get-insert name_total world t view t ∙ ap (λ b. cond b (Some view) (get world t)) ((eq_by_cmp_equiv name_total).refl t)
 
 -- a tenant by the parts of its state
-pub restored_by : (tenant : TenantState) (own : List ℕ) (names : List (List ℕ)) (list : List (List ℕ × References)) (limit : ℕ) (old new : VaultState) → own ≡ tenant.name → names ≡ tenant.seen → list ≡ tenant.repositories → limit ≡ tenant.limit
+pub restored_by : (tenant : TenantState) (own : List ℕ) (names : List (List ℕ)) (list : List (List ℕ × Repository)) (limit : ℕ) (old new : VaultState) → own ≡ tenant.name → names ≡ tenant.seen → list ≡ tenant.repositories → limit ≡ tenant.limit
     → IsRefilled own names list limit old new → IsRefilled tenant.name tenant.seen tenant.repositories tenant.limit old new
 restored_by tenant own names list limit old new named seen listed limited restored =
     subst (λ l. IsRefilled tenant.name tenant.seen tenant.repositories l old new) limited

@@ -13,7 +13,7 @@ use Rattle.git_name.specs.Name.{name_cmp}
 use Rattle.git_name.proofs.Names.{name_total}
 use Rattle.git_name.specs.Object.{Object, object_name}
 use Rattle.git_object.specs.ObjectIn.{links_in}
-use Rattle.git_reftx.specs.Transaction.{References}
+use Rattle.git_reftx.specs.Repository.{Repository}
 use Rattle.loose_store.specs.Files.{Files}
 use Rattle.loose_store.specs.Stored.{Whole}
 use Rattle.fork_reach.specs.Objects.{IsNamed, use_of, with_objects}
@@ -102,7 +102,7 @@ pub bad_by : (set : BTreeSet (List ℕ)) (names : List (List ℕ)) (objects : Ob
 bad_by set names objects is = ap (λ keys. first_bad keys objects) is
 
 -- what stands against the objects that are seen, by those on the store
-pub stands_against : (files : Files) (names : List (List ℕ)) (set : BTreeSet (List ℕ)) (repositories : List (List ℕ × References)) (limit : ℕ) (visible both objects : Objects) → set.keys ≡ names → visible ≡ objects → both ≡ objects → AreOnStore files names objects
+pub stands_against : (files : Files) (names : List (List ℕ)) (set : BTreeSet (List ℕ)) (repositories : List (List ℕ × Repository)) (limit : ℕ) (visible both objects : Objects) → set.keys ≡ names → visible ≡ objects → both ≡ objects → AreOnStore files names objects
     → (against : Against) → IsAgainst set repositories limit visible both against → StandsAgainst files names repositories limit against
 stands_against files names set repositories limit visible both objects are seen all stored NoMemory is = tt
 stands_against files names set repositories limit visible both objects are seen all stored (BadObject name) is =

@@ -21,7 +21,7 @@ use Rattle.state_text.specs.Kept.{kept_of, states_of}
 use Rattle.state_text.specs.States.{Ascend, States, TenantState}
 use Rattle.state_text.proofs.BehindLemmas.{each_behind, map_behind, nothing_in}
 use Rattle.fork_host.specs.Refilled.{IsBehind, IsJudged, IsRefilledIn, IsWhy, first_told, told_at_once, with_judged}
-use Rattle.fork_host.specs.Restored.{ByLimit, ByObject, ByTarget, HasObjects, HasTargets, IsFault, IsFirst, IsRefused, IsShownAgain, KeepsLimit, OnStore, TellsBad, WantsMemory, WantsStore, first_astray, first_bad}
+use Rattle.fork_host.specs.Restored.{ByLimit, ByObject, ByTarget, HasObjects, HasTargets, IsFault, IsFirst, IsRefused, IsShownAgain, KeepsLimit, OnStore, TellsBad, WantsMemory, WantsStore, first_astray, first_bad, without_offers}
 use Rattle.fork_host.specs.Shown.{HostState, world_of}
 use Rattle.fork_host.specs.declared.later.Bad.{Bad}
 use Rattle.fork_host.specs.declared.later.Bad.TheVariants.{Memory as BadMemory, Object as Object_of}
@@ -132,7 +132,7 @@ pub record Going (files : Files) (states : States) (state : HostState) (later : 
 -- one more tenant is shown
 shown_more : (files : Files) (states : States) (tenant : TenantState) (old new : World) → AreBefore (keys old) tenant.name → Ascend tenant.seen → IsShownAgain files states old → IsRefilledIn files tenant old new → IsShownAgain files (states ++ tenant ∷ []) new
 shown_more files states tenant old new before ascend shown r = record {
-  states = ap states_of r.world ∙ ap (map kept_of) (entries_behind old tenant.name r.view before) ∙ map_behind kept_of (entries old) (tenant.name, r.view) ∙ (λ i. shown.states i ++ kept i ∷ []);
+  states = ap states_of r.world ∙ ap (map kept_of) (entries_behind old tenant.name r.view before) ∙ map_behind kept_of (entries old) (tenant.name, r.view) ∙ (λ i. shown.states i ++ kept i ∷ []) ∙ sym (map_behind without_offers states tenant);
   quiet = λ name view here. quiet name view (eq_by_cmp name_cmp name tenant.name) (sym (get-insert name_total old tenant.name r.view name) ∙ ap (λ (w : World). get w name) (sym r.world) ∙ here);
   whole = λ name view key object here there. whole name view key object there (eq_by_cmp name_cmp name tenant.name) (sym (get-insert name_total old tenant.name r.view name) ∙ ap (λ (w : World). get w name) (sym r.world) ∙ here);
 }
@@ -140,8 +140,8 @@ shown_more files states tenant old new before ascend shown r = record {
     seen : keys r.view.objects ≡ tenant.seen
     seen = ap (λ (o : Objects). keys o) (sym r.stored.is.0) ∙ keys_seen files tenant.seen r.stored.objects ascend r.stored.stored r.stored.is.1
 
-    kept : kept_of (tenant.name, r.view) ≡ tenant
-    kept i = record { name = tenant.name; limit = r.limit i; repositories = r.repositories i; seen = seen i }
+    kept : kept_of (tenant.name, r.view) ≡ without_offers tenant
+    kept i = record { name = tenant.name; limit = r.limit i; repositories = r.repositories i; seen = seen i; offers = [] }
 
     quiet : (name : List ℕ) (view : View) (b : Bool) → cond b (Some r.view) (get old name) ≡ Some view → view.upload ≡ None
     quiet name view true is = (let same : r.view ≡ view = cc in ap (λ v. v.upload) (sym same) ∙ r.upload)

@@ -3,6 +3,7 @@ use Rattle.std.proofs.Common.{◌≡◌, ℕ, ◌≤◌, Bool, true, IsTrue, Lis
 use Rattle.std.specs.Option.{option_map}
 use Rattle.std.specs.FinMap.{contains_key, get, insert, retain_keys}
 use Rattle.std.specs.Prelude.{Contains}
+use Rattle.git_reftx.specs.Repository.{Repository}
 use Rattle.git_reftx.specs.Transaction.{References, is_commit}
 use Rattle.push_stream.specs.declared.upload.TheConstants.{MAX_UPLOAD}
 use Rattle.push_stream.specs.Reading.{Reading}
@@ -77,7 +78,8 @@ orderly_measured repositories seen objects upload other limit same counted order
   limit = orderly.limit;
   few_repositories = orderly.few_repositories;
   repositories = orderly.repositories;
-  references = λ name references is. references_measured seen objects references same (orderly.references name references is);
+  heads = orderly.heads;
+  references = λ name repository is. references_measured seen objects repository.references same (orderly.references name repository is);
 }
 
 pub shape_measured : (repositories : Repositories) (seen objects : Objects) (upload other : Option UploadValue) (limit : ℕ) → measures_of objects ≡ measures_of seen
@@ -126,8 +128,8 @@ safe_gives Within view new ask reply within (Wanting wanting stays) = record {
 
 -- what is kept of a view has all that its references name
 targets_stay : (repositories : Repositories) (seen : Objects) (kept : List ℕ → Bool) → ((name : List ℕ) → Contains (targets_of repositories) name → contains_key seen name ≡ true → kept name ≡ true)
-    → (word : List ℕ) (references : References) (reference target : List ℕ) → get repositories word ≡ Some references → get references reference ≡ Some target → contains_key seen target ≡ true → kept target ≡ true
-targets_stay repositories seen kept rooted word references reference target here points there = rooted target (target_among repositories word references reference target here points) there
+    → (word : List ℕ) (repository : Repository) (reference target : List ℕ) → get repositories word ≡ Some repository → get repository.references reference ≡ Some target → contains_key seen target ≡ true → kept target ≡ true
+targets_stay repositories seen kept rooted word repository reference target here points there = rooted target (target_among repositories word repository reference target here points) there
 
 pub safe_pruned : (Within : Reply → Type 0) (repositories : Repositories) (seen objects : Objects) (upload other : Option UploadValue) (limit : ℕ) (reply : Reply) → count_in other ≡ count_in upload → Within reply → IsPruned (targets_of repositories) seen reply objects
     → IsSafe Within (view_of repositories seen upload limit) reply (view_of repositories objects other limit)
@@ -141,13 +143,13 @@ safe_pruned Within repositories seen objects upload other limit reply counted wi
 safe_pruned Within repositories seen objects upload other limit reply counted within (Unpruned fault failed same) = safe_left Within repositories repositories seen objects upload other limit reply refl same counted within
 
 -- a push that was accepted and is done: what is seen and staged is seen
-pub safe_taken : (Within : Reply → Type 0) (repositories now : Repositories) (seen both objects : Objects) (upload : Option UploadValue) (limit : ℕ) (name : List ℕ) (old new : References) (reply : Reply) (text : List ℕ)
-    → ((q : List ℕ) → contains_key seen q ≡ true → get both q ≡ get seen q) → Within reply → reply ≡ Done text → get repositories name ≡ Some old → now ≡ insert repositories name new → measures_of objects ≡ measures_of both
-    → verdict.IsOrderly both old limit new → IsSafe Within (view_of repositories seen upload limit) reply (view_of now objects upload limit)
+pub safe_taken : (Within : Reply → Type 0) (repositories now : Repositories) (seen both objects : Objects) (upload : Option UploadValue) (limit : ℕ) (name : List ℕ) (old : Repository) (new : References) (reply : Reply) (text : List ℕ)
+    → ((q : List ℕ) → contains_key seen q ≡ true → get both q ≡ get seen q) → Within reply → reply ≡ Done text → get repositories name ≡ Some old → now ≡ insert repositories name (record old { references = new }) → measures_of objects ≡ measures_of both
+    → verdict.IsOrderly both old.references limit new → IsSafe Within (view_of repositories seen upload limit) reply (view_of now objects upload limit)
 safe_taken Within repositories now seen both objects upload limit name old new reply text grown within done here set measured accepted =
     subst (λ r. IsSafe Within (view_of repositories seen upload limit) reply (view_of r objects upload limit)) (sym set) (record {
       orderly = λ before.
-          orderly_measured (insert repositories name new) both objects upload upload limit measured refl
+          orderly_measured (insert repositories name (record old { references = new })) both objects upload upload limit measured refl
           (orderly_pushed (view_of repositories seen upload limit) name old new accepted.commands both grown here (before.repositories name old here) accepted.carried accepted.within before);
       kept = λ not_done. (let differs : ⊥ = cc (ap is_done done) in absurd differs);
       faults = within;

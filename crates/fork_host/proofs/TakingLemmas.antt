@@ -1,14 +1,15 @@
 -- What a push that was judged comes to.
-use Rattle.std.proofs.Common.{◌≡◌, ℕ, true, false, inl, inr, List, [], Option, Some, None, Result, Ok, Err, refl, sym, ap, subst, ◌∙◌, is_some, map}
+use Rattle.std.proofs.Common.{◌≡◌, ℕ, true, false, inl, List, [], Option, Some, None, Result, Ok, Err, refl, sym, ap, subst, ◌∙◌, is_some, map}
 use Rattle.std.specs.Option.{option_or}
 use Rattle.std.specs.FinMap.{get, insert}
 use Rattle.git_name.specs.Object.{Object, object_name}
 use Rattle.git_name.proofs.MapLemmas.{get_joined}
 use Rattle.git_name.proofs.Names.{name_total}
 use Rattle.git_reftx.specs.declared.command.Command.{Command}
+use Rattle.git_reftx.specs.Repository.{Repository}
 use Rattle.git_reftx.specs.Transaction.{References}
 use Rattle.push_stream.specs.Upload.{UploadValue}
-use Rattle.fork_reach.specs.Objects.{Measures, measures_of, with_objects}
+use Rattle.fork_reach.specs.Objects.{measures_of, with_objects}
 use Rattle.fork_reach.specs.Source.{Objects}
 use Rattle.fork_ledger.specs.Tenants.{VaultState, private_of, shape_of}
 use Rattle.fork_ledger.proofs.BothLemmas.{same_both, same_measures}
@@ -22,22 +23,22 @@ use Rattle.fork_push.specs.Verdict as verdict
 use Rattle.fork_model.specs.Answer.{Held, push_refusal, pushed, taken}
 use Rattle.fork_model.specs.View.{View, Repositories}
 use Rattle.fork_host.specs.Own.{KeepsStaged, both_in, staged_in, visible_in}
-use Rattle.fork_host.specs.Pushed.{IsTaken, Took, Lacked, view_of}
-use Rattle.fork_host.specs.Rows.{Yields, Yielded, Lacking, Faulted}
+use Rattle.fork_host.specs.Pushed.{IsTaken, view_of}
+use Rattle.fork_host.specs.Rows.{Yields, Yielded, Faulted}
 use Rattle.fork_host.specs.Safe.{IsSafe}
 use Rattle.fork_host.proofs.BoundLemmas.{IsQuiet}
-use Rattle.fork_host.proofs.SafeLemmas.{safe_left, safe_taken}
+use Rattle.fork_host.proofs.SafeLemmas.{safe_taken}
 
 pub same_view : (old new : Repositories) (seen objects : Objects) (upload : Option UploadValue) (limit : ℕ) → new ≡ old → objects ≡ seen → view_of new objects upload limit ≡ view_of old seen upload limit
 same_view old new seen objects upload limit repositories is = λ i. view_of (repositories i) (is i) upload limit
 
 -- a row over what is seen, as it is told otherwise
-pub yields_from : (repositories now : Repositories) (seen other objects others : Objects) (upload : Option UploadValue) (limit : ℕ) (name : List ℕ) (references : References) (held : Held) (reply : Reply) → seen ≡ other → objects ≡ others
-    → Yields (pushed (view_of repositories seen upload limit) name references held) (view_of repositories seen upload limit) reply (view_of now objects upload limit)
-    → Yields (pushed (view_of repositories other upload limit) name references held) (view_of repositories other upload limit) reply (view_of now others upload limit)
-yields_from repositories now seen other objects others upload limit name references held reply is same yields =
-    subst (λ o. Yields (pushed (view_of repositories o upload limit) name references held) (view_of repositories o upload limit) reply (view_of now others upload limit)) is
-    (subst (λ o. Yields (pushed (view_of repositories seen upload limit) name references held) (view_of repositories seen upload limit) reply (view_of now o upload limit)) same yields)
+pub yields_from : (repositories now : Repositories) (seen other objects others : Objects) (upload : Option UploadValue) (limit : ℕ) (name : List ℕ) (was : Repository) (held : Held) (reply : Reply) → seen ≡ other → objects ≡ others
+    → Yields (pushed (view_of repositories seen upload limit) name was held) (view_of repositories seen upload limit) reply (view_of now objects upload limit)
+    → Yields (pushed (view_of repositories other upload limit) name was held) (view_of repositories other upload limit) reply (view_of now others upload limit)
+yields_from repositories now seen other objects others upload limit name was held reply is same yields =
+    subst (λ o. Yields (pushed (view_of repositories o upload limit) name was held) (view_of repositories o upload limit) reply (view_of now others upload limit)) is
+    (subst (λ o. Yields (pushed (view_of repositories seen upload limit) name was held) (view_of repositories seen upload limit) reply (view_of now o upload limit)) same yields)
 
 -- what is judged over what is seen and staged, and by names, is judged over the sent objects
 pub judged_by : (seen both : Objects) (sent : List Object) (names : List (List ℕ)) (references : References) (limit : ℕ) (commands : List Command) → names ≡ map object_name sent → both ≡ with_objects seen sent
@@ -46,21 +47,20 @@ judged_by seen both sent names references limit commands named beside =
     ap (λ objects. judged objects references limit (Ok (commands, map object_name sent))) (sym beside) ∙ ap (λ ns. judged both references limit (Ok (commands, ns))) (sym named)
 
 -- it is accepted, and taken
-pub gives_taken : (before after : VaultState) (own : List ℕ) (old new : Repositories) (seen both : Objects) (upload : Option UploadValue) (limit : ℕ) (name : List ℕ) (references : References) (judged : Result References PushRefusal) (reply : Reply)
-    → visible_in before own ≡ seen → both_in before own ≡ both → judged ≡ Ok references → IsTaken own old (insert old name references) before reply new after
-    → Yields (taken (view_of old seen upload limit) name both judged) (view_of old seen upload limit) reply (view_of new (visible_in after own) upload limit)
-gives_taken before after own old new seen both upload limit name references judged reply sees beside is (Took told set now) =
-    let row = ap (taken (view_of old seen upload limit) name both) is in
-    Yielded (told ∙ sym (ap (λ r. r.0) row)) (same_view (insert old name references) new both (visible_in after own) upload limit set (now ∙ beside) ∙ sym (ap (λ r. r.1) row))
-gives_taken before after own old new seen both upload limit name references judged reply sees beside is (Lacked told stays now keeps) =
-    Lacking told (same_view old new seen (visible_in after own) upload limit stays (now ∙ sees))
+pub gives_taken : (before after : VaultState) (own : List ℕ) (old new : Repositories) (seen both : Objects) (upload : Option UploadValue) (limit : ℕ) (name : List ℕ) (was : Repository) (references : References) (judged : Result References PushRefusal) (reply : Reply)
+    → both_in before own ≡ both → judged ≡ Ok references → IsTaken own (insert old name (record was { references = references })) before reply new after
+    → Yields (taken (view_of old seen upload limit) name was both judged) (view_of old seen upload limit) reply (view_of new (visible_in after own) upload limit)
+gives_taken before after own old new seen both upload limit name was references judged reply beside is done =
+    let row = ap (taken (view_of old seen upload limit) name was both) is in
+    Yielded (done.told ∙ sym (ap (λ r. r.0) row))
+    (same_view (insert old name (record was { references = references })) new both (visible_in after own) upload limit done.set (done.seen ∙ beside) ∙ sym (ap (λ r. r.1) row))
 
 -- it is refused
-pub gives_refused : (old : Repositories) (seen both objects : Objects) (upload : Option UploadValue) (limit : ℕ) (name : List ℕ) (refusal : PushRefusal) (judged : Result References PushRefusal) (reply : Reply)
+pub gives_refused : (old : Repositories) (seen both objects : Objects) (upload : Option UploadValue) (limit : ℕ) (name : List ℕ) (was : Repository) (refusal : PushRefusal) (judged : Result References PushRefusal) (reply : Reply)
     → judged ≡ Err refusal → reply ≡ Refused (push_refusal refusal) → objects ≡ seen
-    → Yields (taken (view_of old seen upload limit) name both judged) (view_of old seen upload limit) reply (view_of old objects upload limit)
-gives_refused old seen both objects upload limit name refusal judged reply is told sees =
-    let row = ap (taken (view_of old seen upload limit) name both) is in
+    → Yields (taken (view_of old seen upload limit) name was both judged) (view_of old seen upload limit) reply (view_of old objects upload limit)
+gives_refused old seen both objects upload limit name was refusal judged reply is told sees =
+    let row = ap (taken (view_of old seen upload limit) name was both) is in
     Yielded (told ∙ sym (ap (λ r. r.0) row)) (same_view old old seen objects upload limit refl sees ∙ sym (ap (λ r. r.1) row))
 
 -- a host fault leaves the view
@@ -74,23 +74,19 @@ first_counts None other is = absurd (cc)
 first_counts (Some object) other is = refl
 
 -- over any store
-pub taken_safe : (Within : Reply → Type 0) (first before after : VaultState) (own : List ℕ) (old new : Repositories) (upload : Option UploadValue) (limit : ℕ) (name : List ℕ) (was references : References) (reply : Reply)
-    → Within reply → get old name ≡ Some was → shape_of before.tenants ≡ shape_of first.tenants → verdict.IsOrderly (both_in first own) was limit references → IsTaken own old (insert old name references) before reply new after
+pub taken_safe : (Within : Reply → Type 0) (first before after : VaultState) (own : List ℕ) (old new : Repositories) (upload : Option UploadValue) (limit : ℕ) (name : List ℕ) (was : Repository) (references : References) (reply : Reply)
+    → Within reply → get old name ≡ Some was → shape_of before.tenants ≡ shape_of first.tenants → verdict.IsOrderly (both_in first own) was.references limit references
+    → IsTaken own (insert old name (record was { references = references })) before reply new after
     → IsSafe Within (view_of old (visible_in first own) upload limit) reply (view_of new (visible_in after own) upload limit)
-taken_safe Within first before after own old new upload limit name was references reply within here shape accepted (Took told set now) =
+taken_safe Within first before after own old new upload limit name was references reply within here shape accepted done =
     safe_taken Within old new (visible_in first own) (both_in first own) (visible_in after own) upload limit name was references reply []
-    (λ q there. get_joined name_total (visible_in first own) (staged_in first own) q ∙ first_counts (get (visible_in first own) q) (get (staged_in first own) q) there) within told here set
-    (ap measures_of now ∙ same_both (private_of before.tenants own) (private_of first.tenants own) (same_measures first.tenants before.tenants own shape)) accepted
-taken_safe Within first before after own old new upload limit name was references reply within here shape accepted (Lacked told stays now keeps) =
-    safe_left Within old new (visible_in first own) (visible_in after own) upload upload limit reply stays
-    (ap measures_of now ∙ ap (λ (p : Measures × Measures). p.0) (same_measures first.tenants before.tenants own shape)) refl within
+    (λ q there. get_joined name_total (visible_in first own) (staged_in first own) q ∙ first_counts (get (visible_in first own) q) (get (staged_in first own) q) there) within done.told here done.set
+    (ap measures_of done.seen ∙ same_both (private_of before.tenants own) (private_of first.tenants own) (same_measures first.tenants before.tenants own shape)) accepted
 
--- it is answered with no host fault but want of memory
-pub quiet_taken : (before after : VaultState) (own : List ℕ) (old set new : Repositories) (reply : Reply) → IsTaken own old set before reply new after → IsQuiet reply
-quiet_taken before after own old set new reply (Took told is now) = inl (ap is_host_fault told)
-quiet_taken before after own old set new reply (Lacked told is now keeps) = inr told
+-- it is answered with no host fault
+pub quiet_taken : (before after : VaultState) (own : List ℕ) (set new : Repositories) (reply : Reply) → IsTaken own set before reply new after → IsQuiet reply
+quiet_taken before after own set new reply done = inl (ap is_host_fault done.told)
 
--- and where it is not done, what is staged stays
-pub staged_taken : (before after : VaultState) (own : List ℕ) (old set new : Repositories) (reply : Reply) → is_done reply ≡ false → IsTaken own old set before reply new after → KeepsStaged own before after
-staged_taken before after own old set new reply not_done (Took told is now) = (let differs : ⊥ = cc (sym not_done ∙ ap is_done told) in absurd differs)
-staged_taken before after own old set new reply not_done (Lacked told is now keeps) = keeps
+-- and always done
+pub staged_taken : (before after : VaultState) (own : List ℕ) (set new : Repositories) (reply : Reply) → is_done reply ≡ false → IsTaken own set before reply new after → KeepsStaged own before after
+staged_taken before after own set new reply not_done done = (let differs : ⊥ = cc (sym not_done ∙ ap is_done done.told) in absurd differs)

@@ -4,11 +4,11 @@ use Rattle.std.specs.List.{find, flat_map}
 use Rattle.std.specs.Option.{option_map, option_or}
 use Rattle.std.proofs.lemmas.List.{drop_more}
 use Rattle.std.proofs.lemmas.List.Folds.{find-append}
-use Rattle.git_reftx.specs.Transaction.{References}
+use Rattle.git_reftx.specs.Repository as git
 use Rattle.fork_host.specs.Restored.{references_in, target_of}
 
 abbrev Repository : Type 0
-Repository = List ℕ × References
+Repository = List ℕ × git.Repository
 
 abbrev Reference : Type 0
 Reference = List ℕ × List ℕ

@@ -6,6 +6,7 @@ use Rattle.std.specs.FinMap.{FinMap, contains_key, get, get-insert, get-remove, 
 use Rattle.fork_reach.proofs.KeptObjects.{tied_names}
 use Rattle.git_name.specs.Name.{name_cmp}
 use Rattle.git_name.proofs.Names.{name_total, name_exact}
+use Rattle.git_reftx.specs.Repository.{Repository}
 
 -- what is found twice is the same
 pub same_value : {X : Type 0} (o : Option X) (v w : X) → o ≡ Some v → o ≡ Some w → v ≡ w
@@ -33,3 +34,7 @@ put_and_taken {X} m k v absent =
 pub found : {X : Type 0} (o : Option X) → is_some o ≡ true → (x : X) × (o ≡ Some x)
 found (Some x) is = (x, refl)
 found None is = absurd (cc)
+
+-- a repository with the same head is the other one with its references
+pub same_head : (old new : Repository) → new.head ≡ old.head → new ≡ record old { references = new.references }
+same_head old new is = ap (λ h. record { head = h; references = new.references }) is

@@ -1,14 +1,12 @@
 -- A tenant's state with more in it, of what outlives the host's process.
 use Rattle.std.specs.Prelude.{ℕ, List, ◌++◌}
-use Rattle.git_reftx.specs.Transaction.{References}
+use Rattle.git_reftx.specs.Repository.{Repository}
 use Rattle.state_text.specs.States.{TenantState}
 
 -- with these repositories more
-abbrev pub with_repositories : TenantState → List (List ℕ × References) → TenantState
-with_repositories tenant more =
-    record { name = tenant.name; limit = tenant.limit; repositories = tenant.repositories ++ more; seen = tenant.seen }
+abbrev pub with_repositories : TenantState → List (List ℕ × Repository) → TenantState
+with_repositories tenant more = record tenant { repositories = tenant.repositories ++ more }
 
 -- with the names of these objects more
 abbrev pub with_names : TenantState → List (List ℕ) → TenantState
-with_names tenant more =
-    record { name = tenant.name; limit = tenant.limit; repositories = tenant.repositories; seen = tenant.seen ++ more }
+with_names tenant more = record tenant { seen = tenant.seen ++ more }

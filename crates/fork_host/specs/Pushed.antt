@@ -8,13 +8,12 @@ use Rattle.push_stream.specs.declared.fault.BodyError.TheVariants.{Fault, Memory
 use Rattle.push_stream.specs.Brief.{brief_of}
 use Rattle.push_stream.specs.declared.brief.Brief.{Brief}
 use Rattle.push_stream.specs.Upload.{UploadValue}
-use Rattle.fork_request.specs.declared.host_fault.HostFault.TheVariants.{Memory as NoMemory}
 use Rattle.fork_request.specs.declared.reply.Reply.{Reply}
-use Rattle.fork_request.specs.declared.reply.Reply.TheVariants.{Done, Failed}
+use Rattle.fork_request.specs.declared.reply.Reply.TheVariants.{Done}
 use Rattle.fork_ledger.specs.Tenants.{VaultState}
 use Rattle.fork_model.specs.Answer.{Held}
 use Rattle.fork_model.specs.View.{View, Repositories}
-use Rattle.fork_host.specs.Own.{KeepsStaged, both_in, visible_in}
+use Rattle.fork_host.specs.Own.{both_in, visible_in}
 
 -- a view of these parts
 abbrev pub view_of : Repositories → Objects → Option UploadValue → ℕ → View
@@ -37,7 +36,8 @@ TellsBrief held (Ok brief) = brief_of held ≡ Ok (brief.commands.items, brief.n
 TellsBrief held (Err (Fault fault)) = held ≡ Err fault
 TellsBrief held (Err Memory) = ⊤
 
--- a repository has these references and what is staged is seen, or want of memory leaves both
-pub data IsTaken (tenant : List ℕ) (before after : Repositories) (old : VaultState) (reply : Reply) (now : Repositories) (new : VaultState) : Type 0 where
-  Took : reply ≡ Done [] → now ≡ after → visible_in new tenant ≡ both_in old tenant → IsTaken tenant before after old reply now new
-  Lacked : reply ≡ Failed NoMemory → now ≡ before → visible_in new tenant ≡ visible_in old tenant → KeepsStaged tenant old new → IsTaken tenant before after old reply now new
+-- the repositories are these, and what is staged is seen
+pub record IsTaken (tenant : List ℕ) (after : Repositories) (old : VaultState) (reply : Reply) (now : Repositories) (new : VaultState) : Type 0 where
+  pub told : reply ≡ Done []
+  pub set : now ≡ after
+  pub seen : visible_in new tenant ≡ both_in old tenant

@@ -6,7 +6,7 @@ use Rattle.std.specs.List.{find}
 use Rattle.git_name.specs.Name.{name_cmp}
 use Rattle.fork_sound.specs.Sound.{is_bad}
 use Rattle.git_name.specs.Object.{Object, object_name}
-use Rattle.git_reftx.specs.Transaction.{References}
+use Rattle.git_reftx.specs.Repository.{Repository}
 use Rattle.loose_store.specs.Files.{Files}
 use Rattle.loose_store.specs.Stored.{Whole}
 use Rattle.fork_reach.specs.Objects.{IsNamed, use_of, with_objects}
@@ -40,9 +40,9 @@ pub record SeesAgain (tenant : List ℕ) (names : List (List ℕ)) (old new : Va
 abbrev pub bad_in : BTreeSet (List ℕ) → Objects → Option (List ℕ)
 bad_in names objects = find (is_bad objects (contains name_cmp names)) names.keys
 
--- a tenant of these references and this limit sees again what it saw: over an honest store the objects of these names, each sound;
+-- a tenant of these repositories and this limit sees again what it saw: over an honest store the objects of these names, each sound;
 -- over any store each reference at an object that is seen, a branch at a commit, and no more use than the limit
-pub record IsRefilled (tenant : List ℕ) (names : List (List ℕ)) (repositories : List (List ℕ × References)) (limit : ℕ) (old new : VaultState) : Type 0 where
+pub record IsRefilled (tenant : List ℕ) (names : List (List ℕ)) (repositories : List (List ℕ × Repository)) (limit : ℕ) (old new : VaultState) : Type 0 where
   pub objects : Objects
   pub changes : Changes (Settles tenant objects) old new
   pub named : IsTrue old.honest → IsNamed objects
@@ -53,14 +53,14 @@ pub record IsRefilled (tenant : List ℕ) (names : List (List ℕ)) (repositorie
   pub within : use_of (visible_in new tenant) ≤ limit
 
 -- what stands against it: judged by the names of a set, among what the tenant sees, of the use of what it sees and has staged
-abbrev pub IsAgainst : BTreeSet (List ℕ) → List (List ℕ × References) → ℕ → Objects → Objects → Against → Type 0
+abbrev pub IsAgainst : BTreeSet (List ℕ) → List (List ℕ × Repository) → ℕ → Objects → Objects → Against → Type 0
 IsAgainst names repositories limit visible both NoMemory = Unit {0}
 IsAgainst names repositories limit visible both (BadObject name) = bad_in names visible ≡ Some name
 IsAgainst names repositories limit visible both (Astray target) = (bad_in names visible ≡ None) × (reference : List ℕ) × (first_astray repositories visible ≡ Some (reference, target))
 IsAgainst names repositories limit visible both Limit = (bad_in names visible ≡ None) × (first_astray repositories visible ≡ None) × (limit < use_of both)
 
 -- the same by what stands on the store
-abbrev pub StandsAgainst : Files → List (List ℕ) → List (List ℕ × References) → ℕ → Against → Type 0
+abbrev pub StandsAgainst : Files → List (List ℕ) → List (List ℕ × Repository) → ℕ → Against → Type 0
 StandsAgainst files names repositories limit NoMemory = Unit {0}
 StandsAgainst files names repositories limit (BadObject name) = OnStore files names (λ objects. first_bad names objects ≡ Some name)
 StandsAgainst files names repositories limit (Astray target) =

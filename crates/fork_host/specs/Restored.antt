@@ -1,12 +1,13 @@
 -- What a host is restored to, and why it is not: states, judged by what stands on an honest store.
-use Rattle.std.specs.Prelude.{◌≡◌, ◌⊎◌, ℕ, ◌≤◌, ◌<◌, ◌++◌, ◌∷◌, Bool, None, Some, ◌&&◌, ◌||◌, not, is_none, List, Option, Contains, ⊤}
+use Rattle.std.specs.Prelude.{◌≡◌, ◌⊎◌, ℕ, ◌≤◌, ◌<◌, ◌++◌, [], ◌∷◌, Bool, None, Some, ◌&&◌, ◌||◌, not, is_none, List, Option, Contains, map, ⊤}
 use Rattle.std.specs.BTreeMap.{is_at}
 use Rattle.std.specs.List.{AllByRecursion, find, flat_map, list_any}
 use Rattle.std.specs.FinMap.{entries, get}
 use Rattle.git_name.specs.Name.{name_cmp}
 use Rattle.git_name.specs.Object.{Object}
 use Rattle.git_reftx.specs.Known.{Kinds}
-use Rattle.git_reftx.specs.Transaction.{References, is_branch, is_commit}
+use Rattle.git_reftx.specs.Repository.{Repository}
+use Rattle.git_reftx.specs.Transaction.{is_branch, is_commit}
 use Rattle.loose_store.specs.Files.{Files}
 use Rattle.loose_store.specs.Stored.{Whole}
 use Rattle.fork_reach.specs.Objects.{use_of}
@@ -21,8 +22,8 @@ use Rattle.fork_host.specs.declared.restore_error.RestoreError.{RestoreError}
 use Rattle.fork_host.specs.declared.restore_error.RestoreError.TheVariants.{Lost, Damaged, Unsound, OverLimit, Store, Memory}
 
 -- the references of a repository, and the target of one
-abbrev pub references_in : List ℕ × References → List (List ℕ × List ℕ)
-references_in repository = entries repository.1
+abbrev pub references_in : List ℕ × Repository → List (List ℕ × List ℕ)
+references_in repository = entries repository.1.references
 
 abbrev pub target_of : List ℕ × List ℕ → List ℕ
 target_of reference = reference.1
@@ -40,7 +41,7 @@ abbrev pub first_bad : List (List ℕ) → Objects → Option (List ℕ)
 first_bad names objects = find (is_bad objects (is_one_of names)) names
 
 -- of the references of these repositories the first whose target isn't there, or is no commit where it is a branch
-abbrev pub first_astray : List (List ℕ × References) → Objects → Option (List ℕ × List ℕ)
+abbrev pub first_astray : List (List ℕ × Repository) → Objects → Option (List ℕ × List ℕ)
 first_astray repositories objects = find (is_bad_target (kind_in objects)) (flat_map references_in repositories)
 
 -- these are the objects of these names that stand whole on the store
@@ -99,8 +100,12 @@ pub data IsRefused (files : Files) (states : States) : RestoreError → Type 0 w
   WantsMemory : IsRefused files states Memory
   WantsStore : IsRefused files states Store
 
--- the world is the one that these states tell: no upload is open, and each object is the one on the store
+-- a tenant's state but for its offers, which no host makes or keeps yet
+abbrev pub without_offers : TenantState → TenantState
+without_offers tenant = record tenant { offers = [] }
+
+-- the world is the one that these states tell, offers aside: no upload is open, and each object is the one on the store
 pub record IsShownAgain (files : Files) (told : States) (world : World) : Type 0 where
-  pub states : states_of world ≡ told
+  pub states : states_of world ≡ map without_offers told
   pub quiet : (tenant : List ℕ) (view : View) → get world tenant ≡ Some view → view.upload ≡ None
   pub whole : (tenant : List ℕ) (view : View) (name : List ℕ) (object : Object) → get world tenant ≡ Some view → get view.objects name ≡ Some object → Whole files name object

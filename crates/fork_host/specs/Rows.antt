@@ -1,7 +1,6 @@
 -- What a row of the answer comes to: the row itself, or a host fault: want of memory alone, where it does not ask the store.
-use Rattle.std.specs.Prelude.{◌≡◌, ℕ, Bool, IsTrue, true, List, [], Contains, Option, Result, Ok, Err}
+use Rattle.std.specs.Prelude.{◌≡◌, ℕ, Bool, IsTrue, true, List, [], Contains, Result, Ok, Err}
 use Rattle.std.specs.FinMap.{contains_key, retain_keys}
-use Rattle.git_name.specs.Object.{Object}
 use Rattle.fork_request.specs.declared.host_fault.HostFault.{HostFault}
 use Rattle.fork_request.specs.declared.host_fault.HostFault.TheVariants.{Memory, Store, Damaged, Collision}
 use Rattle.fork_request.specs.declared.reply.Reply.{Reply}

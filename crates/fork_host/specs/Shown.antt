@@ -3,6 +3,7 @@ use Rattle.std.specs.Prelude.{◌≡◌, ℕ, IsTrue, List, Option, Some, map, o
 use Rattle.std.specs.Coded.{Coded, code_by, coded×, coded_ℕ, coded_list, coded_option}
 use Rattle.std.specs.FinMap.{FinMap, code, contains_key, entries, from_sorted, get}
 use Rattle.git_name.specs.Name.{name_cmp}
+use Rattle.git_reftx.specs.Repository.{repository_code}
 use Rattle.push_stream.specs.Incoming.{reading_code}
 use Rattle.push_stream.specs.Reading.{Reading}
 use Rattle.fork_ledger.specs.Private.{Private}
@@ -70,7 +71,7 @@ bytes_code = coded_list coded_ℕ
 
 abbrev pub account_code : Coded Account
 account_code =
-    code_by (Repositories × (Option Reading × ℕ)) (coded× (code bytes_code (code bytes_code bytes_code)) (coded× (coded_option reading_code) coded_ℕ))
+    code_by (Repositories × (Option Reading × ℕ)) (coded× (code bytes_code repository_code) (coded× (coded_option reading_code) coded_ℕ))
     (λ a. (a.repositories, (a.upload, a.limit))) (λ p. record { repositories = p.0; upload = p.1.0; limit = p.1.1 }) (λ _. refl)
 
 abbrev pub host_code : Coded HostState

@@ -28,7 +28,7 @@ upload_at world tenant = option_and_then (λ view. view.upload) (get world tenan
 
 -- a view without its open upload, and a world of such views
 abbrev pub closed : View → View
-closed view = record { repositories = view.repositories; objects = view.objects; upload = None; limit = view.limit }
+closed view = record view { upload = None }
 
 abbrev pub closed_world : World → World
 closed_world world = map_values closed world

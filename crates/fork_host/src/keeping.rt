@@ -8,7 +8,7 @@ ghost use Rattle.fork_host.specs.Keeping.{with_names};
 
 use fork_request::RepositoryName;
 use git_name::Name;
-use git_reftx::Refs;
+use git_reftx::Repository;
 use state_text::{AddError, States, TenantState};
 use std::alloc::AllocError;
 
@@ -29,13 +29,13 @@ pub(crate) fn keep_tenant(states: &mut States, tenant: TenantState) -> Result<()
 pub(crate) fn keep_repository(
     tenant: &mut TenantState,
     name: RepositoryName,
-    references: Refs,
+    repository: Repository,
 ) -> Result<(), AllocError>
     requires before { AreBefore (map (λ repository. repository.0) tenant.old.repositories) name }
     requires room { length tenant.old.repositories < MAX_REPOSITORIES }
-    ensures { OnOk result (tenant.new ≡ with_repository tenant.old name references) }
+    ensures { OnOk result (tenant.new ≡ with_repository tenant.old name repository) }
 {
-    match tenant.add_repository(name, references) {
+    match tenant.add_repository(name, repository) {
         Ok(()) => Ok(()),
         Err(AddError::Memory) => Err(AllocError),
         Err(_) => unreachable!(),

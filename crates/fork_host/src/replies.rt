@@ -1,6 +1,6 @@
 // What a tenant is told where a request gives no data.
 ghost use Rattle.std.specs.Prelude.{◌≡◌, ◌⊎◌, [], ◌++◌, codes, decimal};
-ghost use Rattle.fork_request.specs.declared.refusal.Refusal.TheVariants.{BadName};
+ghost use Rattle.fork_request.specs.declared.refusal.Refusal.TheVariants.{BadName, BadRef};
 ghost use Rattle.fork_request.specs.Told.{is_done, is_host_fault};
 ghost use Rattle.fork_model.specs.Answer.{command_refusal, push_refusal, stream_refusal, transaction_refusal};
 ghost use Rattle.fork_host.specs.Rows.{fault_told, query_told, vault_told};
@@ -59,6 +59,16 @@ pub(crate) fn bad_name(alloc: Global, word: &[u8]) -> Reply
 {
     match word.to_vec(alloc) {
         Ok(copy) => Reply::Refused(Refusal::BadName(ByteString::new(copy))),
+        Err(_) => Reply::Failed(HostFault::Memory),
+    }
+}
+
+// A word that is no right name of a branch.
+pub(crate) fn bad_ref(alloc: Global, word: &[u8]) -> Reply
+    ensures { (result ≡ Reply.Refused (BadRef word.now)) ⊎ (result ≡ Reply.Failed HostFault.Memory) }
+{
+    match word.to_vec(alloc) {
+        Ok(copy) => Reply::Refused(Refusal::BadRef(ByteString::new(copy))),
         Err(_) => Reply::Failed(HostFault::Memory),
     }
 }

@@ -3,6 +3,7 @@ ghost use Rattle.std.specs.Option.{option_copied};
 ghost use Rattle.std.specs.FinMap as map;
 ghost use Rattle.std.specs.BTreeMap.{IsUnchanged, Updates};
 ghost use Rattle.git_name.specs.Name.{name_cmp};
+ghost use Rattle.git_reftx.specs.Repository.{Repository as Shown};
 ghost use Rattle.git_reftx.specs.Transaction.{References, transacted};
 ghost use Rattle.git_reftx.specs.Judging.{TellsTransacted};
 ghost use Rattle.fork_model.specs.Answer.{targets_of};
@@ -13,26 +14,27 @@ ghost use Rattle.fork_host.specs.Keeping.{with_repositories};
 use crate::keeping::keep_repository;
 use fork_request::RepositoryName;
 use git_name::Name;
-use git_reftx::{ApplyError, Command, Known, Refs};
+use git_reftx::{ApplyError, Branch, Command, Known, Refs, Repository};
 use state_text::TenantState;
 use std::alloc::{AllocError, Global};
 use std::collections::BTreeMap;
 use std::marker::Model;
 
-// A tenant's repositories under their names, each with its references.
+// A tenant's repositories under their names.
 #[derive(Drop)]
 pub(crate) struct Repositories {
-    repositories: BTreeMap<RepositoryName, Refs>,
+    repositories: BTreeMap<RepositoryName, Repository>,
 }
 
 impl Model for Repositories {
     ghost use Rattle.std.specs.FinMap as map;
     ghost use Rattle.std.specs.Coded.{coded_list, coded_ℕ};
+    ghost use Rattle.git_reftx.specs.Repository.{repository_code};
     ghost use Rattle.fork_model.specs.View.{Repositories};
 
     ghost Value = { Repositories };
 
-    ghost coded = { map.code (coded_list coded_ℕ) (map.code (coded_list coded_ℕ) (coded_list coded_ℕ)) };
+    ghost coded = { map.code (coded_list coded_ℕ) repository_code };
 
     ghost view = { λ a. map.from_entries a.repositories.entries };
 }
@@ -50,14 +52,14 @@ impl Repositories {
     // The repositories of this list, whose names ascend.
     pub(crate) fn gather(
         alloc: Global,
-        list: &[(RepositoryName, Refs)],
+        list: &[(RepositoryName, Repository)],
     ) -> Result<Repositories, AllocError>
         requires { Ascend (mapped (λ repository. repository.0) list.now) }
         ensures { IfOk result (λ gathered. map.entries gathered ≡ list.now) }
     {
         let mut repositories = Repositories::new(alloc);
-        for (name, references) in list {
-            let copy = references.copy()?;
+        for (name, repository) in list {
+            let copy = repository.copy()?;
             repositories.insert(name.copy(), copy)?;
         }
         Ok(repositories)
@@ -77,23 +79,45 @@ impl Repositories {
         self.repositories.contains_key(name)
     }
 
-    // The references of the one of this name.
-    pub(crate) fn get(&self, name: &RepositoryName) -> Option<&Refs>
+    // The one of this name.
+    pub(crate) fn get(&self, name: &RepositoryName) -> Option<&Repository>
         ensures { option_copied result ≡ map.get self.now name.now }
     {
         self.repositories.get(name)
     }
 
-    // Puts one with these references under a name.
+    // Puts one under a name.
     pub(crate) fn insert(
         &mut self,
         name: RepositoryName,
-        references: Refs,
+        repository: Repository,
     ) -> Result<(), AllocError>
-        ensures ok { OnOk result (self.new ≡ map.insert self.old name references) }
+        ensures ok { OnOk result (self.new ≡ map.insert self.old name repository) }
         ensures err { OnErr result (self.new ≡ self.old) }
     {
-        put(&mut self.repositories, name, references)
+        put(&mut self.repositories, name, repository)
+    }
+
+    // The one of this name has these references from now on.
+    pub(crate) fn set_references(&mut self, name: &RepositoryName, references: Refs)
+        requires { map.contains_key self.old name.now ≡ true }
+        ensures { (old : Shown) → map.get self.old name.now ≡ Some old → self.new ≡ map.insert self.old name.now (record old { references = references }) }
+    {
+        let Some(repository) = self.repositories.get_mut(name) else {
+            unreachable!();
+        };
+        repository.set_references(references);
+    }
+
+    // HEAD of the one of this name is this branch from now on.
+    pub(crate) fn set_head(&mut self, name: &RepositoryName, head: Branch)
+        requires { map.contains_key self.old name.now ≡ true }
+        ensures { (old : Shown) → map.get self.old name.now ≡ Some old → self.new ≡ map.insert self.old name.now (record old { head = head }) }
+    {
+        let Some(repository) = self.repositories.get_mut(name) else {
+            unreachable!();
+        };
+        repository.set_head(head);
     }
 
     // Carries out the commands on the references of the one of this name, all or none of them.
@@ -105,15 +129,15 @@ impl Repositories {
         known: &K,
     ) -> Result<(), ApplyError>
         requires { map.contains_key self.old name.now ≡ true }
-        ensures ok { OnOk result ((old : References) → map.get self.old name.now ≡ Some old
-            → (new : References) × (transacted old commands.now (K.kinds known.now) ≡ Ok new) × (self.new ≡ map.insert self.old name.now new)) }
+        ensures ok { OnOk result ((old : Shown) → map.get self.old name.now ≡ Some old
+            → (new : References) × (transacted old.references commands.now (K.kinds known.now) ≡ Ok new) × (self.new ≡ map.insert self.old name.now (record old { references = new }))) }
         ensures err { OnErr result (self.new ≡ self.old) }
-        ensures cause { IfErr result (λ error. (old : References) → map.get self.old name.now ≡ Some old → TellsTransacted (transacted old commands.now (K.kinds known.now)) error) }
+        ensures cause { IfErr result (λ error. (old : Shown) → map.get self.old name.now ≡ Some old → TellsTransacted (transacted old.references commands.now (K.kinds known.now)) error) }
     {
-        let Some(references) = self.repositories.get_mut(name) else {
+        let Some(repository) = self.repositories.get_mut(name) else {
             unreachable!();
         };
-        references.apply(alloc, commands, known)
+        repository.apply(alloc, commands, known)
     }
 
     // The names of the objects at which references point, in the order of the repositories and of
@@ -122,21 +146,21 @@ impl Repositories {
         ensures { IfOk result (λ names. names.items ≡ targets_of self.now) }
     {
         let mut names = Vec::new(alloc);
-        for references in self.repositories.values() {
-            add_targets(&mut names, references)?;
+        for repository in self.repositories.values() {
+            add_targets(&mut names, repository.references())?;
         }
         Ok(names)
     }
 
-    // Puts each, with a copy of its references, behind the repositories of a tenant's state.
+    // Puts a copy of each behind the repositories of a tenant's state.
     pub(crate) fn keep(&self, state: &mut TenantState) -> Result<(), AllocError>
         requires none { state.old.repositories ≡ [] }
         requires few { map.len self.now ≤ MAX_REPOSITORIES }
         ensures { OnOk result (state.new ≡ with_repositories state.old (map.entries self.now)) }
     {
-        for (name, references) in self.repositories.iter() {
-            let references = references.copy()?;
-            keep_repository(state, name.copy(), references)?;
+        for (name, repository) in self.repositories.iter() {
+            let repository = repository.copy()?;
+            keep_repository(state, name.copy(), repository)?;
         }
         Ok(())
     }
@@ -160,18 +184,18 @@ fn add_targets(names: &mut Vec<Name>, references: &Refs) -> Result<(), AllocErro
 }
 
 fn put(
-    repositories: &mut BTreeMap<RepositoryName, Refs>,
+    repositories: &mut BTreeMap<RepositoryName, Repository>,
     name: RepositoryName,
-    references: Refs,
+    repository: Repository,
 ) -> Result<(), AllocError>
-    ensures ok { OnOk result (Updates name_cmp repositories.old repositories.new name (Some references)) }
+    ensures ok { OnOk result (Updates name_cmp repositories.old repositories.new name (Some repository)) }
     ensures err { OnErr result (IsUnchanged repositories.old repositories.new) }
 {
-    repositories.insert(name, references)?;
+    repositories.insert(name, repository)?;
     Ok(())
 }
 
-fn take_out(repositories: &mut BTreeMap<RepositoryName, Refs>, name: &RepositoryName)
+fn take_out(repositories: &mut BTreeMap<RepositoryName, Repository>, name: &RepositoryName)
     ensures { Updates name_cmp repositories.old repositories.new name.now None }
 {
     repositories.remove(name);

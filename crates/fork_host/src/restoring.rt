@@ -26,7 +26,7 @@ use fork_ledger::{Survey, Vault};
 use fork_request::{RepositoryName, TenantName};
 use fork_sound::Readings;
 use git_name::Name;
-use git_reftx::Refs;
+use git_reftx::Repository;
 use loose_store::{LooseFiles, StoreFault, read_checked};
 use state_text::{States, TenantState};
 use std::alloc::{AllocError, Global};
@@ -155,7 +155,7 @@ pub(crate) fn see_in<S: LooseFiles>(
     name: &TenantName,
     readings: &Readings,
     seen: &[Name],
-    repositories: &[(RepositoryName, Refs)],
+    repositories: &[(RepositoryName, Repository)],
     limit: u64,
 ) -> Result<(), Against>
     requires there { map.contains_key vault.old.tenants name.now ≡ true }

@@ -20,7 +20,7 @@ use crate::targets::first_bad_target;
 use fork_request::RepositoryName;
 use fork_sound::{Readings, first_bad};
 use git_name::Name;
-use git_reftx::Refs;
+use git_reftx::Repository;
 use indexmap::IndexSet;
 use loose_store::LooseFiles;
 use std::alloc::{AllocError, Global};
@@ -46,7 +46,7 @@ pub(crate) fn see_again<S: LooseFiles>(
     own: &mut Own<'_, S>,
     readings: &Readings,
     seen: &[Name],
-    repositories: &[(RepositoryName, Refs)],
+    repositories: &[(RepositoryName, Repository)],
     limit: u64,
 ) -> Result<(), Against>
     requires there { map.contains_key own.old.vault.now.tenants own.old.tenant.now ≡ true }
@@ -95,7 +95,7 @@ pub(crate) fn judge_seen<S: LooseFiles>(
     own: &Own<'_, S>,
     readings: &Readings,
     names: &BTreeSet<Name>,
-    repositories: &[(RepositoryName, Refs)],
+    repositories: &[(RepositoryName, Repository)],
     limit: u64,
 ) -> Result<(), Against>
     ensures sound { AreReadings readings.now (contains name_cmp names.now) (visible_by own.now) → OnOk result (bad_in names.now (visible_by own.now) ≡ None) }

@@ -2,7 +2,7 @@
 ghost use Rattle.std.specs.Prelude.{◌≡◌, ℕ, IsTrue, IfOk, IfSome, Ok, List, Option, Some, false, map as map_list, true};
 ghost use Rattle.std.specs.FinMap as map;
 ghost use Rattle.git_name.specs.Object.{Object, object_name};
-ghost use Rattle.git_reftx.specs.Transaction.{References};
+ghost use Rattle.git_reftx.specs.Repository.{Repository};
 ghost use Rattle.push_stream.specs.Brief.{brief_shown};
 ghost use Rattle.push_stream.specs.Stream.{Stream, finished as finished_in, sent_in};
 ghost use Rattle.push_stream.specs.Upload.{UploadValue};
@@ -46,8 +46,8 @@ pub(crate) fn take_body<S: LooseFiles>(
     requires ready { Ready own.old limit }
     requires quiet { staged_by own.old ≡ map.empty }
     requires there { map.contains_key repositories.old name ≡ true }
-    ensures row { (upload : Option UploadValue) (held : Held) (references : References) → TellsHeld held finished → map.get repositories.old name ≡ Some references → IsTrue own.old.vault.now.honest
-        → Yields (pushed (view_of repositories.old (visible_by own.old) upload limit) name references held)
+    ensures row { (upload : Option UploadValue) (held : Held) (was : Repository) → TellsHeld held finished → map.get repositories.old name ≡ Some was → IsTrue own.old.vault.now.honest
+        → Yields (pushed (view_of repositories.old (visible_by own.old) upload limit) name was held)
         (view_of repositories.old (visible_by own.old) upload limit) result (view_of repositories.new (visible_in own.new.vault.now own.old.tenant.now) upload limit) }
     // Over any store.
     ensures safe { (upload : Option UploadValue) (sent : List Object) → Sends sent finished → IsSafe (IsBounded sent own.old.vault.now own.new.vault.now) (view_of repositories.old (visible_by own.old) upload limit)
@@ -73,8 +73,8 @@ fn take<S: LooseFiles>(
     requires ready { Ready own.old limit }
     requires quiet { staged_by own.old ≡ map.empty }
     requires there { map.contains_key repositories.old name ≡ true }
-    ensures row { (upload : Option UploadValue) (references : References) → map.get repositories.old name ≡ Some references → IsTrue own.old.vault.now.honest
-        → Yields (pushed (view_of repositories.old (visible_by own.old) upload limit) name references (Ok (body.commands.items, body.objects.items)))
+    ensures row { (upload : Option UploadValue) (was : Repository) → map.get repositories.old name ≡ Some was → IsTrue own.old.vault.now.honest
+        → Yields (pushed (view_of repositories.old (visible_by own.old) upload limit) name was (Ok (body.commands.items, body.objects.items)))
         (view_of repositories.old (visible_by own.old) upload limit) result (view_of repositories.new (visible_in own.new.vault.now own.old.tenant.now) upload limit) }
     // Over any store.
     ensures safe { (upload : Option UploadValue) → IsSafe (IsBounded body.objects.items own.old.vault.now own.new.vault.now) (view_of repositories.old (visible_by own.old) upload limit)
@@ -120,9 +120,9 @@ pub(crate) fn settle_upload<S: LooseFiles>(
 ) -> Reply
     requires ready { Ready own.old limit }
     requires there { map.contains_key repositories.old name ≡ true }
-    ensures row { (upload : Option UploadValue) (stream : Stream) (references : References) → TellsBrief (finished_in stream) finished → map.get repositories.old name ≡ Some references → IsTrue own.old.vault.now.honest
+    ensures row { (upload : Option UploadValue) (stream : Stream) (was : Repository) → TellsBrief (finished_in stream) finished → map.get repositories.old name ≡ Some was → IsTrue own.old.vault.now.honest
         → both_by own.old ≡ with_objects (visible_by own.old) (sent_in stream)
-        → Yields (pushed (view_of repositories.old (visible_by own.old) upload limit) name references (finished_in stream))
+        → Yields (pushed (view_of repositories.old (visible_by own.old) upload limit) name was (finished_in stream))
         (view_of repositories.old (visible_by own.old) upload limit) result (view_of repositories.new (visible_in own.new.vault.now own.old.tenant.now) upload limit) }
     // Over any store.
     ensures safe { (upload : Option UploadValue) (sent : List Object) → IsSafe (IsBounded sent own.old.vault.now own.new.vault.now) (view_of repositories.old (visible_by own.old) upload limit)
@@ -151,9 +151,9 @@ fn settle<S: LooseFiles>(
 ) -> Reply
     requires ready { Ready own.old limit }
     requires there { map.contains_key repositories.old name ≡ true }
-    ensures row { (upload : Option UploadValue) (sent : List Object) (references : References) → map.get repositories.old name ≡ Some references → IsTrue own.old.vault.now.honest
+    ensures row { (upload : Option UploadValue) (sent : List Object) (was : Repository) → map.get repositories.old name ≡ Some was → IsTrue own.old.vault.now.honest
         → brief.names.items ≡ map_list object_name sent → both_by own.old ≡ with_objects (visible_by own.old) sent
-        → Yields (pushed (view_of repositories.old (visible_by own.old) upload limit) name references (Ok (brief.commands.items, sent)))
+        → Yields (pushed (view_of repositories.old (visible_by own.old) upload limit) name was (Ok (brief.commands.items, sent)))
         (view_of repositories.old (visible_by own.old) upload limit) result (view_of repositories.new (visible_in own.new.vault.now own.old.tenant.now) upload limit) }
     // Over any store.
     ensures safe { (upload : Option UploadValue) (sent : List Object) → IsSafe (IsBounded sent own.old.vault.now own.new.vault.now) (view_of repositories.old (visible_by own.old) upload limit)
@@ -180,14 +180,14 @@ fn accept<S: LooseFiles>(
     new: Refs,
 ) -> Reply
     requires there { map.contains_key own.old.vault.now.tenants own.old.tenant.now ≡ true }
-    ensures taken { IsTaken own.old.tenant.now repositories.old (map.insert repositories.old name new) own.old.vault.now result repositories.new own.new.vault.now }
+    requires repository { map.contains_key repositories.old name ≡ true }
+    ensures taken { (was : Repository) → map.get repositories.old name ≡ Some was
+        → IsTaken own.old.tenant.now (map.insert repositories.old name (record was { references = new })) own.old.vault.now result repositories.new own.new.vault.now }
     ensures own { IsOwn own.old.tenant.now own.old.vault.now own.new.vault.now }
     ensures store { LeavesStore own.old.vault.now own.new.vault.now }
     ensures same { IsSame own.old own.new }
 {
-    let Ok(()) = repositories.insert(name, new) else {
-        return Reply::Failed(HostFault::Memory);
-    };
+    repositories.set_references(&name, new);
     publish(own);
     done(alloc)
 }
@@ -202,18 +202,18 @@ fn verdict<S: LooseFiles>(
     finished: &Result<Brief, StreamFault>,
 ) -> Verdict
     requires there { map.contains_key repositories.now name.now ≡ true }
-    ensures judged { (references : References) → map.get repositories.now name.now ≡ Some references → IsTrue own.old.vault.now.honest
-        → TellsJudged (judged (both_by own.old) references limit (brief_shown finished.now)) result }
+    ensures judged { (was : Repository) → map.get repositories.now name.now ≡ Some was → IsTrue own.old.vault.now.honest
+        → TellsJudged (judged (both_by own.old) was.references limit (brief_shown finished.now)) result }
     ensures kept { IsTrue own.old.vault.now.honest → own.new.vault.now.tenants ≡ own.old.vault.now.tenants }
 
     // Over any store.
-    ensures accepted { (references : References) → map.get repositories.now name.now ≡ Some references → IfAccepted result (IsOrderly (both_by own.old) references limit) }
+    ensures accepted { (was : Repository) → map.get repositories.now name.now ≡ Some was → IfAccepted result (IsOrderly (both_by own.old) was.references limit) }
     ensures shape { shape_of own.new.vault.now.tenants ≡ shape_of own.old.vault.now.tenants }
     ensures read { IsRead own.old.vault.now own.new.vault.now (fault_of_verdict result) }
     ensures same { IsSame own.old own.new }
 {
-    let Some(references) = repositories.get(name) else {
+    let Some(repository) = repositories.get(name) else {
         unreachable!();
     };
-    own.judge(alloc, finished, references, limit)
+    own.judge(alloc, finished, repository.references(), limit)
 }

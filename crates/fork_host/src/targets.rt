@@ -8,18 +8,18 @@ ghost use Rattle.fork_host.specs.Restored.{is_bad_target, references_in, target_
 use fork_request::RepositoryName;
 use git_name::{Kind, Name};
 use git_refname::RefName;
-use git_reftx::{Known, Refs};
+use git_reftx::{Known, Refs, Repository};
 
 // The target of the first reference of these repositories that points at no known object, or of a branch
 // that points at no commit.
 pub(crate) fn first_bad_target<K: Known>(
     known: &K,
-    repositories: &[(RepositoryName, Refs)],
+    repositories: &[(RepositoryName, Repository)],
 ) -> Option<Name>
     ensures { result ≡ option_map target_of (find (is_bad_target (K.kinds known.now)) (flat_map references_in repositories.now)) }
 {
-    for (_, references) in repositories {
-        let bad = bad_target_in(known, references);
+    for (_, repository) in repositories {
+        let bad = bad_target_in(known, repository.references());
         if bad.is_some() {
             return bad;
         }

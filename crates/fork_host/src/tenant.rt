@@ -12,6 +12,7 @@ ghost use Rattle.fork_host.specs.Sent.{sent_by, sent_names};
 ghost use Rattle.fork_host.specs.Shown.{shown};
 ghost use Rattle.fork_host.specs.Staged.{IsStaged};
 
+mod heads;
 mod keeping;
 mod objects;
 mod pushes;
@@ -61,7 +62,7 @@ impl Tenant {
 
     // The tenant has these repositories.
     pub(crate) fn settle(&mut self, repositories: Repositories)
-        ensures { self.new ≡ record { repositories = repositories; upload = self.old.upload; limit = self.old.limit } }
+        ensures { self.new ≡ record self.old { repositories = repositories } }
     {
         self.repositories = repositories;
     }
@@ -93,11 +94,13 @@ impl Tenant {
             Request::PartEnd(word) => self.part_end(alloc, own, word),
             Request::PartDrop => self.part_drop(alloc, own),
             Request::UpdateRefs(word, body) => self.update_refs(alloc, own, word, body),
+            Request::SetHead(word, reference) => self.set_head(alloc, word, reference),
             Request::CatFile(name) => self.cat_file(alloc, own, Name::new(name)),
             Request::LsTree(name) => self.ls_tree(alloc, own, Name::new(name)),
             Request::RevList(word, items) => self.rev_list(alloc, own, word, items),
             Request::MergeBase(word, a, b) => self.merge_base(alloc, own, word, a, b),
             Request::ForEachRef(word, prefix) => self.for_each_ref(alloc, own, word, prefix),
+            Request::Head(word) => self.head(alloc, word),
             Request::Fetch(word, items) => self.fetch(alloc, own, word, items),
             Request::Quota => self.quota(alloc, own),
             Request::Prune => self.prune(alloc, own),

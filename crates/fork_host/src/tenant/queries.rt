@@ -73,10 +73,10 @@ impl Tenant {
         if has_many(items) {
             return Reply::Refused(Refusal::TooMany);
         }
-        let Some(references) = self.repositories.get(&name) else {
+        let Some(repository) = self.repositories.get(&name) else {
             return Reply::Refused(Refusal::NoRepository(name));
         };
-        told(rev_list(alloc, own, references, items))
+        told(rev_list(alloc, own, repository, items))
     }
 
     #[tactic(auto, unfolding(fork_model::specs::Answer::merge_base_answer))]
@@ -98,10 +98,10 @@ impl Tenant {
         let Some(name) = RepositoryName::read(word) else {
             return bad_name(alloc, word);
         };
-        let Some(references) = self.repositories.get(&name) else {
+        let Some(repository) = self.repositories.get(&name) else {
             return Reply::Refused(Refusal::NoRepository(name));
         };
-        told(merge_base(alloc, own, references, first, second))
+        told(merge_base(alloc, own, repository, first, second))
     }
 
     #[tactic(auto, unfolding(fork_model::specs::Answer::fetch_answer))]
@@ -125,9 +125,9 @@ impl Tenant {
         if has_many(items) {
             return Reply::Refused(Refusal::TooMany);
         }
-        let Some(references) = self.repositories.get(&name) else {
+        let Some(repository) = self.repositories.get(&name) else {
             return Reply::Refused(Refusal::NoRepository(name));
         };
-        told(fetch(alloc, own, references, items))
+        told(fetch(alloc, own, repository, items))
     }
 }

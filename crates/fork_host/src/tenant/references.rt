@@ -1,7 +1,8 @@
 // Rows about the references of a repository.
 ghost use Rattle.std.specs.Prelude.{◌≡◌, Some, option_map, true};
 ghost use Rattle.std.specs.FinMap as map;
-ghost use Rattle.git_reftx.specs.Transaction.{References, transacted};
+ghost use Rattle.git_reftx.specs.Repository.{Repository};
+ghost use Rattle.git_reftx.specs.Transaction.{transacted};
 ghost use Rattle.fork_reach.specs.Source.{kind_in};
 ghost use Rattle.fork_model.specs.Answer.{references_answer, update_answer, with_references};
 ghost use Rattle.fork_host.specs.Handle.{shown_by, visible_by};
@@ -51,8 +52,8 @@ impl Tenant {
         commands: &[Command],
     ) -> Reply
         requires { map.contains_key self.old.repositories name.now ≡ true }
-        ensures row { (old : References) → map.get self.old.repositories name.now ≡ Some old
-            → Gives (with_references (shown_by self.old own.now) name.now (transacted old commands.now (kind_in (visible_by own.now)))) (shown_by self.old own.now) result (shown_by self.new own.now) }
+        ensures row { (old : Repository) → map.get self.old.repositories name.now ≡ Some old
+            → Gives (with_references (shown_by self.old own.now) name.now old (transacted old.references commands.now (kind_in (visible_by own.now)))) (shown_by self.old own.now) result (shown_by self.new own.now) }
         ensures upload { self.new.upload ≡ self.old.upload }
     {
         match self.repositories.apply(alloc, name, commands, own) {
@@ -76,10 +77,10 @@ impl Tenant {
         let Some(name) = RepositoryName::read(word) else {
             return bad_name(alloc, word);
         };
-        let Some(references) = self.repositories.get(&name) else {
+        let Some(repository) = self.repositories.get(&name) else {
             return Reply::Refused(Refusal::NoRepository(name));
         };
-        match for_each_ref(alloc, own, references, prefix) {
+        match for_each_ref(alloc, own, repository.references(), prefix) {
             Ok(text) => Reply::Done(ByteString::new(text)),
             Err(_) => Reply::Failed(HostFault::Memory),
         }

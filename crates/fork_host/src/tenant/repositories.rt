@@ -2,7 +2,7 @@
 ghost use Rattle.std.specs.Prelude.{◌≡◌};
 ghost use Rattle.std.specs.FinMap as map;
 ghost use Rattle.fork_ledger.specs.Private.{Private};
-ghost use Rattle.fork_model.specs.Answer.{copied, drop_answer, fork_answer, init_answer, new_repository};
+ghost use Rattle.fork_model.specs.Answer.{added, copied, drop_answer, fork_answer, init_answer};
 ghost use Rattle.fork_host.specs.Rows.{Gives};
 ghost use Rattle.fork_host.specs.Shown.{seen_by};
 
@@ -10,25 +10,30 @@ use crate::replies::{bad_name, done};
 use crate::tenant::Tenant;
 use fork_model::MAX_REPOSITORIES;
 use fork_request::{HostFault, Refusal, Reply, RepositoryName};
-use git_reftx::Refs;
+use git_reftx::Repository;
 use std::alloc::Global;
 
 impl Tenant {
     #[tactic(auto, unfolding(fork_model::specs::Answer::init_answer))]
-    // A new repository without references.
+    // A new repository.
     pub(crate) fn init(&mut self, alloc: Global, word: &[u8]) -> Reply
         ensures row { (own : Private) → Gives (init_answer (seen_by self.old own) word.now) (seen_by self.old own) result (seen_by self.new own) }
         ensures upload { self.new.upload ≡ self.old.upload }
     {
         match RepositoryName::read(word) {
-            Some(name) => self.add_repository(alloc, name, Refs::new(alloc)),
+            Some(name) => self.add_repository(alloc, name, Repository::new(alloc)),
             None => bad_name(alloc, word),
         }
     }
 
-    // A new repository with these references.
-    fn add_repository(&mut self, alloc: Global, name: RepositoryName, references: Refs) -> Reply
-        ensures row { (own : Private) → Gives (new_repository (seen_by self.old own) name references) (seen_by self.old own) result (seen_by self.new own) }
+    // One more repository.
+    fn add_repository(
+        &mut self,
+        alloc: Global,
+        name: RepositoryName,
+        repository: Repository,
+    ) -> Reply
+        ensures row { (own : Private) → Gives (added (seen_by self.old own) name repository) (seen_by self.old own) result (seen_by self.new own) }
         ensures upload { self.new.upload ≡ self.old.upload }
     {
         if self.repositories.contains(&name) {
@@ -37,7 +42,7 @@ impl Tenant {
         if self.repositories.len() >= MAX_REPOSITORIES {
             return Reply::Refused(Refusal::TooMany);
         }
-        if self.repositories.insert(name, references).is_err() {
+        if self.repositories.insert(name, repository).is_err() {
             return Reply::Failed(HostFault::Memory);
         }
         done(alloc)
@@ -60,7 +65,7 @@ impl Tenant {
     }
 
     #[tactic(auto, unfolding(fork_model::specs::Answer::fork_answer))]
-    // A new repository with the references of another.
+    // A new repository that is a copy of another.
     pub(crate) fn fork(&mut self, alloc: Global, source: &[u8], copy: &[u8]) -> Reply
         ensures row { (own : Private) → Gives (fork_answer (seen_by self.old own) source.now copy.now) (seen_by self.old own) result (seen_by self.new own) }
         ensures upload { self.new.upload ≡ self.old.upload }
@@ -79,10 +84,10 @@ impl Tenant {
         ensures row { (own : Private) → Gives (copied (seen_by self.old own) from to (map.get self.old.repositories from)) (seen_by self.old own) result (seen_by self.new own) }
         ensures upload { self.new.upload ≡ self.old.upload }
     {
-        let Some(references) = self.repositories.get(&from) else {
+        let Some(repository) = self.repositories.get(&from) else {
             return Reply::Refused(Refusal::NoRepository(from));
         };
-        let Ok(same) = references.copy() else {
+        let Ok(same) = repository.copy() else {
             return Reply::Failed(HostFault::Memory);
         };
         self.add_repository(alloc, to, same)

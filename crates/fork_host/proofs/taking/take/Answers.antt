@@ -21,7 +21,7 @@ use Rattle.fork_host.proofs.TakingLemmas.{gives_nothing, yields_from}
 use Rattle.fork_host.proofs.taking.take.Goals as goal
 
 pub returns-in-Err-clause-row : goal.returns-in-Err-clause-row
-returns-in-Err-clause-row g c upload references here honest =
+returns-in-Err-clause-row g c upload was here honest =
     let first = c.args.own.now in
     let new = c.stage_all.new.own in
     gives_nothing _ c.args.repositories.now (visible_by first) (visible_in new.vault.now first.tenant.now) upload c.args.limit (vault_told c.in-Err.fault) _
@@ -64,7 +64,7 @@ discard-requires g c =
     }
 
 pub returns-clause-row : goal.returns-clause-row
-returns-clause-row g c upload references here honest =
+returns-clause-row g c upload was here honest =
     let first = c.args.own.now in
     let staged = c.stage_all.new.own in
     let mid = c.settle-reply.new.own in
@@ -76,10 +76,10 @@ returns-clause-row g c upload references here honest =
     let named = c.in-Ok.ensures ∙ ap (map_list object_name) c.as_slice.ensures.value in
     let still : visible_in new.vault.now first.tenant.now ≡ visible_in mid.vault.now first.tenant.now =
     of_first first mid (λ t. visible_in new.vault.now t ≡ visible_in mid.vault.now t) (same_then first staged mid same c.settle-reply.ensures.same) c.discard.ensures.still in
-    yields_from c.args.repositories.now c.settle-reply.new.repositories (visible_by staged) (visible_by first) (visible_in mid.vault.now staged.tenant.now) (visible_in new.vault.now first.tenant.now) upload c.args.limit c.args.name references
+    yields_from c.args.repositories.now c.settle-reply.new.repositories (visible_by staged) (visible_by first) (visible_in mid.vault.now staged.tenant.now) (visible_in new.vault.now first.tenant.now) upload c.args.limit c.args.name was
     (Ok (c.args.body.commands.items, sent)) c.settle-reply.result
     (ap (λ r. visible_in staged.vault.now r.now) same.tenant ∙ seen.exact honest) (ap (λ r. visible_in mid.vault.now r.now) same.tenant ∙ sym still)
-    (c.settle-reply.ensures.row upload sent references here (turns.own.honest ∙ honest) named (sent_beside first staged sent same honest c.requires.quiet turns))
+    (c.settle-reply.ensures.row upload sent was here (turns.own.honest ∙ honest) named (sent_beside first staged sent same honest c.requires.quiet turns))
 
 pub returns-clause-safe : goal.returns-clause-safe
 returns-clause-safe g c upload =

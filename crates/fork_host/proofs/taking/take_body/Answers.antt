@@ -10,10 +10,10 @@ use Rattle.fork_host.specs.Sent.{sent_names}
 use Rattle.fork_host.proofs.taking.take_body.Goals as goal
 
 pub returns-in-Ok-clause-row : goal.returns-in-Ok-clause-row
-returns-in-Ok-clause-row g c upload held references tells here honest =
+returns-in-Ok-clause-row g c upload held was tells here honest =
     let old = view_of c.args.repositories.now (visible_by c.args.own.now) upload c.args.limit in
     let new = view_of c.take.new.repositories (visible_in c.take.new.own.vault.now c.args.own.now.tenant.now) upload c.args.limit in
-    subst (λ h. Yields (pushed old c.args.name references h) old c.take.result new) (sym (subst (TellsHeld held) c.in-Ok.is tells)) (c.take.ensures.row upload references here honest)
+    subst (λ h. Yields (pushed old c.args.name was h) old c.take.result new) (sym (subst (TellsHeld held) c.in-Ok.is tells)) (c.take.ensures.row upload was here honest)
 
 pub returns-in-Ok-clause-safe : goal.returns-in-Ok-clause-safe
 returns-in-Ok-clause-safe g c upload sent sends =

@@ -7,5 +7,5 @@ use Rattle.fork_host.proofs.repositories.Repositories.insert.Goals as goal
 
 pub returns-clause-ok : goal.returns-clause-ok
 returns-clause-ok c = on_ok_weaker c.put.result (λ updates.
-    entries_after_insert name_total name_exact c.self.inside.repositories.entries c.put.new.repositories.entries c.args.name c.args.references updates.0
-    ∙ ap (λ m. map.insert m c.args.name c.args.references) c.self.view_is) c.put.ensures.ok
+    entries_after_insert name_total name_exact c.self.inside.repositories.entries c.put.new.repositories.entries c.args.name c.args.repository updates.0
+    ∙ ap (λ m. map.insert m c.args.name c.args.repository) c.self.view_is) c.put.ensures.ok

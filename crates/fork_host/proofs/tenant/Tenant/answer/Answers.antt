@@ -94,6 +94,30 @@ returns-in-ForEachRef-clause-safe g c =
     let gives : Gives (answer view (ask_of c.args.request)) view c.for_each_ref.result new = rw c.in-ForEachRef.is c.for_each_ref.ensures in
     safe_gives _ view new (ask_of c.args.request) c.for_each_ref.result (bounded_still (sent_by view (ask_of c.args.request)) c.args.own.now.vault.now c.for_each_ref.result (quiet_row view new (ask_of c.args.request) c.for_each_ref.result gives)) gives
 
+pub returns-in-SetHead-clause-row : goal.returns-in-SetHead-clause-row
+unfolding answer
+returns-in-SetHead-clause-row g c = record { yields = λ honest. yields_of _ _ _ _ (rw c.in-SetHead.is (c.set_head.ensures.row (private_by c.args.own.now))) }
+
+pub returns-in-SetHead-clause-safe : goal.returns-in-SetHead-clause-safe
+unfolding answer
+returns-in-SetHead-clause-safe g c =
+    let view = shown_by c.args.self.now c.args.own.now in
+    let new = shown c.set_head.new.self c.args.own.now.vault.now c.args.own.now.tenant.now in
+    let gives : Gives (answer view (ask_of c.args.request)) view c.set_head.result new = rw c.in-SetHead.is (c.set_head.ensures.row (private_by c.args.own.now)) in
+    safe_gives _ view new (ask_of c.args.request) c.set_head.result (bounded_still (sent_by view (ask_of c.args.request)) c.args.own.now.vault.now c.set_head.result (quiet_row view new (ask_of c.args.request) c.set_head.result gives)) gives
+
+pub returns-in-Head-clause-row : goal.returns-in-Head-clause-row
+unfolding answer
+returns-in-Head-clause-row g c = record { yields = λ honest. yields_of _ _ _ _ (rw c.in-Head.is (c.head.ensures (private_by c.args.own.now))) }
+
+pub returns-in-Head-clause-safe : goal.returns-in-Head-clause-safe
+unfolding answer
+returns-in-Head-clause-safe g c =
+    let view = shown_by c.args.self.now c.args.own.now in
+    let new = shown c.args.self.now c.args.own.now.vault.now c.args.own.now.tenant.now in
+    let gives : Gives (answer view (ask_of c.args.request)) view c.head.result new = rw c.in-Head.is (c.head.ensures (private_by c.args.own.now)) in
+    safe_gives _ view new (ask_of c.args.request) c.head.result (bounded_still (sent_by view (ask_of c.args.request)) c.args.own.now.vault.now c.head.result (quiet_row view new (ask_of c.args.request) c.head.result gives)) gives
+
 pub returns-in-Quota-clause-row : goal.returns-in-Quota-clause-row
 unfolding answer
 returns-in-Quota-clause-row g c = record { yields = λ honest. yields_of _ _ _ _ (rw c.in-Quota.is c.quota.ensures) }
@@ -167,6 +191,18 @@ returns-in-ForEachRef-clause-own g c = touched_none _ c.args.own.now
 
 pub returns-in-ForEachRef-clause-staged : goal.returns-in-ForEachRef-clause-staged
 returns-in-ForEachRef-clause-staged g c = c.requires.staged
+
+pub returns-in-SetHead-clause-own : goal.returns-in-SetHead-clause-own
+returns-in-SetHead-clause-own g c = touched_none _ c.args.own.now
+
+pub returns-in-SetHead-clause-staged : goal.returns-in-SetHead-clause-staged
+returns-in-SetHead-clause-staged g c = subst (λ upload. IsStaged c.args.own.now.vault.now.honest upload (staged_by c.args.own.now)) (sym c.set_head.ensures.upload) c.requires.staged
+
+pub returns-in-Head-clause-own : goal.returns-in-Head-clause-own
+returns-in-Head-clause-own g c = touched_none _ c.args.own.now
+
+pub returns-in-Head-clause-staged : goal.returns-in-Head-clause-staged
+returns-in-Head-clause-staged g c = c.requires.staged
 
 pub returns-in-Quota-clause-own : goal.returns-in-Quota-clause-own
 returns-in-Quota-clause-own g c = touched_none _ c.args.own.now

@@ -19,12 +19,12 @@ returns-clause-row g c honest =
     let first = c.args.own.now in
     let view = shown_by account first in
     let word = c.args.word.now in
-    let references = c.in-Some-get.references.now in
+    let repository = c.in-Some-get.repository.now in
     let here = ap (λ (a : Account). map.get a.repositories word) (sym c.self.view_is) ∙ ap (map.get c.self.inside.repositories) (sym c.in-Some.ensures.found.0) ∙ sym c.in-Some-get.ensures in
-    let reply = few_is (words_of c.args.items.now) _ (sym c.has_many.ensures ∙ c.if-has_many.false) ∙ over_is word (λ references. fetch_told (visible_by c.args.own.now) references (words_of c.args.items.now)) (map.get account.repositories word) references here in
+    let reply = few_is (words_of c.args.items.now) _ (sym c.has_many.ensures ∙ c.if-has_many.false) ∙ over_is word (λ r. fetch_told (visible_by c.args.own.now) r (words_of c.args.items.now)) (map.get account.repositories word) repository here in
     subst (λ (row : Reply × View). Yields row view c.told.result (shown account c.fetch.new.source.vault.now first.tenant.now))
     (sym (named_is view word _ (sym c.in-Some.ensures.test) ∙ ap (λ (told : Reply). (told, view)) reply))
-    (query_gives (λ text. text.items) account first c.fetch.new.source (fetch_told (visible_by first) references (words_of c.args.items.now)) c.fetch.result c.told.result honest (c.fetch.ensures.told honest) c.fetch.ensures.asked c.told.ensures)
+    (query_gives (λ text. text.items) account first c.fetch.new.source (fetch_told (visible_by first) repository (words_of c.args.items.now)) c.fetch.result c.told.result honest (c.fetch.ensures.told honest) c.fetch.ensures.asked c.told.ensures)
 
 pub returns-clause-safe : goal.returns-clause-safe
 returns-clause-safe g c = query_safe (λ text. text.items) c.args.self.now c.args.own.now c.fetch.new.source c.fetch.result c.told.result c.fetch.ensures.asked c.told.ensures

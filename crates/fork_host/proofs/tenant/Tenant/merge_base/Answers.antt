@@ -18,12 +18,12 @@ returns-clause-row g c honest =
     let first = c.args.own.now in
     let view = shown_by account first in
     let word = c.args.word.now in
-    let references = c.in-Some-get.references.now in
+    let repository = c.in-Some-get.repository.now in
     let here = ap (λ (a : Account). map.get a.repositories word) (sym c.self.view_is) ∙ ap (map.get c.self.inside.repositories) (sym c.in-Some.ensures.found.0) ∙ sym c.in-Some-get.ensures in
-    let reply = over_is word (λ references. bases_told (visible_by c.args.own.now) references c.args.first.now c.args.second.now) (map.get account.repositories word) references here in
+    let reply = over_is word (λ r. bases_told (visible_by c.args.own.now) r c.args.first.now c.args.second.now) (map.get account.repositories word) repository here in
     subst (λ (row : Reply × View). Yields row view c.told.result (shown account c.merge_base.new.source.vault.now first.tenant.now))
     (sym (named_is view word _ (sym c.in-Some.ensures.test) ∙ ap (λ (told : Reply). (told, view)) reply))
-    (query_gives (λ text. text.items) account first c.merge_base.new.source (bases_told (visible_by first) references c.args.first.now c.args.second.now) c.merge_base.result c.told.result honest (c.merge_base.ensures.told honest) c.merge_base.ensures.asked c.told.ensures)
+    (query_gives (λ text. text.items) account first c.merge_base.new.source (bases_told (visible_by first) repository c.args.first.now c.args.second.now) c.merge_base.result c.told.result honest (c.merge_base.ensures.told honest) c.merge_base.ensures.asked c.told.ensures)
 
 pub returns-clause-safe : goal.returns-clause-safe
 returns-clause-safe g c = query_safe (λ text. text.items) c.args.self.now c.args.own.now c.merge_base.new.source c.merge_base.result c.told.result c.merge_base.ensures.asked c.told.ensures

@@ -73,27 +73,34 @@ of_lines version taken states text rest right is parts =
     record { right = taken_of version states text here; spelled = here.spelled }
 
 -- a line that is not the end, and with which nothing right goes on
-pub wrong_line : (version : Version) (text rest line behind : List ℕ) (taken : Taken) (lines : ℕ) → IsReadSoFar version text taken lines rest → rest ≡ line ++ 10 ∷ behind → IsLine line → (line ≡ codes "end" → taken.awaits ≡ false → ⊥)
-    → ((new : Taken) → IsTaken version new → Adds version taken line new → ⊥) → IsWrongLine text (lines + 1)
-wrong_line version text rest line behind taken lines so_far is plain not_end none = record {
+pub wrong_at : (version : Version) (line behind : List ℕ) (taken : Taken) → IsTaken version taken → IsLine line → (line ≡ codes "end" → taken.awaits ≡ false → ⊥) → ((new : Taken) → IsTaken version new → Adds version taken line new → ⊥)
+    → IsWrongLine (flat_map ended (open_lines version taken) ++ (line ++ 10 ∷ behind)) (length (open_lines version taken) + 1)
+wrong_at version line behind taken right plain not_end none = record {
   before = open_lines version taken;
-  rest = rest;
-  are_lines = plain_lines version taken so_far.right;
-  parts = so_far.parts;
-  number_is = (let count = so_far.count in omega (arith, count));
-  begins = begins_open version taken so_far.right;
+  rest = line ++ 10 ∷ behind;
+  are_lines = plain_lines version taken right;
+  parts = refl;
+  number_is = refl;
+  begins = begins_open version taken right;
   wrong = inl (record {
     line = line;
     behind = behind;
     is_line = plain;
-    parts = is;
+    parts = refl;
     begins = λ begins.
         let all : begins.whole ≡ flat_map ended (open_lines version taken) ++ (line ++ 10 ∷ begins.rest) = begins.parts ∙ one_more (flat_map ended (open_lines version taken)) line begins.rest in
-        let here = of_lines version taken begins.states begins.whole (line ++ 10 ∷ begins.rest) so_far.right begins.right all in
+        let here = of_lines version taken begins.states begins.whole (line ++ 10 ∷ begins.rest) right begins.right all in
         ⊎_elim (λ ends. not_end ends.0 ends.1) (λ next. none next.new next.right next.adds)
-        (continues version taken begins.states line begins.rest so_far.right here.right plain (sym here.spelled ∙ all));
+        (continues version taken begins.states line begins.rest right here.right plain (sym here.spelled ∙ all));
   });
 }
+
+pub wrong_line : (version : Version) (text rest line behind : List ℕ) (taken : Taken) (lines : ℕ) → IsReadSoFar version text taken lines rest → rest ≡ line ++ 10 ∷ behind → IsLine line → (line ≡ codes "end" → taken.awaits ≡ false → ⊥)
+    → ((new : Taken) → IsTaken version new → Adds version taken line new → ⊥) → IsWrongLine text (lines + 1)
+wrong_line version text rest line behind taken lines so_far is plain not_end none =
+    subst (λ n. IsWrongLine text (n + 1)) (sym so_far.count)
+    (subst (λ t. IsWrongLine t (length (open_lines version taken) + 1)) (sym (so_far.parts ∙ ap (λ r. flat_map ended (open_lines version taken) ++ r) is))
+    (wrong_at version line behind taken so_far.right plain not_end none))
 
 -- no whole line stands there
 pub cut_line : (version : Version) (text rest : List ℕ) (taken : Taken) (lines : ℕ) → IsReadSoFar version text taken lines rest → IsLine rest → IsWrongLine text (lines + 1)

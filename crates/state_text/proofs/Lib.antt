@@ -1,6 +1,7 @@
 pub mod BackLemmas
 pub mod BehindLemmas
 pub mod ContinuingLemmas
+pub mod Examples
 pub mod FaultLemmas
 pub mod KeptLemmas
 pub mod LastLemmas

@@ -79,7 +79,7 @@ at_lines version tenant (Offered receiver name) repository last =
     ∙ three repositories seen (flat_map (offer_lines version tenant.name) tenant.offers) (offer_lines version tenant.name offer))
 
 -- of a new repository the HEAD alone is told, if any
-new_lines : (version : Version) (tenant name head : List ℕ) → inner_lines version tenant name (record { head = head; references = finite.empty }) ≡ head_lines version tenant name head
+pub new_lines : (version : Version) (tenant name head : List ℕ) → inner_lines version tenant name (record { head = head; references = finite.empty }) ≡ head_lines version tenant name head
 new_lines version tenant name head = ap (λ es. head_lines version tenant name head ++ map (reference_line tenant name) es) no_entries ∙ append-nil (head_lines version tenant name head)
 
 -- the lines once a HEAD was told

@@ -56,7 +56,7 @@ reference_plain name right =
 name_plain : (most : ℕ) (name : List ℕ) → IsPlainName most name → IsLine name
 name_plain most name named = plain_without most 10 name refl named
 
-both_plain : (a b : List ℕ) → IsLine a → IsLine b → IsLine (a ++ b)
+pub both_plain : (a b : List ℕ) → IsLine a → IsLine b → IsLine (a ++ b)
 both_plain a b p q = All-append (λ x. x ≢ 10) a b p q
 
 space_plain : IsLine (codes " ")

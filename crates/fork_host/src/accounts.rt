@@ -15,7 +15,7 @@ ghost use Rattle.fork_host.specs.Adding.{new_account};
 ghost use Rattle.fork_host.specs.Bounds.{IsBounded};
 ghost use Rattle.fork_model.specs.Answer.{answer};
 ghost use Rattle.fork_host.specs.Opening.{reading_told};
-ghost use Rattle.fork_host.specs.Own.{IsOwn, IsReady, staged_in};
+ghost use Rattle.fork_host.specs.Own.{IsOwn, IsReady, staged_in, visible_in};
 ghost use Rattle.fork_host.specs.Rows.{YieldsOver};
 ghost use Rattle.fork_host.specs.Safe.{IsNamedReply, IsSafe, TellsSeen};
 ghost use Rattle.fork_host.specs.Sent.{seen_in_world, sent_by, sent_in_world, sent_names};

@@ -3,7 +3,7 @@ ghost use Rattle.std.specs.Prelude.{[], IsTrue};
 ghost use Rattle.git_name.specs.Text.{words_of};
 ghost use Rattle.fork_model.specs.Answer.{cat_file_answer, fetch_answer, ls_tree_answer, merge_base_answer, rev_list_answer};
 ghost use Rattle.fork_host.specs.Bounds.{IsBounded};
-ghost use Rattle.fork_host.specs.Handle.{Ready, Uses, shown_by};
+ghost use Rattle.fork_host.specs.Handle.{Ready, Uses, shown_by, visible_by};
 ghost use Rattle.fork_host.specs.Rows.{Yields};
 ghost use Rattle.fork_host.specs.Safe.{IsNamedReply, IsSafe, TellsSeen};
 ghost use Rattle.fork_request.specs.Asked.{AsksBases, AsksObject, Fetches};

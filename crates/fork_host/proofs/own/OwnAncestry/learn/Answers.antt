@@ -1,5 +1,4 @@
-use Rattle.std.proofs.Common.{ap, ◌∙◌}
-use Rattle.fork_reach.specs.Objects.{measures_of}
+use Rattle.std.proofs.Common.{ap}
 use Rattle.fork_ledger.specs.Tenants.{private_of}
 use Rattle.fork_ledger.proofs.BothLemmas.{same_measures}
 use Rattle.fork_host.proofs.ReadLemmas.{told_counts, told_undamaged}
@@ -11,12 +10,11 @@ returns g c =
     let new = c.learn.new.self in
     let told = c.learn.ensures in
     record {
-      measures = ap (λ r. measures_of (private_of new.vault.now.tenants r.now).visible) told.same.tenant
-          ∙ ap (λ p. p.0) (same_measures old.vault.now.tenants new.vault.now.tenants old.tenant.now told.shape);
+      measures = ap (λ p. p.0) (same_measures old.vault.now.tenants new.tenants old.tenant.now told.shape);
       honest = told.store.honest;
-      base = λ i. ((told.same.vault i, told.same.tenant i), told.shape i, told.places i);
-      counted = told_counts c.learn.result c.told.result old.vault.now.failures new.vault.now.failures c.told.ensures told.store.counted;
-      objects = λ honest. ap (λ r. (private_of new.vault.now.tenants r.now).visible) told.same.tenant ∙ ap (λ m. (private_of m old.tenant.now).visible) (told.kept honest);
+      base = λ i. ((old.vault.ghost_name, old.tenant), told.shape i, told.places i);
+      counted = told_counts c.learn.result c.told.result old.vault.now.failures new.failures c.told.ensures told.store.counted;
+      objects = λ honest. ap (λ m. (private_of m old.tenant.now).visible) (told.kept honest);
       rest = λ honest i. (told.kept honest i, told.files honest i);
       undamaged = λ honest. told_undamaged c.learn.result c.told.result c.told.ensures told.apart (told.store.undamaged honest);
     }

@@ -1,209 +1,228 @@
--- States without what their last line says.
-use Rattle.std.proofs.Common.{◌≡◌, ℕ, Bool, true, false, List, [], ◌∷◌, ◌++◌, ◌⊎◌, inl, inr, ⊎_elim, codes, decimal, refl, sym, ap, subst, ◌∙◌, length, map, arith}
-use Rattle.std.specs.Prelude.{T, ◌&&◌}
+-- What was taken, without what its last line says.
+use Rattle.std.proofs.Common.{◌≡◌, ℕ, Bool, true, false, List, [], ◌∷◌, ◌++◌, ◌⊎◌, inl, inr, ⊎_elim, codes, decimal, refl, sym, ap, subst, ◌∙◌}
 use Rattle.std.specs.FinMap as finite
-use Rattle.std.specs.FinMap.{entries, entries_sorted, from_sorted, is_sorted, keys, values}
-use Rattle.std.specs.FinMap.Entries.{below_all}
+use Rattle.std.specs.FinMap.{entries, from_sorted}
 use Rattle.std.specs.List.{AllByRecursion}
-use Rattle.std.specs.Ordering.{is_lt}
 use Rattle.hex.specs.Hex.{encode_lower}
-use Rattle.git_name.specs.Name.{IsName, name_cmp}
+use Rattle.git_name.specs.Name.{IsName}
 use Rattle.git_refname.specs.Namespace.{expanded}
-use Rattle.git_refname.specs.Rule.{IsRefName}
-use Rattle.git_reftx.specs.Fronts.{In}
-use Rattle.git_reftx.specs.Sound.{AreSound}
-use Rattle.git_reftx.specs.Transaction.{References}
-use Rattle.git_reftx.proofs.PushLemmas.{apart, free_from, has_key, key_has, keys_behind, len_behind}
-use Rattle.fork_request.specs.Names.{IsRepositoryName}
-use Rattle.state_text.specs.States.{Ascend, IsRepository, IsStates, IsTenantState, States, TenantState}
-use Rattle.state_text.specs.Taking.{Adds, HasReferenceMore, Tenant, Repository, Reference, Seen}
-use Rattle.state_text.proofs.BehindLemmas.{ascend_front, each_front, each_last, from_back, length_behind, map_behind}
+use Rattle.git_reftx.specs.Repository as git
+use Rattle.git_reftx.specs.Repository.{main_branch, new_repository}
+use Rattle.state_text.specs.declared.place.Place.{Place}
+use Rattle.state_text.specs.declared.place.Place.TheVariants.{Own, Offered}
+use Rattle.state_text.specs.declared.version.Version.{Version}
+use Rattle.state_text.specs.declared.version.Version.TheVariants.{One, Two}
+use Rattle.state_text.specs.Place.{IsLast, name_at, with_at}
+use Rattle.state_text.specs.States.{Ascend, IsStates, IsTenantState, IsTold, States, TenantState}
+use Rattle.state_text.specs.Taking.{Adds, HasReferenceMore, IsTaken, Taken, Head, Tenant, Repository, Reference, Seen, Offer, awaits_head}
+use Rattle.state_text.specs.Text.{Tells}
+use Rattle.state_text.proofs.BehindLemmas.{ascend_front, each_front, from_back}
+use Rattle.state_text.proofs.LastLemmas.{fewer_entries, less_told}
 use Rattle.state_text.proofs.LineLemmas.{no_entries}
-use Rattle.state_text.proofs.StateLemmas.{last_right, repository_changed, tenant_changed, tenant_less}
+use Rattle.state_text.proofs.PlaceLemmas.{place_changed, place_less, same_name_at, told_at}
+use Rattle.state_text.proofs.StateLemmas.{last_right, tenant_changed, tenant_less}
+use Rattle.state_text.specs.Offer.{offer_words}
+use Rattle.state_text.proofs.TellingLemmas.{TellsOne, main_head, offered_plain, tells_all, tells_before, tells_behind, tells_changed, tells_last, tells_less, unseen_told}
+use Rattle.state_text.proofs.NewLemmas.{new_told}
 
-front : (a b : Bool) → T (a && b) → T a
-front true b is = tt
-front false b is = is
+-- nothing was read yet but the first line
+abbrev pub nothing_taken : Taken
+nothing_taken = record { states = []; awaits = false }
 
-rest : (a b : Bool) → T (a && b) → T b
-rest true b is = is
-rest false b is = absurd is
-
-both : (a b : Bool) → T a → T b → T (a && b)
-both true b p q = q
-both false b p q = absurd p
-
-below_less : {X : Type 0} (k : List ℕ) (es : List (List ℕ × X)) (e : List ℕ × X) → T (below_all name_cmp k (es ++ e ∷ [])) → T (below_all name_cmp k es)
-below_less k [] e is = tt
-below_less k (d ∷ es) e is = both (is_lt (name_cmp k d.0)) (below_all name_cmp k es) (front (is_lt (name_cmp k d.0)) (below_all name_cmp k (es ++ e ∷ [])) is) (below_less k es e (rest (is_lt (name_cmp k d.0)) (below_all name_cmp k (es ++ e ∷ [])) is))
-
-sorted_less : {X : Type 0} (es : List (List ℕ × X)) (e : List ℕ × X) → T (is_sorted name_cmp (es ++ e ∷ [])) → T (is_sorted name_cmp es)
-sorted_less [] e is = tt
-sorted_less (d ∷ es) e is =
-    both (below_all name_cmp d.0 es) (is_sorted name_cmp es) (below_less d.0 es e (front (below_all name_cmp d.0 (es ++ e ∷ [])) (is_sorted name_cmp (es ++ e ∷ [])) is))
-    (sorted_less es e (rest (below_all name_cmp d.0 (es ++ e ∷ [])) (is_sorted name_cmp (es ++ e ∷ [])) is))
-
-in_front : (names more : List (List ℕ)) (p : List ℕ) → In p names → In p (names ++ more)
-in_front [] more p inside = absurd inside
-in_front (x ∷ names) more p (inl is) = inl is
-in_front (x ∷ names) more p (inr later) = inr (in_front names more p later)
-
-in_back : (names : List (List ℕ)) (name : List ℕ) → In name (names ++ name ∷ [])
-in_back [] name = inl refl
-in_back (x ∷ names) name = inr (in_back names name)
-
--- references without the last one
-pub fewer_entries : (references : References) (es : List (List ℕ × List ℕ)) (e : List ℕ × List ℕ) → entries references ≡ es ++ e ∷ [] → entries (from_sorted {R = name_cmp} es) ≡ es
-fewer_entries references es e is = finite.entries-from_sorted name_cmp es (sorted_less es e (subst (λ l. T (is_sorted name_cmp l)) is (entries_sorted references)))
-
-pub sound_less : (old new : References) (name target : List ℕ) → entries new ≡ entries old ++ (name, target) ∷ [] → AreSound new → AreSound old
-sound_less old new name target is sound =
-    let all = keys_behind old new name target is in
-    let lift : (p : List ℕ) → In p (keys old) → In p (keys new) = λ p inside. subst (In p) (sym all) (in_front (keys old) (name ∷ []) p inside) in
-    record {
-      named = λ k has. sound.named k (key_has new k (lift k (has_key old k has)));
-      free = free_from (keys old) (λ u l upper lower above. apart (keys new) sound.free u l (lift u upper) (lift l lower) above);
-      few = (let more = len_behind old new name target is in let few = sound.few in omega (arith, more, few));
-    }
-
--- what is known of the reference that came last
-pub record IsLastReference (repository name target : List ℕ) : Type 0 where
-  pub repository_named : IsRepositoryName repository
-  pub named : IsRefName name
-  pub target_named : IsName target
-
-pub last_reference : (tenant next : TenantState) (name target : List ℕ) → (more : HasReferenceMore tenant name target next) → IsTenantState next → IsLastReference more.repository name target
-last_reference tenant next name target more right =
-    let here = subst (AllByRecursion IsRepository) (ap (λ t. t.repositories) more.added) right.repositories in
-    let last : IsRepository (more.repository, more.more) = each_last IsRepository more.repositories (more.repository, more.more) here in
-    let all = keys_behind more.references more.more name target more.pushed in
-    record {
-      repository_named = last.named;
-      named = last.references.named name (key_has more.more name (subst (In name) (sym all) (in_back (keys more.references) name)));
-      target_named = each_last IsName (values more.references) target (subst (AllByRecursion IsName) (ap (map (λ e. e.1)) more.pushed ∙ map_behind (λ e. e.1) (entries more.references) (name, target)) last.targets);
-    }
-
--- states, and those that they were before their last line
-pub record HasBefore (states : States) : Type 0 where
-  pub old : States
+-- what was taken, and what it was before its last line
+pub record HasBefore (version : Version) (taken : Taken) : Type 0 where
+  pub old : Taken
   pub line : List ℕ
-  pub right : IsStates old
-  pub adds : Adds old line states
+  pub right : IsTaken version old
+  pub adds : Adds version old line taken
 
-module _ (states before : States) (tenant : TenantState) (right : IsStates states) (is : states ≡ before ++ tenant ∷ []) where
+-- a HEAD that is awaited comes in the second version alone
+new_place : (version : Version) (old new : Taken) (before : States) (tenant : TenantState) (place : Place) → IsLast tenant place → old.states ≡ before ++ tenant ∷ [] → new.states ≡ before ++ with_at tenant place new_repository ∷ [] → old.awaits ≡ false
+    → new.awaits ≡ awaits_head version → TellsOne version (with_at tenant place new_repository) → (line : List ℕ) × Adds version old line new
+new_place version old new before tenant (Own name) last was is old_is new_is tells =
+    (codes "repo " ++ name, Repository name refl (record { was = old_is; is = new_is }) (record { before = before; tenant = tenant; last = last; was = was; added = is }))
+new_place One old new before tenant (Offered receiver name) last was is old_is new_is tells = absurd (offered_plain tenant receiver name new_repository tells)
+new_place Two old new before tenant (Offered receiver name) last was is old_is new_is tells = (
+  codes "offer " ++ offer_words receiver name,
+  Offer (offer_words receiver name) refl (record { was = old_is; is = new_is })
+      (record { receiver = receiver; name = name; told = refl; spelled = refl; begins = record { before = before; tenant = tenant; last = last; was = was; added = is } }),
+)
+
+module _ (version : Version) (taken : Taken) (before : States) (tenant : TenantState) (right : IsTaken version taken) (is : taken.states ≡ before ++ tenant ∷ []) where
   whole : IsStates (before ++ tenant ∷ [])
-  whole = subst IsStates is right
+  whole = subst IsStates is right.right
 
   tenant_right : IsTenantState tenant
   tenant_right = last_right before tenant whole
 
-  -- an object that is seen came last
-  back_seen : (seen : List (List ℕ)) (name : List ℕ) → tenant.seen ≡ seen ++ name ∷ [] → HasBefore states
-  back_seen seen name more =
-      let old : TenantState = record { name = tenant.name; limit = tenant.limit; repositories = tenant.repositories; seen = seen } in
-      let old_right : IsTenantState old = record {
-        named = tenant_right.named;
-        limit = tenant_right.limit;
-        few = tenant_right.few;
-        ordered = tenant_right.ordered;
-        repositories = tenant_right.repositories;
-        seen_ordered = ascend_front seen name (subst Ascend more tenant_right.seen_ordered);
-        seen = each_front IsName seen name (subst (AllByRecursion IsName) more tenant_right.seen);
-      } in
+  told_of : TellsOne version tenant
+  told_of = tells_last version before tenant (subst (Tells version) is right.tells)
+
+  told_before : Tells version before
+  told_before = tells_less version before tenant (subst (Tells version) is right.tells)
+
+  -- the same tenants with another last one
+  old_taken : (old : TenantState) → IsTenantState old → old.name ≡ tenant.name → TellsOne version old → IsTaken version (record { states = before ++ old ∷ []; awaits = false })
+  old_taken old old_right same tells = record { right = tenant_changed before tenant old whole old_right (sym same); tells = tells_behind version before old told_before tells; begun = λ is. absurd (cc) }
+
+  -- something has just begun
+  back_begun : (place : Place) (less : TenantState) → IsLast less place → tenant ≡ with_at less place new_repository → taken.awaits ≡ awaits_head version → HasBefore version taken
+  back_begun place less last at awaits =
+      let here : IsTenantState (with_at less place new_repository) = subst IsTenantState at tenant_right in
+      let tells : TellsOne version (with_at less place new_repository) = subst (TellsOne version) at told_of in
+      let old : Taken = record { states = before ++ less ∷ []; awaits = false } in
+      let line = new_place version old taken before less place last refl (is ∙ ap (λ t. before ++ t ∷ []) at) refl awaits tells in
       record {
-        old = before ++ old ∷ [];
-        line = codes "see " ++ encode_lower name;
-        right = tenant_changed before tenant old whole old_right refl;
-        adds = Seen (encode_lower name) refl (record {
-          before = before;
-          tenant = old;
-          name = name;
-          spelled = refl;
-          was = refl;
-          added = is ∙ (λ i. before ++ record { name = tenant.name; limit = tenant.limit; repositories = tenant.repositories; seen = more i } ∷ []);
-        });
+        old = old;
+        line = line.0;
+        right = old_taken less (place_less less place new_repository here) (sym (ap (λ t. t.name) at ∙ same_name_at less place new_repository)) (tells_before version less place new_repository tells);
+        adds = line.1;
       }
 
-  -- a repository came last, which has no references yet
-  back_repository : (repositories : List (List ℕ × References)) (name : List ℕ) (references : References) → tenant.seen ≡ [] → tenant.repositories ≡ repositories ++ (name, references) ∷ [] → references ≡ finite.empty → HasBefore states
-  back_repository repositories name references none more empty_is =
-      let old : TenantState = record { name = tenant.name; limit = tenant.limit; repositories = repositories; seen = tenant.seen } in
-      let old_right : IsTenantState old = record {
-        named = tenant_right.named;
-        limit = tenant_right.limit;
-        few = (let few = tenant_right.few in let long = length_behind repositories (name, references) in let same = ap (λ rs. length rs) more in omega (arith, few, long, same));
-        ordered = ascend_front (map (λ r. r.0) repositories) name (subst Ascend (ap (map (λ r. r.0)) more ∙ map_behind (λ r. r.0) repositories (name, references)) tenant_right.ordered);
-        repositories = each_front IsRepository repositories (name, references) (subst (AllByRecursion IsRepository) more tenant_right.repositories);
-        seen_ordered = tenant_right.seen_ordered;
-        seen = tenant_right.seen;
-      } in
-      record {
-        old = before ++ old ∷ [];
-        line = codes "repo " ++ name;
-        right = tenant_changed before tenant old whole old_right refl;
-        adds = Repository name refl (record {
-          before = before;
-          tenant = old;
-          unseen = none;
-          was = refl;
-          added = is ∙ (λ i. before ++ record { name = tenant.name; limit = tenant.limit; repositories = (more ∙ ap (λ rs. repositories ++ (name, rs) ∷ []) empty_is) i; seen = tenant.seen } ∷ []);
-        });
-      }
+  module _ (known : taken.awaits ≡ false) where
+    -- an object that is seen came last
+    back_seen : (seen : List (List ℕ)) (name : List ℕ) → tenant.offers ≡ [] → tenant.seen ≡ seen ++ name ∷ [] → HasBefore version taken
+    back_seen seen name none more =
+        let old : TenantState = record { name = tenant.name; limit = tenant.limit; repositories = tenant.repositories; seen = seen; offers = tenant.offers } in
+        let old_right : IsTenantState old = record {
+          named = tenant_right.named;
+          limit = tenant_right.limit;
+          few = tenant_right.few;
+          ordered = tenant_right.ordered;
+          repositories = tenant_right.repositories;
+          seen_ordered = ascend_front seen name (subst Ascend more tenant_right.seen_ordered);
+          seen = each_front IsName seen name (subst (AllByRecursion IsName) more tenant_right.seen);
+          few_offers = tenant_right.few_offers;
+          offers_ordered = tenant_right.offers_ordered;
+          offers = tenant_right.offers;
+        } in
+        record {
+          old = record { states = before ++ old ∷ []; awaits = false };
+          line = codes "see " ++ encode_lower name;
+          right = old_taken old old_right refl (unseen_told version tenant seen told_of);
+          adds = Seen (encode_lower name) refl (record { was = refl; is = known })
+              (record {
+                before = before;
+                tenant = old;
+                name = name;
+                unoffered = none;
+                spelled = refl;
+                was = refl;
+                added = is ∙ (λ i. before ++ record { name = tenant.name; limit = tenant.limit; repositories = tenant.repositories; seen = more i; offers = tenant.offers } ∷ []);
+              });
+        }
 
-  -- a reference came last
-  back_reference : (repositories : List (List ℕ × References)) (repository : List ℕ) (references : References) (es : List (List ℕ × List ℕ)) (name target : List ℕ) → tenant.seen ≡ [] → tenant.repositories ≡ repositories ++ (repository, references) ∷ []
-      → entries references ≡ es ++ (name, target) ∷ [] → HasBefore states
-  back_reference repositories repository references es name target none more last =
-      let fewer : References = from_sorted es in
-      let pushed : entries references ≡ entries fewer ++ (name, target) ∷ [] = last ∙ ap (λ l. l ++ (name, target) ∷ []) (sym (fewer_entries references es (name, target) last)) in
-      let here : IsRepository (repository, references) = each_last IsRepository repositories (repository, references) (subst (AllByRecursion IsRepository) more tenant_right.repositories) in
-      let targets : AllByRecursion IsName (values fewer) = each_front IsName (values fewer) target (subst (AllByRecursion IsName) (ap (map (λ e. e.1)) pushed ∙ map_behind (λ e. e.1) (entries fewer) (name, target)) here.targets) in
-      let old : TenantState = record { name = tenant.name; limit = tenant.limit; repositories = repositories ++ (repository, fewer) ∷ []; seen = tenant.seen } in
-      let old_right : IsTenantState old = repository_changed tenant repositories repository references fewer tenant_right more (sound_less fewer references name target pushed here.references) targets in
-      let added : HasReferenceMore old name target tenant = record {
-        repositories = repositories;
-        repository = repository;
-        references = fewer;
-        more = references;
-        was = refl;
-        pushed = pushed;
-        added = λ i. record { name = tenant.name; limit = tenant.limit; repositories = more i; seen = tenant.seen };
-      } in
-      record {
-        old = before ++ old ∷ [];
-        line = codes "ref " ++ (encode_lower target ++ codes " " ++ expanded (tenant.name ∷ repository ∷ []) ++ name);
-        right = tenant_changed before tenant old whole old_right refl;
-        adds = Reference (encode_lower target ++ codes " " ++ expanded (tenant.name ∷ repository ∷ []) ++ name) refl
-            (record { before = before; tenant = old; next = tenant; name = name; target = target; unseen = none; was = refl; more = added; spelled = refl; added = is });
-      }
+    -- a reference came last
+    back_reference : (place : Place) (less : TenantState) (repository : git.Repository) (es : List (List ℕ × List ℕ)) (name target : List ℕ) → IsLast less place → tenant ≡ with_at less place repository
+        → entries repository.references ≡ es ++ (name, target) ∷ [] → HasBefore version taken
+    back_reference place less repository es name target last at more =
+        let fewer : git.Repository = record { head = repository.head; references = from_sorted es } in
+        let here : IsTenantState (with_at less place repository) = subst IsTenantState at tenant_right in
+        let pushed : HasReferenceMore fewer name target repository = record { head = refl; pushed = more ∙ ap (λ l. l ++ (name, target) ∷ []) (sym (fewer_entries repository.references es (name, target) more)) } in
+        let told : IsTold fewer = less_told fewer repository name target pushed (told_at less place repository here) in
+        let same : (with_at less place fewer).name ≡ tenant.name = same_name_at less place fewer ∙ sym (ap (λ t. t.name) at ∙ same_name_at less place repository) in
+        let words = encode_lower target ++ codes " " ++ expanded (less.name ∷ name_at place ∷ []) ++ name in
+        record {
+          old = record { states = before ++ with_at less place fewer ∷ []; awaits = false };
+          line = codes "ref " ++ words;
+          right = old_taken (with_at less place fewer) (place_changed less place repository fewer here told) same (tells_changed version less place repository fewer refl (subst (TellsOne version) at told_of));
+          adds = Reference words refl (record { was = refl; is = known })
+              (record { before = before; tenant = less; place = place; repository = fewer; next = repository; name = name; target = target; last = last; was = refl; more = pushed; spelled = refl; added = is ∙ ap (λ t. before ++ t ∷ []) at });
+        }
 
-  -- a tenant came last, which has nothing yet
-  back_tenant : tenant.seen ≡ [] → tenant.repositories ≡ [] → HasBefore states
-  back_tenant none nothing = record {
-    old = before;
-    line = codes "tenant " ++ (tenant.name ++ codes " " ++ decimal tenant.limit);
-    right = tenant_less before tenant whole;
-    adds = Tenant (tenant.name ++ codes " " ++ decimal tenant.limit) refl (record {
-      name = tenant.name;
-      limit = tenant.limit;
-      spelled = refl;
-      added = is ∙ (λ i. before ++ record { name = tenant.name; limit = tenant.limit; repositories = nothing i; seen = none i } ∷ []);
-    });
-  }
+    -- a HEAD came last
+    back_head : (place : Place) (less : TenantState) (repository : git.Repository) → IsLast less place → tenant ≡ with_at less place repository → repository.references ≡ finite.empty → awaits_head version ≡ true → HasBefore version taken
+    back_head place less repository last at none heads =
+        let here : IsTenantState (with_at less place repository) = subst IsTenantState at tenant_right in
+        let same : (with_at less place new_repository).name ≡ tenant.name = same_name_at less place new_repository ∙ sym (ap (λ t. t.name) at ∙ same_name_at less place repository) in
+        let states : IsStates (before ++ with_at less place new_repository ∷ []) = tenant_changed before tenant (with_at less place new_repository) whole (place_changed less place repository new_repository here new_told) (sym same) in
+        let words = expanded (less.name ∷ name_at place ∷ []) ++ repository.head in
+        record {
+          old = record { states = before ++ with_at less place new_repository ∷ []; awaits = true };
+          line = codes "head " ++ words;
+          right = record { right = states; tells = tells_all version (before ++ with_at less place new_repository ∷ []) heads; begun = λ awaited. (heads, record { before = before; tenant = less; place = place; last = last; is = refl }) };
+          adds = Head heads (record { was = refl; is = known }) (record {
+            rest = words;
+            is = refl;
+            adds = record {
+              before = before;
+              tenant = less;
+              place = place;
+              head = repository.head;
+              last = last;
+              was = refl;
+              spelled = refl;
+              added = is ∙ ap (λ t. before ++ t ∷ []) at ∙ (λ i. before ++ with_at less place (record { head = repository.head; references = none i }) ∷ []);
+            };
+          });
+        }
 
-  back_last : HasBefore states
-  back_last =
-      ⊎_elim
-      (λ none. ⊎_elim
-      (λ nothing. back_tenant none nothing)
-      (λ last. ⊎_elim
-      (λ empty_is. back_repository last.front last.last.0 last.last.1 none last.is (finite.same_entries_map last.last.1 finite.empty (empty_is ∙ sym no_entries)))
-      (λ reference. back_reference last.front last.last.0 last.last.1 reference.front reference.last.0 reference.last.1 none last.is reference.is)
-      (from_back (entries last.last.1)))
-      (from_back tenant.repositories))
-      (λ seen. back_seen seen.front seen.last seen.is)
-      (from_back tenant.seen)
+    -- what stands last has no references
+    back_bare : (place : Place) (less : TenantState) (repository : git.Repository) → IsLast less place → tenant ≡ with_at less place repository → repository.references ≡ finite.empty → HasBefore version taken
+    back_bare place less repository last at none = either (awaits_head version) refl
+      where
+        either : (b : Bool) → awaits_head version ≡ b → HasBefore version taken
+        either true heads = back_head place less repository last at none heads
+        either false plain =
+            let main : repository.head ≡ main_branch = main_head version less place repository plain (subst (TellsOne version) at told_of) in
+            back_begun place less last (at ∙ (λ i. with_at less place (record { head = main i; references = none i }))) (known ∙ sym plain)
 
--- states are none, or were others before their last line
-pub back : (states : States) → IsStates states → (states ≡ []) ⊎ HasBefore states
-back states right = ⊎_elim (λ none. inl none) (λ last. inr (back_last states last.front last.last right last.is)) (from_back states)
+    -- it has references, or none
+    back_at : (place : Place) (less : TenantState) (repository : git.Repository) → IsLast less place → tenant ≡ with_at less place repository → HasBefore version taken
+    back_at place less repository last at =
+        ⊎_elim
+        (λ none. back_bare place less repository last at (finite.same_entries_map repository.references finite.empty (none ∙ sym no_entries)))
+        (λ reference. back_reference place less repository reference.front reference.last.0 reference.last.1 last at reference.is)
+        (from_back (entries repository.references))
+
+    -- a tenant came last, which has nothing yet
+    back_tenant : tenant.offers ≡ [] → tenant.seen ≡ [] → tenant.repositories ≡ [] → HasBefore version taken
+    back_tenant no_offers none nothing = record {
+      old = record { states = before; awaits = false };
+      line = codes "tenant " ++ (tenant.name ++ codes " " ++ decimal tenant.limit);
+      right = record { right = tenant_less before tenant whole; tells = told_before; begun = λ is. absurd (cc) };
+      adds = Tenant (tenant.name ++ codes " " ++ decimal tenant.limit) refl (record { was = refl; is = known })
+          (record {
+            name = tenant.name;
+            limit = tenant.limit;
+            spelled = refl;
+            added = is ∙ (λ i. before ++ record { name = tenant.name; limit = tenant.limit; repositories = nothing i; seen = none i; offers = no_offers i } ∷ []);
+          });
+    }
+
+    back_own : tenant.offers ≡ [] → tenant.seen ≡ [] → HasBefore version taken
+    back_own no_offers none =
+        ⊎_elim
+        (λ nothing. back_tenant no_offers none nothing)
+        (λ last. back_at (Own last.last.0) (record { name = tenant.name; limit = tenant.limit; repositories = last.front; seen = tenant.seen; offers = tenant.offers }) last.last.1 (none, no_offers)
+        (λ i. record { name = tenant.name; limit = tenant.limit; repositories = last.is i; seen = tenant.seen; offers = tenant.offers }))
+        (from_back tenant.repositories)
+
+    back_unoffered : tenant.offers ≡ [] → HasBefore version taken
+    back_unoffered no_offers = ⊎_elim (λ none. back_own no_offers none) (λ last. back_seen last.front last.last no_offers last.is) (from_back tenant.seen)
+
+    back_last : HasBefore version taken
+    back_last =
+        ⊎_elim
+        (λ none. back_unoffered none)
+        (λ last. back_at (Offered last.last.receiver last.last.name) (record { name = tenant.name; limit = tenant.limit; repositories = tenant.repositories; seen = tenant.seen; offers = last.front }) last.last.repository tt
+        (λ i. record { name = tenant.name; limit = tenant.limit; repositories = tenant.repositories; seen = tenant.seen; offers = last.is i }))
+        (from_back tenant.offers)
+
+-- where a HEAD is awaited, something has just begun
+back_awaited : (version : Version) (taken : Taken) → IsTaken version taken → taken.awaits ≡ true → HasBefore version taken
+back_awaited version taken right is =
+    let begun = right.begun is in
+    back_begun version taken begun.1.before (with_at begun.1.tenant begun.1.place new_repository) right begun.1.is begun.1.place begun.1.tenant begun.1.last refl (is ∙ sym begun.0)
+
+back_told : (version : Version) (taken : Taken) → IsTaken version taken → taken.awaits ≡ false → (taken ≡ nothing_taken) ⊎ HasBefore version taken
+back_told version taken right is =
+    ⊎_elim (λ none. inl (λ i. record { states = none i; awaits = is i })) (λ last. inr (back_last version taken last.front last.last right last.is is)) (from_back taken.states)
+
+-- nothing was taken, or it was other before its last line
+pub back : (version : Version) (taken : Taken) → IsTaken version taken → (taken ≡ nothing_taken) ⊎ HasBefore version taken
+back version taken right = by taken.awaits refl
+  where
+    by : (b : Bool) → taken.awaits ≡ b → (taken ≡ nothing_taken) ⊎ HasBefore version taken
+    by true is = inr (back_awaited version taken right is)
+    by false is = back_told version taken right is

@@ -112,3 +112,15 @@ last_is xs x y is =
 pub nothing_in : {A : Type 0} (xs : List A) → length xs ≤ 0 → xs ≡ []
 nothing_in [] none = refl
 nothing_in (x ∷ xs) none = absurd (omega arith)
+
+-- what all stand before, the last one stands before
+pub last_before : {A : Type 0} (f : A → List ℕ) (xs : List A) (last : A) (name : List ℕ) → slice_get xs (length xs - 1) ≡ Some last → AreBefore (map f xs) name → name_cmp (f last) name ≡ Less
+last_before f xs last name is all =
+    let place = length xs - 1 in
+    let inside = slice_get_within xs place last is in
+    let long : length (map f xs) ≡ length xs = length-map xs f in
+    let at : get_or (map f xs) place (f last) ≡ f last = get_or-map f xs place last (f last) inside ∙ ap f (get_or_from_slice_get xs place last last is) in
+    ap (λ (n : List ℕ). name_cmp n name) (sym at) ∙ all place (f last) (omega (arith, long, inside))
+
+pub nothing_at : {A : Type 0} (xs ys : List A) → ys ≡ xs → length ys ≤ 0 → xs ≡ []
+nothing_at xs ys is none = nothing_in xs (let long = ap (λ l. length l) is in omega (arith, long, none))

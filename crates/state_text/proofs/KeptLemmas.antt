@@ -10,6 +10,7 @@ use Rattle.std.proofs.lemmas.List.{length-map}
 use Rattle.git_name.specs.Name.{IsName, name_cmp}
 use Rattle.git_name.proofs.Names.{name_total}
 use Rattle.git_reftx.specs.Fronts.{In}
+use Rattle.git_reftx.specs.Repository.{Repository}
 use Rattle.git_reftx.specs.Sound.{AreSound}
 use Rattle.git_reftx.specs.Transaction.{References}
 use Rattle.git_reftx.proofs.MapLemmas.{same_name}
@@ -21,6 +22,7 @@ use Rattle.git_name.specs.Object.{Object}
 use Rattle.fork_request.specs.Names.{IsTenantName}
 use Rattle.state_text.specs.Kept.{kept_of, states_of}
 use Rattle.state_text.specs.States.{Ascend, IsRepository, IsStates, IsTenantState}
+use Rattle.state_text.proofs.BehindLemmas.{ascend_none}
 
 not_less : (name : List ℕ) → name_cmp name name ≡ Less → ⊥
 not_less name is = (let tied = tied_itself name_total name in cc)
@@ -81,6 +83,12 @@ references_right objects references are named = (
   each_made IsName (λ e. e.1) references (λ k target is. all_in IsName (keys objects) target named (has_key objects target (are.each k target is).there)),
 )
 
+-- a repository of a view
+repository_right : (view : View) → IsOrderly view → AllByRecursion IsName (keys view.objects) → (name : List ℕ) (repository : Repository) → get view.repositories name ≡ Some repository → IsRepository (name, repository)
+repository_right view orderly names name repository is =
+    let right = references_right view.objects repository.references (orderly.references name repository is) names in
+    record { named = orderly.repositories name repository is; told = record { branch = orderly.heads name repository is; references = right.0; targets = right.1 } }
+
 -- what is kept of an orderly view
 view_right : (tenant : List ℕ) (view : View) → IsOrderly view → IsTenantName tenant → AllByRecursion IsName (keys view.objects) → IsTenantState (kept_of (tenant, view))
 view_right tenant view orderly named names = record {
@@ -88,11 +96,12 @@ view_right tenant view orderly named names = record {
   limit = orderly.limit;
   few = (let count = len-entries view.repositories in let few = orderly.few_repositories in omega (arith, count, few));
   ordered = keys_ascend view.repositories;
-  repositories = subst (AllByRecursion IsRepository) (map_same (entries view.repositories)) (each_made IsRepository (λ e. e) view.repositories (λ name references is.
-      let right = references_right view.objects references (orderly.references name references is) names in
-      record { named = orderly.repositories name references is; references = right.0; targets = right.1 }));
+  repositories = subst (AllByRecursion IsRepository) (map_same (entries view.repositories)) (each_made IsRepository (λ e. e) view.repositories (repository_right view orderly names));
   seen_ordered = keys_ascend view.objects;
   seen = names;
+  few_offers = omega arith;
+  offers_ordered = ascend_none;
+  offers = tt;
 }
 
 -- what is kept of an orderly world, whose objects stand under names

@@ -9,14 +9,21 @@ use Rattle.git_refname.specs.Namespace.{expanded, namespace}
 use Rattle.git_refname.specs.Rule.{IsRefName, breaks, is_unprintable, least_broken_rule}
 use Rattle.git_refname.specs.declared.rule.Rule.{Rule}
 use Rattle.git_refname.specs.declared.rule.Rule.TheVariants.{Component, OneLevel, TwoDots, Unprintable, Pattern, Slashes, LastDot, AtBrace, LoneAt, Backslash, OutsideRefs, TooLong}
+use Rattle.std.specs.FinMap.{empty}
 use Rattle.fork_request.specs.Names.{IsPlainName}
-use Rattle.state_text.specs.Adding.{fresh}
+use Rattle.git_reftx.specs.Repository as git
+use Rattle.git_reftx.specs.Repository.{new_repository}
+use Rattle.state_text.specs.declared.place.Place.TheVariants.{Own, Offered}
+use Rattle.state_text.specs.declared.version.Version.{Version}
+use Rattle.state_text.specs.Adding.{fresh, with_seen}
 use Rattle.state_text.specs.Fault.{IsLine}
+use Rattle.state_text.specs.Place.{name_at, with_at}
 use Rattle.state_text.specs.States.{IsStates, IsTenantState, States}
-use Rattle.state_text.specs.Taking.{Adds, Tenant, Repository, Reference, Seen}
-use Rattle.state_text.proofs.BackLemmas.{last_reference}
+use Rattle.state_text.specs.Taking.{Adds, AddsHead, AddsOffer, AddsReference, AddsRepository, AddsSeen, AddsTenant, Taken, Head, Tenant, Repository, Reference, Seen, Offer}
 use Rattle.state_text.proofs.BehindLemmas.{each_last}
+use Rattle.state_text.proofs.LastLemmas.{IsLastReference, last_reference}
 use Rattle.state_text.proofs.PartLemmas.{plain_without}
+use Rattle.state_text.proofs.PlaceLemmas.{named_at, place_less, receiver_at, told_at}
 use Rattle.state_text.proofs.StateLemmas.{last_right}
 
 or_false : (a b : Bool) → (a || b) ≡ false → (a ≡ false) × (b ≡ false)
@@ -49,7 +56,7 @@ reference_plain name right =
 name_plain : (most : ℕ) (name : List ℕ) → IsPlainName most name → IsLine name
 name_plain most name named = plain_without most 10 name refl named
 
-both_plain : (a b : List ℕ) → IsLine a → IsLine b → IsLine (a ++ b)
+pub both_plain : (a b : List ℕ) → IsLine a → IsLine b → IsLine (a ++ b)
 both_plain a b p q = All-append (λ x. x ≢ 10) a b p q
 
 space_plain : IsLine (codes " ")
@@ -67,32 +74,64 @@ nothing_plain = All-from_recursion (λ b. b ≢ 10) [] tt
 namespace_plain : (most : ℕ) (name : List ℕ) → IsPlainName most name → IsLine (namespace name)
 namespace_plain most name named = both_plain (codes "refs/namespaces/" ++ name) (codes "/") (both_plain (codes "refs/namespaces/") name prefix_plain (name_plain most name named)) slash_plain
 
--- a line that was taken is one
-pub adds_plain : (old new : States) (line : List ℕ) → Adds old line new → IsStates new → IsLine line
-adds_plain old new line (Tenant rest is adds) right =
+-- what stands before the names of a repository's references
+prefix_at : (most most_too : ℕ) (tenant repository : List ℕ) → IsPlainName most tenant → IsPlainName most_too repository → IsLine (expanded (tenant ∷ repository ∷ []))
+prefix_at most most_too tenant repository tenant_named named =
+    both_plain (namespace tenant) (namespace repository ++ []) (namespace_plain most tenant tenant_named) (both_plain (namespace repository) [] (namespace_plain most_too repository named) nothing_plain)
+
+front_plain : (front : List ℕ) (rest line : List ℕ) → line ≡ front ++ rest → IsLine front → IsLine rest → IsLine line
+front_plain front rest line is plain others = All-same (λ b. b ≢ 10) _ _ is (both_plain front rest plain others)
+
+head_plain : (old : States) (rest : List ℕ) (new : States) → AddsHead old rest new → IsStates new → IsLine rest
+head_plain old rest new adds right =
+    let next : git.Repository = record { head = adds.head; references = empty } in
+    let tenant = last_right adds.before (with_at adds.tenant adds.place next) (subst IsStates adds.added right) in
+    let named = named_at adds.tenant adds.place next tenant in
+    let tenant_named = (place_less adds.tenant adds.place next tenant).named in
+    All-same (λ b. b ≢ 10) _ _ adds.spelled
+    (both_plain (expanded (adds.tenant.name ∷ name_at adds.place ∷ [])) adds.head (prefix_at _ _ adds.tenant.name (name_at adds.place) tenant_named named) (reference_plain adds.head (told_at adds.tenant adds.place next tenant).branch.name))
+
+-- a reference's line
+line_of_reference : (old : States) (rest : List ℕ) (new : States) → AddsReference old rest new → IsStates new → IsLine rest
+line_of_reference old rest new adds right =
+    let tenant = last_right adds.before (with_at adds.tenant adds.place adds.next) (subst IsStates adds.added right) in
+    let last : IsLastReference adds.name adds.target = last_reference adds.repository adds.next adds.name adds.target adds.more (told_at adds.tenant adds.place adds.next tenant) in
+    let prefix = prefix_at _ _ adds.tenant.name (name_at adds.place) (place_less adds.tenant adds.place adds.next tenant).named (named_at adds.tenant adds.place adds.next tenant) in
+    let space = both_plain (encode_lower adds.target) (codes " ") (encode_lower-plain 10 (omega arith) adds.target last.target_named.bytes) space_plain in
+    All-same (λ b. b ≢ 10) _ _ adds.spelled
+    (both_plain (encode_lower adds.target ++ codes " " ++ expanded (adds.tenant.name ∷ name_at adds.place ∷ [])) adds.name
+    (both_plain (encode_lower adds.target ++ codes " ") (expanded (adds.tenant.name ∷ name_at adds.place ∷ [])) space prefix) (reference_plain adds.name last.named))
+
+tenant_plain : (old : States) (rest : List ℕ) (new : States) → AddsTenant old rest new → IsStates new → IsLine rest
+tenant_plain old rest new adds right =
     let tenant : IsTenantState (fresh adds.name adds.limit) = last_right old (fresh adds.name adds.limit) (subst IsStates adds.added right) in
     let small : adds.limit < 2 ^ 64 = (let limit = tenant.limit in omega (arith, limit)) in
-    All-same (λ b. b ≢ 10) _ _ (is ∙ ap (λ r. codes "tenant " ++ r) adds.spelled)
-    (both_plain (codes "tenant ") (adds.name ++ codes " " ++ decimal adds.limit) (All-from_recursion (λ b. b ≢ 10) (codes "tenant ") (search (rules, arith)))
-    (both_plain (adds.name ++ codes " ") (decimal adds.limit) (both_plain adds.name (codes " ") (name_plain _ adds.name tenant.named) space_plain) (decimal-plain 10 (omega arith) adds.limit small)))
-adds_plain old new line (Repository rest is adds) right =
-    let tenant = last_right adds.before _ (subst IsStates adds.added right) in
-    let named = (each_last _ adds.tenant.repositories (rest, _) tenant.repositories).named in
-    All-same (λ b. b ≢ 10) _ _ is (both_plain (codes "repo ") rest (All-from_recursion (λ b. b ≢ 10) (codes "repo ") (search (rules, arith))) (name_plain _ rest named))
-adds_plain old new line (Reference rest is adds) right =
-    let next : IsTenantState adds.next = last_right adds.before adds.next (subst IsStates adds.added right) in
-    let last = last_reference adds.tenant adds.next adds.name adds.target adds.more next in
-    let repository = adds.more.repository in
-    let tenant_named = subst (λ t. IsTenantState t) adds.more.added next in
-    let space = both_plain (encode_lower adds.target) (codes " ") (encode_lower-plain 10 (omega arith) adds.target last.target_named.bytes) space_plain in
-    let inner = both_plain (namespace repository) [] (namespace_plain _ repository last.repository_named) nothing_plain in
-    let outer = both_plain (namespace adds.tenant.name) (namespace repository ++ []) (namespace_plain _ adds.tenant.name tenant_named.named) inner in
-    All-same (λ b. b ≢ 10) _ _ (is ∙ ap (λ r. codes "ref " ++ r) adds.spelled)
-    (both_plain (codes "ref ") (encode_lower adds.target ++ codes " " ++ expanded (adds.tenant.name ∷ repository ∷ []) ++ adds.name) (All-from_recursion (λ b. b ≢ 10) (codes "ref ") (search (rules, arith)))
-    (both_plain (encode_lower adds.target ++ codes " " ++ expanded (adds.tenant.name ∷ repository ∷ [])) adds.name
-    (both_plain (encode_lower adds.target ++ codes " ") (expanded (adds.tenant.name ∷ repository ∷ [])) space outer) (reference_plain adds.name last.named)))
-adds_plain old new line (Seen rest is adds) right =
-    let tenant = last_right adds.before _ (subst IsStates adds.added right) in
+    All-same (λ b. b ≢ 10) _ _ adds.spelled
+    (both_plain (adds.name ++ codes " ") (decimal adds.limit) (both_plain adds.name (codes " ") (name_plain _ adds.name tenant.named) space_plain) (decimal-plain 10 (omega arith) adds.limit small))
+
+seen_plain : (old : States) (rest : List ℕ) (new : States) → AddsSeen old rest new → IsStates new → IsLine rest
+seen_plain old rest new adds right =
+    let tenant = last_right adds.before (with_seen adds.tenant adds.name) (subst IsStates adds.added right) in
     let named : IsName adds.name = each_last IsName adds.tenant.seen adds.name tenant.seen in
-    All-same (λ b. b ≢ 10) _ _ (is ∙ ap (λ r. codes "see " ++ r) adds.spelled)
-    (both_plain (codes "see ") (encode_lower adds.name) (All-from_recursion (λ b. b ≢ 10) (codes "see ") (search (rules, arith))) (encode_lower-plain 10 (omega arith) adds.name named.bytes))
+    All-same (λ b. b ≢ 10) _ _ adds.spelled (encode_lower-plain 10 (omega arith) adds.name named.bytes)
+
+repository_plain : (old : States) (rest : List ℕ) (new : States) → AddsRepository old rest new → IsStates new → IsLine rest
+repository_plain old rest new adds right =
+    name_plain _ rest (named_at adds.tenant (Own rest) new_repository (last_right adds.before (with_at adds.tenant (Own rest) new_repository) (subst IsStates adds.added right)))
+
+offer_plain : (version : Version) (old : States) (rest : List ℕ) (new : States) → AddsOffer version old rest new → IsStates new → IsLine rest
+offer_plain version old rest new adds right =
+    let at = Offered adds.receiver adds.name in
+    let tenant = last_right adds.begins.before (with_at adds.begins.tenant at new_repository) (subst IsStates adds.begins.added right) in
+    let receiver = receiver_at adds.begins.tenant adds.receiver adds.name new_repository tenant in
+    All-same (λ b. b ≢ 10) _ _ adds.spelled
+    (both_plain (adds.receiver ++ codes " ") adds.name (both_plain adds.receiver (codes " ") (name_plain _ adds.receiver receiver.receiver_named) space_plain) (name_plain _ adds.name receiver.named))
+
+-- a line that was taken is one
+pub adds_plain : (version : Version) (old new : Taken) (line : List ℕ) → Adds version old line new → IsStates new.states → IsLine line
+adds_plain version old new line (Head told goes says) right = front_plain (codes "head ") says.rest line says.is (All-from_recursion (λ b. b ≢ 10) (codes "head ") (search (rules, arith))) (head_plain old.states says.rest new.states says.adds right)
+adds_plain version old new line (Tenant rest is goes adds) right = front_plain (codes "tenant ") rest line is (All-from_recursion (λ b. b ≢ 10) (codes "tenant ") (search (rules, arith))) (tenant_plain old.states rest new.states adds right)
+adds_plain version old new line (Repository rest is goes adds) right = front_plain (codes "repo ") rest line is (All-from_recursion (λ b. b ≢ 10) (codes "repo ") (search (rules, arith))) (repository_plain old.states rest new.states adds right)
+adds_plain version old new line (Reference rest is goes adds) right = front_plain (codes "ref ") rest line is (All-from_recursion (λ b. b ≢ 10) (codes "ref ") (search (rules, arith))) (line_of_reference old.states rest new.states adds right)
+adds_plain version old new line (Seen rest is goes adds) right = front_plain (codes "see ") rest line is (All-from_recursion (λ b. b ≢ 10) (codes "see ") (search (rules, arith))) (seen_plain old.states rest new.states adds right)
+adds_plain version old new line (Offer rest is goes adds) right = front_plain (codes "offer ") rest line is (All-from_recursion (λ b. b ≢ 10) (codes "offer ") (search (rules, arith))) (offer_plain version old.states rest new.states adds right)

@@ -1,22 +1,32 @@
 -- A line says one thing.
-use Rattle.std.proofs.Common.{◌≡◌, ℕ, List, [], ◌∷◌, ◌++◌, codes, decimal, refl, sym, ap, subst, ◌∙◌, slice_index, append_assoc, arith}
+use Rattle.std.proofs.Common.{◌≡◌, ℕ, ◌+◌, List, [], ◌∷◌, ◌++◌, codes, decimal, refl, sym, ap, subst, ◌∙◌, slice_index, append_assoc, arith}
 use Rattle.std.specs.FinMap as finite
 use Rattle.std.specs.FinMap.{entries}
 use Rattle.std.proofs.lemmas.List.{append_cancel_left}
 use Rattle.hex.specs.Hex.{encode_lower}
 use Rattle.git_name.specs.Name.{IsName}
 use Rattle.git_refname.specs.Namespace.{expanded}
-use Rattle.state_text.specs.Adding.{fresh, with_repository, with_seen}
-use Rattle.state_text.specs.States.{IsStates, IsTenantState, States, TenantState}
-use Rattle.state_text.specs.Taking.{Adds, AddsReference, AddsRepository, AddsSeen, AddsTenant, HasReferenceMore, Tenant, Repository, Reference, Seen}
-use Rattle.state_text.proofs.BackLemmas.{IsLastReference, last_reference}
+use Rattle.git_reftx.specs.Repository as git
+use Rattle.git_reftx.specs.Repository.{new_repository}
+use Rattle.state_text.specs.declared.place.Place.{Place}
+use Rattle.state_text.specs.declared.place.Place.TheVariants.{Own, Offered}
+use Rattle.state_text.specs.declared.version.Version.{Version}
+use Rattle.state_text.specs.Adding.{fresh, with_seen}
+use Rattle.state_text.specs.Place.{name_at, with_at}
+use Rattle.state_text.specs.States.{IsOffer, IsStates, IsTenantState, States, TenantState}
+use Rattle.state_text.specs.Taking.{Adds, AddsHead, AddsOffer, AddsPlace, AddsReference, AddsSeen, AddsTenant, HasReferenceMore, Taken, Head, Tenant, Repository, Reference, Seen, Offer}
 use Rattle.state_text.proofs.BehindLemmas.{each_last, same_behind}
+use Rattle.state_text.proofs.LastLemmas.{IsLastReference, last_reference}
 use Rattle.state_text.proofs.PartLemmas.{decimal_unique, digits_unique, digits_without, plain_without, reference_parts, same_parts}
+use Rattle.state_text.proofs.PlaceLemmas.{offer_at, receiver_at, same_place, told_at}
 use Rattle.state_text.proofs.StateLemmas.{last_right}
 
--- the third byte tells what a line says
-abbrev pub third : List ℕ → ℕ
-third line = slice_index line 2
+-- the first byte and the third tell what a line says
+abbrev pub mark : List ℕ → ℕ
+mark line = slice_index line 0 + slice_index line 0 + slice_index line 2
+
+same_taken : (q r : Taken) → q.states ≡ r.states → q.awaits ≡ r.awaits → q ≡ r
+same_taken q r states awaits = λ i. record { states = states i; awaits = awaits i }
 
 tenant_same : (old q r : States) (rest : List ℕ) → (a : AddsTenant old rest q) → (b : AddsTenant old rest r) → IsStates q → IsStates r → q ≡ r
 tenant_same old q r rest a b right other =
@@ -26,33 +36,51 @@ tenant_same old q r rest a b right other =
     let limit : a.limit ≡ b.limit = decimal_unique a.limit b.limit (let l = one.limit in omega (arith, l)) (let l = two.limit in omega (arith, l)) parts.1 in
     a.added ∙ (λ i. old ++ fresh (parts.0 i) (limit i) ∷ []) ∙ sym b.added
 
-repository_same : (old q r : States) (rest : List ℕ) → AddsRepository old rest q → AddsRepository old rest r → q ≡ r
-repository_same old q r rest a b =
+place_same : (old q r : States) (place place_too : Place) → place ≡ place_too → AddsPlace old place q → AddsPlace old place_too r → q ≡ r
+place_same old q r place place_too same a b =
     let parts = same_behind a.before b.before a.tenant b.tenant (sym a.was ∙ b.was) in
-    a.added ∙ (λ i. parts.0 i ++ with_repository (parts.1 i) rest finite.empty ∷ []) ∙ sym b.added
+    a.added ∙ (λ i. parts.0 i ++ with_at (parts.1 i) (same i) new_repository ∷ []) ∙ sym b.added
 
--- one reference more makes one tenant
-next_same : (old new tenant other : TenantState) (name name_too target target_too : List ℕ) → (a : HasReferenceMore old name target tenant) → (b : HasReferenceMore new name_too target_too other) → old ≡ new → name ≡ name_too → target ≡ target_too → tenant ≡ other
-next_same old new tenant other name name_too target target_too a b same names targets =
-    let parts = same_behind a.repositories b.repositories (a.repository, a.references) (b.repository, b.references) (sym a.was ∙ ap (λ t. t.repositories) same ∙ b.was) in
-    let references = ap (λ r. r.1) parts.1 in
-    let more : a.more ≡ b.more = finite.same_entries_map a.more b.more (a.pushed ∙ (λ i. entries (references i) ++ (names i, targets i) ∷ []) ∙ sym b.pushed) in
-    a.added ∙ (λ i. record { name = (same i).name; limit = (same i).limit; repositories = parts.0 i ++ ((parts.1 i).0, more i) ∷ []; seen = (same i).seen }) ∙ sym b.added
+offer_same : (version : Version) (old q r : States) (rest : List ℕ) → AddsOffer version old rest q → AddsOffer version old rest r → IsStates q → IsStates r → q ≡ r
+offer_same version old q r rest a b right other =
+    let one : IsOffer a.begins.tenant.name (offer_at a.receiver a.name new_repository) =
+    receiver_at a.begins.tenant a.receiver a.name new_repository (last_right a.begins.before (with_at a.begins.tenant (Offered a.receiver a.name) new_repository) (subst IsStates a.begins.added right)) in
+    let two : IsOffer b.begins.tenant.name (offer_at b.receiver b.name new_repository) =
+    receiver_at b.begins.tenant b.receiver b.name new_repository (last_right b.begins.before (with_at b.begins.tenant (Offered b.receiver b.name) new_repository) (subst IsStates b.begins.added other)) in
+    let parts = same_parts rest a.receiver a.name b.receiver b.name (a.spelled ∙ append_assoc a.receiver (codes " ") a.name) (plain_without _ 32 a.receiver refl one.receiver_named) (plain_without _ 32 b.receiver refl two.receiver_named) b.spelled in
+    place_same old q r (Offered a.receiver a.name) (Offered b.receiver b.name) (λ i. Offered (parts.0 i) (parts.1 i)) a.begins b.begins
+
+head_same : (old q r : States) (rest : List ℕ) → AddsHead old rest q → AddsHead old rest r → q ≡ r
+head_same old q r rest a b =
+    let parts = same_behind a.before b.before (with_at a.tenant a.place new_repository) (with_at b.tenant b.place new_repository) (sym a.was ∙ b.was) in
+    let same = same_place a.tenant b.tenant a.place b.place new_repository new_repository a.last b.last parts.1 in
+    let prefix = λ (t : TenantState) (p : Place). expanded (t.name ∷ name_at p ∷ []) in
+    let heads : a.head ≡ b.head = append_cancel_left (prefix b.tenant b.place) a.head b.head ((λ i. prefix (sym same.tenants i) (sym same.places i) ++ a.head) ∙ sym a.spelled ∙ b.spelled) in
+    a.added ∙ (λ i. parts.0 i ++ with_at (same.tenants i) (same.places i) (record { head = heads i; references = finite.empty }) ∷ []) ∙ sym b.added
+
+-- one reference more makes one repository
+next_same : (old other new new_too : git.Repository) (name name_too target target_too : List ℕ) → HasReferenceMore old name target new → HasReferenceMore other name_too target_too new_too → old ≡ other → name ≡ name_too → target ≡ target_too → new ≡ new_too
+next_same old other new new_too name name_too target target_too a b same names targets =
+    let references : new.references ≡ new_too.references = finite.same_entries_map new.references new_too.references (a.pushed ∙ (λ i. entries (same i).references ++ (names i, targets i) ∷ []) ∙ sym b.pushed) in
+    let heads : new.head ≡ new_too.head = a.head ∙ ap (λ r. r.head) same ∙ sym b.head in
+    λ i. record { head = heads i; references = references i }
+
+known_reference : (old q : States) (rest : List ℕ) → (a : AddsReference old rest q) → IsStates q → IsLastReference a.name a.target
+known_reference old q rest a right = last_reference a.repository a.next a.name a.target a.more (told_at a.tenant a.place a.next (last_right a.before (with_at a.tenant a.place a.next) (subst IsStates a.added right)))
 
 reference_same : (old q r : States) (rest : List ℕ) → AddsReference old rest q → AddsReference old rest r → IsStates q → IsStates r → q ≡ r
 reference_same old q r rest a b right other =
-    let one : IsLastReference a.more.repository a.name a.target = last_reference a.tenant a.next a.name a.target a.more (last_right a.before a.next (subst IsStates a.added right)) in
-    let two : IsLastReference b.more.repository b.name b.target = last_reference b.tenant b.next b.name b.target b.more (last_right b.before b.next (subst IsStates b.added other)) in
-    let parts = same_behind a.before b.before a.tenant b.tenant (sym a.was ∙ b.was) in
-    let repositories = same_behind a.more.repositories b.more.repositories (a.more.repository, a.more.references) (b.more.repository, b.more.references) (sym a.more.was ∙ ap (λ t. t.repositories) parts.1 ∙ b.more.was) in
-    let repository = ap (λ s. s.0) repositories.1 in
-    let prefix = λ (t : TenantState) (n : List ℕ). expanded (t.name ∷ n ∷ []) in
-    let spelled = a.spelled ∙ append_assoc (encode_lower a.target ++ codes " ") (prefix a.tenant a.more.repository) a.name ∙ append_assoc (encode_lower a.target) (codes " ") (prefix a.tenant a.more.repository ++ a.name) in
-    let words = reference_parts rest (encode_lower a.target) (prefix a.tenant a.more.repository ++ a.name) b.target (prefix b.tenant b.more.repository) b.name spelled (digits_without a.target one.target_named) two.target_named b.spelled in
+    let one = known_reference old q rest a right in
+    let two = known_reference old r rest b other in
+    let parts = same_behind a.before b.before (with_at a.tenant a.place a.repository) (with_at b.tenant b.place b.repository) (sym a.was ∙ b.was) in
+    let same = same_place a.tenant b.tenant a.place b.place a.repository b.repository a.last b.last parts.1 in
+    let prefix = λ (t : TenantState) (p : Place). expanded (t.name ∷ name_at p ∷ []) in
+    let spelled = a.spelled ∙ append_assoc (encode_lower a.target ++ codes " ") (prefix a.tenant a.place) a.name ∙ append_assoc (encode_lower a.target) (codes " ") (prefix a.tenant a.place ++ a.name) in
+    let words = reference_parts rest (encode_lower a.target) (prefix a.tenant a.place ++ a.name) b.target (prefix b.tenant b.place) b.name spelled (digits_without a.target one.target_named) two.target_named b.spelled in
     let targets : a.target ≡ b.target = digits_unique a.target b.target one.target_named two.target_named words.0 in
-    let names : a.name ≡ b.name = append_cancel_left (prefix b.tenant b.more.repository) a.name b.name ((λ i. prefix (sym parts.1 i) (sym repository i) ++ a.name) ∙ words.1) in
-    let next = next_same a.tenant b.tenant a.next b.next a.name b.name a.target b.target a.more b.more parts.1 names targets in
-    a.added ∙ (λ i. parts.0 i ++ next i ∷ []) ∙ sym b.added
+    let names : a.name ≡ b.name = append_cancel_left (prefix b.tenant b.place) a.name b.name ((λ i. prefix (sym same.tenants i) (sym same.places i) ++ a.name) ∙ words.1) in
+    let next = next_same a.repository b.repository a.next b.next a.name b.name a.target b.target a.more b.more same.repositories names targets in
+    a.added ∙ (λ i. parts.0 i ++ with_at (same.tenants i) (same.places i) (next i) ∷ []) ∙ sym b.added
 
 seen_same : (old q r : States) (rest : List ℕ) → AddsSeen old rest q → AddsSeen old rest r → IsStates q → IsStates r → q ≡ r
 seen_same old q r rest a b right other =
@@ -62,32 +90,50 @@ seen_same old q r rest a b right other =
     let names = digits_unique a.name b.name one two (sym a.spelled ∙ b.spelled) in
     a.added ∙ (λ i. parts.0 i ++ with_seen (parts.1 i) (names i) ∷ []) ∙ sym b.added
 
--- a line and the states before it decide those after it
-pub adds_same : (old q r : States) (line : List ℕ) → Adds old line q → Adds old line r → IsStates q → IsStates r → q ≡ r
-adds_same old q r line (Tenant rest is adds) (Tenant rest_too is_too adds_too) right other =
-    tenant_same old q r rest adds (subst (λ t. AddsTenant old t r) (sym (append_cancel_left (codes "tenant ") rest rest_too (sym is ∙ is_too))) adds_too) right other
-adds_same old q r line (Repository rest is adds) (Repository rest_too is_too adds_too) right other =
-    repository_same old q r rest adds (subst (λ t. AddsRepository old t r) (sym (append_cancel_left (codes "repo ") rest rest_too (sym is ∙ is_too))) adds_too)
-adds_same old q r line (Reference rest is adds) (Reference rest_too is_too adds_too) right other =
-    reference_same old q r rest adds (subst (λ t. AddsReference old t r) (sym (append_cancel_left (codes "ref ") rest rest_too (sym is ∙ is_too))) adds_too) right other
-adds_same old q r line (Seen rest is adds) (Seen rest_too is_too adds_too) right other =
-    seen_same old q r rest adds (subst (λ t. AddsSeen old t r) (sym (append_cancel_left (codes "see ") rest rest_too (sym is ∙ is_too))) adds_too) right other
-adds_same old q r line (Tenant rest is adds) (Repository rest_too is_too adds_too) right other = absurd (let bad : 110 ≡ 112 = ap third (sym is ∙ is_too) in omega arith)
-adds_same old q r line (Tenant rest is adds) (Reference rest_too is_too adds_too) right other = absurd (let bad : 110 ≡ 102 = ap third (sym is ∙ is_too) in omega arith)
-adds_same old q r line (Tenant rest is adds) (Seen rest_too is_too adds_too) right other = absurd (let bad : 110 ≡ 101 = ap third (sym is ∙ is_too) in omega arith)
-adds_same old q r line (Repository rest is adds) (Tenant rest_too is_too adds_too) right other = absurd (let bad : 112 ≡ 110 = ap third (sym is ∙ is_too) in omega arith)
-adds_same old q r line (Repository rest is adds) (Reference rest_too is_too adds_too) right other = absurd (let bad : 112 ≡ 102 = ap third (sym is ∙ is_too) in omega arith)
-adds_same old q r line (Repository rest is adds) (Seen rest_too is_too adds_too) right other = absurd (let bad : 112 ≡ 101 = ap third (sym is ∙ is_too) in omega arith)
-adds_same old q r line (Reference rest is adds) (Tenant rest_too is_too adds_too) right other = absurd (let bad : 102 ≡ 110 = ap third (sym is ∙ is_too) in omega arith)
-adds_same old q r line (Reference rest is adds) (Repository rest_too is_too adds_too) right other = absurd (let bad : 102 ≡ 112 = ap third (sym is ∙ is_too) in omega arith)
-adds_same old q r line (Reference rest is adds) (Seen rest_too is_too adds_too) right other = absurd (let bad : 102 ≡ 101 = ap third (sym is ∙ is_too) in omega arith)
-adds_same old q r line (Seen rest is adds) (Tenant rest_too is_too adds_too) right other = absurd (let bad : 101 ≡ 110 = ap third (sym is ∙ is_too) in omega arith)
-adds_same old q r line (Seen rest is adds) (Repository rest_too is_too adds_too) right other = absurd (let bad : 101 ≡ 112 = ap third (sym is ∙ is_too) in omega arith)
-adds_same old q r line (Seen rest is adds) (Reference rest_too is_too adds_too) right other = absurd (let bad : 101 ≡ 102 = ap third (sym is ∙ is_too) in omega arith)
+-- a line and what was taken before it decide what is taken with it
+pub adds_same : (version : Version) (old q r : Taken) (line : List ℕ) → Adds version old line q → Adds version old line r → IsStates q.states → IsStates r.states → q ≡ r
+adds_same version old q r line (Tenant rest is goes adds) (Tenant rest_too is_too goes_too adds_too) right other = same_taken q r (tenant_same old.states q.states r.states rest adds (subst (λ t. AddsTenant old.states t r.states) (sym (append_cancel_left (codes "tenant ") rest rest_too (sym is ∙ is_too))) adds_too) right other) (goes.is ∙ sym goes_too.is)
+adds_same version old q r line (Repository rest is goes adds) (Repository rest_too is_too goes_too adds_too) right other = same_taken q r (place_same old.states q.states r.states (Own rest) (Own rest_too) (ap Own (sym (sym (append_cancel_left (codes "repo ") rest rest_too (sym is ∙ is_too))))) adds adds_too) (goes.is ∙ sym goes_too.is)
+adds_same version old q r line (Reference rest is goes adds) (Reference rest_too is_too goes_too adds_too) right other = same_taken q r (reference_same old.states q.states r.states rest adds (subst (λ t. AddsReference old.states t r.states) (sym (append_cancel_left (codes "ref ") rest rest_too (sym is ∙ is_too))) adds_too) right other) (goes.is ∙ sym goes_too.is)
+adds_same version old q r line (Seen rest is goes adds) (Seen rest_too is_too goes_too adds_too) right other = same_taken q r (seen_same old.states q.states r.states rest adds (subst (λ t. AddsSeen old.states t r.states) (sym (append_cancel_left (codes "see ") rest rest_too (sym is ∙ is_too))) adds_too) right other) (goes.is ∙ sym goes_too.is)
+adds_same version old q r line (Head told goes says) (Head told_too goes_too says_too) right other = same_taken q r (head_same old.states q.states r.states says.rest says.adds (subst (λ t. AddsHead old.states t r.states) (sym (append_cancel_left (codes "head ") says.rest says_too.rest (sym says.is ∙ says_too.is))) says_too.adds)) (goes.is ∙ sym goes_too.is)
+adds_same version old q r line (Offer rest is goes adds) (Offer rest_too is_too goes_too adds_too) right other = same_taken q r (offer_same version old.states q.states r.states rest adds (subst (λ t. AddsOffer version old.states t r.states) (sym (append_cancel_left (codes "offer ") rest rest_too (sym is ∙ is_too))) adds_too) right other) (goes.is ∙ sym goes_too.is)
+adds_same version old q r line (Tenant rest is goes adds) (Repository rest_too is_too goes_too adds_too) right other = absurd (let bad : 342 ≡ 340 = ap mark (sym is ∙ is_too) in omega arith)
+adds_same version old q r line (Tenant rest is goes adds) (Reference rest_too is_too goes_too adds_too) right other = absurd (let bad : 342 ≡ 330 = ap mark (sym is ∙ is_too) in omega arith)
+adds_same version old q r line (Tenant rest is goes adds) (Seen rest_too is_too goes_too adds_too) right other = absurd (let bad : 342 ≡ 331 = ap mark (sym is ∙ is_too) in omega arith)
+adds_same version old q r line (Tenant rest is goes adds) (Head told_too goes_too says_too) right other = absurd (let bad : 342 ≡ 305 = ap mark (sym is ∙ says_too.is) in omega arith)
+adds_same version old q r line (Tenant rest is goes adds) (Offer rest_too is_too goes_too adds_too) right other = absurd (let bad : 342 ≡ 324 = ap mark (sym is ∙ is_too) in omega arith)
+adds_same version old q r line (Repository rest is goes adds) (Tenant rest_too is_too goes_too adds_too) right other = absurd (let bad : 340 ≡ 342 = ap mark (sym is ∙ is_too) in omega arith)
+adds_same version old q r line (Repository rest is goes adds) (Reference rest_too is_too goes_too adds_too) right other = absurd (let bad : 340 ≡ 330 = ap mark (sym is ∙ is_too) in omega arith)
+adds_same version old q r line (Repository rest is goes adds) (Seen rest_too is_too goes_too adds_too) right other = absurd (let bad : 340 ≡ 331 = ap mark (sym is ∙ is_too) in omega arith)
+adds_same version old q r line (Repository rest is goes adds) (Head told_too goes_too says_too) right other = absurd (let bad : 340 ≡ 305 = ap mark (sym is ∙ says_too.is) in omega arith)
+adds_same version old q r line (Repository rest is goes adds) (Offer rest_too is_too goes_too adds_too) right other = absurd (let bad : 340 ≡ 324 = ap mark (sym is ∙ is_too) in omega arith)
+adds_same version old q r line (Reference rest is goes adds) (Tenant rest_too is_too goes_too adds_too) right other = absurd (let bad : 330 ≡ 342 = ap mark (sym is ∙ is_too) in omega arith)
+adds_same version old q r line (Reference rest is goes adds) (Repository rest_too is_too goes_too adds_too) right other = absurd (let bad : 330 ≡ 340 = ap mark (sym is ∙ is_too) in omega arith)
+adds_same version old q r line (Reference rest is goes adds) (Seen rest_too is_too goes_too adds_too) right other = absurd (let bad : 330 ≡ 331 = ap mark (sym is ∙ is_too) in omega arith)
+adds_same version old q r line (Reference rest is goes adds) (Head told_too goes_too says_too) right other = absurd (let bad : 330 ≡ 305 = ap mark (sym is ∙ says_too.is) in omega arith)
+adds_same version old q r line (Reference rest is goes adds) (Offer rest_too is_too goes_too adds_too) right other = absurd (let bad : 330 ≡ 324 = ap mark (sym is ∙ is_too) in omega arith)
+adds_same version old q r line (Seen rest is goes adds) (Tenant rest_too is_too goes_too adds_too) right other = absurd (let bad : 331 ≡ 342 = ap mark (sym is ∙ is_too) in omega arith)
+adds_same version old q r line (Seen rest is goes adds) (Repository rest_too is_too goes_too adds_too) right other = absurd (let bad : 331 ≡ 340 = ap mark (sym is ∙ is_too) in omega arith)
+adds_same version old q r line (Seen rest is goes adds) (Reference rest_too is_too goes_too adds_too) right other = absurd (let bad : 331 ≡ 330 = ap mark (sym is ∙ is_too) in omega arith)
+adds_same version old q r line (Seen rest is goes adds) (Head told_too goes_too says_too) right other = absurd (let bad : 331 ≡ 305 = ap mark (sym is ∙ says_too.is) in omega arith)
+adds_same version old q r line (Seen rest is goes adds) (Offer rest_too is_too goes_too adds_too) right other = absurd (let bad : 331 ≡ 324 = ap mark (sym is ∙ is_too) in omega arith)
+adds_same version old q r line (Head told goes says) (Tenant rest_too is_too goes_too adds_too) right other = absurd (let bad : 305 ≡ 342 = ap mark (sym says.is ∙ is_too) in omega arith)
+adds_same version old q r line (Head told goes says) (Repository rest_too is_too goes_too adds_too) right other = absurd (let bad : 305 ≡ 340 = ap mark (sym says.is ∙ is_too) in omega arith)
+adds_same version old q r line (Head told goes says) (Reference rest_too is_too goes_too adds_too) right other = absurd (let bad : 305 ≡ 330 = ap mark (sym says.is ∙ is_too) in omega arith)
+adds_same version old q r line (Head told goes says) (Seen rest_too is_too goes_too adds_too) right other = absurd (let bad : 305 ≡ 331 = ap mark (sym says.is ∙ is_too) in omega arith)
+adds_same version old q r line (Head told goes says) (Offer rest_too is_too goes_too adds_too) right other = absurd (let bad : 305 ≡ 324 = ap mark (sym says.is ∙ is_too) in omega arith)
+adds_same version old q r line (Offer rest is goes adds) (Tenant rest_too is_too goes_too adds_too) right other = absurd (let bad : 324 ≡ 342 = ap mark (sym is ∙ is_too) in omega arith)
+adds_same version old q r line (Offer rest is goes adds) (Repository rest_too is_too goes_too adds_too) right other = absurd (let bad : 324 ≡ 340 = ap mark (sym is ∙ is_too) in omega arith)
+adds_same version old q r line (Offer rest is goes adds) (Reference rest_too is_too goes_too adds_too) right other = absurd (let bad : 324 ≡ 330 = ap mark (sym is ∙ is_too) in omega arith)
+adds_same version old q r line (Offer rest is goes adds) (Seen rest_too is_too goes_too adds_too) right other = absurd (let bad : 324 ≡ 331 = ap mark (sym is ∙ is_too) in omega arith)
+adds_same version old q r line (Offer rest is goes adds) (Head told_too goes_too says_too) right other = absurd (let bad : 324 ≡ 305 = ap mark (sym is ∙ says_too.is) in omega arith)
 
 -- no line that says something is the last one
-pub never_end : (old new : States) (line : List ℕ) → Adds old line new → line ≡ codes "end" → ⊥
-never_end old new line (Tenant rest is adds) is_end = absurd (let bad : 110 ≡ 100 = ap third (sym is ∙ is_end) in omega (arith, bad))
-never_end old new line (Repository rest is adds) is_end = absurd (let bad : 112 ≡ 100 = ap third (sym is ∙ is_end) in omega (arith, bad))
-never_end old new line (Reference rest is adds) is_end = absurd (let bad : 102 ≡ 100 = ap third (sym is ∙ is_end) in omega (arith, bad))
-never_end old new line (Seen rest is adds) is_end = absurd (let bad : 101 ≡ 100 = ap third (sym is ∙ is_end) in omega (arith, bad))
+pub never_end : (version : Version) (old new : Taken) (line : List ℕ) → Adds version old line new → line ≡ codes "end" → ⊥
+never_end version old new line (Tenant rest is goes adds) is_end = absurd (let bad : 342 ≡ 302 = ap mark (sym is ∙ is_end) in omega (arith, bad))
+never_end version old new line (Repository rest is goes adds) is_end = absurd (let bad : 340 ≡ 302 = ap mark (sym is ∙ is_end) in omega (arith, bad))
+never_end version old new line (Reference rest is goes adds) is_end = absurd (let bad : 330 ≡ 302 = ap mark (sym is ∙ is_end) in omega (arith, bad))
+never_end version old new line (Seen rest is goes adds) is_end = absurd (let bad : 331 ≡ 302 = ap mark (sym is ∙ is_end) in omega (arith, bad))
+never_end version old new line (Head told goes says) is_end = absurd (let bad : 305 ≡ 302 = ap mark (sym says.is ∙ is_end) in omega (arith, bad))
+never_end version old new line (Offer rest is goes adds) is_end = absurd (let bad : 324 ≡ 302 = ap mark (sym is ∙ is_end) in omega (arith, bad))

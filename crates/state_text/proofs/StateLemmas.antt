@@ -3,32 +3,48 @@ use Rattle.std.proofs.Common.{◌≡◌, ℕ, ◌<◌, ◌≤◌, List, [], ◌�
 use Rattle.std.specs.List.{AllByRecursion}
 use Rattle.git_name.specs.Name.{IsName}
 use Rattle.std.specs.FinMap.{entries, values}
-use Rattle.git_reftx.specs.Sound.{AreSound}
+use Rattle.git_reftx.specs.Repository as git
 use Rattle.git_reftx.specs.Transaction.{References}
 use Rattle.fork_request.specs.Names.{IsTenantName}
 use Rattle.fork_request.specs.declared.limit.TheConstants.{MAX_LIMIT}
 use Rattle.fork_model.specs.declared.limits.TheConstants.{MAX_REPOSITORIES, MAX_TENANTS}
-use Rattle.state_text.specs.Adding.{AreBefore, fresh, with_repository, with_seen}
-use Rattle.state_text.specs.States.{Ascend, IsRepository, IsStates, IsTenantState, States, TenantState}
+use Rattle.state_text.specs.declared.offer.TheConstants.{MAX_OFFERS}
+use Rattle.state_text.specs.Adding.{AreBefore, fresh, with_offer, with_repository, with_seen}
+use Rattle.state_text.specs.Offer.{Offer, words_of}
+use Rattle.state_text.specs.States.{Ascend, IsOffer, IsRepository, IsStates, IsTenantState, States, TenantState}
 use Rattle.state_text.proofs.BehindLemmas.{ascend_behind, ascend_front, ascend_none, before_last, each_behind, each_front, each_last, length_behind, map_behind}
 
 pub no_states : IsStates []
 no_states = record { few = omega arith; ordered = ascend_none; each = tt }
 
 pub fresh_right : (name : List ℕ) (limit : ℕ) → IsTenantName name → limit ≤ MAX_LIMIT → IsTenantState (fresh name limit)
-fresh_right name limit named within = record { named = named; limit = within; few = omega arith; ordered = ascend_none; repositories = tt; seen_ordered = ascend_none; seen = tt }
+fresh_right name limit named within = record {
+  named = named;
+  limit = within;
+  few = omega arith;
+  ordered = ascend_none;
+  repositories = tt;
+  seen_ordered = ascend_none;
+  seen = tt;
+  few_offers = omega arith;
+  offers_ordered = ascend_none;
+  offers = tt;
+}
 
 -- a tenant with a repository more
-pub repository_more : (tenant : TenantState) (name : List ℕ) (references : References) → IsTenantState tenant → IsRepository (name, references) → AreBefore (map (λ r. r.0) tenant.repositories) name
-    → length tenant.repositories < MAX_REPOSITORIES → IsTenantState (with_repository tenant name references)
-repository_more tenant name references right new before room = record {
+pub repository_more : (tenant : TenantState) (name : List ℕ) (repository : git.Repository) → IsTenantState tenant → IsRepository (name, repository) → AreBefore (map (λ r. r.0) tenant.repositories) name
+    → length tenant.repositories < MAX_REPOSITORIES → IsTenantState (with_repository tenant name repository)
+repository_more tenant name repository right new before room = record {
   named = right.named;
   limit = right.limit;
-  few = (let long = length_behind tenant.repositories (name, references) in omega (arith, long));
-  ordered = subst Ascend (sym (map_behind (λ r. r.0) tenant.repositories (name, references))) (ascend_behind (map (λ r. r.0) tenant.repositories) name right.ordered before);
-  repositories = each_behind IsRepository tenant.repositories (name, references) right.repositories new;
+  few = (let long = length_behind tenant.repositories (name, repository) in omega (arith, long));
+  ordered = subst Ascend (sym (map_behind (λ r. r.0) tenant.repositories (name, repository))) (ascend_behind (map (λ r. r.0) tenant.repositories) name right.ordered before);
+  repositories = each_behind IsRepository tenant.repositories (name, repository) right.repositories new;
   seen_ordered = right.seen_ordered;
   seen = right.seen;
+  few_offers = right.few_offers;
+  offers_ordered = right.offers_ordered;
+  offers = right.offers;
 }
 
 -- a tenant that sees an object more
@@ -41,6 +57,24 @@ seen_more tenant name right named before = record {
   repositories = right.repositories;
   seen_ordered = ascend_behind tenant.seen name right.seen_ordered before;
   seen = each_behind IsName tenant.seen name right.seen named;
+  few_offers = right.few_offers;
+  offers_ordered = right.offers_ordered;
+  offers = right.offers;
+}
+
+-- a tenant with an offer more
+pub offer_more : (tenant : TenantState) (offer : Offer) → IsTenantState tenant → IsOffer tenant.name offer → AreBefore (map words_of tenant.offers) (words_of offer) → length tenant.offers < MAX_OFFERS → IsTenantState (with_offer tenant offer)
+offer_more tenant offer right new before room = record {
+  named = right.named;
+  limit = right.limit;
+  few = right.few;
+  ordered = right.ordered;
+  repositories = right.repositories;
+  seen_ordered = right.seen_ordered;
+  seen = right.seen;
+  few_offers = (let long = length_behind tenant.offers offer in omega (arith, long));
+  offers_ordered = subst Ascend (sym (map_behind words_of tenant.offers offer)) (ascend_behind (map words_of tenant.offers) (words_of offer) right.offers_ordered before);
+  offers = each_behind (IsOffer tenant.name) tenant.offers offer right.offers new;
 }
 
 -- states with a tenant more
@@ -72,25 +106,6 @@ pub tenant_changed : (states : States) (old new : TenantState) → IsStates (sta
 tenant_changed states old new right is same =
     let room : length states < MAX_TENANTS = (let long = length_behind states old in let few = right.few in omega (arith, long, few)) in
     tenant_more states new (tenant_less states old right) is (subst (AreBefore (map (λ t. t.name) states)) same (tenants_before states old right)) room
-
--- a tenant whose last repository changes under its name
-pub repository_changed : (tenant : TenantState) (front : List (List ℕ × References)) (repository : List ℕ) (old new : References) → IsTenantState tenant → tenant.repositories ≡ front ++ (repository, old) ∷ [] → AreSound new → AllByRecursion IsName (values new)
-    → IsTenantState (record { name = tenant.name; limit = tenant.limit; repositories = front ++ (repository, new) ∷ []; seen = tenant.seen })
-repository_changed tenant front repository old new right is sound targets =
-    let each = subst (AllByRecursion IsRepository) is right.repositories in
-    let long = length_behind front (repository, old) in
-    let longer = length_behind front (repository, new) in
-    let whole : length tenant.repositories ≡ length (front ++ (repository, old) ∷ []) = ap (λ rs. length rs) is in
-    let was : IsRepository (repository, old) = each_last IsRepository front (repository, old) each in
-    record {
-      named = right.named;
-      limit = right.limit;
-      few = (let few = right.few in omega (arith, few, long, longer, whole));
-      ordered = subst Ascend (ap (map (λ r. r.0)) is ∙ map_behind (λ r. r.0) front (repository, old) ∙ sym (map_behind (λ r. r.0) front (repository, new))) right.ordered;
-      repositories = each_behind IsRepository front (repository, new) (each_front IsRepository front (repository, old) each) (record { named = was.named; references = sound; targets = targets });
-      seen_ordered = right.seen_ordered;
-      seen = right.seen;
-    }
 
 -- the values of references with one more
 pub targets_more : (old new : References) (name target : List ℕ) → entries new ≡ entries old ++ (name, target) ∷ [] → AllByRecursion IsName (values old) → IsName target → AllByRecursion IsName (values new)

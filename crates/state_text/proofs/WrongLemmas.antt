@@ -1,15 +1,14 @@
 -- What is not put behind the others makes a line that no right states go on with.
-use Rattle.std.proofs.Common.{◌≡◌, ◌≢◌, ℕ, ◌+◌, ◌≤◌, List, [], ◌∷◌, ◌++◌, codes, decimal, refl, sym, ap, subst, ◌∙◌, length, map, append_assoc, arith}
+use Rattle.std.proofs.Common.{◌≡◌, ◌≢◌, ℕ, ◌+◌, ◌<◌, ◌≤◌, List, [], ◌∷◌, ◌++◌, codes, decimal, refl, sym, ap, subst, ◌∙◌, length, map, append_assoc, arith}
 use Rattle.std.specs.FinMap as finite
-use Rattle.std.specs.FinMap.{entries}
-use Rattle.std.specs.List.{AllByRecursion, slice_get}
-use Rattle.std.specs.Prelude.{◌-◌, Some}
 use Rattle.hex.specs.Hex.{encode_lower}
 use Rattle.std.proofs.lemmas.List.{append_cancel_left}
 use Rattle.git_name.specs.Name.{IsName}
 use Rattle.git_refname.specs.Namespace.{expanded}
 use Rattle.git_reftx.specs.Push.{TellsPush}
-use Rattle.git_reftx.specs.Transaction.{References}
+use Rattle.git_reftx.specs.Repository as git
+use Rattle.git_reftx.specs.Repository.{IsBranch, new_repository}
+use Rattle.git_reftx.specs.Sound.{AreSound}
 use Rattle.git_reftx.specs.declared.fault.PushRefError.{PushRefError}
 use Rattle.git_reftx.specs.declared.fault.PushRefError.TheVariants as push
 use Rattle.git_reftx.proofs.PushLemmas.{never_pushed}
@@ -17,14 +16,21 @@ use Rattle.fork_request.specs.Names.{IsTenantName}
 use Rattle.fork_model.specs.declared.limits.TheConstants.{MAX_REPOSITORIES, MAX_TENANTS}
 use Rattle.state_text.specs.declared.fault.AddError.{AddError}
 use Rattle.state_text.specs.declared.fault.AddError.TheVariants.{OutOfOrder, TooMany, Memory}
-use Rattle.state_text.specs.declared.line_fault.LineFault.{LineFault}
-use Rattle.state_text.specs.declared.line_fault.LineFault.TheVariants as fault
-use Rattle.state_text.specs.Adding.{AreBefore, TellsAdd, fresh, with_repository, with_seen}
-use Rattle.state_text.specs.States.{Ascend, IsRepository, IsStates, IsTenantState, States, TenantState}
-use Rattle.state_text.specs.Taking.{AddsReference, AddsRepository, AddsSeen, AddsTenant, HasReferenceMore, Refuses, RefusesReference, fault_of, fault_of_push}
-use Rattle.state_text.proofs.BackLemmas.{IsLastReference, last_reference}
-use Rattle.state_text.proofs.BehindLemmas.{before_last, each_last, last_is, length_behind, map_behind, same_behind}
+use Rattle.state_text.specs.declared.fault.OfferError.{OfferError}
+use Rattle.state_text.specs.declared.fault.OfferError.TheVariants as offering
+use Rattle.state_text.specs.declared.offer.TheConstants.{MAX_OFFERS}
+use Rattle.state_text.specs.declared.place.Place.{Place}
+use Rattle.state_text.specs.declared.place.Place.TheVariants.{Own, Offered}
+use Rattle.state_text.specs.declared.version.Version.{Version}
+use Rattle.state_text.specs.Adding.{AreBefore, TellsAdd, TellsOffer, fresh, with_seen}
+use Rattle.state_text.specs.Offer.{offer_words, words_of}
+use Rattle.state_text.specs.Place.{IsLast, name_at, with_at}
+use Rattle.state_text.specs.States.{Ascend, IsOffer, IsStates, IsTenantState, States, TenantState}
+use Rattle.state_text.specs.Taking.{AddsHead, AddsOffer, AddsReference, AddsRepository, AddsSeen, AddsTenant, HasReferenceMore, Refuses, fault_of, fault_of_offer, fault_of_push}
+use Rattle.state_text.proofs.BehindLemmas.{before_last, each_last, length_behind, map_behind, same_behind}
+use Rattle.state_text.proofs.LastLemmas.{IsLastReference, last_reference}
 use Rattle.state_text.proofs.PartLemmas.{digits_unique, digits_without, plain_without, reference_parts, same_parts}
+use Rattle.state_text.proofs.PlaceLemmas.{IsSamePlace, offer_at, receiver_at, same_place, told_at}
 use Rattle.state_text.proofs.StateLemmas.{last_right, tenants_before}
 
 -- the tenant of a line has one name
@@ -47,14 +53,14 @@ pub repository_wrong : (old before : States) (tenant : TenantState) (rest name :
     → TellsAdd (MAX_REPOSITORIES ≤ length tenant.repositories) (map (λ r. r.0) tenant.repositories) name error → Refuses AddsRepository old rest (fault_of error)
 repository_wrong old before tenant rest name OutOfOrder was is told = λ new right adds.
     let same = (same_behind adds.before before adds.tenant tenant (sym adds.was ∙ was)).1 in
-    let last : IsTenantState (with_repository adds.tenant rest finite.empty) = last_right adds.before (with_repository adds.tenant rest finite.empty) (subst IsStates adds.added right) in
-    let ahead = before_last (map (λ r. r.0) adds.tenant.repositories) rest (subst Ascend (map_behind (λ r. r.0) adds.tenant.repositories (rest, finite.empty)) last.ordered) in
+    let last : IsTenantState (with_at adds.tenant (Own rest) new_repository) = last_right adds.before (with_at adds.tenant (Own rest) new_repository) (subst IsStates adds.added right) in
+    let ahead = before_last (map (λ r. r.0) adds.tenant.repositories) rest (subst Ascend (map_behind (λ r. r.0) adds.tenant.repositories (rest, new_repository)) last.ordered) in
     told (subst (λ t. AreBefore (map (λ r. r.0) t.repositories) name) same (subst (AreBefore (map (λ r. r.0) adds.tenant.repositories)) (sym is) ahead))
 repository_wrong old before tenant rest name TooMany was is told = λ new right adds.
     let same = (same_behind adds.before before adds.tenant tenant (sym adds.was ∙ was)).1 in
-    let last : IsTenantState (with_repository adds.tenant rest finite.empty) = last_right adds.before (with_repository adds.tenant rest finite.empty) (subst IsStates adds.added right) in
+    let last : IsTenantState (with_at adds.tenant (Own rest) new_repository) = last_right adds.before (with_at adds.tenant (Own rest) new_repository) (subst IsStates adds.added right) in
     let few = last.few in
-    let long = length_behind adds.tenant.repositories (rest, finite.empty) in
+    let long = length_behind adds.tenant.repositories (rest, new_repository) in
     let so_many : length adds.tenant.repositories ≡ length tenant.repositories = ap (λ t. length t.repositories) same in
     absurd (omega (arith, few, long, so_many, told))
 repository_wrong old before tenant rest name Memory was is told = tt
@@ -68,50 +74,87 @@ seen_wrong old before tenant rest name OutOfOrder was named is told = λ new rig
 seen_wrong old before tenant rest name TooMany was named is told = λ new right adds. told
 seen_wrong old before tenant rest name Memory was named is told = tt
 
-never : (old : TenantState) (repositories : List (List ℕ × References)) (repository : List ℕ) (references : References) (name target : List ℕ) (error : PushRefError) → old.repositories ≡ repositories ++ (repository, references) ∷ []
-    → TellsPush references name error → error ≢ push.Memory → (new : TenantState) → IsTenantState new → HasReferenceMore old name target new → ⊥
-never old repositories repository references name target error was told fault new right more =
-    let same = ap (λ r. r.1) (same_behind more.repositories repositories (more.repository, more.references) (repository, references) (sym more.was ∙ was)).1 in
-    let last : IsRepository (more.repository, more.more) = each_last IsRepository more.repositories (more.repository, more.more) (subst (AllByRecursion IsRepository) (ap (λ t. t.repositories) more.added) right.repositories) in
-    never_pushed references more.more name target error told fault last.references (more.pushed ∙ ap (λ rs. entries rs ++ (name, target) ∷ []) same)
+-- the offer of a line
+module _ (version : Version) (old before new : States) (tenant : TenantState) (rest receiver name : List ℕ) (was : old ≡ before ++ tenant ∷ []) (receiver_named : IsTenantName receiver) (is : rest ≡ offer_words receiver name) (right : IsStates new) (adds : AddsOffer version old rest new) where
+  giver_same : adds.begins.tenant ≡ tenant
+  giver_same = (same_behind adds.begins.before before adds.begins.tenant tenant (sym adds.begins.was ∙ was)).1
 
-pub push_wrong : (old : TenantState) (repositories : List (List ℕ × References)) (repository : List ℕ) (references : References) (name target : List ℕ) (error : PushRefError) → old.repositories ≡ repositories ++ (repository, references) ∷ []
-    → TellsPush references name error → RefusesReference old name target (fault_of_push error)
-push_wrong old repositories repository references name target push.OutOfOrder was told = never old repositories repository references name target push.OutOfOrder was told (λ is. cc)
-push_wrong old repositories repository references name target push.RefConflict was told = never old repositories repository references name target push.RefConflict was told (λ is. cc)
-push_wrong old repositories repository references name target push.TooMany was told = never old repositories repository references name target push.TooMany was told (λ is. cc)
-push_wrong old repositories repository references name target push.Memory was told = tt
+  offered_right : IsTenantState (with_at adds.begins.tenant (Offered adds.receiver adds.name) new_repository)
+  offered_right = last_right adds.begins.before (with_at adds.begins.tenant (Offered adds.receiver adds.name) new_repository) (subst IsStates adds.begins.added right)
 
--- what is known where a line says that the last repository has a reference more
-module _ (old before new : States) (tenant : TenantState) (rest prefix : List ℕ) (repositories : List (List ℕ × References)) (last : List ℕ × References) (was : old ≡ before ++ tenant ∷ []) (are : repositories ≡ tenant.repositories)
-    (last_are : slice_get repositories (length repositories - 1) ≡ Some last) (prefix_is : prefix ≡ expanded (tenant.name ∷ last.0 ∷ [])) (right : IsStates new) (adds : AddsReference old rest new) where
-  same_tenant : adds.tenant ≡ tenant
-  same_tenant = (same_behind adds.before before adds.tenant tenant (sym adds.was ∙ was)).1
+  offer_right : IsOffer adds.begins.tenant.name (offer_at adds.receiver adds.name new_repository)
+  offer_right = receiver_at adds.begins.tenant adds.receiver adds.name new_repository offered_right
 
-  pub reference_right : IsLastReference adds.more.repository adds.name adds.target
-  reference_right = last_reference adds.tenant adds.next adds.name adds.target adds.more (last_right adds.before adds.next (subst IsStates adds.added right))
+  words_same : (receiver ≡ adds.receiver) × (name ≡ adds.name)
+  words_same = same_parts rest receiver name adds.receiver adds.name (is ∙ append_assoc receiver (codes " ") name) (plain_without _ 32 receiver refl receiver_named) (plain_without _ 32 adds.receiver refl offer_right.receiver_named) adds.spelled
 
-  same_repository : adds.more.repository ≡ last.0
-  same_repository =
-      let all = are ∙ ap (λ t. t.repositories) (sym same_tenant) ∙ adds.more.was in
-      ap (λ r. r.0) (last_is adds.more.repositories (adds.more.repository, adds.more.references) last (subst (λ rs. slice_get rs (length rs - 1) ≡ Some last) all last_are))
+  to_another_one : receiver ≢ tenant.name
+  to_another_one same = offer_right.to_another (sym words_same.0 ∙ same ∙ sym (ap (λ t. t.name) giver_same))
 
-  pub reference_spelled_so : rest ≡ encode_lower adds.target ++ codes " " ++ prefix ++ adds.name
-  reference_spelled_so =
-      adds.spelled ∙ ap (λ p. encode_lower adds.target ++ codes " " ++ p ++ adds.name) ((λ i. expanded ((same_tenant i).name ∷ same_repository i ∷ [])) ∙ sym prefix_is)
+  stands_behind : AreBefore (map words_of tenant.offers) (offer_words receiver name)
+  stands_behind =
+      let ahead = before_last (map words_of adds.begins.tenant.offers) (offer_words adds.receiver adds.name) (subst Ascend (map_behind words_of adds.begins.tenant.offers (offer_at adds.receiver adds.name new_repository)) offered_right.offers_ordered) in
+      subst (λ t. AreBefore (map words_of t.offers) (offer_words receiver name)) giver_same (subst (AreBefore (map words_of adds.begins.tenant.offers)) (λ i. offer_words (sym words_same.0 i) (sym words_same.1 i)) ahead)
 
-  pub reference_wrong : (name target : List ℕ) → IsName target → rest ≡ encode_lower target ++ codes " " ++ prefix ++ name → ((next : TenantState) → IsTenantState next → HasReferenceMore tenant name target next → ⊥) → ⊥
-  reference_wrong name target named is wrong =
-      let spelled = is ∙ append_assoc (encode_lower target ++ codes " ") prefix name ∙ append_assoc (encode_lower target) (codes " ") (prefix ++ name) in
-      let words = reference_parts rest (encode_lower target) (prefix ++ name) adds.target prefix adds.name spelled (digits_without target named) reference_right.target_named reference_spelled_so in
-      let targets : adds.target ≡ target = digits_unique adds.target target reference_right.target_named named (sym words.0) in
-      let names : adds.name ≡ name = append_cancel_left prefix adds.name name (sym words.1) in
-      wrong adds.next (last_right adds.before adds.next (subst IsStates adds.added right))
-      (subst (λ t. HasReferenceMore t name target adds.next) same_tenant (subst (λ n. HasReferenceMore adds.tenant n target adds.next) names (subst (λ n. HasReferenceMore adds.tenant adds.name n adds.next) targets adds.more)))
+  has_room : length tenant.offers < MAX_OFFERS
+  has_room =
+      let few = offered_right.few_offers in
+      let long = length_behind adds.begins.tenant.offers (offer_at adds.receiver adds.name new_repository) in
+      let so_many : length adds.begins.tenant.offers ≡ length tenant.offers = ap (λ t. length t.offers) giver_same in
+      omega (arith, few, long, so_many)
 
-pub reference_refused : (old before : States) (tenant : TenantState) (rest prefix : List ℕ) (repositories : List (List ℕ × References)) (last : List ℕ × References) → old ≡ before ++ tenant ∷ [] → repositories ≡ tenant.repositories
-    → slice_get repositories (length repositories - 1) ≡ Some last → prefix ≡ expanded (tenant.name ∷ last.0 ∷ []) → (name target : List ℕ) (why : LineFault) → IsName target → rest ≡ encode_lower target ++ codes " " ++ prefix ++ name
-    → RefusesReference tenant name target why → Refuses AddsReference old rest why
-reference_refused old before tenant rest prefix repositories last was are last_are prefix_is name target fault.Wrong named is wrong = λ new right adds.
-    reference_wrong old before new tenant rest prefix repositories last was are last_are prefix_is right adds name target named is wrong
-reference_refused old before tenant rest prefix repositories last was are last_are prefix_is name target fault.Memory named is wrong = tt
+pub offer_wrong : (version : Version) (old before : States) (tenant : TenantState) (rest receiver name : List ℕ) (error : OfferError) → old ≡ before ++ tenant ∷ [] → IsTenantName receiver → rest ≡ offer_words receiver name
+    → TellsOffer tenant (offer_at receiver name new_repository) error → Refuses (AddsOffer version) old rest (fault_of_offer error)
+offer_wrong version old before tenant rest receiver name offering.ToGiver was named is told = λ new right adds. to_another_one version old before new tenant rest receiver name was named is right adds told
+offer_wrong version old before tenant rest receiver name offering.OutOfOrder was named is told = λ new right adds. told (stands_behind version old before new tenant rest receiver name was named is right adds)
+offer_wrong version old before tenant rest receiver name offering.TooMany was named is told = λ new right adds. (let room = has_room version old before new tenant rest receiver name was named is right adds in absurd (omega (arith, room, told)))
+offer_wrong version old before tenant rest receiver name offering.Memory was named is told = tt
+
+-- no repository has a reference more that is not put behind the others
+pub never_more : (old new : git.Repository) (name target : List ℕ) (error : PushRefError) → TellsPush old.references name error → error ≢ push.Memory → AreSound new.references → HasReferenceMore old name target new → ⊥
+never_more old new name target error told fault sound more = never_pushed old.references new.references name target error told fault sound more.pushed
+
+-- what is known where a line says more of what stands last
+module _ (old before new : States) (tenant : TenantState) (place : Place) (repository : git.Repository) (rest prefix : List ℕ) (was : old ≡ before ++ with_at tenant place repository ∷ []) (last : IsLast tenant place)
+    (prefix_is : prefix ≡ expanded (tenant.name ∷ name_at place ∷ [])) (right : IsStates new) where
+  module _ (adds : AddsReference old rest new) where
+    place_same : IsSamePlace adds.tenant tenant adds.place place adds.repository repository
+    place_same = same_place adds.tenant tenant adds.place place adds.repository repository adds.last last (same_behind adds.before before (with_at adds.tenant adds.place adds.repository) (with_at tenant place repository) (sym adds.was ∙ was)).1
+
+    next_right : IsTenantState (with_at adds.tenant adds.place adds.next)
+    next_right = last_right adds.before (with_at adds.tenant adds.place adds.next) (subst IsStates adds.added right)
+
+    pub reference_right : IsLastReference adds.name adds.target
+    reference_right = last_reference adds.repository adds.next adds.name adds.target adds.more (told_at adds.tenant adds.place adds.next next_right)
+
+    pub reference_spelled_so : rest ≡ encode_lower adds.target ++ codes " " ++ prefix ++ adds.name
+    reference_spelled_so =
+        adds.spelled ∙ ap (λ p. encode_lower adds.target ++ codes " " ++ p ++ adds.name) ((λ i. expanded ((place_same.tenants i).name ∷ name_at (place_same.places i) ∷ [])) ∙ sym prefix_is)
+
+    pub reference_wrong : (name target : List ℕ) (error : PushRefError) → IsName target → rest ≡ encode_lower target ++ codes " " ++ prefix ++ name → TellsPush repository.references name error → error ≢ push.Memory → ⊥
+    reference_wrong name target error named is told fault =
+        let spelled = is ∙ append_assoc (encode_lower target ++ codes " ") prefix name ∙ append_assoc (encode_lower target) (codes " ") (prefix ++ name) in
+        let words = reference_parts rest (encode_lower target) (prefix ++ name) adds.target prefix adds.name spelled (digits_without target named) reference_right.target_named reference_spelled_so in
+        let names : adds.name ≡ name = append_cancel_left prefix adds.name name (sym words.1) in
+        let tells : TellsPush adds.repository.references adds.name error = subst (λ n. TellsPush adds.repository.references n error) (sym names) (subst (λ r. TellsPush r.references name error) (sym place_same.repositories) told) in
+        never_more adds.repository adds.next adds.name adds.target error tells fault (told_at adds.tenant adds.place adds.next next_right).references adds.more
+
+  module _ (adds : AddsHead old rest new) where
+    head_place : IsSamePlace adds.tenant tenant adds.place place new_repository repository
+    head_place = same_place adds.tenant tenant adds.place place new_repository repository adds.last last (same_behind adds.before before (with_at adds.tenant adds.place new_repository) (with_at tenant place repository) (sym adds.was ∙ was)).1
+
+    pub head_right : IsBranch adds.head
+    head_right = (told_at adds.tenant adds.place (record { head = adds.head; references = finite.empty }) (last_right adds.before (with_at adds.tenant adds.place (record { head = adds.head; references = finite.empty })) (subst IsStates adds.added right))).branch
+
+    pub head_spelled_so : rest ≡ prefix ++ adds.head
+    head_spelled_so = adds.spelled ∙ ap (λ p. p ++ adds.head) ((λ i. expanded ((head_place.tenants i).name ∷ name_at (head_place.places i) ∷ [])) ∙ sym prefix_is)
+
+pub reference_refused : (old before : States) (tenant : TenantState) (place : Place) (repository : git.Repository) (rest prefix : List ℕ) → old ≡ before ++ with_at tenant place repository ∷ [] → IsLast tenant place → prefix ≡ expanded (tenant.name ∷ name_at place ∷ [])
+    → (name target : List ℕ) (error : PushRefError) → IsName target → rest ≡ encode_lower target ++ codes " " ++ prefix ++ name → TellsPush repository.references name error → Refuses AddsReference old rest (fault_of_push error)
+reference_refused old before tenant place repository rest prefix was last prefix_is name target push.OutOfOrder named is told = λ new right adds.
+    reference_wrong old before new tenant place repository rest prefix was last prefix_is right adds name target push.OutOfOrder named is told (λ is. cc)
+reference_refused old before tenant place repository rest prefix was last prefix_is name target push.RefConflict named is told = λ new right adds.
+    reference_wrong old before new tenant place repository rest prefix was last prefix_is right adds name target push.RefConflict named is told (λ is. cc)
+reference_refused old before tenant place repository rest prefix was last prefix_is name target push.TooMany named is told = λ new right adds.
+    reference_wrong old before new tenant place repository rest prefix was last prefix_is right adds name target push.TooMany named is told (λ is. cc)
+reference_refused old before tenant place repository rest prefix was last prefix_is name target push.Memory named is told = tt

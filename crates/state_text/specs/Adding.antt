@@ -1,25 +1,31 @@
 -- What is put behind the others of a state, and why it isn't (own).
-use Rattle.std.specs.Prelude.{◌≡◌, ℕ, List, [], ◌∷◌, ◌++◌, All, ⊤}
+use Rattle.std.specs.Prelude.{◌≡◌, ◌≤◌, ℕ, List, [], ◌∷◌, ◌++◌, All, length, map, ⊤}
 use Rattle.std.specs.declared.cmp.Ordering.TheVariants.{Less}
 use Rattle.git_name.specs.Name.{name_cmp}
-use Rattle.git_reftx.specs.Transaction.{References}
+use Rattle.git_reftx.specs.Repository.{Repository}
 use Rattle.state_text.specs.declared.fault.AddError.{AddError}
-use Rattle.state_text.specs.declared.fault.AddError.TheVariants.{OutOfOrder, TooMany, Memory}
+use Rattle.state_text.specs.declared.fault.AddError.TheVariants as add
+use Rattle.state_text.specs.declared.fault.OfferError.{OfferError}
+use Rattle.state_text.specs.declared.fault.OfferError.TheVariants as offering
+use Rattle.state_text.specs.declared.offer.TheConstants.{MAX_OFFERS}
+use Rattle.state_text.specs.Offer.{Offer, words_of}
 use Rattle.state_text.specs.States.{TenantState}
 
 -- a tenant that has nothing yet
 abbrev pub fresh : List ℕ → ℕ → TenantState
-fresh name limit = record { name = name; limit = limit; repositories = []; seen = [] }
+fresh name limit = record { name = name; limit = limit; repositories = []; seen = []; offers = [] }
 
 -- with a repository more
-abbrev pub with_repository : TenantState → List ℕ → References → TenantState
-with_repository tenant name references =
-    record { name = tenant.name; limit = tenant.limit; repositories = tenant.repositories ++ (name, references) ∷ []; seen = tenant.seen }
+abbrev pub with_repository : TenantState → List ℕ → Repository → TenantState
+with_repository tenant name repository = record tenant { repositories = tenant.repositories ++ (name, repository) ∷ [] }
 
 -- with the name of an object more
 abbrev pub with_seen : TenantState → List ℕ → TenantState
-with_seen tenant name =
-    record { name = tenant.name; limit = tenant.limit; repositories = tenant.repositories; seen = tenant.seen ++ name ∷ [] }
+with_seen tenant name = record tenant { seen = tenant.seen ++ name ∷ [] }
+
+-- with an offer more
+abbrev pub with_offer : TenantState → Offer → TenantState
+with_offer tenant offer = record tenant { offers = tenant.offers ++ offer ∷ [] }
 
 -- each of the names stands before this one
 abbrev pub AreBefore : List (List ℕ) → List ℕ → Type 0
@@ -27,6 +33,13 @@ AreBefore names name = All (λ other. name_cmp other name ≡ Less) names
 
 -- the error tells why: some name isn't before this one, or there is no room; want of memory tells nothing
 abbrev pub TellsAdd : Type 0 → List (List ℕ) → List ℕ → AddError → Type 0
-TellsAdd full names name OutOfOrder = ¬ AreBefore names name
-TellsAdd full names name TooMany = full
-TellsAdd full names name Memory = ⊤
+TellsAdd full names name add.OutOfOrder = ¬ AreBefore names name
+TellsAdd full names name add.TooMany = full
+TellsAdd full names name add.Memory = ⊤
+
+-- the error tells why: the receiver is the giver, some offer isn't before this one, or there are 256; want of memory tells nothing
+abbrev pub TellsOffer : TenantState → Offer → OfferError → Type 0
+TellsOffer giver offer offering.ToGiver = offer.receiver ≡ giver.name
+TellsOffer giver offer offering.OutOfOrder = ¬ AreBefore (map words_of giver.offers) (words_of offer)
+TellsOffer giver offer offering.TooMany = MAX_OFFERS ≤ length giver.offers
+TellsOffer giver offer offering.Memory = ⊤

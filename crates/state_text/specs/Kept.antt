@@ -1,13 +1,13 @@
 -- What of a world outlives a host's process: all but open uploads and the objects' bytes, which lie in the store.
-use Rattle.std.specs.Prelude.{ℕ, List, map}
+use Rattle.std.specs.Prelude.{ℕ, List, [], map}
 use Rattle.std.specs.FinMap.{entries, keys}
 use Rattle.fork_model.specs.View.{View}
 use Rattle.fork_model.specs.World.{World}
 use Rattle.state_text.specs.States.{TenantState, States}
 
--- of a tenant and its view
+-- of a tenant and its view, which has no offers yet
 abbrev pub kept_of : List ℕ × View → TenantState
-kept_of (name, view) = record { name = name; limit = view.limit; repositories = entries view.repositories; seen = keys view.objects }
+kept_of (name, view) = record { name = name; limit = view.limit; repositories = entries view.repositories; seen = keys view.objects; offers = [] }
 
 -- of each
 abbrev pub states_of : World → States

@@ -1,23 +1,26 @@
--- What of a host outlives its process (own): for each tenant its limit, its repositories with their references, and the names of
--- the objects that it sees.
-use Rattle.std.specs.Prelude.{ℕ, ◌≤◌, List, length, map, refl}
+-- What of a host outlives its process (own): for each tenant its limit, its repositories, the names of the objects that it sees, and
+-- the offers that it has made.
+use Rattle.std.specs.Prelude.{◌≢◌, ℕ, ◌≤◌, List, length, map, refl}
 use Rattle.std.specs.Coded.{Coded, code_by, coded×, coded_ℕ, coded_list}
-use Rattle.std.specs.FinMap.{code, values}
+use Rattle.std.specs.FinMap.{values}
 use Rattle.std.specs.List.{AllByRecursion}
 use Rattle.std.specs.List.Sorted.{IsStrictlySortedBy}
 use Rattle.git_name.specs.Name.{IsName, name_cmp}
+use Rattle.git_reftx.specs.Repository.{IsBranch, Repository, repository_code}
 use Rattle.git_reftx.specs.Sound.{AreSound}
-use Rattle.git_reftx.specs.Transaction.{References}
 use Rattle.fork_request.specs.Names.{IsRepositoryName, IsTenantName}
 use Rattle.fork_request.specs.declared.limit.TheConstants.{MAX_LIMIT}
 use Rattle.fork_model.specs.declared.limits.TheConstants.{MAX_REPOSITORIES, MAX_TENANTS}
+use Rattle.state_text.specs.declared.offer.TheConstants.{MAX_OFFERS}
+use Rattle.state_text.specs.Offer.{Offer, offer_code, words_of}
 
--- of one tenant; a repository is its name and its references
+-- of one tenant; a repository stands behind its name
 pub record TenantState : Type 0 where
   pub name : List ℕ
   pub limit : ℕ
-  pub repositories : List (List ℕ × References)
+  pub repositories : List (List ℕ × Repository)
   pub seen : List (List ℕ)
+  pub offers : List Offer
 
 -- of each tenant
 abbrev pub States : Type 0
@@ -27,13 +30,25 @@ States = List TenantState
 abbrev pub Ascend : List (List ℕ) → Type 0
 Ascend = IsStrictlySortedBy name_cmp
 
--- a right name; references of right names, none above another, 4,096 at the most, each at a name of an object
-pub record IsRepository (repository : List ℕ × References) : Type 0 where
-  pub named : IsRepositoryName repository.0
-  pub references : AreSound repository.1
-  pub targets : AllByRecursion IsName (values repository.1)
+-- HEAD names a branch; references of right names, none above another, 4,096 at the most, each at a name of an object
+pub record IsTold (repository : Repository) : Type 0 where
+  pub branch : IsBranch repository.head
+  pub references : AreSound repository.references
+  pub targets : AllByRecursion IsName (values repository.references)
 
--- a right name and limit; repositories and the names of objects in their order
+-- a right name, and what may be told of it
+pub record IsRepository (repository : List ℕ × Repository) : Type 0 where
+  pub named : IsRepositoryName repository.0
+  pub told : IsTold repository.1
+
+-- to another tenant than the giver, of a right name, and what may be told of it
+pub record IsOffer (giver : List ℕ) (offer : Offer) : Type 0 where
+  pub receiver_named : IsTenantName offer.receiver
+  pub to_another : offer.receiver ≢ giver
+  pub named : IsRepositoryName offer.name
+  pub told : IsTold offer.repository
+
+-- a right name and limit; repositories, the names of objects and offers in their order
 pub record IsTenantState (tenant : TenantState) : Type 0 where
   pub named : IsTenantName tenant.name
   pub limit : tenant.limit ≤ MAX_LIMIT
@@ -42,6 +57,9 @@ pub record IsTenantState (tenant : TenantState) : Type 0 where
   pub repositories : AllByRecursion IsRepository tenant.repositories
   pub seen_ordered : Ascend tenant.seen
   pub seen : AllByRecursion IsName tenant.seen
+  pub few_offers : length tenant.offers ≤ MAX_OFFERS
+  pub offers_ordered : Ascend (map words_of tenant.offers)
+  pub offers : AllByRecursion (IsOffer tenant.name) tenant.offers
 
 -- no more tenants than a host may have, in their order
 pub record IsStates (states : States) : Type 0 where
@@ -55,6 +73,7 @@ bytes_code = coded_list coded_ℕ
 
 abbrev pub state_code : Coded TenantState
 state_code =
-    code_by (List ℕ × (ℕ × (List (List ℕ × References) × List (List ℕ))))
-    (coded× bytes_code (coded× coded_ℕ (coded× (coded_list (coded× bytes_code (code bytes_code bytes_code))) (coded_list bytes_code))))
-    (λ t. (t.name, (t.limit, (t.repositories, t.seen)))) (λ p. record { name = p.0; limit = p.1.0; repositories = p.1.1.0; seen = p.1.1.1 }) (λ _. refl)
+    code_by (List ℕ × (ℕ × (List (List ℕ × Repository) × (List (List ℕ) × List Offer))))
+    (coded× bytes_code (coded× coded_ℕ (coded× (coded_list (coded× bytes_code repository_code)) (coded× (coded_list bytes_code) (coded_list offer_code)))))
+    (λ t. (t.name, (t.limit, (t.repositories, (t.seen, t.offers)))))
+    (λ p. record { name = p.0; limit = p.1.0; repositories = p.1.1.0; seen = p.1.1.1.0; offers = p.1.1.1.1 }) (λ _. refl)

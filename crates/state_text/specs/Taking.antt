@@ -1,24 +1,71 @@
--- The reader's bookkeeping, which nobody has to believe: what one more line makes of the states that were read so far.
-use Rattle.std.specs.Prelude.{◌≡◌, ℕ, ◌+◌, ◌≤◌, List, [], ◌∷◌, ◌++◌, codes, decimal, length, ⊤}
+-- The reader's bookkeeping, which nobody has to believe: what one more line makes of what was read so far.
+use Rattle.std.specs.Prelude.{◌≡◌, ℕ, ◌+◌, ◌≤◌, Bool, true, false, cond, List, [], ◌∷◌, ◌++◌, codes, decimal, length, ⊤}
 use Rattle.std.specs.List.{flat_map}
 use Rattle.std.specs.FinMap.{empty, entries}
 use Rattle.hex.specs.Hex.{encode_lower}
+use Rattle.git_name.specs.Text.{ended}
 use Rattle.git_refname.specs.Namespace.{expanded}
-use Rattle.git_reftx.specs.Transaction.{References}
+use Rattle.git_reftx.specs.Repository as git
+use Rattle.git_reftx.specs.Repository.{new_repository}
 use Rattle.git_reftx.specs.declared.fault.PushRefError.{PushRefError}
 use Rattle.git_reftx.specs.declared.fault.PushRefError.TheVariants as push
 use Rattle.state_text.specs.declared.fault.AddError.{AddError}
 use Rattle.state_text.specs.declared.fault.AddError.TheVariants as add
+use Rattle.state_text.specs.declared.fault.OfferError.{OfferError}
+use Rattle.state_text.specs.declared.fault.OfferError.TheVariants as offering
 use Rattle.state_text.specs.declared.line_fault.LineFault.{LineFault}
 use Rattle.state_text.specs.declared.line_fault.LineFault.TheVariants.{Wrong, Memory}
-use Rattle.state_text.specs.Adding.{fresh, with_repository, with_seen}
-use Rattle.state_text.specs.States.{IsStates, IsTenantState, States, TenantState}
-use Rattle.git_name.specs.Text.{ended}
-use Rattle.state_text.specs.Text.{tenant_lines}
+use Rattle.state_text.specs.declared.place.Place.{Place}
+use Rattle.state_text.specs.declared.place.Place.TheVariants.{Own, Offered}
+use Rattle.state_text.specs.declared.version.Version.{Version}
+use Rattle.state_text.specs.declared.version.Version.TheVariants.{One, Two}
+use Rattle.state_text.specs.Adding.{fresh, with_seen}
+use Rattle.state_text.specs.Offer.{offer_words}
+use Rattle.state_text.specs.Place.{IsLast, name_at, with_at}
+use Rattle.state_text.specs.States.{IsStates, States, TenantState}
+use Rattle.state_text.specs.Text.{Tells, tenant_lines, version_line}
 
--- the lines of the states but the last, which is `end`
-abbrev pub open_lines : States → List (List ℕ)
-open_lines states = codes "forkhost state 1" ∷ flat_map tenant_lines states
+-- what was read: states, of which the HEAD that was told of last may be awaited still
+pub record Taken : Type 0 where
+  pub states : States
+  pub awaits : Bool
+
+-- whether a repository's line is followed by its HEAD
+abbrev pub awaits_head : Version → Bool
+awaits_head One = false
+awaits_head Two = true
+
+-- lines without the last one
+abbrev pub but_last : List (List ℕ) → List (List ℕ)
+but_last [] = []
+but_last (line ∷ []) = []
+but_last (line ∷ next ∷ lines) = line ∷ but_last (next ∷ lines)
+
+-- the lines of states but the last, which is `end`
+abbrev pub told_lines : Version → States → List (List ℕ)
+told_lines version states = version_line version ∷ flat_map (tenant_lines version) states
+
+-- and without the HEAD that is awaited
+abbrev pub open_lines : Version → Taken → List (List ℕ)
+open_lines version taken = cond taken.awaits (but_last (told_lines version taken.states)) (told_lines version taken.states)
+
+-- a repository or an offer has just begun, and stands as a new repository so far
+pub record IsBegun (states : States) : Type 0 where
+  pub before : States
+  pub tenant : TenantState
+  pub place : Place
+  pub last : IsLast tenant place
+  pub is : states ≡ before ++ with_at tenant place new_repository ∷ []
+
+-- where a HEAD is awaited, something has just begun, in version 2
+abbrev pub Awaits : Version → Taken → Type 0
+Awaits version taken = (taken.awaits ≡ true) → (awaits_head version ≡ true) × IsBegun taken.states
+
+-- right states that the version can tell
+pub record IsTaken (version : Version) (taken : Taken) : Type 0 where
+  pub right : IsStates taken.states
+  pub tells : Tells version taken.states
+  pub begun : Awaits version taken
 
 -- a tenant begins
 pub record AddsTenant (old : States) (rest : List ℕ) (new : States) : Type 0 where
@@ -27,51 +74,85 @@ pub record AddsTenant (old : States) (rest : List ℕ) (new : States) : Type 0 w
   pub spelled : rest ≡ name ++ codes " " ++ decimal limit
   pub added : new ≡ old ++ fresh name limit ∷ []
 
--- a repository of the last tenant begins
-pub record AddsRepository (old : States) (rest : List ℕ) (new : States) : Type 0 where
+-- a repository or an offer of the last tenant begins
+pub record AddsPlace (old : States) (place : Place) (new : States) : Type 0 where
   pub before : States
   pub tenant : TenantState
-  pub unseen : tenant.seen ≡ []
+  pub last : IsLast tenant place
   pub was : old ≡ before ++ tenant ∷ []
-  pub added : new ≡ before ++ with_repository tenant rest empty ∷ []
+  pub added : new ≡ before ++ with_at tenant place new_repository ∷ []
 
--- the last repository of a tenant has a reference more
-pub record HasReferenceMore (old : TenantState) (name target : List ℕ) (new : TenantState) : Type 0 where
-  pub repositories : List (List ℕ × References)
-  pub repository : List ℕ
-  pub references : References
-  pub more : References
-  pub was : old.repositories ≡ repositories ++ (repository, references) ∷ []
-  pub pushed : entries more ≡ entries references ++ (name, target) ∷ []
-  pub added : new ≡ record { name = old.name; limit = old.limit; repositories = repositories ++ (repository, more) ∷ []; seen = old.seen }
+-- a repository, which is told of by its name
+abbrev pub AddsRepository : States → List ℕ → States → Type 0
+AddsRepository old rest new = AddsPlace old (Own rest) new
 
+-- an offer, which is told of by its receiver and the repository's name, from version 2 on
+pub record AddsOffer (version : Version) (old : States) (rest : List ℕ) (new : States) : Type 0 where
+  pub receiver : List ℕ
+  pub name : List ℕ
+  pub told : awaits_head version ≡ true
+  pub spelled : rest ≡ offer_words receiver name
+  pub begins : AddsPlace old (Offered receiver name) new
+
+-- what has just begun has this HEAD
+pub record AddsHead (old : States) (rest : List ℕ) (new : States) : Type 0 where
+  pub before : States
+  pub tenant : TenantState
+  pub place : Place
+  pub head : List ℕ
+  pub last : IsLast tenant place
+  pub was : old ≡ before ++ with_at tenant place new_repository ∷ []
+  pub spelled : rest ≡ expanded (tenant.name ∷ name_at place ∷ []) ++ head
+  pub added : new ≡ before ++ with_at tenant place (record { head = head; references = empty }) ∷ []
+
+pub record SaysHead (old : States) (line : List ℕ) (new : States) : Type 0 where
+  pub rest : List ℕ
+  pub is : line ≡ codes "head " ++ rest
+  pub adds : AddsHead old rest new
+
+-- a repository has a reference more
+pub record HasReferenceMore (old : git.Repository) (name target : List ℕ) (new : git.Repository) : Type 0 where
+  pub head : new.head ≡ old.head
+  pub pushed : entries new.references ≡ entries old.references ++ (name, target) ∷ []
+
+-- what the lines before stand in has a reference more
 pub record AddsReference (old : States) (rest : List ℕ) (new : States) : Type 0 where
   pub before : States
   pub tenant : TenantState
-  pub next : TenantState
+  pub place : Place
+  pub repository : git.Repository
+  pub next : git.Repository
   pub name : List ℕ
   pub target : List ℕ
-  pub unseen : tenant.seen ≡ []
-  pub was : old ≡ before ++ tenant ∷ []
-  pub more : HasReferenceMore tenant name target next
-  pub spelled : rest ≡ encode_lower target ++ codes " " ++ expanded (tenant.name ∷ more.repository ∷ []) ++ name
-  pub added : new ≡ before ++ next ∷ []
+  pub last : IsLast tenant place
+  pub was : old ≡ before ++ with_at tenant place repository ∷ []
+  pub more : HasReferenceMore repository name target next
+  pub spelled : rest ≡ encode_lower target ++ codes " " ++ expanded (tenant.name ∷ name_at place ∷ []) ++ name
+  pub added : new ≡ before ++ with_at tenant place next ∷ []
 
 -- the last tenant sees an object more
 pub record AddsSeen (old : States) (rest : List ℕ) (new : States) : Type 0 where
   pub before : States
   pub tenant : TenantState
   pub name : List ℕ
+  pub unoffered : tenant.offers ≡ []
   pub spelled : rest ≡ encode_lower name
   pub was : old ≡ before ++ tenant ∷ []
   pub added : new ≡ before ++ with_seen tenant name ∷ []
 
+-- a HEAD is awaited before this line, and behind it
+pub record Goes (before : Bool) (old : Taken) (behind : Bool) (new : Taken) : Type 0 where
+  pub was : old.awaits ≡ before
+  pub is : new.awaits ≡ behind
+
 -- what the line says
-pub data Adds (old : States) (line : List ℕ) (new : States) : Type 0 where
-  Tenant : (rest : List ℕ) → line ≡ codes "tenant " ++ rest → AddsTenant old rest new → Adds old line new
-  Repository : (rest : List ℕ) → line ≡ codes "repo " ++ rest → AddsRepository old rest new → Adds old line new
-  Reference : (rest : List ℕ) → line ≡ codes "ref " ++ rest → AddsReference old rest new → Adds old line new
-  Seen : (rest : List ℕ) → line ≡ codes "see " ++ rest → AddsSeen old rest new → Adds old line new
+pub data Adds (version : Version) (old : Taken) (line : List ℕ) (new : Taken) : Type 0 where
+  Head : awaits_head version ≡ true → Goes true old false new → SaysHead old.states line new.states → Adds version old line new
+  Tenant : (rest : List ℕ) → line ≡ codes "tenant " ++ rest → Goes false old false new → AddsTenant old.states rest new.states → Adds version old line new
+  Repository : (rest : List ℕ) → line ≡ codes "repo " ++ rest → Goes false old (awaits_head version) new → AddsRepository old.states rest new.states → Adds version old line new
+  Reference : (rest : List ℕ) → line ≡ codes "ref " ++ rest → Goes false old false new → AddsReference old.states rest new.states → Adds version old line new
+  Seen : (rest : List ℕ) → line ≡ codes "see " ++ rest → Goes false old false new → AddsSeen old.states rest new.states → Adds version old line new
+  Offer : (rest : List ℕ) → line ≡ codes "offer " ++ rest → Goes false old true new → AddsOffer version old.states rest new.states → Adds version old line new
 
 -- what holds where the line is wrong; want of memory tells nothing
 abbrev pub WhenWrong : LineFault → Type 0 → Type 0
@@ -82,9 +163,9 @@ WhenWrong Memory said = ⊤
 abbrev pub Refuses : (States → List ℕ → States → Type 0) → States → List ℕ → LineFault → Type 0
 Refuses Says old line fault = WhenWrong fault ((new : States) → IsStates new → Says old line new → ⊥)
 
--- no right tenant is the old one with this reference
-abbrev pub RefusesReference : TenantState → List ℕ → List ℕ → LineFault → Type 0
-RefusesReference old name target fault = WhenWrong fault ((new : TenantState) → IsTenantState new → HasReferenceMore old name target new → ⊥)
+-- nothing right that was taken is the old with this line
+abbrev pub RefusesLine : Version → Taken → List ℕ → LineFault → Type 0
+RefusesLine version old line fault = WhenWrong fault ((new : Taken) → IsTaken version new → Adds version old line new → ⊥)
 
 -- what is not put behind the others makes a wrong line
 abbrev pub fault_of : AddError → LineFault
@@ -92,15 +173,21 @@ fault_of add.OutOfOrder = Wrong
 fault_of add.TooMany = Wrong
 fault_of add.Memory = Memory
 
--- what was read are the lines of these states, so many, and the rest of the text is left
-pub record IsReadSoFar (text : List ℕ) (states : States) (lines : ℕ) (rest : List ℕ) : Type 0 where
-  pub parts : text ≡ flat_map ended (open_lines states) ++ rest
-  pub count : lines ≡ length (open_lines states)
-  pub few : lines + length rest ≤ length text
-  pub right : IsStates states
-
 abbrev pub fault_of_push : PushRefError → LineFault
 fault_of_push push.OutOfOrder = Wrong
 fault_of_push push.RefConflict = Wrong
 fault_of_push push.TooMany = Wrong
 fault_of_push push.Memory = Memory
+
+abbrev pub fault_of_offer : OfferError → LineFault
+fault_of_offer offering.ToGiver = Wrong
+fault_of_offer offering.OutOfOrder = Wrong
+fault_of_offer offering.TooMany = Wrong
+fault_of_offer offering.Memory = Memory
+
+-- what was read are these lines, so many, and the rest of the text is left
+pub record IsReadSoFar (version : Version) (text : List ℕ) (taken : Taken) (lines : ℕ) (rest : List ℕ) : Type 0 where
+  pub parts : text ≡ flat_map ended (open_lines version taken) ++ rest
+  pub count : lines ≡ length (open_lines version taken)
+  pub few : lines + length rest ≤ length text
+  pub right : IsTaken version taken

@@ -11,6 +11,19 @@ pub enum AddError {
     Memory,
 }
 
+/// Why an offer was not put behind the others.
+#[derive(Clone, Copy, Debug, PartialEq, Eq, Error)]
+pub enum OfferError {
+    #[error("the receiver is the giver")]
+    ToGiver,
+    #[error("the offer does not stand behind the others")]
+    OutOfOrder,
+    #[error("there are as many offers as there may be")]
+    TooMany,
+    #[error("no memory")]
+    Memory,
+}
+
 /// Why no states were read.
 #[derive(Clone, Copy, Debug, PartialEq, Eq, Error)]
 pub enum StateFault {

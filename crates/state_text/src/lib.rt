@@ -1,22 +1,27 @@
 //! What of a host outlives its process, as a value and as a text: the tenants with their limits, their
-//! references, and the names of the objects that they see.
-//! Each value has one text, what is read is spelled so, and a text that is none is refused by the
-//! number of its first wrong line.
+//! repositories, the names of the objects that they see, and the offers that they have made.
+//! Each value has one text that is written, what is read is spelled so or as the version before told
+//! it, and a text that is neither is refused by the number of its first wrong line.
 #![tactic(auto)]
 
 mod fault;
 mod laws;
 mod line_fault;
+mod offer;
 mod parts;
+mod place;
 mod reading;
 mod states;
 mod taking;
 mod tenant_state;
+mod version;
 mod writing;
 
-pub use crate::fault::{AddError, StateFault};
+pub use crate::fault::{AddError, OfferError, StateFault};
 pub use crate::laws::{one_value, one_wrong_line};
+pub use crate::offer::{MAX_OFFERS, Offer};
 pub use crate::reading::read;
 pub use crate::states::States;
 pub use crate::tenant_state::TenantState;
+pub use crate::version::Version;
 pub use crate::writing::write;

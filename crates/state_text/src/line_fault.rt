@@ -1,7 +1,7 @@
 ghost use Rattle.std.specs.Prelude.{◌≡◌};
-ghost use Rattle.state_text.specs.Taking.{fault_of, fault_of_push};
+ghost use Rattle.state_text.specs.Taking.{fault_of, fault_of_offer, fault_of_push};
 
-use crate::fault::AddError;
+use crate::fault::{AddError, OfferError};
 use git_reftx::PushRefError;
 
 /// Why a line was not taken.
@@ -30,6 +30,18 @@ impl From<PushRefError> for LineFault {
     fn from(error: PushRefError) -> LineFault {
         match error {
             PushRefError::Memory => LineFault::Memory,
+            _ => LineFault::Wrong,
+        }
+    }
+}
+
+// So does an offer.
+impl From<OfferError> for LineFault {
+    ghost from_gives = { λ error fault. fault ≡ fault_of_offer error };
+
+    fn from(error: OfferError) -> LineFault {
+        match error {
+            OfferError::Memory => LineFault::Memory,
             _ => LineFault::Wrong,
         }
     }

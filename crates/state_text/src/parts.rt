@@ -3,14 +3,17 @@ ghost use Rattle.std.specs.Fmt.{decimal as spelled};
 ghost use Rattle.hex.specs.Hex.{encode_lower};
 ghost use Rattle.git_name.specs.Name.{IsName};
 ghost use Rattle.git_refname.specs.Rule.{IsRefName};
-ghost use Rattle.fork_request.specs.Names.{IsTenantName};
+ghost use Rattle.fork_request.specs.Names.{IsRepositoryName, IsTenantName};
 ghost use Rattle.fork_request.specs.declared.limit.TheConstants.{MAX_LIMIT};
+ghost use Rattle.git_reftx.specs.Repository.{IsBranch};
 ghost use Rattle.state_text.specs.Adding.{fresh};
+ghost use Rattle.state_text.specs.Offer.{offer_words};
 
 use crate::tenant_state::TenantState;
-use fork_request::TenantName;
+use fork_request::{RepositoryName, TenantName};
 use git_name::{Name, decimal, split_once};
 use git_refname::RefName;
+use git_reftx::Branch;
 use std::alloc::Global;
 
 // What stands behind this front of a text.
@@ -62,4 +65,32 @@ pub(crate) fn reference_of(rest: &[u8], prefix: &[u8]) -> Option<(RefName, Name)
         Ok(name) => Some((name, target)),
         Err(_) => None,
     }
+}
+
+// The branch of the line of a HEAD, where this prefix stands before its name.
+pub(crate) fn head_of(rest: &[u8], prefix: &[u8]) -> Option<Branch>
+    ensures found { IfSome result (λ head. (rest.now ≡ prefix.now ++ head) × IsBranch head) }
+    ensures none { IfNone result ((head : List ℕ) → IsBranch head → rest.now ≢ prefix.now ++ head) }
+{
+    let Some(short) = behind(rest, prefix) else {
+        return None;
+    };
+    Branch::read(short)
+}
+
+// The receiver and the repository's name of an offer's line.
+pub(crate) fn offer_of(rest: &[u8]) -> Option<(TenantName, RepositoryName)>
+    ensures found { IfSome result (λ found. rest.now ≡ offer_words found.0 found.1) }
+    ensures none { IfNone result ((receiver name : List ℕ) → IsTenantName receiver → IsRepositoryName name → rest.now ≢ offer_words receiver name) }
+{
+    let Some((word, behind)) = split_once(rest, b' ') else {
+        return None;
+    };
+    let Some(receiver) = TenantName::read(word) else {
+        return None;
+    };
+    let Some(name) = RepositoryName::read(behind) else {
+        return None;
+    };
+    Some((receiver, name))
 }

@@ -1,18 +1,18 @@
-ghost use Rattle.std.specs.Prelude.{◌≡◌, IfOk, IfErr};
+ghost use Rattle.std.specs.Prelude.{◌≡◌, ◌↔◌, IsTrue, IfOk, IfErr, false, codes};
 ghost use Rattle.state_text.specs.Fault.{TellsLine};
 ghost use Rattle.state_text.specs.States as value;
-ghost use Rattle.state_text.specs.States.{IsStates};
-ghost use Rattle.state_text.specs.Text.{IsStateText, state_text};
+ghost use Rattle.state_text.specs.Text.{IsStateText};
 
 use crate::fault::StateFault;
 use crate::line_fault::LineFault;
 use crate::states::States;
 use crate::taking::take_line;
+use crate::version::Version;
 use git_name::split_once;
 use std::alloc::Global;
 
-/// The states whose text this is, all of the text. The time is that of its length and, for each
-/// reference, a few looks at a map.
+/// The states whose text this is, all of the text, in either version. The time is that of its length
+/// and, for each reference, a few looks at a map.
 pub fn read(alloc: Global, text: &[u8]) -> Result<States, StateFault>
     // What is read is spelled so.
     ensures found { IfOk result (λ states. IsStateText states text.now) }
@@ -26,33 +26,44 @@ pub fn read(alloc: Global, text: &[u8]) -> Result<States, StateFault>
 
 // The states, line by line.
 fn read_lines(alloc: Global, text: &[u8]) -> Result<States, StateFault>
-    ensures found { IfOk result (λ states. text.now ≡ state_text states) }
-    ensures right { IfOk result IsStates }
+    ensures found { IfOk result (λ states. IsStateText states text.now) }
     ensures exact { IfErr result (TellsLine text.now) }
 {
     let Some((first, mut rest)) = split_once(text, b'\n') else {
         return Err(StateFault::Line(1));
     };
-    if first != b"forkhost state 1".as_slice() {
+    let Some(version) = Version::of_line(first) else {
         return Err(StateFault::Line(1));
-    }
+    };
     let mut states = States::new(alloc);
+    // Whether the next line has to tell a HEAD.
+    let mut awaits = false;
     // How many lines were read.
     let mut lines = 1;
     'lines: while let Some((line, behind)) = split_once(rest, b'\n') {
         lines += 1;
-        if line == b"end".as_slice() {
+        if is_end(line, awaits) {
             if behind.len() > 0 {
                 return Err(StateFault::Line(lines + 1));
             }
             return Ok(states);
         }
-        match take_line(alloc, &mut states, line) {
-            Ok(()) => {}
+        match take_line(alloc, version, &mut states, awaits, line) {
+            Ok(more) => awaits = more,
             Err(LineFault::Wrong) => return Err(StateFault::Line(lines)),
             Err(LineFault::Memory) => return Err(StateFault::Memory),
         }
         rest = behind;
     }
     Err(StateFault::Line(lines + 1))
+}
+
+// Whether the line is the last one, which cannot come where a HEAD is awaited.
+fn is_end(line: &[u8], awaits: bool) -> bool
+    ensures { IsTrue result ↔ (line.now ≡ codes "end") × (awaits ≡ false) }
+{
+    if awaits {
+        return false;
+    }
+    line == b"end".as_slice()
 }

@@ -1,28 +1,45 @@
-ghost use Rattle.std.specs.Prelude.{◌≡◌, ◌∷◌, ◌++◌, [], List, ℕ, OnOk, IfErr};
+ghost use Rattle.std.specs.Prelude.{◌≡◌, ◌≢◌, ◌∷◌, ◌++◌, [], false, true, IfOk, IfErr, IfSome, IfNone};
+ghost use Rattle.git_reftx.specs.Repository as git;
+ghost use Rattle.state_text.specs.Place.{IsLast, with_at};
+ghost use Rattle.state_text.specs.States as value;
 ghost use Rattle.state_text.specs.States.{IsStates};
-ghost use Rattle.state_text.specs.Taking.{Adds, AddsReference, AddsRepository, AddsSeen, AddsTenant, Refuses};
+ghost use Rattle.state_text.specs.Taking.{Adds, Awaits, AddsHead, AddsOffer, AddsReference, AddsRepository, AddsSeen, AddsTenant, IsBegun, Refuses, RefusesLine, SaysHead, awaits_head};
+ghost use Rattle.state_text.specs.declared.place.Place as place;
 
 use crate::line_fault::LineFault;
-use crate::parts::{behind, reference_of, tenant_of};
+use crate::offer::Offer;
+use crate::parts::{behind, head_of, offer_of, reference_of, tenant_of};
+use crate::place::Place;
 use crate::states::States;
 use crate::tenant_state::TenantState;
+use crate::version::Version;
 use fork_request::RepositoryName;
 use git_name::Name;
 use git_refname::expand;
-use git_reftx::Refs;
+use git_reftx::Repository;
 use std::alloc::Global;
 
-// Takes a line, given without its LF.
-pub(crate) fn take_line(alloc: Global, states: &mut States, line: &[u8]) -> Result<(), LineFault>
-    ensures ok { OnOk result (Adds states.old line.now states.new) }
-    ensures sound { OnOk result (IsStates states.new) }
-    ensures wrong { IfErr result (Refuses Adds states.old line.now) }
+// Takes a line, given without its LF, and tells whether the next line has to tell a HEAD.
+pub(crate) fn take_line(
+    alloc: Global,
+    version: Version,
+    states: &mut States,
+    awaits: bool,
+    line: &[u8],
+) -> Result<bool, LineFault>
+    requires { Awaits version (record { states = states.old; awaits = awaits }) }
+    ensures ok { IfOk result (λ more. Adds version (record { states = states.old; awaits = awaits }) line.now (record { states = states.new; awaits = more })) }
+    ensures sound { IfOk result (λ more. IsStates states.new) }
+    ensures wrong { IfErr result (RefusesLine version (record { states = states.old; awaits = awaits }) line.now) }
 {
+    if awaits {
+        return take_awaited(alloc, states, line);
+    }
     if let Some(rest) = behind(line, b"tenant ") {
         return take_tenant(alloc, states, rest);
     }
     if let Some(rest) = behind(line, b"repo ") {
-        return take_repository(alloc, states, rest);
+        return take_repository(alloc, version, states, rest);
     }
     if let Some(rest) = behind(line, b"ref ") {
         return take_reference(alloc, states, rest);
@@ -30,13 +47,29 @@ pub(crate) fn take_line(alloc: Global, states: &mut States, line: &[u8]) -> Resu
     if let Some(rest) = behind(line, b"see ") {
         return take_seen(states, rest);
     }
+    if let Some(rest) = behind(line, b"offer ") {
+        return take_offer(alloc, version, states, rest);
+    }
     Err(LineFault::Wrong)
 }
 
+// Takes the line that has to tell a HEAD.
+fn take_awaited(alloc: Global, states: &mut States, line: &[u8]) -> Result<bool, LineFault>
+    requires { IsBegun states.old }
+    ensures ok { IfOk result (λ more. (more ≡ false) × SaysHead states.old line.now states.new) }
+    ensures sound { IfOk result (λ more. IsStates states.new) }
+    ensures wrong { IfErr result (Refuses SaysHead states.old line.now) }
+{
+    let Some(rest) = behind(line, b"head ") else {
+        return Err(LineFault::Wrong);
+    };
+    take_head(alloc, states, rest)
+}
+
 // Takes the rest of a tenant's line.
-fn take_tenant(alloc: Global, states: &mut States, rest: &[u8]) -> Result<(), LineFault>
-    ensures ok { OnOk result (AddsTenant states.old rest.now states.new) }
-    ensures sound { OnOk result (IsStates states.new) }
+fn take_tenant(alloc: Global, states: &mut States, rest: &[u8]) -> Result<bool, LineFault>
+    ensures ok { IfOk result (λ more. (more ≡ false) × AddsTenant states.old rest.now states.new) }
+    ensures sound { IfOk result (λ more. IsStates states.new) }
     ensures wrong { IfErr result (Refuses AddsTenant states.old rest.now) }
 {
     let Some(tenant) = tenant_of(alloc, rest) else {
@@ -45,13 +78,18 @@ fn take_tenant(alloc: Global, states: &mut States, rest: &[u8]) -> Result<(), Li
     // The name tells that the tenant is right.
     let _name = tenant.name();
     states.push(tenant)?;
-    Ok(())
+    Ok(false)
 }
 
 // Takes the rest of a repository's line.
-fn take_repository(alloc: Global, states: &mut States, rest: &[u8]) -> Result<(), LineFault>
-    ensures ok { OnOk result (AddsRepository states.old rest.now states.new) }
-    ensures sound { OnOk result (IsStates states.new) }
+fn take_repository(
+    alloc: Global,
+    version: Version,
+    states: &mut States,
+    rest: &[u8],
+) -> Result<bool, LineFault>
+    ensures ok { IfOk result (λ more. (more ≡ awaits_head version) × AddsRepository states.old rest.now states.new) }
+    ensures sound { IfOk result (λ more. IsStates states.new) }
     ensures wrong { IfErr result (Refuses AddsRepository states.old rest.now) }
 {
     let Some(mut tenant) = states.pop() else {
@@ -60,29 +98,46 @@ fn take_repository(alloc: Global, states: &mut States, rest: &[u8]) -> Result<()
     if tenant.seen().len() > 0 {
         return Err(LineFault::Wrong);
     }
+    if tenant.offers().len() > 0 {
+        return Err(LineFault::Wrong);
+    }
     let Some(name) = RepositoryName::read(rest) else {
         return Err(LineFault::Wrong);
     };
-    tenant.add_repository(name, Refs::new(alloc))?;
-    put_back(states, tenant)
+    tenant.add_repository(name, Repository::new(alloc))?;
+    put_back(states, tenant, version.is_with_heads())
+}
+
+// Takes the rest of the line of a HEAD.
+fn take_head(alloc: Global, states: &mut States, rest: &[u8]) -> Result<bool, LineFault>
+    requires { IsBegun states.old }
+    ensures ok { IfOk result (λ more. (more ≡ false) × AddsHead states.old rest.now states.new) }
+    ensures sound { IfOk result (λ more. IsStates states.new) }
+    ensures wrong { IfErr result (Refuses AddsHead states.old rest.now) }
+{
+    let Some((tenant, place, mut repository)) = open_last(states) else {
+        return Err(LineFault::Wrong);
+    };
+    let Ok(prefix) = expand(alloc, tenant.name().as_bytes(), place.name().as_bytes()) else {
+        return Err(LineFault::Memory);
+    };
+    let Some(head) = head_of(rest, prefix.as_slice()) else {
+        return Err(LineFault::Wrong);
+    };
+    repository.set_head(head);
+    close_last(states, tenant, place, repository)
 }
 
 // Takes the rest of a reference's line.
-fn take_reference(alloc: Global, states: &mut States, rest: &[u8]) -> Result<(), LineFault>
-    ensures ok { OnOk result (AddsReference states.old rest.now states.new) }
-    ensures sound { OnOk result (IsStates states.new) }
+fn take_reference(alloc: Global, states: &mut States, rest: &[u8]) -> Result<bool, LineFault>
+    ensures ok { IfOk result (λ more. (more ≡ false) × AddsReference states.old rest.now states.new) }
+    ensures sound { IfOk result (λ more. IsStates states.new) }
     ensures wrong { IfErr result (Refuses AddsReference states.old rest.now) }
 {
-    let Some(tenant) = states.pop() else {
+    let Some((tenant, place, mut repository)) = open_last(states) else {
         return Err(LineFault::Wrong);
     };
-    if tenant.seen().len() > 0 {
-        return Err(LineFault::Wrong);
-    }
-    let Some(last) = tenant.repositories().last() else {
-        return Err(LineFault::Wrong);
-    };
-    let Ok(prefix) = expand(alloc, tenant.name().as_bytes(), last.0.as_bytes()) else {
+    let Ok(prefix) = expand(alloc, tenant.name().as_bytes(), place.name().as_bytes()) else {
         return Err(LineFault::Memory);
     };
     let Some((name, target)) = reference_of(rest, prefix.as_slice()) else {
@@ -90,37 +145,104 @@ fn take_reference(alloc: Global, states: &mut States, rest: &[u8]) -> Result<(),
     };
     // The bytes tell that the target is a name.
     let _target = target.as_bytes();
-    let next = tenant.with_reference(name, target)?;
-    put_back(states, next)
+    repository.push(name, target)?;
+    // The references are right with this one, too.
+    let _references = repository.references();
+    close_last(states, tenant, place, repository)
 }
 
 // Takes the rest of the line of an object that is seen.
-fn take_seen(states: &mut States, rest: &[u8]) -> Result<(), LineFault>
-    ensures ok { OnOk result (AddsSeen states.old rest.now states.new) }
-    ensures sound { OnOk result (IsStates states.new) }
+fn take_seen(states: &mut States, rest: &[u8]) -> Result<bool, LineFault>
+    ensures ok { IfOk result (λ more. (more ≡ false) × AddsSeen states.old rest.now states.new) }
+    ensures sound { IfOk result (λ more. IsStates states.new) }
     ensures wrong { IfErr result (Refuses AddsSeen states.old rest.now) }
 {
     let Some(mut tenant) = states.pop() else {
         return Err(LineFault::Wrong);
     };
+    if tenant.offers().len() > 0 {
+        return Err(LineFault::Wrong);
+    }
     let Some(name) = Name::parse_hex(rest) else {
         return Err(LineFault::Wrong);
     };
     // The bytes tell that it is a name.
     let _name = name.as_bytes();
     tenant.add_seen(name)?;
-    put_back(states, tenant)
+    put_back(states, tenant, false)
 }
 
-// Puts back the state that was taken out last, with more in it.
-fn put_back(states: &mut States, tenant: TenantState) -> Result<(), LineFault>
-    requires { IsStates (states.old ++ tenant ∷ []) }
-    ensures ok { OnOk result (states.new ≡ states.old ++ tenant ∷ []) }
+// Takes the rest of an offer's line.
+fn take_offer(
+    alloc: Global,
+    version: Version,
+    states: &mut States,
+    rest: &[u8],
+) -> Result<bool, LineFault>
+    ensures ok { IfOk result (λ more. (more ≡ true) × AddsOffer version states.old rest.now states.new) }
+    ensures sound { IfOk result (λ more. IsStates states.new) }
+    ensures wrong { IfErr result (Refuses (AddsOffer version) states.old rest.now) }
+{
+    if !version.is_with_heads() {
+        return Err(LineFault::Wrong);
+    }
+    let Some(mut tenant) = states.pop() else {
+        return Err(LineFault::Wrong);
+    };
+    let Some((receiver, name)) = offer_of(rest) else {
+        return Err(LineFault::Wrong);
+    };
+    // The bytes tell that they are names.
+    let _receiver = receiver.as_bytes();
+    let _name = name.as_bytes();
+    tenant.add_offer(Offer::new(receiver, name, Repository::new(alloc)))?;
+    put_back(states, tenant, true)
+}
+
+// Takes out the last tenant, and what stands last of it.
+fn open_last(states: &mut States) -> Option<(TenantState, Place, Repository)>
+    ensures found { IfSome result (λ found. states.old ≡ states.new ++ with_at found.0 found.1 found.2 ∷ []) }
+    ensures last { IfSome result (λ found. IsLast found.0 found.1) }
+    ensures none { IfNone result ((before : value.States) (tenant : value.TenantState) (place : place.Place) (repository : git.Repository) → IsLast tenant place → states.old ≢ before ++ with_at tenant place repository ∷ []) }
+    ensures sound { IsStates states.old }
+{
+    let Some(mut tenant) = states.pop() else {
+        return None;
+    };
+    let Some((place, repository)) = tenant.open() else {
+        return None;
+    };
+    Some((tenant, place, repository))
+}
+
+// Puts back what was taken out last, with more in it.
+fn close_last(
+    states: &mut States,
+    tenant: TenantState,
+    place: Place,
+    repository: Repository,
+) -> Result<bool, LineFault>
+    requires { IsStates (states.old ++ with_at tenant place repository ∷ []) }
+    ensures ok { IfOk result (λ more. (more ≡ false) × (states.new ≡ states.old ++ with_at tenant place repository ∷ [])) }
     ensures fault { IfErr result (λ fault. fault ≡ LineFault.Memory) }
-    ensures sound { OnOk result (IsStates states.new) }
+    ensures sound { IfOk result (λ more. IsStates states.new) }
+{
+    let mut tenant = tenant;
+    let Ok(()) = tenant.close(place, repository) else {
+        return Err(LineFault::Memory);
+    };
+    put_back(states, tenant, false)
+}
+
+// Puts back the tenant that was taken out last, with more in it, and tells what is awaited.
+fn put_back(states: &mut States, tenant: TenantState, awaits: bool) -> Result<bool, LineFault>
+    requires { IsStates (states.old ++ tenant ∷ []) }
+    ensures ok { IfOk result (λ more. (more ≡ awaits) × (states.new ≡ states.old ++ tenant ∷ [])) }
+    ensures fault { IfErr result (λ fault. fault ≡ LineFault.Memory) }
+    ensures sound { IfOk result (λ more. IsStates states.new) }
 {
     let Ok(()) = states.put_back(tenant) else {
         return Err(LineFault::Memory);
     };
-    Ok(())
+    Ok(awaits)
 }

@@ -1,33 +1,35 @@
-ghost use Rattle.std.specs.Prelude.{◌≡◌, ◌≤◌, ◌<◌, ◌↔◌, IsTrue, OnOk, OnErr, IfOk, IfErr, IfSome, IfNone, length, map};
-ghost use Rattle.std.specs.FinMap.{values};
-ghost use Rattle.std.specs.List.{AllByRecursion};
-ghost use Rattle.git_name.specs.Name.{IsName};
-ghost use Rattle.git_reftx.specs.Sound.{AreSound};
+ghost use Rattle.std.specs.Prelude.{◌≡◌, ◌≢◌, ◌≤◌, ◌<◌, ◌↔◌, IsTrue, OnOk, OnErr, IfErr, IfSome, IfNone, length, map};
+ghost use Rattle.git_reftx.specs.Repository as git;
 ghost use Rattle.fork_request.specs.declared.limit.TheConstants.{MAX_LIMIT};
 ghost use Rattle.fork_model.specs.declared.limits.TheConstants.{MAX_REPOSITORIES};
-ghost use Rattle.state_text.specs.Adding.{TellsAdd, AreBefore, fresh, with_repository, with_seen};
-ghost use Rattle.state_text.specs.States.{Ascend, IsTenantState};
-ghost use Rattle.state_text.specs.Taking.{HasReferenceMore, RefusesReference};
+ghost use Rattle.state_text.specs.Adding.{TellsAdd, TellsOffer, AreBefore, fresh, with_offer, with_repository, with_seen};
+ghost use Rattle.state_text.specs.Offer.{words_of};
+ghost use Rattle.state_text.specs.Place.{IsLast, with_at};
+ghost use Rattle.state_text.specs.States as value;
+ghost use Rattle.state_text.specs.States.{Ascend, IsTenantState, IsTold};
+ghost use Rattle.state_text.specs.declared.place.Place as place;
 
-use crate::fault::AddError;
-use crate::line_fault::LineFault;
+use crate::fault::{AddError, OfferError};
+use crate::offer::{MAX_OFFERS, Offer};
+use crate::place::Place;
 use fork_model::MAX_REPOSITORIES;
 use fork_request::{MAX_LIMIT, RepositoryName, TenantName};
 use git_name::Name;
-use git_refname::RefName;
-use git_reftx::Refs;
-use std::alloc::Global;
+use git_reftx::Repository;
+use std::alloc::{AllocError, Global};
 use std::cmp::Ordering;
 use std::marker::Model;
 
-/// What of a tenant outlives a host's process: its limit in bytes of use, its repositories with their
-/// references, and the names of the objects that it sees. All names are in bytewise order.
+/// What of a tenant outlives a host's process: its limit in bytes of use, its repositories, the names of
+/// the objects that it sees, and the offers that it has made. All names are in bytewise order, and
+/// offers are by receiver, then by repository.
 #[derive(Drop)]
 pub struct TenantState {
     name: TenantName,
     limit: u64,
-    repositories: Vec<(RepositoryName, Refs)>,
+    repositories: Vec<(RepositoryName, Repository)>,
     seen: Vec<Name>,
+    offers: Vec<Offer>,
 }
 
 impl Model for TenantState {
@@ -37,9 +39,9 @@ impl Model for TenantState {
 
     ghost coded = { value.state_code };
 
-    ghost view = { λ a. record { name = a.name; limit = a.limit; repositories = a.repositories.items; seen = a.seen.items } };
+    ghost view = { λ a. record { name = a.name; limit = a.limit; repositories = a.repositories.items; seen = a.seen.items; offers = a.offers.items } };
 
-    ghost invariant = { λ a. value.IsTenantState (record { name = a.name; limit = a.limit; repositories = a.repositories.items; seen = a.seen.items }) };
+    ghost invariant = { λ a. value.IsTenantState (record { name = a.name; limit = a.limit; repositories = a.repositories.items; seen = a.seen.items; offers = a.offers.items }) };
 }
 
 impl TenantState {
@@ -57,6 +59,7 @@ impl TenantState {
             limit,
             repositories: Vec::new(alloc),
             seen: Vec::new(alloc),
+            offers: Vec::new(alloc),
         })
     }
 
@@ -75,8 +78,8 @@ impl TenantState {
         self.limit
     }
 
-    /// The repositories by name, each with its references.
-    pub fn repositories(&self) -> &[(RepositoryName, Refs)]
+    /// The repositories by name.
+    pub fn repositories(&self) -> &[(RepositoryName, Repository)]
         ensures { result.now ≡ self.now.repositories }
     {
         self.repositories.as_slice()
@@ -89,68 +92,62 @@ impl TenantState {
         self.seen.as_slice()
     }
 
-    /// The name, the limit, the repositories and the names of the objects that are seen.
-    pub fn into_parts(self) -> (TenantName, u64, Vec<(RepositoryName, Refs)>, Vec<Name>)
+    /// The offers by receiver, then by repository.
+    pub fn offers(&self) -> &[Offer]
+        ensures { result.now ≡ self.now.offers }
+    {
+        self.offers.as_slice()
+    }
+
+    /// The name, the limit, the repositories, the names of the objects that are seen, and the offers.
+    pub fn into_parts(
+        self,
+    ) -> (
+        TenantName,
+        u64,
+        Vec<(RepositoryName, Repository)>,
+        Vec<Name>,
+        Vec<Offer>,
+    )
         ensures name { result.0 ≡ self.name }
         ensures limit { result.1 ≡ self.limit }
         ensures repositories { result.2.items ≡ self.repositories }
         ensures seen { result.3.items ≡ self.seen }
+        ensures offers { result.4.items ≡ self.offers }
     {
-        (self.name, self.limit, self.repositories, self.seen)
+        let TenantState {
+            name,
+            limit,
+            repositories,
+            seen,
+            offers,
+        } = self;
+        (name, limit, repositories, seen, offers)
     }
 
     /// Puts a repository behind the others. An `Err` leaves the state as it was.
-    pub fn add_repository(&mut self, name: RepositoryName, references: Refs) -> Result<(), AddError>
-        ensures ok { OnOk result (self.new ≡ with_repository self.old name references) }
+    pub fn add_repository(
+        &mut self,
+        name: RepositoryName,
+        repository: Repository,
+    ) -> Result<(), AddError>
+        ensures ok { OnOk result (self.new ≡ with_repository self.old name repository) }
         ensures err { OnErr result (self.new ≡ self.old) }
         ensures cause { IfErr result (TellsAdd (MAX_REPOSITORIES ≤ length self.old.repositories) (map (λ repository. repository.0) self.old.repositories) name) }
         ensures sound { OnOk result (IsTenantState self.new) }
     {
         let _name = name.as_bytes();
-        names_of(&references);
+        tell(&repository);
         if !repository_follows(self.repositories.as_slice(), &name) {
             return Err(AddError::OutOfOrder);
         }
         if self.repositories.len() >= MAX_REPOSITORIES {
             return Err(AddError::TooMany);
         }
-        let Ok(()) = self.repositories.push((name, references)) else {
+        let Ok(()) = self.repositories.push((name, repository)) else {
             return Err(AddError::Memory);
         };
         Ok(())
-    }
-
-    // Puts a reference behind the others of the last repository.
-    pub(crate) fn with_reference(
-        self,
-        name: RefName,
-        target: Name,
-    ) -> Result<TenantState, LineFault>
-        ensures ok { IfOk result (HasReferenceMore self name target) }
-        ensures sound { IfOk result IsTenantState }
-        ensures wrong { IfErr result (RefusesReference self name target) }
-    {
-        let TenantState {
-            name: tenant,
-            limit,
-            mut repositories,
-            seen,
-        } = self;
-        let _target = target.as_bytes();
-        let Some((repository, mut references)) = repositories.pop() else {
-            return Err(LineFault::Wrong);
-        };
-        references.push(name, target)?;
-        let _count = references.len();
-        let Ok(()) = repositories.push((repository, references)) else {
-            return Err(LineFault::Memory);
-        };
-        Ok(TenantState {
-            name: tenant,
-            limit,
-            repositories,
-            seen,
-        })
     }
 
     /// Puts the name of an object that is seen behind the others. An `Err` leaves the state as it was.
@@ -169,21 +166,78 @@ impl TenantState {
         };
         Ok(())
     }
+
+    /// Puts an offer behind the others. An `Err` leaves the state as it was.
+    pub fn add_offer(&mut self, offer: Offer) -> Result<(), OfferError>
+        ensures ok { OnOk result (self.new ≡ with_offer self.old offer) }
+        ensures err { OnErr result (self.new ≡ self.old) }
+        ensures cause { IfErr result (TellsOffer self.old offer) }
+        ensures sound { OnOk result (IsTenantState self.new) }
+    {
+        tell(offer.repository());
+        let _name = offer.name();
+        if offer.receiver() == &self.name {
+            return Err(OfferError::ToGiver);
+        }
+        if !offer_follows(self.offers.as_slice(), &offer) {
+            return Err(OfferError::OutOfOrder);
+        }
+        if self.offers.len() >= MAX_OFFERS {
+            return Err(OfferError::TooMany);
+        }
+        let Ok(()) = self.offers.push(offer) else {
+            return Err(OfferError::Memory);
+        };
+        Ok(())
+    }
+
+    // Takes out what stands last: an offer, or a repository behind which nothing stands.
+    pub(crate) fn open(&mut self) -> Option<(Place, Repository)>
+        ensures found { IfSome result (λ found. self.old ≡ with_at self.new found.0 found.1) }
+        ensures last { IfSome result (λ found. IsLast self.new found.0) }
+        ensures none { IfNone result ((tenant : value.TenantState) (place : place.Place) (repository : git.Repository) → IsLast tenant place → self.old ≢ with_at tenant place repository) }
+    {
+        if let Some(offer) = self.offers.pop() {
+            let (receiver, name, repository) = offer.into_parts();
+            return Some((Place::Offered(receiver, name), repository));
+        }
+        if self.seen.len() > 0 {
+            return None;
+        }
+        let Some((name, repository)) = self.repositories.pop() else {
+            return None;
+        };
+        Some((Place::Own(name), repository))
+    }
+
+    // Puts back what was taken out last, with more in it.
+    pub(crate) fn close(&mut self, place: Place, repository: Repository) -> Result<(), AllocError>
+        requires { IsTenantState (with_at self.old place repository) }
+        ensures { OnOk result (self.new ≡ with_at self.old place repository) }
+    {
+        match place {
+            Place::Own(name) => {
+                self.repositories.push((name, repository))?;
+            }
+            Place::Offered(receiver, name) => {
+                self.offers.push(Offer::new(receiver, name, repository))?;
+            }
+        }
+        Ok(())
+    }
 }
 
-// What is known of references: each points at a name.
-fn names_of(references: &Refs)
-    ensures targets { AllByRecursion IsName (values references.now) }
-    ensures sound { AreSound references.now }
+// What is known of a repository.
+fn tell(repository: &Repository)
+    ensures { IsTold repository.now }
 {
-    let _count = references.len();
-    for (_, target) in references.iter() {
+    for (_, target) in repository.references().iter() {
         let _target = target.as_bytes();
     }
 }
 
 // Whether the name stands behind those of the repositories.
-fn repository_follows(repositories: &[(RepositoryName, Refs)], name: &RepositoryName) -> bool
+fn repository_follows(repositories: &[(RepositoryName, Repository)], name: &RepositoryName) -> bool
     requires { Ascend (map (λ repository. repository.0) repositories.now) }
     ensures { IsTrue result ↔ AreBefore (map (λ repository. repository.0) repositories.now) name.now }
 {
@@ -208,4 +262,15 @@ fn name_follows(names: &[Name], name: &Name) -> bool
         return false;
     };
     true
+}
+
+// Whether the offer stands behind the others.
+fn offer_follows(offers: &[Offer], offer: &Offer) -> bool
+    requires { Ascend (map words_of offers.now) }
+    ensures { IsTrue result ↔ AreBefore (map words_of offers.now) (words_of offer.now) }
+{
+    let Some(last) = offers.last() else {
+        return true;
+    };
+    last.is_before(offer)
 }

@@ -1,9 +1,10 @@
 use Rattle.std.proofs.Common.{◌≡◌, ◌++◌, take}
 use Rattle.std.specs.List.{flat_map}
 use Rattle.git_name.specs.Text.{ended}
+use Rattle.state_text.specs.declared.version.Version.TheVariants.{Two}
 use Rattle.state_text.specs.Text.{repository_lines}
 use Rattle.state_text.proofs.writing.put_repositories.Given as goal
 
 -- the lines of the repositories so far are written
 abbrev pub invariant-loop-name : goal.invariant-loop-name
-invariant-loop-name l = l.out.items ≡ l.fn.out.items ++ flat_map ended (flat_map (repository_lines l.tenant) (take l.name-index l.repositories))
+invariant-loop-name l = l.out.items ≡ l.fn.out.items ++ flat_map ended (flat_map (repository_lines Two l.tenant) (take l.name-index l.repositories))

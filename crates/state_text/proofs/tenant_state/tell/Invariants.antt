@@ -2,8 +2,8 @@ use Rattle.std.proofs.Common.{map}
 use Rattle.std.specs.FinMap.{values}
 use Rattle.std.specs.List.{AllByRecursion}
 use Rattle.git_name.specs.Name.{IsName}
-use Rattle.state_text.proofs.tenant_state.names_of.Given as goal
+use Rattle.state_text.proofs.tenant_state.tell.Given as goal
 
 -- what is left to see decides
 abbrev pub invariant-loop-target : goal.invariant-loop-target
-invariant-loop-target l = AllByRecursion IsName (map (λ e. e.1) l.target-iterator) → AllByRecursion IsName (values l.references)
+invariant-loop-target l = AllByRecursion IsName (map (λ e. e.1) l.target-iterator) → AllByRecursion IsName (values l.repository.references)

@@ -1,0 +1,7 @@
+use Rattle.state_text.specs.declared.version.Version.TheVariants.{Two}
+use Rattle.state_text.specs.Text.{offer_lines}
+use Rattle.state_text.proofs.WritingLemmas.{row_put}
+use Rattle.state_text.proofs.writing.put_offers.Goals as goal
+
+pub loop-offer-preserved : goal.loop-offer-preserved
+loop-offer-preserved c = row_put (offer_lines Two c.args.tenant.now) c.args.offers.now c.offer-item.result c.loop-offer.offer-index c.args.out.now.items c.loop-offer.out.items c.put_offer.new.out.items c.loop-offer-test.true c.offer-item.is c.loop-offer.invariant c.in_ok-put_offer.ensures

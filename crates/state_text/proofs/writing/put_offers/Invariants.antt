@@ -1,0 +1,10 @@
+use Rattle.std.proofs.Common.{◌≡◌, ◌++◌, take}
+use Rattle.std.specs.List.{flat_map}
+use Rattle.git_name.specs.Text.{ended}
+use Rattle.state_text.specs.declared.version.Version.TheVariants.{Two}
+use Rattle.state_text.specs.Text.{offer_lines}
+use Rattle.state_text.proofs.writing.put_offers.Given as goal
+
+-- the lines of the offers so far are written
+abbrev pub invariant-loop-offer : goal.invariant-loop-offer
+invariant-loop-offer l = l.out.items ≡ l.fn.out.items ++ flat_map ended (flat_map (offer_lines Two l.tenant) (take l.offer-index l.offers))

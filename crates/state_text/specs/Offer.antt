@@ -1,0 +1,26 @@
+-- An offer that a tenant has made (own): to whom, of which of its repositories, and that repository as it was then.
+use Rattle.std.specs.Prelude.{ℕ, List, ◌++◌, codes, refl}
+use Rattle.std.specs.Coded.{Coded, code_by, coded×, coded_ℕ, coded_list}
+use Rattle.git_reftx.specs.Repository.{Repository, repository_code}
+
+-- to the receiver, of the repository of this name
+pub record Offer : Type 0 where
+  pub receiver : List ℕ
+  pub name : List ℕ
+  pub repository : Repository
+
+-- the words by which a tenant's offers are ordered: by receiver, then by repository, as SP stands before each byte of a name
+abbrev pub offer_words : List ℕ → List ℕ → List ℕ
+offer_words receiver name = receiver ++ codes " " ++ name
+
+abbrev pub words_of : Offer → List ℕ
+words_of offer = offer_words offer.receiver offer.name
+
+-- an offer has a code, so that it can be a model's value
+abbrev bytes_code : Coded (List ℕ)
+bytes_code = coded_list coded_ℕ
+
+abbrev pub offer_code : Coded Offer
+offer_code =
+    code_by (List ℕ × (List ℕ × Repository)) (coded× bytes_code (coded× bytes_code repository_code))
+    (λ o. (o.receiver, (o.name, o.repository))) (λ p. record { receiver = p.0; name = p.1.0; repository = p.1.1 }) (λ _. refl)

@@ -1,0 +1,24 @@
+ghost use Rattle.std.specs.Prelude.{◌≡◌};
+ghost use Rattle.state_text.specs.Place.{name_at};
+
+use fork_request::{RepositoryName, TenantName};
+
+// Where in a tenant's lines a text stands: within one of its repositories, or within an offer to this
+// receiver.
+#[derive(Drop)]
+pub(crate) enum Place {
+    Own(RepositoryName),
+    Offered(TenantName, RepositoryName),
+}
+
+impl Place {
+    // The repository's name.
+    pub(crate) fn name(&self) -> &RepositoryName
+        ensures { result.now ≡ name_at self.now }
+    {
+        match self {
+            Place::Own(name) => name,
+            Place::Offered(_, name) => name,
+        }
+    }
+}

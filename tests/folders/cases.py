@@ -164,7 +164,7 @@ LIMITS = {
 }
 
 ORDERS = {
-    "a wrong line before what is lost": (ALL + b"x", {}, "state line 13"),
+    "a wrong line before what is lost": (ALL + b"x", {}, "state line 14"),
     "objects by the text's order, whatever is wrong": (
         alone([B, O], limit=0),
         {max(B, O): b""},

@@ -14,18 +14,29 @@ def see(name):
     return b"see " + name
 
 
-HEAD, LAST = b"forkhost state 1", b"end"
+def head(name=b"refs/heads/main", space=OWN):
+    return b"head " + space + name
+
+
+HEAD, NEW, LAST = b"forkhost state 1", b"forkhost state 2", b"end"
 ALICE, BOB = b"tenant alice 1000", b"tenant bob 1000"
 A, B = ref(b"refs/heads/a"), ref(b"refs/heads/b")
 
-# A state text by its lines.
+# A state text of each version by its lines.
 LINES = [HEAD, ALICE, b"repo r", ref(b"refs/tags/e"), see(E), BOB, LAST]
 WHOLE = b"\n".join([*LINES, b""])
+OFFERED = [b"offer bob r", head(b"refs/heads/x"), ref(b"refs/tags/e")]
+WHOLE_2 = b"\n".join([NEW, ALICE, b"repo r", head(), ref(b"refs/tags/e"), see(E), *OFFERED, BOB, LAST, b""])
 
 
 def text(*lines):
-    """The lines between the first and the last."""
+    """The lines between the first and the last, in version 1."""
     return b"\n".join([HEAD, *lines, LAST, b""])
+
+
+def two(*lines):
+    """And in version 2."""
+    return b"\n".join([NEW, *lines, LAST, b""])
 
 
 def many(form, count):
@@ -43,7 +54,13 @@ ENDS = [
     (3, HEAD + b"\nend\nx"),
     (3, HEAD + b"\nend\nend\n"),
     (3, HEAD + b"\nend\n\0"),
-    (1, b"forkhost state 2\nend\n"),
+    (None, NEW + b"\nend\n"),
+    (2, NEW + b"\n"),
+    (3, NEW + b"\nend\n\n"),
+    (1, b"forkhost state 0\nend\n"),
+    (1, b"forkhost state 3\nend\n"),
+    (1, b"forkhost state 02\nend\n"),
+    (1, b"forkhost state 12\nend\n"),
     (1, b"forkhost state 1 \nend\n"),
     (1, b"forkhost state 01\nend\n"),
     (1, b"\xef\xbb\xbfforkhost state 1\nend\n"),
@@ -52,6 +69,7 @@ ENDS = [
     (2, HEAD + b"\nend \n"),
     (2, HEAD + b"\nEND\n"),
     (None, WHOLE),
+    (None, WHOLE_2),
     (7, WHOLE[:-1]),
     (7, WHOLE[:-4]),
     (8, WHOLE + b"\n"),
@@ -169,16 +187,82 @@ COUNTS = [
     (None, text(ALICE, b"repo r", *many(ref(b"refs/heads/b%04d"), 4096), b"repo s", BOB)),
 ]
 
-ROWS = ENDS + ORDERS + PLACES + CONFLICTS + REFERENCES + NAMES + LIMITS + COUNTS
+# What stands behind a line that begins a repository or an offer.
+BAD_HEADS = [
+    *map(head, (b"", b"refs/tags/v", b"refs/heads", b"refs/heads/", b"HEAD", b"refs/heads/a..b", b"refs/heads/a ")),
+    *(head(space=space) for space in BAD_SPACES),
+    *(A, see(E), BOB, LAST, b"repo s", b"offer bob r", b"head", b"head ", b"Head" + head()[4:], head() + b"\r"),
+    head(b"refs/heads/" + b"a" * 245),
+]
+RIGHT_HEADS = [b"refs/heads/main", b"refs/heads/a/b", b"refs/heads/\x80", b"refs/heads/" + b"a" * 244]
+HEADS = [
+    *((4, two(ALICE, b"repo r", line)) for line in BAD_HEADS),
+    *((4, two(ALICE, b"offer bob r", line)) for line in BAD_HEADS),
+    *((None, two(ALICE, b"repo r", head(name), B, see(E), BOB)) for name in RIGHT_HEADS),
+    *((None, two(ALICE, b"offer bob r", head(name), B, BOB)) for name in RIGHT_HEADS),
+    (5, two(ALICE, b"repo r", head(), head())),
+    (6, two(ALICE, b"repo r", head(), A, head())),
+    (3, two(ALICE, head())),
+    (2, two(head())),
+    (4, two(ALICE, b"repo r", b"")),
+    (4, text(ALICE, b"repo r", head())),
+    (3, text(ALICE, b"offer bob r")),
+    (6, two(ALICE, b"repo r", head(), B, A)),
+]
+
+R = (b"offer bob r", head())
+IN_S = b"refs/namespaces/alice/refs/namespaces/s/"
+BAD_OFFERS = [
+    *(b"", b" ", b" bob", b" bob ", b"  bob r", b" bob  r", b" bob r ", b" bob r s", b" Bob r", b" bob R"),
+    *(b" @host r", b" bob r/s", b" alice r", b" " + b"b" * 33 + b" r", b" bob " + b"r" * 65, b"\tbob r"),
+]
+OFFERS = [
+    *((3, two(ALICE, b"offer" + rest)) for rest in BAD_OFFERS),
+    (2, two(b"offer bob r")),
+    (None, two(ALICE, *R)),
+    (None, two(ALICE, see(E), *R, A, B, BOB)),
+    (None, two(ALICE, *R, b"offer bob s", head(space=IN_S), b"offer carol r", head())),
+    (5, two(ALICE, *R, *R)),
+    (7, two(ALICE, *R, b"offer bob s", head(space=IN_S), *R)),
+    (5, two(ALICE, *R, b"offer bob a")),
+    (5, two(ALICE, *R, b"offer bo s")),
+    (None, two(ALICE, b"offer bo s", head(space=IN_S), *R, b"offer bob- r", head())),
+    (5, two(ALICE, b"offer bob- r", head(), *R)),
+    (5, two(ALICE, *R, see(E))),
+    (5, two(ALICE, *R, b"repo r")),
+    (6, two(ALICE, *R, B, A)),
+    (6, two(ALICE, *R, A, ref(b"refs/heads/a/b"))),
+    (5, two(ALICE, *R, ref(b"refs/heads/a", space=b"refs/namespaces/bob/refs/namespaces/r/"))),
+    (5, two(ALICE, *R, ref(b"refs/heads/a", space=IN_S))),
+]
+
+
+def offers(count):
+    """Lines of so many offers, two a piece."""
+    for number in range(count):
+        yield from (b"offer b%03d r" % number, head())
+
+
+COUNTS_2 = [
+    (None, two(ALICE, *offers(256), BOB)),
+    (515, two(ALICE, *offers(257))),
+    (None, two(ALICE, *R, *many(ref(b"refs/heads/b%04d"), 4096))),
+    (4101, two(ALICE, *R, *many(ref(b"refs/heads/b%04d"), 4097))),
+    (4101, two(ALICE, b"repo r", head(), *many(ref(b"refs/heads/b%04d"), 4097))),
+]
+
+ROWS = ENDS + ORDERS + PLACES + CONFLICTS + REFERENCES + NAMES + LIMITS + COUNTS + HEADS + OFFERS + COUNTS_2
+WHOLES = (WHOLE, WHOLE_2)
 
 
 def fronts():
-    return [WHOLE[:length] for length in range(len(WHOLE))]
+    return [whole[:length] for whole in WHOLES for length in range(len(whole))]
 
 
 def turned():
     """One bit of a byte is turned: its least, or that which parts letters."""
-    return [WHOLE[:at] + bytes([WHOLE[at] ^ bit]) + WHOLE[at + 1 :] for at in range(len(WHOLE)) for bit in (1, 32)]
+    places = [(whole, at) for whole in WHOLES for at in range(len(whole))]
+    return [whole[:at] + bytes([whole[at] ^ bit]) + whole[at + 1 :] for whole, at in places for bit in (1, 32)]
 
 
 def moved(lines):

@@ -2,7 +2,7 @@
 use Rattle.std.proofs.Common.{◌≡◌, ◌∙◌, Bool, true, false, cond, not, refl, sym, ap, ℕ, List}
 use Rattle.git_name.specs.Name.{name_cmp}
 use Rattle.git_name.proofs.Names.{name_exact, name_total}
-use Rattle.fork_request.specs.Asked.{Ask, Inits, Drops, Forks, Pushes, SendsPart, EndsParts, DropsParts, Updates, AsksObject, AsksTree, AsksRevisions, AsksBases, AsksReferences, Fetches, AsksUse, Prunes, NoRequest, asked, asked_host}
+use Rattle.fork_request.specs.Asked.{Ask, Inits, Drops, Forks, Pushes, SendsPart, EndsParts, DropsParts, Updates, SetsHead, AsksObject, AsksTree, AsksRevisions, AsksBases, AsksReferences, AsksHead, Fetches, AsksUse, Prunes, NoRequest, asked, asked_host}
 use Rattle.fork_request.specs.Names.{is_plain_name}
 use Rattle.fork_request.specs.declared.name.TheConstants.{MAX_REPOSITORY_NAME}
 use Rattle.fork_request.specs.Told.{is_host_fault}
@@ -10,7 +10,7 @@ use Rattle.fork_request.specs.declared.reply.Reply.{Reply}
 use Rattle.fork_request.specs.declared.reply.Reply.TheVariants.{Done, Refused, Failed}
 use Rattle.fork_request.specs.declared.refusal.Refusal.TheVariants.{UnknownTenant}
 use Rattle.std.specs.FinMap.{insert}
-use Rattle.fork_model.specs.Answer.{answer, left_by, cat_file_answer, ls_tree_answer, rev_list_answer, merge_base_answer, references_answer, fetch_answer, quota_answer}
+use Rattle.fork_model.specs.Answer.{answer, left_by, cat_file_answer, ls_tree_answer, rev_list_answer, merge_base_answer, references_answer, head_answer, fetch_answer, quota_answer}
 use Rattle.fork_model.specs.Runs.{Answered, Unknown, Faulted, TenantStep}
 use Rattle.fork_model.specs.View.{View}
 use Rattle.fork_model.specs.World.{HostSays, Steps, World, nothing_met}
@@ -30,7 +30,7 @@ tested view false x y = refl
 
 -- a request that only asks leaves the view
 pub asking_leaves : (view : View) (ask : Ask) → only_asks ask ≡ true → (answer view ask).1 ≡ view
-unfolding answer cat_file_answer ls_tree_answer rev_list_answer merge_base_answer references_answer fetch_answer quota_answer
+unfolding answer cat_file_answer ls_tree_answer rev_list_answer merge_base_answer references_answer head_answer fetch_answer quota_answer
 asking_leaves view (Inits repository) is = absurd (cc)
 asking_leaves view (Drops repository) is = absurd (cc)
 asking_leaves view (Forks source copy) is = absurd (cc)
@@ -39,11 +39,13 @@ asking_leaves view (SendsPart body) is = absurd (cc)
 asking_leaves view (EndsParts repository) is = absurd (cc)
 asking_leaves view DropsParts is = absurd (cc)
 asking_leaves view (Updates repository body) is = absurd (cc)
+asking_leaves view (SetsHead repository reference) is = absurd (cc)
 asking_leaves view (AsksObject name) is = refl
 asking_leaves view (AsksTree name) is = refl
 asking_leaves view (AsksRevisions repository items) is = tested view (is_plain_name MAX_REPOSITORY_NAME repository) _ _
 asking_leaves view (AsksBases repository first second) is = tested view (is_plain_name MAX_REPOSITORY_NAME repository) _ _
 asking_leaves view (AsksReferences repository prefix) is = tested view (is_plain_name MAX_REPOSITORY_NAME repository) _ _
+asking_leaves view (AsksHead repository) is = tested view (is_plain_name MAX_REPOSITORY_NAME repository) _ _
 asking_leaves view (Fetches repository items) is = tested view (is_plain_name MAX_REPOSITORY_NAME repository) _ _
 asking_leaves view AsksUse is = refl
 asking_leaves view Prunes is = absurd (cc)
@@ -59,11 +61,13 @@ left_there view (SendsPart body) is = refl
 left_there view (EndsParts repository) is = absurd (cc)
 left_there view DropsParts is = refl
 left_there view (Updates repository body) is = refl
+left_there view (SetsHead repository reference) is = refl
 left_there view (AsksObject name) is = refl
 left_there view (AsksTree name) is = refl
 left_there view (AsksRevisions repository items) is = refl
 left_there view (AsksBases repository first second) is = refl
 left_there view (AsksReferences repository prefix) is = refl
+left_there view (AsksHead repository) is = refl
 left_there view (Fetches repository items) is = refl
 left_there view AsksUse is = refl
 left_there view Prunes is = refl

@@ -18,10 +18,20 @@ fn only_asks(payload: &[u8]) -> bool
         | Request::RevList(_, _)
         | Request::MergeBase(_, _, _)
         | Request::ForEachRef(_, _)
+        | Request::Head(_)
         | Request::Fetch(_, _)
         | Request::Quota
         | Request::Bad => true,
-        _ => false,
+        Request::Init(_)
+        | Request::Drop(_)
+        | Request::Fork(_, _)
+        | Request::Push(_, _)
+        | Request::Part(_)
+        | Request::PartEnd(_)
+        | Request::PartDrop
+        | Request::UpdateRefs(_, _)
+        | Request::SetHead(_, _)
+        | Request::Prune => false,
     }
 }
 

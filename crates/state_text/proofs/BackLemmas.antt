@@ -1,5 +1,5 @@
 -- What was taken, without what its last line says.
-use Rattle.std.proofs.Common.{◌≡◌, ℕ, ◌≤◌, Bool, true, false, List, [], ◌∷◌, ◌++◌, ◌⊎◌, inl, inr, ⊎_elim, codes, decimal, refl, sym, ap, subst, ◌∙◌, length, arith}
+use Rattle.std.proofs.Common.{◌≡◌, ℕ, Bool, true, false, List, [], ◌∷◌, ◌++◌, ◌⊎◌, inl, inr, ⊎_elim, codes, decimal, refl, sym, ap, subst, ◌∙◌}
 use Rattle.std.specs.FinMap as finite
 use Rattle.std.specs.FinMap.{entries, from_sorted}
 use Rattle.std.specs.List.{AllByRecursion}
@@ -14,12 +14,12 @@ use Rattle.state_text.specs.declared.version.Version.{Version}
 use Rattle.state_text.specs.declared.version.Version.TheVariants.{One, Two}
 use Rattle.state_text.specs.Place.{IsLast, name_at, with_at}
 use Rattle.state_text.specs.States.{Ascend, IsStates, IsTenantState, IsTold, States, TenantState}
-use Rattle.state_text.specs.Taking.{Adds, Goes, HasReferenceMore, IsBegun, IsTaken, Taken, Head, Tenant, Repository, Reference, Seen, Offer, awaits_head}
-use Rattle.state_text.specs.Text.{IsPlain, Tells}
+use Rattle.state_text.specs.Taking.{Adds, HasReferenceMore, IsTaken, Taken, Head, Tenant, Repository, Reference, Seen, Offer, awaits_head}
+use Rattle.state_text.specs.Text.{Tells}
 use Rattle.state_text.proofs.BehindLemmas.{ascend_front, each_front, from_back}
 use Rattle.state_text.proofs.LastLemmas.{fewer_entries, less_told}
 use Rattle.state_text.proofs.LineLemmas.{no_entries}
-use Rattle.state_text.proofs.PlaceLemmas.{place_changed, place_less, same_name_at, states_changed, told_at}
+use Rattle.state_text.proofs.PlaceLemmas.{place_changed, place_less, same_name_at, told_at}
 use Rattle.state_text.proofs.StateLemmas.{last_right, tenant_changed, tenant_less}
 use Rattle.state_text.specs.Offer.{offer_words}
 use Rattle.state_text.proofs.TellingLemmas.{TellsOne, main_head, offered_plain, tells_all, tells_before, tells_behind, tells_changed, tells_last, tells_less, unseen_told}

@@ -1,7 +1,7 @@
 -- Texts that are written out, by the definitions.
-use Rattle.std.proofs.Common.{◌≡◌, ◌≢◌, ℕ, ◌+◌, ◌≤◌, true, false, List, [], ◌∷◌, ◌++◌, inr, inl, codes, refl, sym, ap, subst, ◌∙◌, length, map, slice_index, append_assoc, rules, arith}
+use Rattle.std.proofs.Common.{◌≡◌, ◌≢◌, ℕ, ◌+◌, true, false, List, [], ◌∷◌, ◌++◌, codes, refl, sym, ap, subst, ◌∙◌, length, slice_index, append_assoc, rules, arith}
 use Rattle.std.specs.Fmt.{digits}
-use Rattle.std.specs.List.{AllByRecursion, flat_map}
+use Rattle.std.specs.List.{flat_map}
 use Rattle.std.specs.List.Sorted.{IsStrictlySortedBy}
 use Rattle.std.proofs.lemmas.List.{append_cancel_left}
 use Rattle.std.proofs.lemmas.List.Elements.{All-from_recursion, All-nil}
@@ -10,15 +10,12 @@ use Rattle.hex.specs.Hex.{encode_lower}
 use Rattle.git_name.specs.Name.{IsName, name_cmp}
 use Rattle.git_name.specs.Text.{ended}
 use Rattle.git_name.proofs.PlainLemmas.{encode_lower-plain}
-use Rattle.git_refname.specs.Namespace.{expanded}
-use Rattle.git_reftx.specs.Repository as git
 use Rattle.git_reftx.specs.Repository.{main_branch, new_repository}
 use Rattle.git_reftx.specs.Transaction.{is_branch}
 use Rattle.fork_request.specs.Names.{IsPlainName, is_plain_name}
 use Rattle.fork_request.proofs.NameLemmas.{plain_name}
 use Rattle.state_text.specs.declared.offer.TheConstants.{MAX_OFFERS}
 use Rattle.state_text.specs.declared.fault.OfferError.TheVariants as offering
-use Rattle.state_text.specs.declared.place.Place.{Place}
 use Rattle.state_text.specs.declared.place.Place.TheVariants.{Own, Offered}
 use Rattle.state_text.specs.declared.version.Version.{Version}
 use Rattle.state_text.specs.declared.version.Version.TheVariants.{One, Two}
@@ -29,7 +26,6 @@ use Rattle.state_text.specs.Place.{with_at}
 use Rattle.state_text.specs.States.{IsStates, IsTenantState, States, TenantState}
 use Rattle.state_text.specs.Taking.{Adds, AddsOffer, IsTaken, SaysHead, Taken, Head, Tenant, Repository, Reference, Seen, Offer, open_lines, told_lines}
 use Rattle.state_text.specs.Text.{IsStateText1, IsStateText2, inner_lines, repository_line, seen_line, state_text, tenant_line, version_line}
-use Rattle.state_text.proofs.BehindLemmas.{ascend_none}
 use Rattle.state_text.proofs.FaultLemmas.{wrong_at, wrong_header}
 use Rattle.state_text.proofs.LineLemmas.{begun_lines, headed_lines, new_lines}
 use Rattle.state_text.proofs.NewLemmas.{new_told}

@@ -1,5 +1,5 @@
 -- The first wrong line of a text: where it stands, that there is one at most, and none in a state text.
-use Rattle.std.proofs.Common.{◌≡◌, ◌≢◌, ℕ, ◌+◌, ◌<◌, Bool, true, false, eqb, All, List, [], ◌∷◌, ◌++◌, ◌⊎◌, inl, inr, ⊎_elim, codes, refl, sym, ap, subst, ◌∙◌, length, length-append, append_assoc, arith}
+use Rattle.std.proofs.Common.{◌≡◌, ◌≢◌, ℕ, ◌+◌, ◌<◌, Bool, true, false, eqb, List, [], ◌∷◌, ◌++◌, ◌⊎◌, inl, inr, ⊎_elim, codes, refl, sym, ap, subst, ◌∙◌, length, length-append, append_assoc, arith}
 use Rattle.std.specs.Prelude.{Result, Ok, Err, IfOk, IfErr}
 use Rattle.std.specs.List.{AllByRecursion, flat_map}
 use Rattle.std.proofs.lemmas.Bool.Decides.{nat_tests}
@@ -10,7 +10,7 @@ use Rattle.git_name.specs.Text.{ended}
 use Rattle.state_text.specs.declared.fault.StateFault.{StateFault}
 use Rattle.state_text.specs.declared.fault.StateFault.TheVariants.{Line, Memory}
 use Rattle.state_text.specs.declared.version.Version.{Version}
-use Rattle.state_text.specs.declared.version.Version.TheVariants.{One, Two}
+use Rattle.state_text.specs.declared.version.Version.TheVariants.{Two}
 use Rattle.state_text.specs.Fault.{Begins, IsCut, IsLine, IsRefused, IsWrongLine, NoneInStateText, OneWrongLine, TellsLine}
 use Rattle.state_text.specs.States.{States}
 use Rattle.state_text.specs.Taking.{Adds, IsReadSoFar, IsTaken, Taken, open_lines, told_lines}

@@ -1,5 +1,5 @@
 -- A line more, and the lines of what was read with it.
-use Rattle.std.proofs.Common.{◌≡◌, ℕ, ◌+◌, ◌≤◌, Bool, true, false, cond, List, [], ◌∷◌, ◌++◌, codes, refl, sym, ap, subst, ◌∙◌, length, length-append, map, append_assoc, arith}
+use Rattle.std.proofs.Common.{◌≡◌, ℕ, ◌+◌, true, false, cond, List, [], ◌∷◌, ◌++◌, codes, refl, sym, ap, ◌∙◌, length, length-append, map, append_assoc, arith}
 use Rattle.std.specs.FinMap as finite
 use Rattle.std.specs.FinMap.{entries}
 use Rattle.std.specs.List.{flat_map}
@@ -17,7 +17,7 @@ use Rattle.state_text.specs.Adding.{fresh, with_seen}
 use Rattle.state_text.specs.Offer as value
 use Rattle.state_text.specs.Place.{IsLast, line_at, name_at, with_at}
 use Rattle.state_text.specs.States.{IsStates, States, TenantState}
-use Rattle.state_text.specs.Taking.{Adds, AddsPlace, HasReferenceMore, IsReadSoFar, IsTaken, Taken, Head, Tenant, Repository, Reference, Seen, Offer, awaits_head, but_last, open_lines, told_lines}
+use Rattle.state_text.specs.Taking.{Adds, AddsPlace, HasReferenceMore, IsReadSoFar, Taken, Head, Tenant, Repository, Reference, Seen, Offer, awaits_head, but_last, open_lines, told_lines}
 use Rattle.state_text.specs.Text.{head_line, head_lines, inner_lines, offer_lines, reference_line, repository_lines, seen_line, state_text, tenant_line, tenant_lines, version_line}
 use Rattle.state_text.proofs.BehindLemmas.{length_behind, map_behind, nothing_in}
 use Rattle.state_text.proofs.TellingLemmas.{taken_more}

@@ -1,21 +1,14 @@
 -- A new repository, and the branch that its HEAD names.
-use Rattle.std.proofs.Common.{◌≡◌, ◌≢◌, ℕ, true, cond, ◌&&◌, List, ◌++◌, Option, Some, None, is_none, refl, sym, ap, subst, map, ◌∙◌}
+use Rattle.std.proofs.Common.{◌≡◌, ◌≢◌, ℕ, cond, ◌&&◌, List, ◌++◌, Option, Some, None, is_none, refl, sym, ap, subst, map, ◌∙◌}
 use Rattle.std.specs.Prelude.{IfNone}
 use Rattle.std.proofs.lemmas.List.{append_cancel_left}
 use Rattle.std.specs.List.{AllByRecursion}
 use Rattle.git_name.specs.Name.{IsName}
-use Rattle.git_refname.specs.Rule.{IsRefName, least_broken_rule}
 use Rattle.git_reftx.specs.Repository.{IsBranch, branch_in, main_branch, new_repository}
+use Rattle.git_reftx.proofs.BranchLemmas.{main_right}
 use Rattle.git_reftx.proofs.TxLemmas.{sound_empty}
 use Rattle.state_text.specs.States.{IsTold}
 use Rattle.state_text.proofs.LineLemmas.{no_entries}
-
-main_named : IsRefName main_branch
-unfolding least_broken_rule
-main_named = refl
-
-pub main_right : IsBranch main_branch
-main_right = record { name = main_named; branch = refl }
 
 pub new_told : IsTold new_repository
 new_told = record { branch = main_right; references = sound_empty; targets = subst (AllByRecursion IsName) (sym (ap (map (λ e. e.1)) no_entries)) tt }

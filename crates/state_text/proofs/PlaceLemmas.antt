@@ -1,5 +1,5 @@
 -- A tenant, and what stands last of it: a repository, or an offer.
-use Rattle.std.proofs.Common.{◌≡◌, ℕ, ◌<◌, List, [], ◌∷◌, ◌++◌, ◌⊎◌, inl, inr, refl, sym, ap, subst, ◌∙◌, length, map, arith}
+use Rattle.std.proofs.Common.{◌≡◌, ℕ, ◌<◌, List, [], ◌∷◌, ◌++◌, refl, sym, ap, subst, ◌∙◌, length, map, arith}
 use Rattle.git_reftx.specs.Repository as git
 use Rattle.fork_request.specs.Names.{IsRepositoryName}
 use Rattle.fork_model.specs.declared.limits.TheConstants.{MAX_REPOSITORIES}

@@ -1,20 +1,17 @@
 -- States with one thing more behind the others, or less.
-use Rattle.std.proofs.Common.{◌≡◌, ◌≢◌, ℕ, ◌<◌, ◌≤◌, List, [], ◌∷◌, ◌++◌, sym, ap, subst, ◌∙◌, length, map, arith}
+use Rattle.std.proofs.Common.{◌≡◌, ℕ, ◌<◌, ◌≤◌, List, [], ◌∷◌, ◌++◌, sym, ap, subst, ◌∙◌, length, map, arith}
 use Rattle.std.specs.List.{AllByRecursion}
 use Rattle.git_name.specs.Name.{IsName}
 use Rattle.std.specs.FinMap.{entries, values}
 use Rattle.git_reftx.specs.Repository as git
 use Rattle.git_reftx.specs.Transaction.{References}
-use Rattle.fork_request.specs.Names.{IsRepositoryName, IsTenantName}
+use Rattle.fork_request.specs.Names.{IsTenantName}
 use Rattle.fork_request.specs.declared.limit.TheConstants.{MAX_LIMIT}
 use Rattle.fork_model.specs.declared.limits.TheConstants.{MAX_REPOSITORIES, MAX_TENANTS}
 use Rattle.state_text.specs.declared.offer.TheConstants.{MAX_OFFERS}
-use Rattle.state_text.specs.declared.place.Place.{Place}
-use Rattle.state_text.specs.declared.place.Place.TheVariants.{Own, Offered}
 use Rattle.state_text.specs.Adding.{AreBefore, fresh, with_offer, with_repository, with_seen}
-use Rattle.state_text.specs.Offer.{Offer, offer_words, words_of}
-use Rattle.state_text.specs.Place.{name_at, with_at}
-use Rattle.state_text.specs.States.{Ascend, IsOffer, IsRepository, IsStates, IsTenantState, IsTold, States, TenantState}
+use Rattle.state_text.specs.Offer.{Offer, words_of}
+use Rattle.state_text.specs.States.{Ascend, IsOffer, IsRepository, IsStates, IsTenantState, States, TenantState}
 use Rattle.state_text.proofs.BehindLemmas.{ascend_behind, ascend_front, ascend_none, before_last, each_behind, each_front, each_last, length_behind, map_behind}
 
 pub no_states : IsStates []

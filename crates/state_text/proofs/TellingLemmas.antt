@@ -1,7 +1,6 @@
 -- What a version tells of states with one thing more, or less.
-use Rattle.std.proofs.Common.{◌≡◌, ℕ, Bool, true, false, List, [], ◌∷◌, ◌++◌, refl, sym, ap, subst, ◌∙◌}
+use Rattle.std.proofs.Common.{◌≡◌, ℕ, true, false, List, [], ◌∷◌, ◌++◌, refl, sym, subst, ◌∙◌}
 use Rattle.std.specs.Prelude.{⊤}
-use Rattle.std.specs.List.{AllByRecursion}
 use Rattle.git_reftx.specs.Repository as git
 use Rattle.git_reftx.specs.Repository.{main_branch, new_repository}
 use Rattle.state_text.specs.declared.place.Place.{Place}
@@ -11,7 +10,7 @@ use Rattle.state_text.specs.declared.version.Version.TheVariants.{One, Two}
 use Rattle.state_text.specs.Adding.{fresh, with_seen}
 use Rattle.state_text.specs.Place.{with_at}
 use Rattle.state_text.specs.States.{States, TenantState}
-use Rattle.state_text.specs.Taking.{Adds, AddsHead, AddsOffer, AddsPlace, AddsReference, AddsSeen, AddsTenant, Goes, IsBegun, IsTaken, SaysHead, Taken, Tenant, Repository, Head, Reference, Seen, Offer, awaits_head}
+use Rattle.state_text.specs.Taking.{Adds, AddsPlace, Goes, IsBegun, IsTaken, Taken, Tenant, Repository, Head, Reference, Seen, Offer, awaits_head}
 use Rattle.state_text.specs.States.{IsStates}
 use Rattle.state_text.specs.Text.{IsPlain, Tells}
 use Rattle.state_text.proofs.BehindLemmas.{each_behind, each_front, each_last}

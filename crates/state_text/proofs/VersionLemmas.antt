@@ -1,5 +1,5 @@
 -- A state text is of one version, which its first line tells.
-use Rattle.std.proofs.Common.{◌≡◌, ℕ, List, [], ◌∷◌, ◌++◌, ◌⊎◌, inl, inr, codes, refl, sym, ap, subst, ◌∙◌, slice_index, arith}
+use Rattle.std.proofs.Common.{◌≡◌, ℕ, List, [], ◌∷◌, ◌++◌, inl, inr, codes, refl, sym, ap, subst, ◌∙◌, slice_index, arith}
 use Rattle.std.specs.List.{flat_map}
 use Rattle.std.proofs.lemmas.List.{append-nil}
 use Rattle.git_name.specs.Text.{ended}

@@ -1,7 +1,6 @@
 -- What is not put behind the others makes a line that no right states go on with.
 use Rattle.std.proofs.Common.{◌≡◌, ◌≢◌, ℕ, ◌+◌, ◌<◌, ◌≤◌, List, [], ◌∷◌, ◌++◌, codes, decimal, refl, sym, ap, subst, ◌∙◌, length, map, append_assoc, arith}
 use Rattle.std.specs.FinMap as finite
-use Rattle.std.specs.FinMap.{entries}
 use Rattle.hex.specs.Hex.{encode_lower}
 use Rattle.std.proofs.lemmas.List.{append_cancel_left}
 use Rattle.git_name.specs.Name.{IsName}
@@ -13,14 +12,12 @@ use Rattle.git_reftx.specs.Sound.{AreSound}
 use Rattle.git_reftx.specs.declared.fault.PushRefError.{PushRefError}
 use Rattle.git_reftx.specs.declared.fault.PushRefError.TheVariants as push
 use Rattle.git_reftx.proofs.PushLemmas.{never_pushed}
-use Rattle.fork_request.specs.Names.{IsRepositoryName, IsTenantName}
+use Rattle.fork_request.specs.Names.{IsTenantName}
 use Rattle.fork_model.specs.declared.limits.TheConstants.{MAX_REPOSITORIES, MAX_TENANTS}
 use Rattle.state_text.specs.declared.fault.AddError.{AddError}
 use Rattle.state_text.specs.declared.fault.AddError.TheVariants.{OutOfOrder, TooMany, Memory}
 use Rattle.state_text.specs.declared.fault.OfferError.{OfferError}
 use Rattle.state_text.specs.declared.fault.OfferError.TheVariants as offering
-use Rattle.state_text.specs.declared.line_fault.LineFault.{LineFault}
-use Rattle.state_text.specs.declared.line_fault.LineFault.TheVariants as fault
 use Rattle.state_text.specs.declared.offer.TheConstants.{MAX_OFFERS}
 use Rattle.state_text.specs.declared.place.Place.{Place}
 use Rattle.state_text.specs.declared.place.Place.TheVariants.{Own, Offered}

@@ -4,7 +4,7 @@ ghost use Rattle.std.specs.List.{flat_map};
 ghost use Rattle.hex.specs.Hex.{encode_lower};
 ghost use Rattle.git_refname.specs.Namespace.{expanded};
 ghost use Rattle.git_name.specs.Text.{ended};
-ghost use Rattle.state_text.specs.Text.{inner_lines, offer_line, offer_lines, repository_line, repository_lines, seen_line, state_text, tenant_line, tenant_lines};
+ghost use Rattle.state_text.specs.Text.{IsStateText2, inner_lines, offer_line, offer_lines, repository_line, repository_lines, seen_line, state_text, tenant_line, tenant_lines};
 ghost use Rattle.state_text.specs.declared.version.Version.TheVariants.{Two};
 
 use crate::offer::Offer;
@@ -203,7 +203,8 @@ fn put_tenants(alloc: Global, out: &mut Vec<u8>, tenants: &[TenantState]) -> Res
 
 /// The text of the states in version 2, in time linear in it.
 pub fn write(alloc: Global, states: &States) -> Result<Vec<u8>, AllocError>
-    ensures { IfOk result (λ text. text.items ≡ state_text Two states.now) }
+    ensures value { IfOk result (λ text. text.items ≡ state_text Two states.now) }
+    ensures told { IfOk result (λ text. IsStateText2 states.now text.items) }
 {
     let mut out = Vec::new(alloc);
     out.extend_from_slice(b"forkhost state 2\n")?;

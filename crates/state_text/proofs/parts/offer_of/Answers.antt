@@ -1,4 +1,4 @@
-use Rattle.std.proofs.Common.{sym, subst, refl, append_assoc, codes, ◌∙◌}
+use Rattle.std.proofs.Common.{sym, subst, refl}
 use Rattle.fork_request.specs.Names.{IsRepositoryName, IsTenantName}
 use Rattle.state_text.proofs.PartLemmas.{plain_without, same_parts}
 use Rattle.state_text.proofs.parts.offer_of.Goals as goal

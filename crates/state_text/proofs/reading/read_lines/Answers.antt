@@ -1,4 +1,4 @@
-use Rattle.std.proofs.Common.{◌≡◌, true, false, refl, sym, ap, subst, ◌∙◌}
+use Rattle.std.proofs.Common.{◌≡◌, true, false, sym, subst, ◌∙◌}
 use Rattle.state_text.specs.Taking.{IsReadSoFar, RefusesLine}
 use Rattle.state_text.proofs.BehindLemmas.{nothing_in}
 use Rattle.state_text.proofs.FaultLemmas.{behind_end, cut_line, ends_right, no_header, wrong_header, wrong_line}

@@ -1,6 +1,5 @@
-use Rattle.std.proofs.Common.{refl}
 use Rattle.std.proofs.lemmas.Result.{IfOk-weaker}
-use Rattle.state_text.specs.Taking.{Head, Tenant, Repository, Reference, Seen, Offer}
+use Rattle.state_text.specs.Taking.{Tenant, Repository, Reference, Seen, Offer}
 use Rattle.state_text.proofs.taking.take_line.Goals as goal
 
 pub returns-in-Some-clause-ok : goal.returns-in-Some-clause-ok

@@ -1,7 +1,5 @@
 use Rattle.std.proofs.Common.{◌++◌, ◌∷◌, [], sym, ap, subst, ◌∙◌}
 use Rattle.std.proofs.lemmas.Result.{IfOk-weaker, err_from_is_err_and}
-use Rattle.git_reftx.specs.Repository.{new_repository}
-use Rattle.state_text.specs.declared.place.Place.TheVariants.{Own}
 use Rattle.state_text.specs.Adding.{with_repository}
 use Rattle.state_text.specs.States.{IsStates}
 use Rattle.state_text.proofs.BehindLemmas.{nothing_at}

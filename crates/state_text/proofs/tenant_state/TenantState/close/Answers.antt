@@ -1,7 +1,7 @@
 use Rattle.std.proofs.Common.{◌≡◌, sym, ap, subst, ◌∙◌}
 use Rattle.state_text.specs.declared.place.Place.TheVariants.{Own}
 use Rattle.state_text.specs.Place.{with_at}
-use Rattle.state_text.specs.States.{IsTenantState, TenantState}
+use Rattle.state_text.specs.States.{IsTenantState}
 use Rattle.state_text.proofs.tenant_state.TenantState.close.Goals as goal
 
 closed : (c : goal.In_ok-push-in-Own) → with_at c.args.self.now c.args.place c.args.repository ≡ record { name = c.self.inside.name; limit = c.self.inside.limit; repositories = c.push.new.self.items; seen = c.self.inside.seen.items; offers = c.self.inside.offers.items }

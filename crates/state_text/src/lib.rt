@@ -5,9 +5,11 @@
 #![tactic(auto)]
 
 mod fault;
+mod last;
 mod laws;
 mod line_fault;
 mod offer;
+mod order;
 mod parts;
 mod place;
 mod reading;

@@ -1,17 +1,12 @@
-ghost use Rattle.std.specs.Prelude.{◌≡◌, ◌≢◌, ◌∷◌, ◌++◌, [], false, true, IfOk, IfErr, IfSome, IfNone};
-ghost use Rattle.git_reftx.specs.Repository as git;
-ghost use Rattle.state_text.specs.Place.{IsLast, with_at};
-ghost use Rattle.state_text.specs.States as value;
+ghost use Rattle.std.specs.Prelude.{◌≡◌, false, true, IfOk, IfErr};
 ghost use Rattle.state_text.specs.States.{IsStates};
 ghost use Rattle.state_text.specs.Taking.{Adds, Awaits, AddsHead, AddsOffer, AddsReference, AddsRepository, AddsSeen, AddsTenant, IsBegun, Refuses, RefusesLine, SaysHead, awaits_head};
-ghost use Rattle.state_text.specs.declared.place.Place as place;
 
+use crate::last::{close_last, open_last, put_back};
 use crate::line_fault::LineFault;
 use crate::offer::Offer;
 use crate::parts::{behind, head_of, offer_of, reference_of, tenant_of};
-use crate::place::Place;
 use crate::states::States;
-use crate::tenant_state::TenantState;
 use crate::version::Version;
 use fork_request::RepositoryName;
 use git_name::Name;
@@ -197,52 +192,4 @@ fn take_offer(
     let _name = name.as_bytes();
     tenant.add_offer(Offer::new(receiver, name, Repository::new(alloc)))?;
     put_back(states, tenant, true)
-}
-
-// Takes out the last tenant, and what stands last of it.
-fn open_last(states: &mut States) -> Option<(TenantState, Place, Repository)>
-    ensures found { IfSome result (λ found. states.old ≡ states.new ++ with_at found.0 found.1 found.2 ∷ []) }
-    ensures last { IfSome result (λ found. IsLast found.0 found.1) }
-    ensures none { IfNone result ((before : value.States) (tenant : value.TenantState) (place : place.Place) (repository : git.Repository) → IsLast tenant place → states.old ≢ before ++ with_at tenant place repository ∷ []) }
-    ensures sound { IsStates states.old }
-{
-    let Some(mut tenant) = states.pop() else {
-        return None;
-    };
-    let Some((place, repository)) = tenant.open() else {
-        return None;
-    };
-    Some((tenant, place, repository))
-}
-
-// Puts back what was taken out last, with more in it.
-fn close_last(
-    states: &mut States,
-    tenant: TenantState,
-    place: Place,
-    repository: Repository,
-) -> Result<bool, LineFault>
-    requires { IsStates (states.old ++ with_at tenant place repository ∷ []) }
-    ensures ok { IfOk result (λ more. (more ≡ false) × (states.new ≡ states.old ++ with_at tenant place repository ∷ [])) }
-    ensures fault { IfErr result (λ fault. fault ≡ LineFault.Memory) }
-    ensures sound { IfOk result (λ more. IsStates states.new) }
-{
-    let mut tenant = tenant;
-    let Ok(()) = tenant.close(place, repository) else {
-        return Err(LineFault::Memory);
-    };
-    put_back(states, tenant, false)
-}
-
-// Puts back the tenant that was taken out last, with more in it, and tells what is awaited.
-fn put_back(states: &mut States, tenant: TenantState, awaits: bool) -> Result<bool, LineFault>
-    requires { IsStates (states.old ++ tenant ∷ []) }
-    ensures ok { IfOk result (λ more. (more ≡ awaits) × (states.new ≡ states.old ++ tenant ∷ [])) }
-    ensures fault { IfErr result (λ fault. fault ≡ LineFault.Memory) }
-    ensures sound { IfOk result (λ more. IsStates states.new) }
-{
-    let Ok(()) = states.put_back(tenant) else {
-        return Err(LineFault::Memory);
-    };
-    Ok(awaits)
 }

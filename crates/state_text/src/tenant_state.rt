@@ -1,23 +1,22 @@
-ghost use Rattle.std.specs.Prelude.{◌≡◌, ◌≢◌, ◌≤◌, ◌<◌, ◌↔◌, IsTrue, OnOk, OnErr, IfErr, IfSome, IfNone, length, map};
+ghost use Rattle.std.specs.Prelude.{◌≡◌, ◌≢◌, ◌≤◌, ◌<◌, OnOk, OnErr, IfErr, IfSome, IfNone, length, map};
 ghost use Rattle.git_reftx.specs.Repository as git;
 ghost use Rattle.fork_request.specs.declared.limit.TheConstants.{MAX_LIMIT};
 ghost use Rattle.fork_model.specs.declared.limits.TheConstants.{MAX_REPOSITORIES};
-ghost use Rattle.state_text.specs.Adding.{TellsAdd, TellsOffer, AreBefore, fresh, with_offer, with_repository, with_seen};
-ghost use Rattle.state_text.specs.Offer.{words_of};
+ghost use Rattle.state_text.specs.Adding.{TellsAdd, TellsOffer, fresh, with_offer, with_repository, with_seen};
 ghost use Rattle.state_text.specs.Place.{IsLast, with_at};
 ghost use Rattle.state_text.specs.States as value;
-ghost use Rattle.state_text.specs.States.{Ascend, IsTenantState, IsTold};
+ghost use Rattle.state_text.specs.States.{IsTenantState, IsTold};
 ghost use Rattle.state_text.specs.declared.place.Place as place;
 
 use crate::fault::{AddError, OfferError};
 use crate::offer::{MAX_OFFERS, Offer};
+use crate::order::{name_follows, offer_follows, repository_follows};
 use crate::place::Place;
 use fork_model::MAX_REPOSITORIES;
 use fork_request::{MAX_LIMIT, RepositoryName, TenantName};
 use git_name::Name;
 use git_reftx::Repository;
 use std::alloc::{AllocError, Global};
-use std::cmp::Ordering;
 use std::marker::Model;
 
 /// What of a tenant outlives a host's process: its limit in bytes of use, its repositories, the names of
@@ -234,43 +233,4 @@ fn tell(repository: &Repository)
     for (_, target) in repository.references().iter() {
         let _target = target.as_bytes();
     }
-}
-
-// Whether the name stands behind those of the repositories.
-fn repository_follows(repositories: &[(RepositoryName, Repository)], name: &RepositoryName) -> bool
-    requires { Ascend (map (λ repository. repository.0) repositories.now) }
-    ensures { IsTrue result ↔ AreBefore (map (λ repository. repository.0) repositories.now) name.now }
-{
-    let Some(last) = repositories.last() else {
-        return true;
-    };
-    let Ordering::Less = last.0.cmp(name) else {
-        return false;
-    };
-    true
-}
-
-// Whether the name stands behind the others.
-fn name_follows(names: &[Name], name: &Name) -> bool
-    requires { Ascend names.now }
-    ensures { IsTrue result ↔ AreBefore names.now name.now }
-{
-    let Some(last) = names.last() else {
-        return true;
-    };
-    let Ordering::Less = last.cmp(name) else {
-        return false;
-    };
-    true
-}
-
-// Whether the offer stands behind the others.
-fn offer_follows(offers: &[Offer], offer: &Offer) -> bool
-    requires { Ascend (map words_of offers.now) }
-    ensures { IsTrue result ↔ AreBefore (map words_of offers.now) (words_of offer.now) }
-{
-    let Some(last) = offers.last() else {
-        return true;
-    };
-    last.is_before(offer)
 }

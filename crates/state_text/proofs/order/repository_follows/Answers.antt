@@ -1,6 +1,6 @@
 use Rattle.std.proofs.Common.{refl, sym, ◌∙◌}
 use Rattle.state_text.proofs.BehindLemmas.{follows_all}
-use Rattle.state_text.proofs.tenant_state.repository_follows.Goals as goal
+use Rattle.state_text.proofs.order.repository_follows.Goals as goal
 
 pub returns : goal.returns
 returns c =

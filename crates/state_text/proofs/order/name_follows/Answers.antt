@@ -2,7 +2,7 @@ use Rattle.std.proofs.Common.{refl, sym, ◌∙◌, subst}
 use Rattle.state_text.specs.Adding.{AreBefore}
 use Rattle.state_text.specs.States.{Ascend}
 use Rattle.state_text.proofs.BehindLemmas.{follows_all, map_same}
-use Rattle.state_text.proofs.tenant_state.name_follows.Goals as goal
+use Rattle.state_text.proofs.order.name_follows.Goals as goal
 
 pub returns : goal.returns
 returns c =

@@ -1,7 +1,7 @@
 use Rattle.std.proofs.Common.{sym}
 use Rattle.state_text.specs.Offer.{words_of}
 use Rattle.state_text.proofs.BehindLemmas.{follows_all, last_before}
-use Rattle.state_text.proofs.tenant_state.offer_follows.Goals as goal
+use Rattle.state_text.proofs.order.offer_follows.Goals as goal
 
 pub returns : goal.returns
 returns c = (

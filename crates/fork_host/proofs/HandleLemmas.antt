@@ -49,7 +49,7 @@ pub sent_beside : {S : Type 0} (first staged : Own S) (sent : List Object) → I
     → both_by staged ≡ with_objects (visible_by staged) sent
 sent_beside first staged sent same honest quiet turns =
     let own = private_of first.vault.now.tenants first.tenant.now in
-    let is = turns.exact honest in
+    let is = turns.becomes.exact honest in
     let seen : visible_in staged.vault.now first.tenant.now ≡ visible_by first = ap (λ (p : Private). p.visible) is ∙ all_staged_seen sent own in
     ap (λ r. both_in staged.vault.now r.now) same.tenant ∙ ap both_of is ∙ both_all sent own
     ∙ ap (λ objects. with_objects objects sent) (both_quiet own quiet ∙ sym seen ∙ sym (ap (λ r. visible_in staged.vault.now r.now) same.tenant))

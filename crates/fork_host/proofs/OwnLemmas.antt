@@ -8,12 +8,13 @@ use Rattle.git_name.specs.Object.{Object}
 use Rattle.fork_reach.specs.Objects.{Measures, measures_of, with_object}
 use Rattle.fork_reach.specs.Source.{Objects}
 use Rattle.fork_ledger.specs.Private.{Private, both_of, private_measures, with_discarded, with_kept, with_published, with_staged}
+use Rattle.fork_ledger.specs.Store.{Becomes}
 use Rattle.fork_ledger.specs.Tenants.{Tenants, VaultState, at_tenant, private_of, shape_of}
 use Rattle.fork_ledger.proofs.BothLemmas.{both_more, none_of, same_measures, same_tenants_there}
 use Rattle.fork_ledger.proofs.SeenLemmas.{get_kept}
 use Rattle.fork_ledger.proofs.ShapeLemmas.{Respects, respects_discarded, respects_kept, respects_published, respects_staged, shape_at}
 use Rattle.fork_ledger.proofs.TenantLemmas.{private_at, private_others, there_still}
-use Rattle.fork_host.specs.Own.{Changes, Has, IsOf, IsOwn, KeepsSeen, KeepsStaged, LeavesOthers, Settles, Stages, Turns, staged_in, visible_in}
+use Rattle.fork_host.specs.Own.{Changes, Has, IsOwn, KeepsSeen, KeepsStaged, LeavesOthers, Settles, Stages, Turns, staged_in, visible_in}
 
 -- other tenants, as one tenant's private maps change
 pub leaves_all : (tenants : Tenants) (own : List ℕ) → LeavesOthers own tenants tenants
@@ -70,17 +71,17 @@ keeps tenants own names there =
     }
 
 -- the vault shows the private maps that it would have over an honest store: at first, where it is read, and where they change
-of_itself : (vault : VaultState) → IsOf vault.tenants vault
+of_itself : (vault : VaultState) → Becomes shape_of vault.honest vault.tenants vault.tenants
 of_itself vault = record { shape = refl; exact = λ honest. refl }
 
-of_still : (tenants : Tenants) (old new : VaultState) → shape_of new.tenants ≡ shape_of old.tenants → (IsTrue old.honest → new.tenants ≡ old.tenants) → new.honest ≡ old.honest → IsOf tenants old → IsOf tenants new
+of_still : (tenants : Tenants) (old new : VaultState) → shape_of new.tenants ≡ shape_of old.tenants → (IsTrue old.honest → new.tenants ≡ old.tenants) → new.honest ≡ old.honest → Becomes shape_of old.honest tenants old.tenants → Becomes shape_of new.honest tenants new.tenants
 of_still tenants old new shape same honest shown = record {
   shape = shape ∙ shown.shape;
   exact = λ is. same (sym honest ∙ is) ∙ shown.exact (sym honest ∙ is);
 }
 
 of_changed : (tenants : Tenants) (old new : VaultState) (own : List ℕ) (change : Private → Private) → Respects change → shape_of new.tenants ≡ shape_of (at_tenant old.tenants own change)
-    → (IsTrue old.honest → new.tenants ≡ at_tenant old.tenants own change) → new.honest ≡ old.honest → IsOf tenants old → IsOf (at_tenant tenants own change) new
+    → (IsTrue old.honest → new.tenants ≡ at_tenant old.tenants own change) → new.honest ≡ old.honest → Becomes shape_of old.honest tenants old.tenants → Becomes shape_of new.honest (at_tenant tenants own change) new.tenants
 of_changed tenants old new own change respects shape same honest shown = record {
   shape = shape ∙ shape_at old.tenants tenants own change respects shown.shape;
   exact = λ is. same (sym honest ∙ is) ∙ ap (λ m. at_tenant m own change) (shown.exact (sym honest ∙ is));
@@ -240,16 +241,17 @@ turned old new own change there respects shape same honest =
         others = λ is t differs. ap (λ m. private_of m t) (same is) ∙ private_others old.tenants own t change differs;
         honest = honest;
       };
-      shape = same_measures after new.tenants own shape ∙ ap private_measures (private_at old.tenants own change there);
-      exact = λ is. changed_at old.tenants new.tenants own change there (same is);
+      becomes = record {
+        shape = same_measures after new.tenants own shape ∙ ap private_measures (private_at old.tenants own change there);
+        exact = λ is. changed_at old.tenants new.tenants own change there (same is);
+      };
     }
 
 -- not at all, where the vault was read
 pub turned_read : (old new : VaultState) (own : List ℕ) → shape_of new.tenants ≡ shape_of old.tenants → (IsTrue old.honest → new.tenants ≡ old.tenants) → new.honest ≡ old.honest → Turns own (λ p. p) old new
 turned_read old new own shape same honest = record {
   own = own_read old new own shape same honest;
-  shape = same_measures old.tenants new.tenants own shape;
-  exact = λ is. ap (λ m. private_of m own) (same is);
+  becomes = record { shape = same_measures old.tenants new.tenants own shape; exact = λ is. ap (λ m. private_of m own) (same is) };
 }
 
 -- the same of a call's result
@@ -274,14 +276,14 @@ own_then own a b c first then = record {
 -- what is seen stays where no change touches it, and what is staged where there is none
 pub seen_turned : (own : List ℕ) (change : Private → Private) (old new : VaultState) → ((p : Private) → (change p).visible ≡ p.visible) → Turns own change old new → KeepsSeen own old new
 seen_turned own change old new still turns = record {
-  shape = ap (λ (p : Measures × Measures). p.0) turns.shape ∙ ap measures_of (still (private_of old.tenants own));
-  exact = λ is. ap (λ (p : Private). p.visible) (turns.exact is) ∙ still (private_of old.tenants own);
+  shape = ap (λ (p : Measures × Measures). p.0) turns.becomes.shape ∙ ap measures_of (still (private_of old.tenants own));
+  exact = λ is. ap (λ (p : Private). p.visible) (turns.becomes.exact is) ∙ still (private_of old.tenants own);
 }
 
 pub staged_turned : (own : List ℕ) (old new : VaultState) → Turns own (λ p. p) old new → KeepsStaged own old new
 staged_turned own old new turns = record {
-  shape = ap (λ (p : Measures × Measures). p.1) turns.shape;
-  exact = λ is. ap (λ (p : Private). p.staged) (turns.exact is);
+  shape = ap (λ (p : Measures × Measures). p.1) turns.becomes.shape;
+  exact = λ is. ap (λ (p : Private). p.staged) (turns.becomes.exact is);
 }
 
 -- what is staged stays, where it stays in one call and in the next

@@ -50,7 +50,7 @@ came_none own names both first changes = record {
 }
 
 -- one more name was asked for, and nothing came of it
-came_still : (own : List ℕ) (names : List (List ℕ)) (at : ℕ) (both : Objects) (first old new : VaultState) → new.honest ≡ old.honest → new.files ≡ old.files → Becomes old.honest old.tenants new.tenants
+came_still : (own : List ℕ) (names : List (List ℕ)) (at : ℕ) (both : Objects) (first old new : VaultState) → new.honest ≡ old.honest → new.files ≡ old.files → Becomes shape_of old.honest old.tenants new.tenants
     → ((IsTrue first.honest) → (object : Object) → Whole first.files (get_or names at []) object → ⊥) → Came own names at both first old → Came own names (at + 1) both first new
 came_still own names at both first old new honest files stays never so_far = record {
   came = so_far.came;

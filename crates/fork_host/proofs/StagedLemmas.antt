@@ -213,7 +213,7 @@ came_more own bytes piece reading new objects a b is whole brings turns each cam
   read = read;
   there = subst (AllByRecursion (λ object. contains_key (staged_in b own) (object_name object) ≡ true)) (sym all) (names_more sent objects before (staged_in b own) measured came.there);
   alone = subst (λ objects. (name : List ℕ) → contains_key (staged_in b own) name ≡ true → IsSentName objects name) (sym all) (alone_more sent objects before (staged_in b own) measured came.alone);
-  exact = λ honest. subst (AreSent (staged_in b own)) (sym all) (exact_at (came.exact honest) (each honest) (ap (λ (p : Private). p.staged) (turns.exact honest)));
+  exact = λ honest. subst (AreSent (staged_in b own)) (sym all) (exact_at (came.exact honest) (each honest) (ap (λ (p : Private). p.staged) (turns.becomes.exact honest)));
 }
   where
     before : Private
@@ -229,7 +229,7 @@ came_more own bytes piece reading new objects a b is whole brings turns each cam
     all = sent_more bytes piece (ap (λ (r : Reading). is_broken r.flow) read ∙ whole) ∙ ap (λ (r : Reading). sent ++ gained r.flow piece) came.read ∙ ap (λ more. sent ++ more) (sym brings)
 
     measured : measures_of (staged_in b own) ≡ measures_of (with_all_staged objects before).staged
-    measured = ap (λ (p : Measures × Measures). p.1) turns.shape
+    measured = ap (λ (p : Measures × Measures). p.1) turns.becomes.shape
 
     exact_at : AreSent before.staged sent → AllByRecursion (λ object. get (staged_in b own) (object_name object) ≡ Some object) objects → staged_in b own ≡ (with_all_staged objects before).staged → AreSent (staged_in b own) (sent ++ objects)
     exact_at are found same =

@@ -4,6 +4,7 @@ use Rattle.std.specs.FinMap.{contains_key, empty}
 use Rattle.fork_reach.specs.Objects.{measures_of, use_of}
 use Rattle.fork_reach.specs.Source.{Objects}
 use Rattle.fork_ledger.specs.Private.{Private, both_of, private_measures}
+use Rattle.fork_ledger.specs.Store.{Becomes}
 use Rattle.fork_ledger.specs.Tenants.{Tenants, VaultState, private_of, shape_of}
 
 -- what a tenant sees, what it has staged, and both as one
@@ -29,32 +30,25 @@ pub record IsOwn (tenant : List ℕ) (old new : VaultState) : Type 0 where
   pub honest : new.honest ≡ old.honest
 
 -- what the tenant has staged stays, and over any store what no store can change of it
-pub record KeepsStaged (tenant : List ℕ) (old new : VaultState) : Type 0 where
-  pub shape : measures_of (staged_in new tenant) ≡ measures_of (staged_in old tenant)
-  pub exact : IsTrue old.honest → staged_in new tenant ≡ staged_in old tenant
+abbrev pub KeepsStaged : List ℕ → VaultState → VaultState → Type 0
+KeepsStaged tenant old new = Becomes measures_of old.honest (staged_in old tenant) (staged_in new tenant)
 
 -- the tenant sees what it saw, and over any store what no store can change of it
-pub record KeepsSeen (tenant : List ℕ) (old new : VaultState) : Type 0 where
-  pub shape : measures_of (visible_in new tenant) ≡ measures_of (visible_in old tenant)
-  pub exact : IsTrue old.honest → visible_in new tenant ≡ visible_in old tenant
+abbrev pub KeepsSeen : List ℕ → VaultState → VaultState → Type 0
+KeepsSeen tenant old new = Becomes measures_of old.honest (visible_in old tenant) (visible_in new tenant)
 
 -- the tenant's private maps alone were changed so: over an honest store they are what the change makes of them, and over any they
 -- have its names, kinds and lengths
 pub record Turns (tenant : List ℕ) (change : Private → Private) (old new : VaultState) : Type 0 where
   pub own : IsOwn tenant old new
-  pub shape : private_measures (private_of new.tenants tenant) ≡ private_measures (change (private_of old.tenants tenant))
-  pub exact : IsTrue old.honest → private_of new.tenants tenant ≡ change (private_of old.tenants tenant)
+  pub becomes : Becomes private_measures old.honest (change (private_of old.tenants tenant)) (private_of new.tenants tenant)
 
--- a vault shows these private maps: over an honest store themselves, and over any what no store can change of them
-pub record IsOf (tenants : Tenants) (vault : VaultState) : Type 0 where
-  pub shape : shape_of vault.tenants ≡ shape_of tenants
-  pub exact : IsTrue vault.honest → vault.tenants ≡ tenants
-
--- a vault's private maps change in this way
+-- a vault's private maps change in this way, and it shows them: over an honest store themselves, and over any what no store can
+-- change of them
 pub record Changes (Way : Tenants → Tenants → Type 0) (old new : VaultState) : Type 0 where
   pub tenants : Tenants
   pub way : Way old.tenants tenants
-  pub shown : IsOf tenants new
+  pub shown : Becomes shape_of new.honest tenants new.tenants
   pub honest : new.honest ≡ old.honest
 
 -- each other tenant has what it had

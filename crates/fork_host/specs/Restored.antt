@@ -104,8 +104,12 @@ pub data IsRefused (files : Files) (states : States) : RestoreError → Type 0 w
 abbrev pub without_offers : TenantState → TenantState
 without_offers tenant = record tenant { offers = [] }
 
+-- the store has each object that a tenant of the world sees
+abbrev pub HasWorld : Files → World → Type 0
+HasWorld files world = (tenant : List ℕ) (view : View) (name : List ℕ) (object : Object) → get world tenant ≡ Some view → get view.objects name ≡ Some object → Whole files name object
+
 -- the world is the one that these states tell, offers aside: no upload is open, and each object is the one on the store
 pub record IsShownAgain (files : Files) (told : States) (world : World) : Type 0 where
   pub states : states_of world ≡ map without_offers told
   pub quiet : (tenant : List ℕ) (view : View) → get world tenant ≡ Some view → view.upload ≡ None
-  pub whole : (tenant : List ℕ) (view : View) (name : List ℕ) (object : Object) → get world tenant ≡ Some view → get view.objects name ≡ Some object → Whole files name object
+  pub whole : HasWorld files world

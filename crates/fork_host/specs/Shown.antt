@@ -65,10 +65,10 @@ pub record IsWhole (state : HostState) : Type 0 where
   pub there : (tenant : List ℕ) → contains_key state.vault.tenants tenant ≡ contains_key state.accounts tenant
   pub staged : StagesUploads state
 
--- accounts and states have codes, so that they can be a model's value
 abbrev bytes_code : Coded (List ℕ)
 bytes_code = coded_list coded_ℕ
 
+-- accounts and states have codes, so that they can be a model's value
 abbrev pub account_code : Coded Account
 account_code =
     code_by (Repositories × (Option Reading × ℕ)) (coded× (code bytes_code repository_code) (coded× (coded_option reading_code) coded_ℕ))

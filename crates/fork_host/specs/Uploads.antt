@@ -26,9 +26,10 @@ uploads_of world = flat_map (λ entry. opened entry.0 entry.1.upload) (entries w
 abbrev pub upload_at : World → List ℕ → Option UploadValue
 upload_at world tenant = option_and_then (λ view. view.upload) (get world tenant)
 
--- a view without its open upload, and a world of such views
+-- a view without its open upload
 abbrev pub closed : View → View
 closed view = record view { upload = None }
 
+-- a world whose views have no open upload
 abbrev pub closed_world : World → World
 closed_world world = map_values closed world

@@ -16,7 +16,7 @@ ghost use Rattle.fork_host.specs.Adding.{new_account, new_view, refusal_to_add};
 ghost use Rattle.fork_host.specs.Bounds.{IsBounded};
 ghost use Rattle.fork_host.specs.Opening.{reading_told};
 ghost use Rattle.fork_host.specs.Shape.{SameShape};
-ghost use Rattle.fork_host.specs.Shown.{StagesUploads, Trusted, world_of};
+ghost use Rattle.fork_host.specs.Shown.{IsWhole, Trusted, world_of};
 ghost use Rattle.fork_host.specs.Step.{IsRun, IsStep};
 ghost use Rattle.fork_host.specs.Swept.{SharpAfterSweeps};
 
@@ -96,13 +96,16 @@ impl<S: LooseFiles> Host<S> {
         self.vault.close()
     }
 
-    /// How many tenants there are. What a host shows is in order, and right where its store is trusted;
-    /// and each tenant has staged just what came of its open upload.
+    /// What holds of every host between requests, for who is to show something of it: nothing is done.
+    pub fn invariant(&self)
+        ensures { IsWhole self.now }
+    {
+        let _accounts = &self.accounts;
+    }
+
+    /// How many tenants there are.
     pub fn tenants(&self) -> usize
-        ensures value { result ≡ map.len (world_of self.now) }
-        ensures orderly { IsOrderlyWorld (world_of self.now) }
-        ensures right { Trusted self.now → IsRightWorld (world_of self.now) }
-        ensures staged { StagesUploads self.now }
+        ensures { result ≡ map.len (world_of self.now) }
     {
         self.accounts.len()
     }
@@ -230,8 +233,7 @@ impl<S: LooseFiles> Host<S> {
             → map.get (world_of self.old) tenant ≡ Some view → map.get (world_of self.new) tenant ≡ Some last → map.get last.objects name ≡ Some object
             → (map.get view.objects name ≡ Some object) ⊎ WasSent view (exchanges tenant (events_of steps.now) replies.items) name object) }
     {
-        // The census only for its clauses, here and behind the steps.
-        let _before = self.vault.census();
+        let _before = self.vault.invariant();
         let Ok(mut replies) = Vec::with_capacity(alloc, steps.len()) else {
             return Err(NoMemory);
         };
@@ -239,7 +241,7 @@ impl<S: LooseFiles> Host<S> {
             let reply = self.step(alloc, *step);
             replies.push_reserved(reply);
         }
-        let _behind = self.vault.census();
+        let _behind = self.vault.invariant();
         a_run_is_private();
         what_runs_show_was_seen_or_sent();
         sharp_slices();

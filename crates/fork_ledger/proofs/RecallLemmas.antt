@@ -30,7 +30,7 @@ known_word t name files m n honest kind size known is =
     is ∙ (λ i. at_ledger m t (staged_words (names i) (kinds i) (sizes i)))
 
 became_staged : (files : Files) (m n : AllWords) (t : List ℕ) (object : Object) (honest : Bool) → (IsTrue honest → Whole files (object_name object) object) → n ≡ at_ledger m t (staged_words (object_name object) object.kind (length object.bytes))
-    → Becomes honest (at_tenant (tenants_of files m) t (with_staged object)) (tenants_of files n)
+    → Becomes shape_of honest (at_tenant (tenants_of files m) t (with_staged object)) (tenants_of files n)
 became_staged files m n t object honest whole is = record {
   exact = λ h. ap (tenants_of files) is ∙ staged_tenants files files m t object (keeps_same m files files refl) (whole h);
   shape = ap (λ x. shape_of (tenants_of files x)) is ∙ staged_shape files files m t object;

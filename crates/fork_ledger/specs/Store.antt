@@ -44,17 +44,17 @@ StoresAlone object old new = (name : List ℕ) (other : Object) → Whole new na
 abbrev pub Meets : Object → Files → Type 0
 Meets object files = (other : Object) × Whole files (object_name object) other × (other ≢ object)
 
--- private maps came to be these: themselves over an honest store, and over any what no store can change of them
-pub record Becomes (honest : Bool) (tenants new : Tenants) : Type 0 where
-  pub exact : IsTrue honest → new ≡ tenants
-  pub shape : shape_of new ≡ shape_of tenants
+-- what is there came to be this: itself over an honest store, and over any what no store can change of it
+pub record Becomes {A Shape : Type 0} (shape_in : A → Shape) (honest : Bool) (this new : A) : Type 0 where
+  pub exact : IsTrue honest → new ≡ this
+  pub shape : shape_in new ≡ shape_in this
 
 -- an object of this name that a tenant saw before is staged; over an honest store it is the one that stands whole on it
 pub record Recalls (honest : Bool) (tenant name : List ℕ) (files : Files) (old new : Tenants) : Type 0 where
   pub object : Object
   pub named : object_name object ≡ name
   pub whole : IsTrue honest → Whole files name object
-  pub becomes : Becomes honest (at_tenant old tenant (with_staged object)) new
+  pub becomes : Becomes shape_of honest (at_tenant old tenant (with_staged object)) new
 
 -- the fault of a result
 abbrev pub fault_in : {A : Type 0} → Result A VaultFault → Option VaultFault

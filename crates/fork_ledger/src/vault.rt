@@ -485,10 +485,15 @@ impl<S: LooseFiles> Vault<S> {
     /// How many names are catalogued.
     pub fn census(&self) -> u64
         ensures names { result ≡ length self.now.places.names }
+    {
+        self.holdings.len() as u64
+    }
+
+    /// What holds of every vault between calls, for who is to show something of it: nothing is done.
+    pub fn invariant(&self)
         ensures place { self.now.places.place ≤ length self.now.places.names }
         ensures accounted { IsTrue self.now.honest → IsAccounted self.now }
     {
         let _place = self.holdings.place();
-        self.holdings.len() as u64
     }
 }

@@ -19,10 +19,10 @@ pub record View : Type 0 where
   pub upload : Option UploadValue
   pub limit : ℕ
 
--- a view has a code, so that it can be a model's value
 abbrev bytes_code : Coded (List ℕ)
 bytes_code = coded_list coded_ℕ
 
+-- a view has a code, so that it can be a model's value
 abbrev pub view_code : Coded View
 view_code =
     code_by (Repositories × (Objects × (Option UploadValue × ℕ)))

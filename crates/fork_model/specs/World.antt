@@ -68,7 +68,11 @@ exchanges tenant steps replies = zip (own tenant steps) (told tenant steps repli
 abbrev pub alone : View → List Ask → List Reply × View
 alone view asks = Runs.alone (λ _. answer) view (Runs.meeting (tt {0}) asks)
 
--- no reply to the tenant is a host fault
+-- no reply of these is a host fault
+abbrev pub AreFine : List Reply → Type 0
+AreFine = Runs.IsUnfaulted is_host_fault
+
+-- no reply to the tenant is one
 abbrev pub IsUnfaulted : List ℕ → List Event → List Reply → Type 0
 IsUnfaulted tenant steps replies = Runs.IsUnfaulted is_host_fault (told tenant steps replies)
 

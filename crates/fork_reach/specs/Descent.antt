@@ -9,6 +9,7 @@ use Rattle.commit_graph.specs.Graph.{Commits, name_at, parents_at}
 use Rattle.fork_reach.specs.Reach.{is_among, is_reached, parent_names}
 use Rattle.fork_reach.specs.Source.{Objects}
 
+-- a commit is its own ancestor
 abbrev pub is_ancestor_of : Objects → List ℕ → List ℕ → Bool
 is_ancestor_of objects descendant name = is_reached (parent_names objects) objects (descendant ∷ []) name
 

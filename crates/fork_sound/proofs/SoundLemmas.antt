@@ -77,7 +77,7 @@ met_link objects seen link there met =
 
     by : (found : Option Object) → is_some found ≡ true → is_other link.kind (option_map (λ object. object.kind) found) ≡ false → option_map (λ object. object.kind) found ≡ Some link.kind
     by None is other = absurd (cc)
-    by (Some object) is other = ap Some (same_kinds object.kind link.kind other)
+    by (Some object) is other = ap Some (sym (same_kinds link.kind object.kind other))
 
 -- all links of an object
 pub all_met : (objects : Objects) (seen : List ℕ → Bool) (links : List Link) → ((name : List ℕ) → seen name ≡ true → is_some (get objects name) ≡ true) → list_any (is_unmet objects seen) links ≡ false

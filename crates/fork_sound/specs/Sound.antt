@@ -1,18 +1,17 @@
 -- Whether an object is sound among those that are seen (own): in the grammar of its kind, each link seen and of its kind.
-use Rattle.std.specs.Prelude.{ℕ, Bool, true, false, ◌||◌, not, List, Option, None, Some, is_none}
+use Rattle.std.specs.Prelude.{ℕ, Bool, true, ◌&&◌, ◌||◌, not, List, Option, None, Some, is_none, is_some}
 use Rattle.std.specs.List.{list_any}
 use Rattle.std.specs.FinMap.{get}
 use Rattle.git_name.specs.Object.{Object}
 use Rattle.git_name.specs.declared.kind.Kind.{Kind}
 use Rattle.git_object.specs.ObjectIn.{links_in, object_in}
 use Rattle.git_object.specs.declared.link.Link.{Link}
-use Rattle.fork_push.specs.Push.{same_kind}
+use Rattle.fork_push.specs.Push.{has_kind}
 use Rattle.fork_reach.specs.Source.{Objects, kind_in}
 
 -- the object is known, and has another kind
 abbrev pub is_other : Kind → Option Kind → Bool
-is_other kind (Some found) = not (same_kind found kind)
-is_other kind None = false
+is_other kind found = is_some found && not (has_kind kind found)
 
 -- what the link names isn't seen, or has another kind
 abbrev pub is_unmet : Objects → (List ℕ → Bool) → Link → Bool

@@ -32,7 +32,7 @@ fn is_unmet(readings: &Readings, seen: &BTreeSet<Name>, link: Link) -> bool
         return true;
     }
     match readings.get(link.name) {
-        Some(reading) => reading.kind() != link.kind,
+        Some(reading) => link.kind != reading.kind(),
         None => false,
     }
 }

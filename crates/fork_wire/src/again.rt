@@ -56,7 +56,7 @@ pub fn serve_again<S: LooseFiles, R: Read>(
     ensures right { Trusted host.old → IsRightWorld (world_of host.new) }
 {
     a_run_is_private();
-    let _tenants = host.tenants();
+    host.invariant();
     let mut is_kept = true;
     for count in 0..u64::MAX {
         let frame = match next_frame(alloc, reader) {

@@ -71,7 +71,7 @@ pub fn serve_kept<S: LooseFiles, J: Journal, R: Read, W: Write>(
     ensures cut { TellsCut (J.is_cut journal.old) (J.is_cut journal.new) result }
 {
     a_run_is_private();
-    let _tenants = host.tenants();
+    host.invariant();
     for _ in 0..u64::MAX {
         let frame = match next_frame(alloc, reader) {
             Ok(Next::Frame(frame)) => frame,

@@ -1,3 +1,4 @@
+pub mod Count
 pub mod Kind
 pub mod Maps
 pub mod Name

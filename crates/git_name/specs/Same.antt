@@ -2,11 +2,20 @@
 use Rattle.std.specs.Prelude.{◌≡◌, ℕ, Bool, cond, List, Option, nat_eq}
 use Rattle.std.specs.BTreeMap.{is_at}
 use Rattle.std.specs.Cmp.Lexicographic.{pointwise}
+use Rattle.std.specs.List.{list_any}
 use Rattle.std.specs.Map.{lookup}
 use Rattle.git_name.specs.Name.{name_cmp}
 
 abbrev pub same_name : List ℕ → List ℕ → Bool
 same_name = pointwise nat_eq
+
+-- whether a name stands in a list, byte by byte
+abbrev pub is_listed : List (List ℕ) → List ℕ → Bool
+is_listed names name = list_any (same_name name) names
+
+-- the same by the order of names
+abbrev pub is_one_of : List (List ℕ) → List ℕ → Bool
+is_one_of names name = list_any (is_at (name_cmp name)) names
 
 -- entries that have this at one name, and the same as others at each other name
 abbrev pub Sets : {X : Type 0} → List (List ℕ × X) → List (List ℕ × X) → List ℕ → Option X → Type 0

@@ -35,10 +35,10 @@ abbrev pub fed : UploadValue → List (List ℕ) → UploadValue
 fed upload [] = upload
 fed upload (piece ∷ pieces) = fed (continued upload piece) pieces
 
--- an upload has a code, so that it can be a model's value
 abbrev bytes_code : Coded (List ℕ)
 bytes_code = coded_list coded_ℕ
 
+-- an upload has a code, so that it can be a model's value
 abbrev pub parts : Stream → ((List Command × List Object) × (Bool × List ℕ)) ⊎ StreamFault
 parts (Flows commands objects headed rest) = inl ((commands, objects), (headed, rest))
 parts (Breaks fault) = inr fault

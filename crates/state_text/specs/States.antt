@@ -67,10 +67,10 @@ pub record IsStates (states : States) : Type 0 where
   pub ordered : Ascend (map (λ tenant. tenant.name) states)
   pub each : AllByRecursion IsTenantState states
 
--- a tenant's state has a code, so that it can be a model's value
 abbrev bytes_code : Coded (List ℕ)
 bytes_code = coded_list coded_ℕ
 
+-- a tenant's state has a code, so that it can be a model's value
 abbrev pub state_code : Coded TenantState
 state_code =
     code_by (List ℕ × (ℕ × (List (List ℕ × Repository) × (List (List ℕ) × List Offer))))

@@ -4,8 +4,8 @@ use Rattle.fork_wire.proofs.again.serve_again.Goals as goal
 pub loop-count-init : goal.loop-count-init
 loop-count-init g c = record {
   trusted = λ trusted. trusted;
-  orderly = c.tenants-tenants.ensures.orderly;
-  right = c.tenants-tenants.ensures.right;
+  orderly = c.invariant.ensures.orderly;
+  right = c.invariant.ensures.right;
   so_far = none_again _ _;
 }
 

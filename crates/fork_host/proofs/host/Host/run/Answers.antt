@@ -45,8 +45,8 @@ returns-clause-sharp g c trusted slices are done enough =
     let run = all old new c.args.steps.now c.loop-step.step-index c.loop-step.replies.items (omega arith) c.loop-step.invariant.ran in
     let honest = run_honest old new (events_of c.args.steps.now) c.loop-step.replies.items run in
     let swept = are_swept slices old new c.loop-step.replies.items trusted (subst (λ events. IsRun old events c.loop-step.replies.items new) are run) done in
-    c.sharp_slices.ensures slices old.vault new.vault swept (subst (λ (s : HostState). s.vault.places.place ≤ length s.vault.places.names) c.self.view_is c.census-before.ensures.place) enough
-    (subst (λ (s : HostState). IsAccounted s.vault) c.self-2.view_is (c.census-behind.ensures.accounted (ap (λ (s : HostState). s.vault.honest) c.self-2.view_is ∙ honest ∙ trusted)))
+    c.sharp_slices.ensures slices old.vault new.vault swept (subst (λ (s : HostState). s.vault.places.place ≤ length s.vault.places.names) c.self.view_is c.invariant-before.ensures.place) enough
+    (subst (λ (s : HostState). IsAccounted s.vault) c.self-2.view_is (c.invariant-behind.ensures.accounted (ap (λ (s : HostState). s.vault.honest) c.self-2.view_is ∙ honest ∙ trusted)))
 
 pub returns-clause-private_replies : goal.returns-clause-private_replies
 returns-clause-private_replies g c trusted tenant view first fine =

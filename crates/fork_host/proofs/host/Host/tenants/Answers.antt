@@ -4,5 +4,5 @@ use Rattle.fork_host.specs.Shown.{state_of, world_of}
 use Rattle.fork_host.proofs.WorldLemmas.{len_world}
 use Rattle.fork_host.proofs.host.Host.tenants.Goals as goal
 
-pub returns-clause-value : goal.returns-clause-value
-returns-clause-value g c = c.len.ensures ∙ sym (len_world (state_of c.self.inside.accounts c.self.inside.vault)) ∙ ap (λ s. len (world_of s)) c.self.view_is
+pub returns : goal.returns
+returns g c = c.len.ensures ∙ sym (len_world (state_of c.self.inside.accounts c.self.inside.vault)) ∙ ap (λ s. len (world_of s)) c.self.view_is

@@ -3,7 +3,7 @@ use Rattle.catalogue.specs.Counted.{places_of}
 use Rattle.fork_ledger.specs.Swept.{IsAccounted}
 use Rattle.fork_ledger.specs.Tenants.{VaultState}
 use Rattle.fork_ledger.proofs.SliceLemmas.{accounted}
-use Rattle.fork_ledger.proofs.vault.Vault.census.Goals as goal
+use Rattle.fork_ledger.proofs.vault.Vault.invariant.Goals as goal
 
 pub returns-clause-accounted : goal.returns-clause-accounted
 returns-clause-accounted g c = λ h.

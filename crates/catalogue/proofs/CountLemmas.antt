@@ -4,8 +4,8 @@ use Rattle.std.specs.Map.{keys_of, lookup}
 use Rattle.std.specs.Option.{unwrap_or}
 use Rattle.std.specs.List.{position}
 use Rattle.git_name.proofs.HashMaps.{one_name}
+use Rattle.git_name.specs.Same.{same_name}
 use Rattle.nearby.proofs.PlaceLemmas.{none_at}
-use Rattle.looks.specs.Places.{same_name}
 use Rattle.catalogue.specs.Counted.{count_in, one_if}
 
 abbrev Entries : Type 0

@@ -4,7 +4,7 @@ use Rattle.std.specs.List.{AllByRecursion, IsDistinct}
 use Rattle.std.specs.Map.{keys_of, lookup}
 use Rattle.std.specs.Option.{option_map, unwrap_or}
 use Rattle.std.proofs.lemmas.Cmp.{nat_list_eq_equiv}
-use Rattle.looks.specs.Places.{is_listed, same_name}
+use Rattle.git_name.specs.Same.{is_listed, same_name}
 use Rattle.catalogue.specs.Counted.{count_in}
 use Rattle.catalogue.proofs.PlaceLemmas.{listed_lookup}
 

@@ -12,9 +12,10 @@ use Rattle.std.proofs.lemmas.List.{map-append, length-map, get_or_default, take_
 use Rattle.std.proofs.lemmas.List.Sorted.{IsPermutation-refl, IsPermutation-to_front}
 use Rattle.std.proofs.lemmas.Map.Entries.{lookup_from_place}
 use Rattle.std.proofs.lemmas.Cmp.{nat_list_eq_equiv}
+use Rattle.git_name.specs.Same.{is_listed, same_name}
 use Rattle.indexmap.proofs.SetLemmas.{map-swap_remove}
-use Rattle.looks.specs.Places.{same_name, is_listed, looked_at}
-use Rattle.catalogue.specs.Counted.{Counted, places_of, count_in, IsNext}
+use Rattle.looks.specs.Places.{looked_at}
+use Rattle.catalogue.specs.Counted.{Counted, places_of, count_in, LooksNextAt}
 
 pub whichever : {T E P Q : Type 0} (G : Type 0) (r : Result T E) → OnOk r P → OnErr r Q → (P → G) → (Q → G) → G
 whichever G (Ok x) p q f g = f p
@@ -82,7 +83,7 @@ parted [] i x e = none_is_some _ x e
 parted (y ∷ ys) zero x e = ([], ys, ap (λ o. unwrap_or o y ∷ ys) e, refl)
 parted (y ∷ ys) (suc i) x e = let p = parted ys i x e in (y ∷ p.0, p.1, ap (λ xs. y ∷ xs) p.2, ap suc p.3)
 
-pub next_of : (c : Counted) (i : ℕ) (p : List ℕ × ℕ) → slice_get c.entries i ≡ Some p → i ≡ looked_at (places_of c) → IsNext (places_of c) p.0
+pub next_of : (c : Counted) (i : ℕ) (p : List ℕ × ℕ) → slice_get c.entries i ≡ Some p → i ≡ looked_at (places_of c) → LooksNextAt (places_of c) p.0
 next_of c i p e at =
     let s = parted c.entries i p e in
     record { front = keys_of s.0; back = keys_of s.1; whole = ap keys_of s.2 ∙ map-append (λ p. p.0) s.0 (p ∷ s.1); at = length-map s.0 (λ p. p.0) ∙ s.3 ∙ at }

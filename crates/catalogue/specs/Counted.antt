@@ -4,7 +4,8 @@ use Rattle.std.specs.Coded.{Coded, code_by, coded×, coded_list, coded_ℕ}
 use Rattle.std.specs.Option.{unwrap_or}
 use Rattle.std.specs.Map.{lookup, keys_of}
 use Rattle.std.specs.List.{IsDistinct}
-use Rattle.looks.specs.Places.{Places, same_name, looked_at}
+use Rattle.git_name.specs.Same.{same_name}
+use Rattle.looks.specs.Places.{Places, looked_at}
 
 -- names with their numbers of holders, and the place of the next look
 pub record Counted : Type 0 where
@@ -27,7 +28,7 @@ abbrev pub one_if : Bool → ℕ
 one_if b = cond b 1 0
 
 -- the next look falls at this name
-pub record IsNext (places : Places) (name : List ℕ) : Type 0 where
+pub record LooksNextAt (places : Places) (name : List ℕ) : Type 0 where
   pub front : List (List ℕ)
   pub back : List (List ℕ)
   pub whole : places.names ≡ front ++ name ∷ back

@@ -1,7 +1,8 @@
 ghost use Rattle.std.specs.Prelude.{◌≡◌, ◌≤◌, ◌<◌, ◌+◌, ◌^◌, ◌++◌, ◌∷◌, [], ◌⊎◌, ◌&&◌, ◌||◌, true, false, not, ℕ, List, OnOk, OnErr, IfOk, IfSome, IfNone, Some, length, slice_get, take, IsPermutation};
-ghost use Rattle.looks.specs.Growth.{GrowsBy};
-ghost use Rattle.looks.specs.Places.{is_listed, looked_at, same_name};
-ghost use Rattle.catalogue.specs.Counted.{IsNext, count_of, one_if, places_of};
+ghost use Rattle.git_name.specs.Same.{is_listed, same_name};
+ghost use Rattle.looks.specs.Growth.{GrowsAmong};
+ghost use Rattle.looks.specs.Places.{looked_at};
+ghost use Rattle.catalogue.specs.Counted.{LooksNextAt, count_of, one_if, places_of};
 
 use crate::holders::{count_down, count_up, entry_at, insert_into, looked_place, take_out};
 use git_name::{Hashing, Name};
@@ -77,7 +78,7 @@ impl Catalogue {
     pub fn enter(&mut self, name: Name) -> Result<(), AllocError>
         ensures listed { OnOk result ((q : List ℕ) → is_listed (places_of self.new).names q ≡ (same_name name q || is_listed (places_of self.old).names q)) }
         ensures counts { (q : List ℕ) → count_of self.new q ≡ count_of self.old q }
-        ensures grows { GrowsBy (name ∷ []) (places_of self.old) (places_of self.new) }
+        ensures grows { GrowsAmong (name ∷ []) (places_of self.old) (places_of self.new) }
         ensures place { self.new.place ≡ self.old.place }
         ensures err { OnErr result (self.new ≡ self.old) }
     {
@@ -108,8 +109,8 @@ impl Catalogue {
 
     /// The name that the next look falls at, if nobody holds it.
     pub fn free_name(&self) -> Option<Name>
-        ensures some { IfSome result (λ name. IsNext (places_of self.now) name × (count_of self.now name ≡ 0)) }
-        ensures none { IfNone result (((places_of self.now).names ≡ []) ⊎ ((name : List ℕ) × IsNext (places_of self.now) name × (0 < count_of self.now name))) }
+        ensures some { IfSome result (λ name. LooksNextAt (places_of self.now) name × (count_of self.now name ≡ 0)) }
+        ensures none { IfNone result (((places_of self.now).names ≡ []) ⊎ ((name : List ℕ) × LooksNextAt (places_of self.now) name × (0 < count_of self.now name))) }
     {
         let at = looked_place(self.place, self.holders.len());
         let Some(entry) = entry_at(&self.holders, at) else {
@@ -142,7 +143,7 @@ impl Catalogue {
     /// Takes out the name that the next look falls at. The last name takes its place, which the next
     /// look falls at again.
     pub fn leave(&mut self, name: Name)
-        requires next { IsNext (places_of self.old) name }
+        requires next { LooksNextAt (places_of self.old) name }
         requires free { count_of self.old name ≡ 0 }
         ensures left { (front back : List (List ℕ)) → (places_of self.old).names ≡ front ++ name ∷ back → length front ≡ looked_at (places_of self.old)
             → (left : List (List ℕ)) × ((places_of self.new).names ≡ front ++ left) × IsPermutation back left }

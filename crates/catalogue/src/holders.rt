@@ -3,7 +3,7 @@ ghost use Rattle.std.specs.Prelude.{◌≡◌, ◌<◌, ◌+◌, ◌^◌, ◌++�
 ghost use Rattle.std.specs.HashMap.{Updates};
 ghost use Rattle.std.specs.List.{IsDistinct};
 ghost use Rattle.std.specs.Map.{keys_of, lookup};
-ghost use Rattle.looks.specs.Places.{same_name};
+ghost use Rattle.git_name.specs.Same.{same_name};
 ghost use Rattle.catalogue.specs.Counted.{count_in, one_if};
 
 use git_name::{Hashing, Name};

@@ -14,7 +14,7 @@ use Rattle.std.proofs.lemmas.List.Quantifiers.{position-Some}
 use Rattle.git_name.specs.Same.{same_name}
 use Rattle.git_name.proofs.HashMaps.{one_name}
 use Rattle.nearby.proofs.PlaceLemmas.{only_place, placed}
-use Rattle.commit_graph.specs.Graph.{Commits, Forgets, IsGraph, Placed, Rises, name_at, parents_at, shown, stands}
+use Rattle.commit_graph.specs.Graph.{Commits, Forgets, IsGraph, Placed, ParentsStandBefore, name_at, parents_at, commits_shown, stands}
 use Rattle.commit_graph.specs.Links.{places_listed}
 use Rattle.commit_graph.specs.declared.links.Links.{Links}
 
@@ -26,7 +26,7 @@ pub keys_shown : (all placed : Placed) → keys_of (shown_over all placed) ≡ k
 keys_shown all [] = refl
 keys_shown all (entry ∷ placed) = ap (λ names. entry.0 ∷ names) (keys_shown all placed)
 
-pub names_shown : (placed : Placed) (places : List ℕ) → map (name_at (shown placed)) places ≡ map (name_at placed) places
+pub names_shown : (placed : Placed) (places : List ℕ) → map (name_at (commits_shown placed)) places ≡ map (name_at placed) places
 names_shown placed places = ap (λ names. map (λ at. get_or names at []) places) (keys_shown placed placed)
 
 -- names at the front stay
@@ -38,41 +38,41 @@ same_names : (all others : Placed) (before : ℕ) (places : List ℕ) → AllByR
 same_names all others before [] within same = refl
 same_names all others before (place ∷ places) within same = ap (λ name. name ∷ map (name_at all) places) (same place within.0) ∙ ap (λ names. name_at others place ∷ names) (same_names all others before places within.1 same)
 
-same_shown : (all others : Placed) (before : ℕ) (placed : Placed) → Rises before placed → ((place : ℕ) → place < before + length placed → name_at all place ≡ name_at others place) → shown_over all placed ≡ shown_over others placed
+same_shown : (all others : Placed) (before : ℕ) (placed : Placed) → ParentsStandBefore before placed → ((place : ℕ) → place < before + length placed → name_at all place ≡ name_at others place) → shown_over all placed ≡ shown_over others placed
 same_shown all others before [] rises same = refl
 same_shown all others before (entry ∷ placed) rises same =
     ap (λ names. (entry.0, names) ∷ shown_over all placed) (same_names all others before (places_listed entry.1) rises.0 (λ place within. same place (omega arith)))
     ∙ ap (λ rest. (entry.0, map (name_at others) (places_listed entry.1)) ∷ rest) (same_shown all others (suc before) placed rises.1 (λ place within. same place (omega arith)))
 
 -- one more behind the others
-pub shown_more : (placed : Placed) (name : List ℕ) (links : Links) (parents : List (List ℕ)) → Rises 0 placed → AllByRecursion (λ place. place < length placed) (places_listed links) → map (name_at (shown placed)) (places_listed links) ≡ parents
-    → shown (placed ++ (name, links) ∷ []) ≡ shown placed ++ (name, parents) ∷ []
+pub shown_more : (placed : Placed) (name : List ℕ) (links : Links) (parents : List (List ℕ)) → ParentsStandBefore 0 placed → AllByRecursion (λ place. place < length placed) (places_listed links) → map (name_at (commits_shown placed)) (places_listed links) ≡ parents
+    → commits_shown (placed ++ (name, links) ∷ []) ≡ commits_shown placed ++ (name, parents) ∷ []
 shown_more placed name links parents rises within named =
     let all = placed ++ (name, links) ∷ [] in
     let stays = (λ (place : ℕ) (inside : place < length placed). name_in_front placed ((name, links) ∷ []) place inside) in
     map-append (λ entry. (entry.0, map (name_at all) (places_listed entry.1))) placed ((name, links) ∷ [])
     ∙ ap (λ front. front ++ (name, map (name_at all) (places_listed links)) ∷ []) (same_shown all placed 0 placed rises (λ place inside. stays place (omega (arith, inside))))
-    ∙ ap (λ names. shown placed ++ (name, names) ∷ []) (same_names all placed (length placed) (places_listed links) within stays
+    ∙ ap (λ names. commits_shown placed ++ (name, names) ∷ []) (same_names all placed (length placed) (places_listed links) within stays
     ∙ sym (names_shown placed (places_listed links)) ∙ named)
 
-rises_more : (before : ℕ) (placed : Placed) (name : List ℕ) (links : Links) → Rises before placed → AllByRecursion (λ place. place < before + length placed) (places_listed links) → Rises before (placed ++ (name, links) ∷ [])
+rises_more : (before : ℕ) (placed : Placed) (name : List ℕ) (links : Links) → ParentsStandBefore before placed → AllByRecursion (λ place. place < before + length placed) (places_listed links) → ParentsStandBefore before (placed ++ (name, links) ∷ [])
 rises_more before [] name links rises within = (subst (λ n. AllByRecursion (λ place. place < n) (places_listed links)) (omega arith) within, tt)
 rises_more before (entry ∷ placed) name links rises within = (rises.0, rises_more (suc before) placed name links rises.1 (subst (λ n. AllByRecursion (λ place. place < n) (places_listed links)) (omega arith) within))
 
-pub rises_last : (placed : Placed) (name : List ℕ) (links : Links) → Rises 0 placed → AllByRecursion (λ place. place < length placed) (places_listed links) → Rises 0 (placed ++ (name, links) ∷ [])
+pub rises_last : (placed : Placed) (name : List ℕ) (links : Links) → ParentsStandBefore 0 placed → AllByRecursion (λ place. place < length placed) (places_listed links) → ParentsStandBefore 0 (placed ++ (name, links) ∷ [])
 rises_last placed name links rises within = rises_more 0 placed name links rises (subst (λ n. AllByRecursion (λ place. place < n) (places_listed links)) (omega arith) within)
 
 -- the first of them
-pub rises_front : (before : ℕ) (placed : Placed) (count : ℕ) → Rises before placed → Rises before (take count placed)
+pub rises_front : (before : ℕ) (placed : Placed) (count : ℕ) → ParentsStandBefore before placed → ParentsStandBefore before (take count placed)
 rises_front before [] zero rises = tt
 rises_front before [] (suc count) rises = tt
 rises_front before (entry ∷ placed) zero rises = tt
 rises_front before (entry ∷ placed) (suc count) rises = (rises.0, rises_front (suc before) placed count rises.1)
 
-pub shown_front : (placed : Placed) (count : ℕ) → Rises 0 placed → shown placed ≡ shown (take count placed) ++ drop count (shown placed)
+pub shown_front : (placed : Placed) (count : ℕ) → ParentsStandBefore 0 placed → commits_shown placed ≡ commits_shown (take count placed) ++ drop count (commits_shown placed)
 shown_front placed count rises =
-    sym (take-append-drop count (shown placed))
-    ∙ ap (λ front. front ++ drop count (shown placed)) (take-map (λ entry. (entry.0, map (name_at placed) (places_listed entry.1))) count placed ∙ same_shown placed (take count placed) 0 (take count placed) (rises_front 0 placed count rises) (λ place inside. same place (omega (arith, inside))))
+    sym (take-append-drop count (commits_shown placed))
+    ∙ ap (λ front. front ++ drop count (commits_shown placed)) (take-map (λ entry. (entry.0, map (name_at placed) (places_listed entry.1))) count placed ∙ same_shown placed (take count placed) 0 (take count placed) (rises_front 0 placed count rises) (λ place inside. same place (omega (arith, inside))))
   where
     same : (place : ℕ) → place < length (take count placed) → name_at placed place ≡ name_at (take count placed) place
     same place inside = ap (λ all. name_at all place) (sym (take-append-drop count placed)) ∙ name_in_front (take count placed) (drop count placed) place inside
@@ -92,24 +92,24 @@ only_here : (placed : Placed) (name : List ℕ) (at : ℕ) → IsDistinct same_n
 only_here placed name at distinct inside is =
     only_place (keys_of placed) at name distinct (slice_get-get_or (keys_of placed) at [] (omega (arith, length-map placed (λ (e : List ℕ × Links). e.0))) ∙ ap Some is)
 
-pub none_placed : (placed : Placed) (name : List ℕ) → IsDistinct same_name (keys_of placed) → position (same_name name) (keys_of placed) ≡ None → Forgets name (shown placed) (shown placed)
+pub none_placed : (placed : Placed) (name : List ℕ) → IsDistinct same_name (keys_of placed) → position (same_name name) (keys_of placed) ≡ None → Forgets name (commits_shown placed) (commits_shown placed)
 none_placed placed name distinct none = record {
   gone = [];
-  split = sym (append-nil (shown placed));
+  split = sym (append-nil (commits_shown placed));
   apart = λ parents there.
-      let found = named_key (shown placed) name parents there in
+      let found = named_key (commits_shown placed) name parents there in
       let is = only_here placed name found.0 distinct (omega (arith, found.1, length_shown placed placed)) (ap (λ names. get_or names found.0 []) (sym (keys_shown placed placed)) ∙ found.2) in
       let no : ⊥ = cc (sym none ∙ is) in no;
 }
 
 -- a name that stands at a place stands at none before it
-pub front_kept : (placed : Placed) (name : List ℕ) (at : ℕ) → Rises 0 placed → IsDistinct same_name (keys_of placed) → position (same_name name) (keys_of placed) ≡ Some at → Forgets name (shown placed) (shown (take at placed))
+pub front_kept : (placed : Placed) (name : List ℕ) (at : ℕ) → ParentsStandBefore 0 placed → IsDistinct same_name (keys_of placed) → position (same_name name) (keys_of placed) ≡ Some at → Forgets name (commits_shown placed) (commits_shown (take at placed))
 front_kept placed name at rises distinct is = record {
-  gone = drop at (shown placed);
+  gone = drop at (commits_shown placed);
   split = shown_front placed at rises;
   apart = λ parents there.
       let front = take at placed in
-      let found = named_key (shown front) name parents there in
+      let found = named_key (commits_shown front) name parents there in
       let inside : found.0 < length front = omega (arith, found.1, length_shown front front) in
       let within : found.0 < length placed = omega (arith, length-take at placed) in
       let here : name_at placed found.0 ≡ name =
@@ -120,7 +120,7 @@ front_kept placed name at rises distinct is = record {
 }
 
 -- the parents of the commit at a place
-parents_here : (all : Placed) (before : ℕ) (placed : Placed) (at : ℕ) (name : List ℕ) (links : Links) → Rises before placed → slice_get placed at ≡ Some (name, links) → (map (name_at all) (places_listed links) ≡ parents_at (shown_over all placed) at) × AllByRecursion (λ place. place < before + at) (places_listed links)
+parents_here : (all : Placed) (before : ℕ) (placed : Placed) (at : ℕ) (name : List ℕ) (links : Links) → ParentsStandBefore before placed → slice_get placed at ≡ Some (name, links) → (map (name_at all) (places_listed links) ≡ parents_at (shown_over all placed) at) × AllByRecursion (λ place. place < before + at) (places_listed links)
 parents_here all before [] at name links rises is = absurd (cc)
 parents_here all before (entry ∷ placed) zero name links rises is =
     let same : links ≡ entry.1 = ap (λ (found : Option (List ℕ × Links)). (unwrap_or found entry).1) (sym is) in (
@@ -131,7 +131,7 @@ parents_here all before (entry ∷ placed) (suc at) name links rises is =
     let rest = parents_here all (suc before) placed at name links rises.1 is in
     (rest.0, subst (λ n. AllByRecursion (λ place. place < n) (places_listed links)) (omega arith) rest.1)
 
-pub parents_first : (placed : Placed) (at : ℕ) (name : List ℕ) (links : Links) → Rises 0 placed → slice_get placed at ≡ Some (name, links) → (map (name_at placed) (places_listed links) ≡ parents_at (shown placed) at) × AllByRecursion (λ place. place < at) (places_listed links)
+pub parents_first : (placed : Placed) (at : ℕ) (name : List ℕ) (links : Links) → ParentsStandBefore 0 placed → slice_get placed at ≡ Some (name, links) → (map (name_at placed) (places_listed links) ≡ parents_at (commits_shown placed) at) × AllByRecursion (λ place. place < at) (places_listed links)
 parents_first placed at name links rises is =
     let here = parents_here placed 0 placed at name links rises is in
     (here.0, subst (λ n. AllByRecursion (λ place. place < n) (places_listed links)) (omega arith) here.1)
@@ -147,12 +147,12 @@ named_place all before [] name within there = absurd (omega (arith, there.1))
 named_place all before (place ∷ places) name within (zero, inside, is) = (place, within.0, is)
 named_place all before (place ∷ places) name within (suc k, inside, is) = named_place all before places name within.1 (k, omega (arith, inside), is)
 
-behind_from : (all : Placed) (before : ℕ) (placed : Placed) (at : ℕ) (parent : List ℕ) → Rises before placed → at < length placed → Contains (parents_at (shown_over all placed) at) parent → (place : ℕ) × (place < before + at) × (name_at all place ≡ parent)
+behind_from : (all : Placed) (before : ℕ) (placed : Placed) (at : ℕ) (parent : List ℕ) → ParentsStandBefore before placed → at < length placed → Contains (parents_at (shown_over all placed) at) parent → (place : ℕ) × (place < before + at) × (name_at all place ≡ parent)
 behind_from all before [] at parent rises inside there = absurd (omega arith)
 behind_from all before (entry ∷ placed) zero parent rises inside there = (let found = named_place all before (places_listed entry.1) parent rises.0 there in (found.0, omega (arith, found.1), found.2))
 behind_from all before (entry ∷ placed) (suc at) parent rises inside there = (let found = behind_from all (suc before) placed at parent rises.1 (omega arith) there in (found.0, omega (arith, found.1), found.2))
 
-pub graph_shown : (placed : Placed) → IsDistinct same_name (keys_of placed) → Rises 0 placed → IsGraph (shown placed)
+pub graph_shown : (placed : Placed) → IsDistinct same_name (keys_of placed) → ParentsStandBefore 0 placed → IsGraph (commits_shown placed)
 graph_shown placed distinct rises = record {
   distinct = subst (IsDistinct same_name) (sym (keys_shown placed placed)) distinct;
   behind = λ at parent inside there.
@@ -161,7 +161,7 @@ graph_shown placed distinct rises = record {
 }
 
 -- the name at a place
-pub key_here : (placed : Placed) (at : ℕ) → slice_get (keys_of (shown placed)) at ≡ option_map (λ (entry : List ℕ × Links). entry.0) (slice_get placed at)
+pub key_here : (placed : Placed) (at : ℕ) → slice_get (keys_of (commits_shown placed)) at ≡ option_map (λ (entry : List ℕ × Links). entry.0) (slice_get placed at)
 key_here placed at = ap (λ names. slice_get names at) (keys_shown placed placed) ∙ slice_get-map (λ (entry : List ℕ × Links). entry.0) placed at
 
 -- one more place, which is that of a name
@@ -205,5 +205,5 @@ pub both_told : (all absent told : Bool) → all ≡ true → told ≡ absent �
 both_told true absent told is same = same
 both_told false absent told is same = absurd (cc)
 
-pub stands_shown : (placed : Placed) (name : List ℕ) → stands (shown placed) name ≡ stands placed name
+pub stands_shown : (placed : Placed) (name : List ℕ) → stands (commits_shown placed) name ≡ stands placed name
 stands_shown placed name = ap (list_any (same_name name)) (keys_shown placed placed)

@@ -38,10 +38,10 @@ abbrev pub Placed : Type 0
 Placed = List (List ℕ × Links)
 
 -- the commits that they stand for
-abbrev pub shown : Placed → Commits
-shown placed = map (λ entry. (entry.0, map (name_at placed) (places_listed entry.1))) placed
+abbrev pub commits_shown : Placed → Commits
+commits_shown placed = map (λ entry. (entry.0, map (name_at placed) (places_listed entry.1))) placed
 
 -- each has its parents before it, where so many stand before the first
-abbrev pub Rises : ℕ → Placed → Type 0
-Rises before [] = Unit {0}
-Rises before (entry ∷ entries) = AllByRecursion (λ place. place < before) (places_listed entry.1) × Rises (suc before) entries
+abbrev pub ParentsStandBefore : ℕ → Placed → Type 0
+ParentsStandBefore before [] = Unit {0}
+ParentsStandBefore before (entry ∷ entries) = AllByRecursion (λ place. place < before) (places_listed entry.1) × ParentsStandBefore (suc before) entries

@@ -22,13 +22,13 @@ pub struct Graph {
 }
 
 impl Model for Graph {
-    ghost use Rattle.commit_graph.specs.Graph.{Commits, Rises, shown};
+    ghost use Rattle.commit_graph.specs.Graph.{Commits, ParentsStandBefore, commits_shown};
 
     ghost Value = { Commits };
 
-    ghost view = { λ a. shown a.placed.entries };
+    ghost view = { λ a. commits_shown a.placed.entries };
 
-    ghost invariant = { λ a. Rises 0 a.placed.entries };
+    ghost invariant = { λ a. ParentsStandBefore 0 a.placed.entries };
 }
 
 impl Graph {

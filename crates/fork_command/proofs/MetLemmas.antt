@@ -3,7 +3,7 @@ use Rattle.std.proofs.Common.{◌≡◌, ◌≢◌, ◌∙◌, sym, ap, subst, a
 use Rattle.std.specs.Option.{option_map}
 use Rattle.std.specs.Str.{bytes_eq}
 use Rattle.clap.specs.Words.{Row, Text, first_of}
-use Rattle.fork_command.specs.Command.{IsMet, ToCheck, ToHash, ToRun, ToServe, ToUpgrade}
+use Rattle.fork_command.specs.Command.{IsCommandMet, ToCheck, ToHash, ToRun, ToServe, ToUpgrade}
 use Rattle.std.proofs.lemmas.Slice.Eq.{bytes_eq-Decides}
 
 -- two halves that are known of an option's pair are the pair
@@ -36,7 +36,7 @@ other_letter : {X : Type 0} (n m : ℕ) → n ≡ m → n ≢ m → X
 other_letter n m is differs = absurd (differs is)
 
 -- where `check` was met, a folder is given
-pub check_met : (met : Option (Text × List Row)) (rows : List Row) → IsMet met → met ≡ Some (codes "check", rows) → is_some (first_of (codes "dir") rows) ≡ true
+pub check_met : (met : Option (Text × List Row)) (rows : List Row) → IsCommandMet met → met ≡ Some (codes "check", rows) → is_some (first_of (codes "dir") rows) ≡ true
 check_met met rows (ToHash others is) check = other_letter 104 99 (ap first_letter (sym is ∙ check)) (omega arith)
 check_met met rows (ToRun others is) check = other_letter 114 99 (ap first_letter (sym is ∙ check)) (omega arith)
 check_met met rows (ToServe others is words) check = other_letter 115 99 (ap first_letter (sym is ∙ check)) (omega arith)
@@ -44,7 +44,7 @@ check_met met rows (ToCheck others is some) check = subst (λ (rs : List Row). i
 check_met met rows (ToUpgrade others is some) check = other_letter 117 99 (ap first_letter (sym is ∙ check)) (omega arith)
 
 -- and where `upgrade` was
-pub upgrade_met : (met : Option (Text × List Row)) (rows : List Row) → IsMet met → met ≡ Some (codes "upgrade", rows) → is_some (first_of (codes "dir") rows) ≡ true
+pub upgrade_met : (met : Option (Text × List Row)) (rows : List Row) → IsCommandMet met → met ≡ Some (codes "upgrade", rows) → is_some (first_of (codes "dir") rows) ≡ true
 upgrade_met met rows (ToHash others is) upgrade = other_letter 104 117 (ap first_letter (sym is ∙ upgrade)) (omega arith)
 upgrade_met met rows (ToRun others is) upgrade = other_letter 114 117 (ap first_letter (sym is ∙ upgrade)) (omega arith)
 upgrade_met met rows (ToServe others is words) upgrade = other_letter 115 117 (ap first_letter (sym is ∙ upgrade)) (omega arith)

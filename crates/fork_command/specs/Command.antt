@@ -57,12 +57,12 @@ pub record HasServeWords (rows : List Row) : Type 0 where
   pub number : IsSignedIn (pos 1) (pos 1000000) text
 
 -- `clap` met a subcommand of the table, and the words that it needs
-pub data IsMet (met : Option (Text × List Row)) : Type 0 where
-  ToHash : (rows : List Row) → met ≡ Some (codes "hash-object", rows) → IsMet met
-  ToRun : (rows : List Row) → met ≡ Some (codes "run", rows) → IsMet met
-  ToServe : (rows : List Row) → met ≡ Some (codes "serve", rows) → HasServeWords rows → IsMet met
-  ToCheck : (rows : List Row) → met ≡ Some (codes "check", rows) → is_some (first_of (codes "dir") rows) ≡ true → IsMet met
-  ToUpgrade : (rows : List Row) → met ≡ Some (codes "upgrade", rows) → is_some (first_of (codes "dir") rows) ≡ true → IsMet met
+pub data IsCommandMet (met : Option (Text × List Row)) : Type 0 where
+  ToHash : (rows : List Row) → met ≡ Some (codes "hash-object", rows) → IsCommandMet met
+  ToRun : (rows : List Row) → met ≡ Some (codes "run", rows) → IsCommandMet met
+  ToServe : (rows : List Row) → met ≡ Some (codes "serve", rows) → HasServeWords rows → IsCommandMet met
+  ToCheck : (rows : List Row) → met ≡ Some (codes "check", rows) → is_some (first_of (codes "dir") rows) ≡ true → IsCommandMet met
+  ToUpgrade : (rows : List Row) → met ≡ Some (codes "upgrade", rows) → is_some (first_of (codes "dir") rows) ≡ true → IsCommandMet met
 
 -- the word given as TYPE is the type of no object
 abbrev pub IsBadType : Option (Text × List Row) → Type 0

@@ -4,7 +4,7 @@ ghost use Rattle.git_name.specs.declared.kind.Kind.{Kind};
 ghost use Rattle.git_name.specs.Kind.{type_word};
 ghost use Rattle.fork_command.specs.Grant.{IsBadGrant};
 ghost use Rattle.fork_command.specs.Table.{table_app};
-ghost use Rattle.fork_command.specs.Command.{Asks, HasServeWords, IsBadType, IsFaulty, IsMet, IsRefused, tenants_given};
+ghost use Rattle.fork_command.specs.Command.{Asks, HasServeWords, IsBadType, IsFaulty, IsCommandMet, IsRefused, tenants_given};
 
 use crate::error::CommandError;
 use crate::hosting::{Hosting, hosting_of};
@@ -89,7 +89,7 @@ fn asked<'a>(
     alloc: Global,
     matches: &ArgMatches<'a>,
 ) -> Result<Option<Command<'a>>, CommandError<'a>>
-    requires met { IsMet (subcommand_rows_of matches.now) }
+    requires met { IsCommandMet (subcommand_rows_of matches.now) }
     ensures some { IfOk result (λ o. IfSome o (Asks (subcommand_rows_of matches.entry.now))) }
     ensures none { IfOk result (λ o. IfNone o (IsBadType (subcommand_rows_of matches.entry.now))) }
     ensures err { IfErr result (IsRefused [] (subcommand_rows_of matches.entry.now)) }

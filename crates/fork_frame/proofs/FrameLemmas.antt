@@ -4,7 +4,7 @@ use Rattle.std.proofs.lemmas.List.{append-nil, append_assoc, length-append}
 use Rattle.std.specs.Io.KnownBytes.{Consumes, IsAtEnd}
 use Rattle.fork_frame.specs.declared.line.Line.{Line}
 use Rattle.fork_frame.specs.declared.frame.Frame.{Frame}
-use Rattle.fork_frame.specs.Line.{IsLine, line_text}
+use Rattle.fork_frame.specs.Line.{IsFrameLine, line_text}
 use Rattle.fork_frame.specs.Frame.{IsFrame, IsBad, frame_bytes}
 use Rattle.fork_frame.specs.Next.{FindsNoFrame, OfLine, OfPayload}
 use Rattle.fork_frame.specs.Reading.{TakesNoLine}
@@ -15,7 +15,7 @@ use Rattle.fork_frame.specs.declared.text.TheConstants.{LONGEST}
 abbrev pub line_of : Frame → Line
 line_of frame = record { asker = frame.asker; len = length frame.payload }
 
-pub is_line_of : (frame : Frame) → IsFrame frame → IsLine (line_of frame) (line_text (line_of frame))
+pub is_line_of : (frame : Frame) → IsFrame frame → IsFrameLine (line_of frame) (line_text (line_of frame))
 is_line_of frame right = record { named = right.named; fits = right.fits; spelled = refl }
 
 -- a frame's line, LF, and what follows
@@ -67,18 +67,18 @@ some_line input text after is =
 then_after : (input text after : List ℕ) → input ≡ (text ++ 10 ∷ []) ++ after → text ++ 10 ∷ after ≡ input
 then_after input text after is = sym (is ∙ append_assoc text (10 ∷ []) after)
 
-bad_line : (old mid : Option (List ℕ)) (text : List ℕ) → All (λ byte. byte ≢ 10) text → Consumes old mid (text ++ 10 ∷ []) → ((line : Line) → IsLine line text → ⊥) → IfSome old IsBad
+bad_line : (old mid : Option (List ℕ)) (text : List ℕ) → All (λ byte. byte ≢ 10) text → Consumes old mid (text ++ 10 ∷ []) → ((line : Line) → IsFrameLine line text → ⊥) → IfSome old IsBad
 bad_line None mid text plain taken no_line = tt
 bad_line (Some input) None text plain taken no_line = absurd taken
 bad_line (Some input) (Some after) text plain taken no_line = record {
   some = some_line input text after taken;
   none = λ frame rest right is.
       let sides = split_line text after rest frame plain right (then_after input text after taken ∙ is) in
-      no_line (line_of frame) (subst (λ t. IsLine (line_of frame) t) (sym sides.0) (is_line_of frame right));
+      no_line (line_of frame) (subst (λ t. IsFrameLine (line_of frame) t) (sym sides.0) (is_line_of frame right));
 }
 
 -- a line that is no frame's
-pub finds_no_right_line : (old new : Option (List ℕ)) (text : List ℕ) → All (λ byte. byte ≢ 10) text → length text ≤ 40 → Consumes old new (text ++ 10 ∷ []) → ((line : Line) → IsLine line text → ⊥) → FindsNoFrame old new
+pub finds_no_right_line : (old new : Option (List ℕ)) (text : List ℕ) → All (λ byte. byte ≢ 10) text → length text ≤ 40 → Consumes old new (text ++ 10 ∷ []) → ((line : Line) → IsFrameLine line text → ⊥) → FindsNoFrame old new
 finds_no_right_line old new text plain short taken no_line = record {
   bad = bad_line old new text plain taken no_line;
   front = text ++ 10 ∷ [];
@@ -92,7 +92,7 @@ too_short after payload front rest one two short =
     let whole : length after ≡ length payload + length rest = ap (λ (l : List ℕ). length l) two ∙ length-append payload rest in
     omega arith
 
-bad_payload : (old mid new : Option (List ℕ)) (text front : List ℕ) (line : Line) → All (λ byte. byte ≢ 10) text → Consumes old mid (text ++ 10 ∷ []) → IsLine line text
+bad_payload : (old mid new : Option (List ℕ)) (text front : List ℕ) (line : Line) → All (λ byte. byte ≢ 10) text → Consumes old mid (text ++ 10 ∷ []) → IsFrameLine line text
     → length front < line.len → Consumes mid new front → IsAtEnd new → IfSome old IsBad
 bad_payload None mid new text front line plain taken right short more ended = tt
 bad_payload (Some input) None new text front line plain taken right short more ended = absurd taken
@@ -101,12 +101,12 @@ bad_payload (Some input) (Some after) (Some rest) text front line plain taken ri
   some = some_line input text after taken;
   none = λ frame left whole is.
       let sides = split_line text after left frame plain whole (then_after input text after taken ∙ is) in
-      let same : line ≡ line_of frame = line_unique text line (line_of frame) right (subst (λ t. IsLine (line_of frame) t) (sym sides.0) (is_line_of frame whole)) in
+      let same : line ≡ line_of frame = line_unique text line (line_of frame) right (subst (λ t. IsFrameLine (line_of frame) t) (sym sides.0) (is_line_of frame whole)) in
       too_short after frame.payload front left (more ∙ ap (λ r. front ++ r) ended) sides.1 (subst (λ (l : Line). length front < l.len) same short);
 }
 
 -- a payload that is cut off
-pub finds_short_payload : (old mid new : Option (List ℕ)) (text front : List ℕ) (line : Line) → All (λ byte. byte ≢ 10) text → Consumes old mid (text ++ 10 ∷ []) → IsLine line text
+pub finds_short_payload : (old mid new : Option (List ℕ)) (text front : List ℕ) (line : Line) → All (λ byte. byte ≢ 10) text → Consumes old mid (text ++ 10 ∷ []) → IsFrameLine line text
     → length front < line.len → Consumes mid new front → IsAtEnd new → Consumes old new (text ++ 10 ∷ front) → FindsNoFrame old new
 finds_short_payload old mid new text front line plain taken right short more ended all = record {
   bad = bad_payload old mid new text front line plain taken right short more ended;
@@ -116,8 +116,8 @@ finds_short_payload old mid new text front line plain taken right short more end
 }
 
 -- a whole frame
-pub is_frame : (frame : Frame) (line : Line) (text : List ℕ) → IsLine line text → frame.asker ≡ line.asker → length frame.payload ≡ line.len → IsFrame frame × (text ++ 10 ∷ frame.payload ≡ frame_bytes frame)
+pub is_frame : (frame : Frame) (line : Line) (text : List ℕ) → IsFrameLine line text → frame.asker ≡ line.asker → length frame.payload ≡ line.len → IsFrame frame × (text ++ 10 ∷ frame.payload ≡ frame_bytes frame)
 is_frame frame line text right asker len =
     let same : line ≡ line_of frame = λ i. record { asker = sym asker i; len = sym len i } in
-    let line_is : IsLine (line_of frame) text = subst (λ (l : Line). IsLine l text) same right in
+    let line_is : IsFrameLine (line_of frame) text = subst (λ (l : Line). IsFrameLine l text) same right in
     (record { named = line_is.named; fits = line_is.fits }, ap (λ (t : List ℕ). t ++ 10 ∷ frame.payload) line_is.spelled)

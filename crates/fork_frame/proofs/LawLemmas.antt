@@ -8,7 +8,7 @@ use Rattle.fork_frame.specs.declared.line.Line.{Line}
 use Rattle.fork_frame.specs.declared.frame.Frame.{Frame}
 use Rattle.fork_frame.specs.declared.ended.Ended.{Ended}
 use Rattle.fork_frame.specs.declared.ended.Ended.TheVariants.{Clean, BadFrame}
-use Rattle.fork_frame.specs.Line.{IsLine, line_text}
+use Rattle.fork_frame.specs.Line.{IsFrameLine, line_text}
 use Rattle.fork_frame.specs.Frame.{IsFrame, IsBad, EndsAt, IsRequestStream, OneFrame, OneStream, frame_bytes}
 use Rattle.fork_frame.proofs.LineLemmas.{line_plain, line_unique}
 use Rattle.fork_frame.proofs.FrameLemmas.{line_of, is_line_of, line_first, split_line}
@@ -29,7 +29,7 @@ pub one_frame : OneFrame
 one_frame f g r s right other is =
     let plain = line_plain (line_of f) _ (is_line_of f right) in
     let sides = split_line (line_text (line_of f)) (f.payload ++ r) s g plain other (sym (line_first f r) ∙ is) in
-    let same : line_of f ≡ line_of g = line_unique (line_text (line_of f)) (line_of f) (line_of g) (is_line_of f right) (subst (λ t. IsLine (line_of g) t) (sym sides.0) (is_line_of g other)) in
+    let same : line_of f ≡ line_of g = line_unique (line_text (line_of f)) (line_of f) (line_of g) (is_line_of f right) (subst (λ t. IsFrameLine (line_of g) t) (sym sides.0) (is_line_of g other)) in
     let parts = fronts f.payload g.payload r s (ap (λ (l : Line). l.len) same) sides.1 in
     let asker = ap (λ (l : Line). l.asker) same in
     let frames : f ≡ g = λ i. record { asker = asker i; payload = parts.0 i } in

@@ -15,7 +15,7 @@ use Rattle.fork_frame.specs.declared.asker.Asker.{Asker}
 use Rattle.fork_frame.specs.declared.asker.Asker.TheVariants.{Tenant, Host}
 use Rattle.fork_frame.specs.declared.line.Line.{Line}
 use Rattle.fork_frame.specs.Asker.{IsAsker, asker_word}
-use Rattle.fork_frame.specs.Line.{IsLine}
+use Rattle.fork_frame.specs.Line.{IsFrameLine}
 
 heads : (x y : ℕ) (xs ys : List ℕ) → x ∷ xs ≡ y ∷ ys → x ≡ y
 heads x y xs ys e = cc
@@ -82,12 +82,12 @@ decimal_unique n m small other is =
     ap (λ (o : Option ℕ). unwrap_or o 0) (sym (number_in-decimal n small) ∙ (ap number_in is ∙ number_in-decimal m other))
 
 -- a right line's parts are the two sides of its first SP
-pub parts_of : (text word digits : List ℕ) (line : Line) → text ≡ word ++ 32 ∷ digits → All (λ x. x ≢ 32) word → IsLine line text → (word ≡ asker_word line.asker) × (digits ≡ decimal line.len)
+pub parts_of : (text word digits : List ℕ) (line : Line) → text ≡ word ++ 32 ∷ digits → All (λ x. x ≢ 32) word → IsFrameLine line text → (word ≡ asker_word line.asker) × (digits ≡ decimal line.len)
 parts_of text word digits line sides plain right =
     split_unique 32 word digits (asker_word line.asker) (decimal line.len) plain (asker_without 32 (omega arith) refl line.asker right.named) (sym sides ∙ right.spelled)
 
 -- a text is one line's at most
-pub line_unique : (text : List ℕ) (l m : Line) → IsLine l text → IsLine m text → l ≡ m
+pub line_unique : (text : List ℕ) (l m : Line) → IsFrameLine l text → IsFrameLine m text → l ≡ m
 line_unique text l m one two =
     let small_l : l.len < 2 ^ 64 = (let f = one.fits in omega arith) in
     let small_m : m.len < 2 ^ 64 = (let f = two.fits in omega arith) in
@@ -97,13 +97,13 @@ line_unique text l m one two =
     λ i. record { asker = asker i; len = len i }
 
 -- a right line has no LF
-pub line_plain : (line : Line) (text : List ℕ) → IsLine line text → All (λ x. x ≢ 10) text
+pub line_plain : (line : Line) (text : List ℕ) → IsFrameLine line text → All (λ x. x ≢ 10) text
 line_plain line text right =
     let small : line.len < 2 ^ 64 = (let f = right.fits in omega arith) in
     All-same (λ x. x ≢ 10) _ _ right.spelled (All-append (λ x. x ≢ 10) (asker_word line.asker) (32 ∷ decimal line.len) (asker_without 10 (omega arith) refl line.asker right.named) (All-cons (λ x. x ≢ 10) 32 (decimal line.len) (λ (e : 32 ≡ 10). absurd (omega arith)) (decimal_without 10 (omega arith) line.len small)))
 
 -- and at most 40 bytes
-pub line_short : (line : Line) (text : List ℕ) → IsLine line text → length text ≤ 40
+pub line_short : (line : Line) (text : List ℕ) → IsFrameLine line text → length text ≤ 40
 line_short line text right =
     let f = right.fits in
     let few : length (asker_word line.asker) ≤ 32 = asker_short line.asker right.named in

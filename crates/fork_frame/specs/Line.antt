@@ -9,7 +9,7 @@ abbrev pub line_text : Line → List ℕ
 line_text line = asker_word line.asker ++ 32 ∷ decimal line.len
 
 -- the text is this line's: who asks may ask, and the length is allowed
-pub record IsLine (line : Line) (text : List ℕ) : Type 0 where
+pub record IsFrameLine (line : Line) (text : List ℕ) : Type 0 where
   pub named : IsAsker line.asker
   pub fits : line.len ≤ MAX_PAYLOAD
   pub spelled : text ≡ line_text line

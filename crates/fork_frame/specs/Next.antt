@@ -4,14 +4,14 @@ use Rattle.std.specs.Io.KnownBytes.{Keeps, Consumes, IsAtEnd}
 use Rattle.fork_frame.specs.declared.line.Line.{Line}
 use Rattle.fork_frame.specs.declared.frame.Next.{Next}
 use Rattle.fork_frame.specs.declared.frame.Next.TheVariants.{Frame, End, Bad}
-use Rattle.fork_frame.specs.Line.{IsLine}
+use Rattle.fork_frame.specs.Line.{IsFrameLine}
 use Rattle.fork_frame.specs.Frame.{IsFrame, IsBad, frame_bytes}
 use Rattle.fork_frame.specs.declared.text.TheConstants.{LONGEST}
 
 -- so much may be read before it is known that no frame comes: as many bytes as are looked at for an LF, or a right line, LF, and too short a payload
 pub data IsEnough (front : List ℕ) : Type 0 where
   OfLine : length front ≤ LONGEST → IsEnough front
-  OfPayload : (line : Line) (text payload : List ℕ) → IsLine line text → length payload < line.len → front ≡ text ++ 10 ∷ payload → IsEnough front
+  OfPayload : (line : Line) (text payload : List ℕ) → IsFrameLine line text → length payload < line.len → front ≡ text ++ 10 ∷ payload → IsEnough front
 
 -- no frame comes, and no more was read than shows it
 pub record FindsNoFrame (old new : Option (List ℕ)) : Type 0 where
@@ -25,7 +25,7 @@ pub record BeginsFrame (input : List ℕ) : Type 0 where
   pub line : Line
   pub text : List ℕ
   pub rest : List ℕ
-  pub right : IsLine line text
+  pub right : IsFrameLine line text
   pub some : 1 ≤ line.len
   pub parts : input ≡ text ++ 10 ∷ rest
 

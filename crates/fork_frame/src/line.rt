@@ -29,12 +29,12 @@ fn asker_of(word: &[u8]) -> Option<Asker>
 
 impl Line {
     ghost use Rattle.fork_frame.specs.declared.line.Line.{Line};
-    ghost use Rattle.fork_frame.specs.Line.{IsLine};
+    ghost use Rattle.fork_frame.specs.Line.{IsFrameLine};
 
     /// Reads the line, given without its LF. It takes no memory.
     pub fn read(text: &[u8]) -> Option<Line>
-        ensures found { IfSome result (λ line. IsLine line text.now) }
-        ensures none { IfNone result ((line : Line) → ¬ IsLine line text.now) }
+        ensures found { IfSome result (λ line. IsFrameLine line text.now) }
+        ensures none { IfNone result ((line : Line) → ¬ IsFrameLine line text.now) }
     {
         let Some((word, digits)) = split_once(text, b' ') else {
             return None;

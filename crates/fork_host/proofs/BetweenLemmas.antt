@@ -5,7 +5,7 @@ use Rattle.std.specs.List.{AllByRecursion}
 use Rattle.std.specs.Prelude.{Contains, is_some}
 use Rattle.std.proofs.lemmas.List.Elements.{Contains-append_left, Contains-append_right}
 use Rattle.git_name.specs.Object.{Object}
-use Rattle.looks.specs.Growth.{GrowsBy}
+use Rattle.looks.specs.Growth.{GrowsAmong}
 use Rattle.looks.specs.Places.{Places}
 use Rattle.looks.proofs.GrowthLemmas.{none_came}
 use Rattle.loose_store.specs.Stored.{Whole}
@@ -21,20 +21,20 @@ use Rattle.fork_model.specs.World.{Event, number_line}
 use Rattle.fork_host.specs.Between.{BringsNothing}
 use Rattle.fork_host.specs.Causes.{IsCalm, sent_along}
 use Rattle.fork_host.specs.Faults.{sent_at}
-use Rattle.fork_host.specs.Sent.{sent_by, sent_names, sent_of}
+use Rattle.fork_host.specs.Sent.{sent_by, sent_names, brought_by}
 use Rattle.fork_host.specs.Shown.{HostState, Trusted, world_of}
 use Rattle.fork_host.specs.Step.{IsRun, IsStep}
 use Rattle.fork_host.proofs.FaultLemmas.{bounded}
 
 -- ---- the census
-none_sent : (ask : Ask) → ((view : View) → sent_by view ask ≡ []) → (o : Option View) → sent_of o ask ≡ []
+none_sent : (ask : Ask) → ((view : View) → sent_by view ask ≡ []) → (o : Option View) → brought_by o ask ≡ []
 none_sent ask none None = refl
 none_sent ask none (Some view) = none view
 
 -- a request that brings nothing leaves the catalogue
 stays : (old mid : HostState) (event : Event) (reply : Reply) → BringsNothing event → IsStep old event reply mid → mid.vault.places ≡ old.vault.places
 stays old mid (Asks t ask) reply none step =
-    none_came old.vault.places mid.vault.places (subst (λ objects. GrowsBy (sent_names objects) old.vault.places mid.vault.places) (none_sent ask none (get (world_of old) t)) step.tends)
+    none_came old.vault.places mid.vault.places (subst (λ objects. GrowsAmong (sent_names objects) old.vault.places mid.vault.places) (none_sent ask none (get (world_of old) t)) step.tends)
 stays old mid (HostAsks request) reply none step = absurd none
 
 pub counts : (old new : HostState) (front back : List Event) (told after : List Reply) (text : List ℕ) → IsRun old (front ++ HostAsks Census ∷ back) (told ++ Done text ∷ after) new → length told ≡ length front

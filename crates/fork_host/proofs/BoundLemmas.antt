@@ -3,6 +3,7 @@ use Rattle.std.proofs.Common.{◌≡◌, ◌≢◌, ◌⊎◌, inl, inr, ℕ, fa
 use Rattle.std.specs.Prelude.{Contains, IfErr}
 use Rattle.std.proofs.lemmas.List.Elements.{Contains-append_left, Contains-append_right}
 use Rattle.git_name.specs.Object.{Object, object_name}
+use Rattle.git_name.specs.Count.{fault_in}
 use Rattle.loose_store.specs.Files.{Files}
 use Rattle.loose_store.specs.Stored.{Whole}
 use Rattle.fork_reach.specs.declared.source.SourceFault.{SourceFault}
@@ -15,18 +16,18 @@ use Rattle.fork_request.specs.declared.reply.Reply.TheVariants.{Done, Refused, F
 use Rattle.fork_ledger.specs.AllStaged.{MeetsAmong, StoresAmong}
 use Rattle.fork_ledger.specs.declared.fault.VaultFault.{VaultFault}
 use Rattle.fork_ledger.specs.declared.fault.VaultFault.TheVariants as ledger
-use Rattle.fork_ledger.specs.Store.{AsksStore, LeavesStore, fault_in}
+use Rattle.fork_ledger.specs.Store.{AsksStore, LeavesStore}
 use Rattle.fork_ledger.specs.Tenants.{VaultState}
 use Rattle.fork_model.specs.Answer.{answer}
 use Rattle.fork_model.specs.View.{View}
 use Rattle.fork_model.proofs.StepLemmas.{answer_tells}
-use Rattle.fork_host.specs.Bounds.{CountsReply, Gains, IsBounded, IsCollision, IsRead, StoresSent}
+use Rattle.fork_host.specs.Bounds.{CountsReply, Gains, IsBounded, IsCollision, ReadsStore}
 use Rattle.fork_host.specs.Rows.{Gives, Given, Wanting, fault_told, vault_told}
 
-same_files : {old new : Files} (sent : List Object) → new ≡ old → StoresSent sent old new
+same_files : {old new : Files} (sent : List Object) → new ≡ old → StoresAmong sent old new
 same_files sent same = λ name object whole. inl (subst (λ files. Whole files name object) same whole)
 
-more_files : {a b c : Files} (sent : List Object) → StoresSent sent a b → StoresSent sent b c → StoresSent sent a c
+more_files : {a b c : Files} (sent : List Object) → StoresAmong sent a b → StoresAmong sent b c → StoresAmong sent a c
 more_files {a} {b} {c} sent first then = λ name object whole. by name object (then name object whole)
   where
     by : (name : List ℕ) (object : Object) → Whole b name object ⊎ Contains sent object → Whole a name object ⊎ Contains sent object
@@ -40,7 +41,7 @@ gains_none sent vault = record { honest = refl; failures = refl; stored = λ _. 
 pub gains_left : (sent : List Object) (a b : VaultState) → LeavesStore a b → Gains sent a b
 gains_left sent a b left = record { honest = left.honest; failures = left.failures; stored = λ _. same_files sent left.files }
 
-pub gains_read : (sent : List Object) (a b : VaultState) → IsRead a b None → Gains sent a b
+pub gains_read : (sent : List Object) (a b : VaultState) → ReadsStore a b None → Gains sent a b
 gains_read sent a b read = record { honest = read.honest; failures = read.counted; stored = λ h. same_files sent (read.files h) }
 
 pub gains_then : (sent : List Object) (a b c : VaultState) → Gains sent a b → Gains sent b c → Gains sent a c
@@ -54,7 +55,7 @@ pub gains_done : (sent : List Object) (a b : VaultState) (text : List ℕ) → I
 gains_done sent a b text bounded = record { honest = bounded.honest; failures = bounded.counted; stored = λ h. bounded.stored h (λ is. cc) (λ is. cc) }
 
 -- and what more objects gain, of which those are some
-more_sent : {old new : Files} (sent more : List Object) → ((object : Object) → Contains sent object → Contains more object) → StoresSent sent old new → StoresSent more old new
+more_sent : {old new : Files} (sent more : List Object) → ((object : Object) → Contains sent object → Contains more object) → StoresAmong sent old new → StoresAmong more old new
 more_sent {old} {new} sent more among stored = λ name object whole. by name object (stored name object whole)
   where
     by : (name : List ℕ) (object : Object) → Whole old name object ⊎ Contains sent object → Whole old name object ⊎ Contains more object
@@ -126,7 +127,7 @@ bounded_left sent a b c reply bounded left = record {
 }
 
 -- a read that failed
-pub bounded_read : (sent : List Object) (a b : VaultState) (fault : SourceFault) → IsRead a b (Some fault) → IsBounded sent a b (Failed (fault_told fault))
+pub bounded_read : (sent : List Object) (a b : VaultState) (fault : SourceFault) → ReadsStore a b (Some fault) → IsBounded sent a b (Failed (fault_told fault))
 bounded_read sent a b source.Store read = record { honest = read.honest; counted = read.counted; undamaged = λ h is. cc; collided = λ h is. absurd (cc); stored = λ h no_store _. absurd (no_store refl) }
 bounded_read sent a b source.Damaged read = record { honest = read.honest; counted = read.counted; undamaged = λ h is. read.undamaged h refl; collided = λ h is. absurd (cc); stored = λ h _ _. same_files sent (read.files h) }
 bounded_read sent a b source.Memory read = record { honest = read.honest; counted = read.counted; undamaged = λ h is. cc; collided = λ h is. absurd (cc); stored = λ h _ _. same_files sent (read.files h) }

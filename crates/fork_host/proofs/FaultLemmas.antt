@@ -4,9 +4,9 @@ use Rattle.std.specs.Prelude.{Contains}
 use Rattle.std.specs.List.{AllByRecursion}
 use Rattle.std.proofs.lemmas.List.Elements.{Contains-append_left, Contains-append_right}
 use Rattle.git_name.specs.Object.{Object, object_name}
+use Rattle.git_name.specs.Count.{Rises, greatest_count}
 use Rattle.loose_store.specs.Files.{Files}
 use Rattle.loose_store.specs.Stored.{Whole}
-use Rattle.fork_reach.specs.Faults.{Rises}
 use Rattle.fork_request.specs.declared.host_fault.HostFault.TheVariants.{Memory, Store, Damaged, Collision}
 use Rattle.fork_request.specs.declared.reply.Reply.{Reply}
 use Rattle.fork_request.specs.declared.reply.Reply.TheVariants.{Done, Refused, Failed}
@@ -91,7 +91,7 @@ up_along old new (event ∷ events) (reply ∷ replies) along =
     let rest = up_along along.0 new events replies along.2 in
     omega (arith, first, rest)
 
-not_counted : (before now : ℕ) (reply : Reply) → CountsReply before now reply → now ≡ before → before ≢ 18446744073709551615 → reply ≢ Failed Store
+not_counted : (before now : ℕ) (reply : Reply) → CountsReply before now reply → now ≡ before → before ≢ greatest_count → reply ≢ Failed Store
 not_counted before now (Done text) is same least told = absurd (cc)
 not_counted before now (Refused refusal) is same least told = absurd (cc)
 not_counted before now (Failed Memory) is same least told = absurd (cc)
@@ -100,7 +100,7 @@ not_counted before now (Failed Store) (inr (most, is)) same least told = least m
 not_counted before now (Failed Damaged) is same least told = absurd (cc)
 not_counted before now (Failed Collision) is same least told = absurd (cc)
 
-pub fails : (old new : HostState) (events : List Event) (replies : List Reply) → IsRun old events replies new → new.vault.failures ≡ old.vault.failures → old.vault.failures ≢ 18446744073709551615
+pub fails : (old new : HostState) (events : List Event) (replies : List Reply) → IsRun old events replies new → new.vault.failures ≡ old.vault.failures → old.vault.failures ≢ greatest_count
     → AllByRecursion (λ reply. reply ≢ Failed Store) replies
 fails old new [] [] along same least = tt
 fails old new [] (reply ∷ replies) along same least = absurd along

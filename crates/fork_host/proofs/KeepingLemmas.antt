@@ -11,7 +11,7 @@ use Rattle.git_reftx.proofs.PushLemmas.{keys_ascend}
 use Rattle.fork_model.specs.Sound.{IsOrderly, IsOrderlyWorld}
 use Rattle.fork_model.specs.declared.limits.TheConstants.{MAX_TENANTS}
 use Rattle.state_text.specs.Adding.{AreBefore}
-use Rattle.state_text.specs.Kept.{kept_of, states_of}
+use Rattle.state_text.specs.Kept.{state_kept, states_of}
 use Rattle.state_text.specs.States.{Ascend, States}
 use Rattle.state_text.proofs.BehindLemmas.{before_last, map_behind}
 use Rattle.fork_ledger.specs.Tenants.{VaultState}
@@ -61,23 +61,23 @@ Rows = List (List ℕ × Account)
 
 -- the states of these accounts
 abbrev pub states_by : VaultState → Rows → States
-states_by vault es = map kept_of (map (entry_shown vault) es)
+states_by vault es = map state_kept (map (entry_shown vault) es)
 
 -- the world's states are those of its accounts
 pub all_states : (state : HostState) → states_by state.vault (entries state.accounts) ≡ states_of (world_of state)
 unfolding world_of
-all_states state = ap (map kept_of) (sym (entries-from_sorted name_cmp (map (entry_shown state.vault) (entries state.accounts)) (subst T (sym (same_sorted state.vault (entries state.accounts))) (entries_sorted state.accounts))))
+all_states state = ap (map state_kept) (sym (entries-from_sorted name_cmp (map (entry_shown state.vault) (entries state.accounts)) (subst T (sym (same_sorted state.vault (entries state.accounts))) (entries_sorted state.accounts))))
 
 -- one account more
-pub state_more : (vault : VaultState) (es : Rows) (e : List ℕ × Account) → states_by vault (es ++ e ∷ []) ≡ states_by vault es ++ kept_of (e.0, shown e.1 vault e.0) ∷ []
-state_more vault es e = ap (map kept_of) (map_behind (entry_shown vault) es e) ∙ map_behind kept_of (map (entry_shown vault) es) (entry_shown vault e)
+pub state_more : (vault : VaultState) (es : Rows) (e : List ℕ × Account) → states_by vault (es ++ e ∷ []) ≡ states_by vault es ++ state_kept (e.0, shown e.1 vault e.0) ∷ []
+state_more vault es e = ap (map state_kept) (map_behind (entry_shown vault) es e) ∙ map_behind state_kept (map (entry_shown vault) es) (entry_shown vault e)
 
 names_of_states : (vault : VaultState) (es : Rows) → map (λ t. t.name) (states_by vault es) ≡ map (λ e. e.0) es
 names_of_states vault [] = refl
 names_of_states vault (e ∷ es) = ap (λ l. e.0 ∷ l) (names_of_states vault es)
 
 as_many : (vault : VaultState) (es : Rows) → length (states_by vault es) ≡ length es
-as_many vault es = length-map (map (entry_shown vault) es) kept_of ∙ length-map es (entry_shown vault)
+as_many vault es = length-map (map (entry_shown vault) es) state_kept ∙ length-map es (entry_shown vault)
 
 -- the states so far stand before the next account's
 pub states_before : (state : HostState) (es : Rows) (e : List ℕ × Account) (rest : Rows) → es ++ e ∷ rest ≡ entries state.accounts → AreBefore (map (λ t. t.name) (states_by state.vault es)) e.0

@@ -5,12 +5,13 @@ use Rattle.std.specs.FinMap.{FinMap, contains_key, contains_key-keys, get, keys}
 use Rattle.git_name.specs.Name.{name_cmp}
 use Rattle.git_name.specs.Object.{Object}
 use Rattle.git_name.proofs.Names.{name_total, name_exact}
+use Rattle.git_name.specs.Same.{is_one_of}
 use Rattle.git_reftx.proofs.PushLemmas.{keys_ascend}
 use Rattle.loose_store.specs.Files.{Files}
 use Rattle.fork_reach.specs.Source.{Objects}
 use Rattle.fork_sound.proofs.SoundLemmas.{good_there}
 use Rattle.state_text.specs.States.{Ascend}
-use Rattle.fork_host.specs.Restored.{AreOnStore, first_bad, is_one_of}
+use Rattle.fork_host.specs.Restored.{AreOnStore, first_bad}
 use Rattle.fork_host.proofs.RestoreLemmas.{not_bad, one_of}
 
 same_names : (xs ys : List (List ℕ)) → Ascend xs → Ascend ys → ((name : List ℕ) → is_one_of xs name ≡ is_one_of ys name) → xs ≡ ys

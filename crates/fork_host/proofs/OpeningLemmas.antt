@@ -22,7 +22,7 @@ use Rattle.fork_request.specs.declared.reply.Reply.{Reply}
 use Rattle.fork_request.specs.declared.reply.Reply.TheVariants.{Done, Failed}
 use Rattle.fork_ledger.specs.Tenants.{private_of}
 use Rattle.fork_ledger.proofs.BothLemmas.{same_measures}
-use Rattle.fork_model.specs.Uploads.{AreSent, object_at, upload_among}
+use Rattle.fork_model.specs.Uploads.{AreSent, object_sent, upload_among}
 use Rattle.fork_model.proofs.ClosedLemmas.{each_of}
 use Rattle.fork_model.proofs.UploadLemmas.{found_again, upload_again}
 use Rattle.fork_host.specs.declared.own.Own.{Own}
@@ -78,12 +78,12 @@ there_at staged sent at one there inside is =
 
 -- the records so far, and one more
 pub records_more : (objects staged : Objects) (sent : List Sent) (at : ℕ) (one : Sent) (first old new : List ℕ) → at < length sent → one ≡ get_or sent at one → staged ≡ objects
-    → old ≡ first ++ records_of (map (object_at objects) (take at sent)) → new ≡ old ++ record_of (object_at staged one) → new ≡ first ++ records_of (map (object_at objects) (take (at + 1) sent))
+    → old ≡ first ++ records_of (map (object_sent objects) (take at sent)) → new ≡ old ++ record_of (object_sent staged one) → new ≡ first ++ records_of (map (object_sent objects) (take (at + 1) sent))
 records_more objects staged sent at one first old new inside is same before more =
     more
-    ∙ ap₂ (λ (l : List ℕ) (os : Objects). l ++ record_of (object_at os one)) before same
-    ∙ flat_map_more record_of first (map (object_at objects) (take at sent)) (object_at objects one)
-    ∙ ap (λ (os : List Object). first ++ records_of os) (sym (map-append (object_at objects) (take at sent) (one ∷ [])) ∙ ap (map (object_at objects)) (sym (taken_more sent at one inside is)))
+    ∙ ap₂ (λ (l : List ℕ) (os : Objects). l ++ record_of (object_sent os one)) before same
+    ∙ flat_map_more record_of first (map (object_sent objects) (take at sent)) (object_sent objects one)
+    ∙ ap (λ (os : List Object). first ++ records_of os) (sym (map-append (object_sent objects) (take at sent) (one ∷ [])) ∙ ap (map (object_sent objects)) (sym (taken_more sent at one inside is)))
 
 -- a header, the records, and what stands behind them
 pub text_is : (front header records other end old new : List ℕ) → front ≡ header → records ≡ other → old ≡ front ++ records → new ≡ old ++ end → new ≡ header ++ (other ++ end)
@@ -110,9 +110,9 @@ told_there honest bytes reading staged sent came is =
 
 -- the records of what is staged are those of what came
 pub told_records : (bytes : List ℕ) (reading : Reading) (staged : Objects) (sent : List Sent) → reading_of bytes ≡ reading → AreSent staged (sent_in (stream_of bytes)) → sent ≡ told_in reading.flow
-    → records_of (map (object_at staged) sent) ≡ records_of (sent_in (stream_of bytes))
+    → records_of (map (object_sent staged) sent) ≡ records_of (sent_in (stream_of bytes))
 told_records bytes reading staged sent read are is =
-    ap (λ (ones : List Sent). records_of (map (object_at staged) ones)) (is ∙ sym (told_of bytes reading read)) ∙ ap records_of (found_again staged (sent_in (stream_of bytes)) are.each)
+    ap (λ (ones : List Sent). records_of (map (object_sent staged) ones)) (is ∙ sym (told_of bytes reading read)) ∙ ap records_of (found_again staged (sent_in (stream_of bytes)) are.each)
 
 -- bytes of the same reading with the same objects are the same upload
 pub same_upload : (again bytes : List ℕ) (staged : Objects) → AreSent staged (sent_in (stream_of bytes)) → reading_of again ≡ reading_of bytes → sent_in (stream_of again) ≡ sent_in (stream_of bytes) → upload_of again ≡ upload_of bytes

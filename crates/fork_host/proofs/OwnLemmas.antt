@@ -14,7 +14,7 @@ use Rattle.fork_ledger.proofs.BothLemmas.{both_more, none_of, same_measures, sam
 use Rattle.fork_ledger.proofs.SeenLemmas.{get_kept}
 use Rattle.fork_ledger.proofs.ShapeLemmas.{Respects, respects_discarded, respects_kept, respects_published, respects_staged, shape_at}
 use Rattle.fork_ledger.proofs.TenantLemmas.{private_at, private_others, there_still}
-use Rattle.fork_host.specs.Own.{Changes, Has, IsOwn, KeepsSeen, KeepsStaged, LeavesOthers, Settles, Stages, Turns, staged_in, visible_in}
+use Rattle.fork_host.specs.Own.{Changes, Has, IsOwn, KeepsSeen, KeepsStaged, LeavesOthers, SeesOnly, Stages, Turns, staged_in, visible_in}
 
 -- other tenants, as one tenant's private maps change
 pub leaves_all : (tenants : Tenants) (own : List ℕ) → LeavesOthers own tenants tenants
@@ -42,7 +42,7 @@ stages_more before old own both object there stages =
       staged = ap both_of set ∙ both_more (private_of old own) object ∙ ap (λ objects. with_object objects object) stages.staged;
     }
 
-discards : (before old : Tenants) (own : List ℕ) (both : Objects) → contains_key before own ≡ true → Stages own both before old → Settles own (private_of before own).visible before (at_tenant old own with_discarded)
+discards : (before old : Tenants) (own : List ℕ) (both : Objects) → contains_key before own ≡ true → Stages own both before old → SeesOnly own (private_of before own).visible before (at_tenant old own with_discarded)
 discards before old own both there stages =
     let set = private_at old own with_discarded (here_still before old own there stages.leaves) in
     record {
@@ -51,7 +51,7 @@ discards before old own both there stages =
       stages = ap (λ p. p.staged) set;
     }
 
-publishes : (before old : Tenants) (own : List ℕ) (both : Objects) → contains_key before own ≡ true → Stages own both before old → Settles own both before (at_tenant old own with_published)
+publishes : (before old : Tenants) (own : List ℕ) (both : Objects) → contains_key before own ≡ true → Stages own both before old → SeesOnly own both before (at_tenant old own with_published)
 publishes before old own both there stages =
     let set = private_at old own with_published (here_still before old own there stages.leaves) in
     record {
@@ -118,7 +118,7 @@ first_here : (before now : VaultState) (own : List ℕ) (both : Objects) → con
 first_here before now own both there changes = sym (changes.way.leaves.there own) ∙ sym (same_tenants_there changes.tenants now.tenants own changes.shown.shape) ∙ there
 
 pub discarded : (before old new : VaultState) (own : List ℕ) (both : Objects) → contains_key old.tenants own ≡ true → new.tenants ≡ at_tenant old.tenants own with_discarded → new.honest ≡ old.honest
-    → Changes (Stages own both) before old → Changes (Settles own (visible_in before own)) before new
+    → Changes (Stages own both) before old → Changes (SeesOnly own (visible_in before own)) before new
 discarded before old new own both there is honest changes = record {
   tenants = at_tenant changes.tenants own with_discarded;
   way = discards before.tenants changes.tenants own both (first_here before old own both there changes) changes.way;
@@ -127,7 +127,7 @@ discarded before old new own both there is honest changes = record {
 }
 
 pub published : (before old new : VaultState) (own : List ℕ) (both : Objects) → contains_key old.tenants own ≡ true → new.tenants ≡ at_tenant old.tenants own with_published → new.honest ≡ old.honest
-    → Changes (Stages own both) before old → Changes (Settles own both) before new
+    → Changes (Stages own both) before old → Changes (SeesOnly own both) before new
 published before old new own both there is honest changes = record {
   tenants = at_tenant changes.tenants own with_published;
   way = publishes before.tenants changes.tenants own both (first_here before old own both there changes) changes.way;
@@ -150,7 +150,7 @@ none_kept : (objects : Objects) (names : List ℕ → Bool) → ((name : List �
 none_kept objects names none = same_map name_total name_exact _ _ (λ q. get_kept objects names q ∙ ap (λ b. cond b (get objects q) None) (none q) ∙ sym (get-empty name_cmp q))
 
 pub emptied : (first mid new : VaultState) (own : List ℕ) (objects : Objects) (names : List ℕ → Bool) → contains_key first.tenants own ≡ true → ((name : List ℕ) → names name ≡ false) → new.tenants ≡ at_tenant mid.tenants own (with_kept names)
-    → new.honest ≡ mid.honest → Changes (Settles own objects) first mid → Changes (Settles own empty) first new
+    → new.honest ≡ mid.honest → Changes (SeesOnly own objects) first mid → Changes (SeesOnly own empty) first new
 emptied first mid new own objects names there none is still changes =
     let set = private_at changes.tenants own (with_kept names) (here_still first.tenants changes.tenants own there changes.way.leaves) in
     record {
@@ -188,7 +188,7 @@ staged_kept old new own objects changes = record {
 }
 
 -- nothing is staged behind it, and so where nothing was, it stayed
-pub none_staged : (old new : VaultState) (own : List ℕ) (objects : Objects) → Changes (Settles own objects) old new → staged_in new own ≡ empty
+pub none_staged : (old new : VaultState) (own : List ℕ) (objects : Objects) → Changes (SeesOnly own objects) old new → staged_in new own ≡ empty
 none_staged old new own objects changes =
     none_of (staged_in new own) (ap (λ (p : Measures × Measures). p.1) (same_measures changes.tenants new.tenants own changes.shown.shape) ∙ ap measures_of changes.way.stages)
 

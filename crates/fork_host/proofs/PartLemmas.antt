@@ -9,7 +9,7 @@ use Rattle.std.proofs.lemmas.List.Elements.{Contains-append_right}
 use Rattle.git_name.specs.Object.{Object, object_name}
 use Rattle.git_reftx.specs.declared.command.Command.{Command}
 use Rattle.git_reftx.specs.declared.reading.TheConstants.{MAX_COMMANDS}
-use Rattle.looks.specs.Growth.{GrowsBy}
+use Rattle.looks.specs.Growth.{GrowsAmong}
 use Rattle.looks.specs.Places.{Places}
 use Rattle.looks.proofs.GrowthLemmas.{grows_more}
 use Rattle.push_stream.specs.declared.brief.Brief.{Brief}
@@ -30,11 +30,12 @@ use Rattle.fork_request.specs.declared.reply.Reply.{Reply}
 use Rattle.fork_request.specs.declared.reply.Reply.TheVariants.{Done, Failed, Refused}
 use Rattle.fork_reach.specs.Source.{Objects}
 use Rattle.fork_ledger.specs.Tenants.{VaultState}
-use Rattle.fork_model.specs.Answer.{Held, upload_ended, open_upload, part_answer, part_drop_answer, without_upload}
+use Rattle.fork_ledger.specs.AllStaged.{StoresAmong}
+use Rattle.fork_model.specs.Answer.{Finished, upload_ended, open_upload, part_answer, part_drop_answer, without_upload}
 use Rattle.fork_model.specs.Sound.{IsOrderly}
 use Rattle.fork_model.specs.Uploads.{stream_among, upload_among}
 use Rattle.fork_model.specs.View.{View, Repositories}
-use Rattle.fork_host.specs.Bounds.{IsBounded, IsCollision, StoresSent}
+use Rattle.fork_host.specs.Bounds.{IsBounded, IsCollision}
 use Rattle.fork_host.specs.Fed.{IsFed, Fed, Full, Unfed}
 use Rattle.fork_host.specs.Own.{KeepsSeen, KeepsStaged, staged_in, visible_in}
 use Rattle.fork_host.specs.Pushed.{TellsBrief, view_of}
@@ -221,7 +222,7 @@ part_staged own waits now old new body before after reply staged part = by part.
 
 -- ---- the upload is at its end
 -- the error of the stream's end is that of the stream
-same_end : (held : Held) (fault : StreamFault) → brief_of held ≡ Err fault → held ≡ Err fault
+same_end : (held : Finished) (fault : StreamFault) → brief_of held ≡ Err fault → held ≡ Err fault
 same_end (Ok held) fault is = absurd (cc)
 same_end (Err other) fault is =
     let same : other ≡ fault = cc in
@@ -268,7 +269,7 @@ bounded_among sent others a b reply same bounded = record {
   counted = bounded.counted;
   undamaged = bounded.undamaged;
   collided = λ honest is. subst (λ objects. IsCollision objects a.files) (same honest) (bounded.collided honest is);
-  stored = λ honest store memory. subst (λ objects. StoresSent objects a.files b.files) (same honest) (bounded.stored honest store memory);
+  stored = λ honest store memory. subst (λ objects. StoresAmong objects a.files b.files) (same honest) (bounded.stored honest store memory);
 }
 
 -- ---- accounts and views
@@ -337,7 +338,7 @@ gained_alike objects (Going commands sent headed rest) piece = refl
 gained_alike objects (Broken fault) piece = refl
 
 -- so the names of what it adds are among those of what the upload then has
-grown : (upload : UploadValue) (flow : Flow) (body : List ℕ) (a b : Places) → gained (flow_of upload.stream) body ≡ gained flow body → GrowsBy (sent_names (gained flow body)) a b → GrowsBy (sent_names (sent_in (continued upload body).stream)) a b
+grown : (upload : UploadValue) (flow : Flow) (body : List ℕ) (a b : Places) → gained (flow_of upload.stream) body ≡ gained flow body → GrowsAmong (sent_names (gained flow body)) a b → GrowsAmong (sent_names (sent_in (continued upload body).stream)) a b
 unfolding continued
 grown upload flow body a b same grows =
     let parts = added_front upload.stream body in
@@ -347,15 +348,15 @@ grown upload flow body a b same grows =
     (λ name is. subst (λ all. Contains all name) (sym names) (Contains-append_right (sent_names parts.0) (sent_names (gained flow body)) name is)) grows
 
 -- of one that is open
-pub part_grows : (staged : Objects) (waits : Option Reading) (old : Reading) (body : List ℕ) (a b : Places) → waits ≡ Some old → GrowsBy (sent_names (gained old.flow body)) a b
-    → GrowsBy (sent_names (sent_in (continued (open_upload (option_map (upload_among staged) waits)) body).stream)) a b
+pub part_grows : (staged : Objects) (waits : Option Reading) (old : Reading) (body : List ℕ) (a b : Places) → waits ≡ Some old → GrowsAmong (sent_names (gained old.flow body)) a b
+    → GrowsAmong (sent_names (sent_in (continued (open_upload (option_map (upload_among staged) waits)) body).stream)) a b
 part_grows staged waits old body a b is grows =
-    subst (λ upload. GrowsBy (sent_names (sent_in (continued (open_upload (option_map (upload_among staged) upload)) body).stream)) a b) (sym is)
+    subst (λ upload. GrowsAmong (sent_names (sent_in (continued (open_upload (option_map (upload_among staged) upload)) body).stream)) a b) (sym is)
     (grown (upload_among staged old) old.flow body a b (gained_alike staged old.flow body) grows)
 
 -- and of one that begins
-pub begun_grows : (staged : Objects) (waits : Option Reading) (old : Reading) (body : List ℕ) (a b : Places) → waits ≡ None → old ≡ reading_of [] → GrowsBy (sent_names (gained old.flow body)) a b
-    → GrowsBy (sent_names (sent_in (continued (open_upload (option_map (upload_among staged) waits)) body).stream)) a b
+pub begun_grows : (staged : Objects) (waits : Option Reading) (old : Reading) (body : List ℕ) (a b : Places) → waits ≡ None → old ≡ reading_of [] → GrowsAmong (sent_names (gained old.flow body)) a b
+    → GrowsAmong (sent_names (sent_in (continued (open_upload (option_map (upload_among staged) waits)) body).stream)) a b
 begun_grows staged waits old body a b is begins grows =
-    subst (λ upload. GrowsBy (sent_names (sent_in (continued (open_upload (option_map (upload_among staged) upload)) body).stream)) a b) (sym is)
+    subst (λ upload. GrowsAmong (sent_names (sent_in (continued (open_upload (option_map (upload_among staged) upload)) body).stream)) a b) (sym is)
     (grown (upload_of []) old.flow body a b (ap (λ (reading : Reading). gained reading.flow body) (sym begins)) grows)

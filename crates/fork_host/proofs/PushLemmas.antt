@@ -9,7 +9,7 @@ use Rattle.push_stream.specs.declared.body.Body.{Body}
 use Rattle.push_stream.specs.declared.fault.BodyError.{BodyError}
 use Rattle.push_stream.specs.declared.fault.BodyError.TheVariants.{Fault, Memory}
 use Rattle.push_stream.specs.declared.fault.StreamFault.{StreamFault}
-use Rattle.push_stream.specs.Shown.{TellsFault}
+use Rattle.push_stream.specs.Shown.{TellsStreamFault}
 use Rattle.push_stream.specs.Stream.{Stream, Flows, Breaks, finished, sent_in, stream_of}
 use Rattle.push_stream.specs.Upload.{UploadValue}
 use Rattle.fork_request.specs.Told.{is_host_fault}
@@ -22,7 +22,7 @@ use Rattle.fork_host.specs.Pushed.{Sends, TellsHeld}
 use Rattle.fork_host.specs.Rows.{Yields, Yielded, Lacking, Faulted}
 
 -- what a stream gave is what it holds, and what was sent
-pub tells_held : (stream : Stream) (r : Result Body BodyError) → IfOk r (λ body. finished stream ≡ Ok (body.commands.items, body.objects.items)) → IfErr r (TellsFault stream) → TellsHeld (finished stream) r
+pub tells_held : (stream : Stream) (r : Result Body BodyError) → IfOk r (λ body. finished stream ≡ Ok (body.commands.items, body.objects.items)) → IfErr r (TellsStreamFault stream) → TellsHeld (finished stream) r
 tells_held stream (Ok body) found exact = found
 tells_held stream (Err (Fault fault)) found exact = exact
 tells_held stream (Err Memory) found exact = tt

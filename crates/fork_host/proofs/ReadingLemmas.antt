@@ -17,7 +17,7 @@ use Rattle.loose_store.specs.Stored.{Whole}
 use Rattle.fork_reach.specs.Source.{Objects}
 use Rattle.fork_reach.proofs.KeptObjects.{tied_names}
 use Rattle.fork_reach.proofs.SeeingLemmas.{sole, sole_there}
-use Rattle.fork_sound.specs.Reading.{AreReadings, ReadingMap, ReadingValue, reading_of}
+use Rattle.fork_sound.specs.Reading.{AreReadings, ReadingMap, ReadingValue, object_reading}
 use Rattle.state_text.specs.States.{States, TenantState}
 use Rattle.fork_host.specs.Read.{AllRead, AreRead, EachRead, IsRead, Reads}
 use Rattle.fork_host.specs.Restored.{AreOnStore}
@@ -91,21 +91,21 @@ pub no_file : (files : Files) (name : List ℕ) → get files name ≡ None → 
 no_file files name none object whole = cc (sym none ∙ whole.file)
 
 -- a name under which an object stands
-pub reads_one : (honest : Bool) (files : Files) (name : List ℕ) (object : Object) (old new : ReadingMap) → object_name object ≡ name → (IsTrue honest → Whole files name object) → new ≡ insert old name (reading_of object) → Reads honest files (name ∷ []) old new
+pub reads_one : (honest : Bool) (files : Files) (name : List ℕ) (object : Object) (old new : ReadingMap) → object_name object ≡ name → (IsTrue honest → Whole files name object) → new ≡ insert old name (object_reading object) → Reads honest files (name ∷ []) old new
 reads_one honest files name object old new named whole put = record {
   each = λ each other reading is. here each other reading (eq_by_cmp name_cmp other name) refl (sym (found other) ∙ is);
   grows = λ other there. ap is_some (found other) ∙ stays other (eq_by_cmp name_cmp other name) there;
-  all = λ h other stored among stands. subst (λ n. contains_key new n ≡ true) (sole_there name other among) (ap is_some (found name) ∙ ap (λ b. is_some (cond b (Some (reading_of object)) (get old name))) ((eq_by_cmp_equiv name_total).refl name));
+  all = λ h other stored among stands. subst (λ n. contains_key new n ≡ true) (sole_there name other among) (ap is_some (found name) ∙ ap (λ b. is_some (cond b (Some (object_reading object)) (get old name))) ((eq_by_cmp_equiv name_total).refl name));
 }
   where
-    found : (other : List ℕ) → get new other ≡ cond (eq_by_cmp name_cmp other name) (Some (reading_of object)) (get old other)
-    found other = ap (λ (m : ReadingMap). get m other) put ∙ get-insert name_total old name (reading_of object) other
+    found : (other : List ℕ) → get new other ≡ cond (eq_by_cmp name_cmp other name) (Some (object_reading object)) (get old other)
+    found other = ap (λ (m : ReadingMap). get m other) put ∙ get-insert name_total old name (object_reading object) other
 
-    stays : (other : List ℕ) (b : Bool) → contains_key old other ≡ true → is_some (cond b (Some (reading_of object)) (get old other)) ≡ true
+    stays : (other : List ℕ) (b : Bool) → contains_key old other ≡ true → is_some (cond b (Some (object_reading object)) (get old other)) ≡ true
     stays other true there = refl
     stays other false there = there
 
-    itself : (other : List ℕ) (reading : ReadingValue) → name ≡ other → reading_of object ≡ reading → IsRead honest files other reading
+    itself : (other : List ℕ) (reading : ReadingValue) → name ≡ other → object_reading object ≡ reading → IsRead honest files other reading
     itself other reading tied is = record {
       object = object;
       named = named ∙ tied;
@@ -113,8 +113,8 @@ reads_one honest files name object old new named whole put = record {
       whole = λ h. subst (λ n. Whole files n object) tied (whole h);
     }
 
-    here : EachRead honest files old → (other : List ℕ) (reading : ReadingValue) (b : Bool) → eq_by_cmp name_cmp other name ≡ b → cond b (Some (reading_of object)) (get old other) ≡ Some reading → IsRead honest files other reading
-    here each other reading true tied is = itself other reading (sym (tied_names other name tied)) (same_Some (reading_of object) reading is)
+    here : EachRead honest files old → (other : List ℕ) (reading : ReadingValue) (b : Bool) → eq_by_cmp name_cmp other name ≡ b → cond b (Some (object_reading object)) (get old other) ≡ Some reading → IsRead honest files other reading
+    here each other reading true tied is = itself other reading (sym (tied_names other name tied)) (same_Some (object_reading object) reading is)
     here each other reading false apart is = each other reading is
 
 -- the objects of these tenants were read
@@ -161,12 +161,12 @@ are_readings honest files names readings objects set are h read stored = λ name
     absent : (name : List ℕ) (object : Object) → get objects name ≡ None → get objects name ≡ Some object → ⊥
     absent name object none found = cc (sym none ∙ found)
 
-    by : (name : List ℕ) → Contains names name → (o : Option ReadingValue) → get readings name ≡ o → (p : Option Object) → get objects name ≡ p → get readings name ≡ option_map reading_of (get objects name)
-    by name among None none None lost = none ∙ ap (option_map reading_of) (sym lost)
+    by : (name : List ℕ) → Contains names name → (o : Option ReadingValue) → get readings name ≡ o → (p : Option Object) → get objects name ≡ p → get readings name ≡ option_map object_reading (get objects name)
+    by name among None none None lost = none ∙ ap (option_map object_reading) (sym lost)
     by name among None none (Some object) found = absurd (unread name none (read.all h name object among (stored.whole name object found)))
     by name among (Some reading) is None lost =
         let told = read.each name reading is in
         absurd (absent name told.object lost (stored.all name told.object among (told.whole h)))
     by name among (Some reading) is (Some object) found =
         let told = read.each name reading is in
-        is ∙ ap Some (told.is ∙ ap reading_of (one_whole files name told.object object (told.whole h) (stored.whole name object found))) ∙ ap (option_map reading_of) (sym found)
+        is ∙ ap Some (told.is ∙ ap object_reading (one_whole files name told.object object (told.whole h) (stored.whole name object found))) ∙ ap (option_map object_reading) (sym found)

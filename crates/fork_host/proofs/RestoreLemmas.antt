@@ -12,6 +12,7 @@ use Rattle.std.specs.FinMap.{contains_key, empty, get, get-empty}
 use Rattle.git_name.specs.Name.{name_cmp}
 use Rattle.git_name.proofs.Names.{name_total}
 use Rattle.git_name.specs.Object.{Object, object_name}
+use Rattle.git_name.specs.Same.{is_one_of}
 use Rattle.git_object.specs.ObjectIn.{links_in}
 use Rattle.git_reftx.specs.Repository.{Repository}
 use Rattle.loose_store.specs.Files.{Files}
@@ -26,7 +27,7 @@ use Rattle.fork_model.proofs.TransferLemmas.{came}
 use Rattle.fork_sound.specs.Sound.{is_bad}
 use Rattle.fork_sound.proofs.SoundLemmas.{all_met, good_found, good_there, none_bad}
 use Rattle.fork_host.specs.Refilled.{IsAgainst, StandsAgainst, bad_in}
-use Rattle.fork_host.specs.Restored.{AreOnStore, first_astray, first_bad, is_one_of, target_of}
+use Rattle.fork_host.specs.Restored.{AreOnStore, first_astray, first_bad, target_of}
 use Rattle.fork_host.specs.declared.seeing.Against.{Against}
 use Rattle.fork_host.specs.declared.seeing.Against.TheVariants.{Memory as NoMemory, BadObject, Astray, Limit}
 use Rattle.fork_host.proofs.RecallLemmas.{one_whole}

@@ -17,11 +17,11 @@ use Rattle.fork_reach.specs.Source.{Objects}
 use Rattle.fork_model.specs.View.{View}
 use Rattle.fork_model.specs.World.{World}
 use Rattle.state_text.specs.Adding.{AreBefore}
-use Rattle.state_text.specs.Kept.{kept_of, states_of}
+use Rattle.state_text.specs.Kept.{state_kept, states_of}
 use Rattle.state_text.specs.States.{Ascend, States, TenantState}
 use Rattle.state_text.proofs.BehindLemmas.{each_behind, map_behind, nothing_in}
 use Rattle.fork_host.specs.Refilled.{IsBehind, IsJudged, IsRefilledIn, IsWhy, first_told, told_at_once, with_judged}
-use Rattle.fork_host.specs.Restored.{ByLimit, ByObject, ByTarget, HasObjects, HasTargets, IsFault, IsFirst, IsRefused, IsShownAgain, KeepsLimit, OnStore, TellsBad, WantsMemory, WantsStore, first_astray, first_bad, without_offers}
+use Rattle.fork_host.specs.Restored.{ByLimit, ByObject, ByTarget, HasObjects, HasTargets, IsStoreOrMemory, AllBefore, AreRefused, IsShownAgain, KeepsLimit, OnStore, TellsBad, WantsMemory, WantsStore, first_astray, first_bad, without_offers}
 use Rattle.fork_host.specs.Shown.{HostState, world_of}
 use Rattle.fork_host.specs.declared.later.Bad.{Bad}
 use Rattle.fork_host.specs.declared.later.Bad.TheVariants.{Memory as BadMemory, Object as Object_of}
@@ -86,7 +86,7 @@ keeps_limit : (files : Files) (tenant : TenantState) (old new : World) → IsRef
 keeps_limit files tenant old new r = record { objects = r.stored.objects; stored = r.stored.stored; is = subst (λ objects. use_of objects ≤ tenant.limit) (sym r.stored.is.0) r.within }
 
 -- the first of more states
-first_more : {P : TenantState → Type 0} (states : States) (tenant last : TenantState) → IsFirst P states tenant → IsFirst P (states ++ last ∷ []) tenant
+first_more : {P : TenantState → Type 0} (states : States) (tenant last : TenantState) → AllBefore P states tenant → AllBefore P (states ++ last ∷ []) tenant
 first_more states tenant last first = record {
   front = first.front;
   back = first.back ++ last ∷ [];
@@ -94,7 +94,7 @@ first_more states tenant last first = record {
   before = first.before;
 }
 
-first_last : {P : TenantState → Type 0} (states : States) (tenant : TenantState) → AllByRecursion P states → IsFirst P (states ++ tenant ∷ []) tenant
+first_last : {P : TenantState → Type 0} (states : States) (tenant : TenantState) → AllByRecursion P states → AllBefore P (states ++ tenant ∷ []) tenant
 first_last states tenant all = record { front = states; back = []; parts = refl; before = all }
 
 -- nothing stands against the states so far, and the world shows them
@@ -107,7 +107,7 @@ pub record IsFree (files : Files) (states : States) (world : World) : Type 0 whe
 pub record IsAstray (files : Files) (states : States) (target : List ℕ) : Type 0 where
   pub tenant : TenantState
   pub reference : List ℕ
-  pub first : IsFirst (HasTargets files) states tenant
+  pub first : AllBefore (HasTargets files) states tenant
   pub astray : OnStore files tenant.seen (λ objects. first_astray tenant.repositories objects ≡ Some (reference, target))
 
 -- the first tenant over its limit
@@ -115,7 +115,7 @@ pub record IsOverLimit (files : Files) (states : States) (name : List ℕ) : Typ
   pub tenant : TenantState
   pub named : tenant.name ≡ name
   pub targets : AllByRecursion (HasTargets files) states
-  pub first : IsFirst (KeepsLimit files) states tenant
+  pub first : AllBefore (KeepsLimit files) states tenant
   pub over : OnStore files tenant.seen (λ objects. tenant.limit < use_of objects)
 
 abbrev pub IsNoted : Files → States → World → Later → Type 0
@@ -132,7 +132,7 @@ pub record Going (files : Files) (states : States) (state : HostState) (later : 
 -- one more tenant is shown
 shown_more : (files : Files) (states : States) (tenant : TenantState) (old new : World) → AreBefore (keys old) tenant.name → Ascend tenant.seen → IsShownAgain files states old → IsRefilledIn files tenant old new → IsShownAgain files (states ++ tenant ∷ []) new
 shown_more files states tenant old new before ascend shown r = record {
-  states = ap states_of r.world ∙ ap (map kept_of) (entries_behind old tenant.name r.view before) ∙ map_behind kept_of (entries old) (tenant.name, r.view) ∙ (λ i. shown.states i ++ kept i ∷ []) ∙ sym (map_behind without_offers states tenant);
+  states = ap states_of r.world ∙ ap (map state_kept) (entries_behind old tenant.name r.view before) ∙ map_behind state_kept (entries old) (tenant.name, r.view) ∙ (λ i. shown.states i ++ kept i ∷ []) ∙ sym (map_behind without_offers states tenant);
   quiet = λ name view here. quiet name view (eq_by_cmp name_cmp name tenant.name) (sym (get-insert name_total old tenant.name r.view name) ∙ ap (λ (w : World). get w name) (sym r.world) ∙ here);
   whole = λ name view key object here there. whole name view key object there (eq_by_cmp name_cmp name tenant.name) (sym (get-insert name_total old tenant.name r.view name) ∙ ap (λ (w : World). get w name) (sym r.world) ∙ here);
 }
@@ -140,7 +140,7 @@ shown_more files states tenant old new before ascend shown r = record {
     seen : keys r.view.objects ≡ tenant.seen
     seen = ap (λ (o : Objects). keys o) (sym r.stored.is.0) ∙ keys_seen files tenant.seen r.stored.objects ascend r.stored.stored r.stored.is.1
 
-    kept : kept_of (tenant.name, r.view) ≡ without_offers tenant
+    kept : state_kept (tenant.name, r.view) ≡ without_offers tenant
     kept i = record { name = tenant.name; limit = r.limit i; repositories = r.repositories i; seen = seen i; offers = [] }
 
     quiet : (name : List ℕ) (view : View) (b : Bool) → cond b (Some r.view) (get old name) ≡ Some view → view.upload ≡ None
@@ -217,7 +217,7 @@ going_more files states tenant old new later judged before ascend same is none s
     }
 
 no_states : states_of empty ≡ []
-no_states = ap (map kept_of) (nothing_in (entries (empty {K = List ℕ} {X = View} {R = name_cmp})) (let counted = len-entries (empty {K = List ℕ} {X = View} {R = name_cmp}) in let none = len-empty name_cmp View in omega (arith, counted, none)))
+no_states = ap (map state_kept) (nothing_in (entries (empty {K = List ℕ} {X = View} {R = name_cmp})) (let counted = len-entries (empty {K = List ℕ} {X = View} {R = name_cmp}) in let none = len-empty name_cmp View in omega (arith, counted, none)))
 
 -- nothing was done yet
 pub going_none : (files : Files) (state : HostState) → world_of state ≡ empty → state.vault.files ≡ files → Going files [] state Nothing
@@ -242,13 +242,13 @@ the_same : (told error : RestoreError) → ◌≡◌ {A = Option RestoreError} (
 the_same told error is = cc
 
 -- want of memory or of the store
-pub of_fault : (files : Files) (states : States) (error : RestoreError) → IsFault error → IsRefused files states error
-of_fault files states error (inl is) = subst (IsRefused files states) (sym is) WantsStore
-of_fault files states error (inr is) = subst (IsRefused files states) (sym is) WantsMemory
+pub of_fault : (files : Files) (states : States) (error : RestoreError) → IsStoreOrMemory error → AreRefused files states error
+of_fault files states error (inl is) = subst (AreRefused files states) (sym is) WantsStore
+of_fault files states error (inr is) = subst (AreRefused files states) (sym is) WantsMemory
 
 -- what is told at once
 pub told_bad : (files : Files) (states : States) (tenant : TenantState) (back all : States) (old new : HostState) (later : Later) (judged : Result (Unit {0}) Against) (bad : Bad) (error : RestoreError) → all ≡ states ++ tenant ∷ back → Going files states old later
-    → IsJudged old.vault.files tenant (world_of old) (world_of new) judged → told_at_once judged ≡ Some bad → IsWhy files bad error → IsRefused files all error
+    → IsJudged old.vault.files tenant (world_of old) (world_of new) judged → told_at_once judged ≡ Some bad → IsWhy files bad error → AreRefused files all error
 told_bad files states tenant back all old new later (Ok done) bad error parts so_far is told why = absurd (cc)
 told_bad files states tenant back all old new later (Err NoMemory) BadMemory error parts so_far is told why = of_fault files all error (inr why)
 told_bad files states tenant back all old new later (Err NoMemory) (Object_of name) error parts so_far is told why = absurd (cc)
@@ -261,12 +261,12 @@ told_bad files states tenant back all old new later (Err (Astray target)) bad er
 told_bad files states tenant back all old new later (Err Limit) bad error parts so_far is told why = absurd (cc)
 
 -- what is told at the end
-pub told_late : (files : Files) (states : States) (state : HostState) (later : Later) (error : RestoreError) → Going files states state later → first_told later ≡ Some error → IsRefused files states error
+pub told_late : (files : Files) (states : States) (state : HostState) (later : Later) (error : RestoreError) → Going files states state later → first_told later ≡ Some error → AreRefused files states error
 told_late files states state Nothing error so_far told = absurd (cc)
 told_late files states state (Target target) error so_far told =
-    subst (IsRefused files states) (the_same (Unsound target) error told) (ByTarget so_far.noted.tenant so_far.noted.reference target so_far.objects so_far.noted.first so_far.noted.astray)
+    subst (AreRefused files states) (the_same (Unsound target) error told) (ByTarget so_far.noted.tenant so_far.noted.reference target so_far.objects so_far.noted.first so_far.noted.astray)
 told_late files states state (Over name) error so_far told =
-    subst (IsRefused files states) (ap OverLimit so_far.noted.named ∙ the_same (OverLimit name) error told) (ByLimit so_far.noted.tenant so_far.objects so_far.noted.targets so_far.noted.first so_far.noted.over)
+    subst (AreRefused files states) (ap OverLimit so_far.noted.named ∙ the_same (OverLimit name) error told) (ByLimit so_far.noted.tenant so_far.objects so_far.noted.targets so_far.noted.first so_far.noted.over)
 
 pub shown_late : (files : Files) (states : States) (state : HostState) (later : Later) → Going files states state later → first_told later ≡ None → IsShownAgain files states (world_of state)
 shown_late files states state Nothing so_far told = so_far.noted.shown

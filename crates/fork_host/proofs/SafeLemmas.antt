@@ -33,7 +33,7 @@ use Rattle.fork_host.specs.Own.{staged_in, visible_in}
 use Rattle.fork_host.specs.Pushed.{view_of}
 use Rattle.fork_host.specs.Rows.{Gives, Given, Wanting, IsPruned, Pruned, Unpruned}
 use Rattle.fork_host.specs.Safe.{IsSafe}
-use Rattle.fork_host.specs.Shape.{shape_of}
+use Rattle.fork_host.specs.Shape.{view_shape}
 use Rattle.fork_host.specs.Shown.{Account, shown}
 use Rattle.fork_host.proofs.OwnLemmas.{own_read, staged_read}
 use Rattle.fork_host.proofs.ShapeLemmas.{shape_but_upload}
@@ -83,7 +83,7 @@ orderly_measured repositories seen objects upload other limit same counted order
 }
 
 pub shape_measured : (repositories : Repositories) (seen objects : Objects) (upload other : Option UploadValue) (limit : ℕ) → measures_of objects ≡ measures_of seen
-    → shape_of (view_of repositories objects upload limit) ≡ shape_of (view_of repositories seen other limit)
+    → view_shape (view_of repositories objects upload limit) ≡ view_shape (view_of repositories seen other limit)
 shape_measured repositories seen objects upload other limit same = λ i. record { repositories = repositories; objects = same i; limit = limit }
 
 -- an answer that leaves the repositories and what is seen, over any store as far as its measures go, and how many bytes the upload has
@@ -117,12 +117,12 @@ safe_ended Within old new reply safe = record {
 pub safe_gives : (Within : Reply → Type 0) (view new : View) (ask : Ask) (reply : Reply) → Within reply → Gives (answer view ask) view reply new → IsSafe Within view reply new
 safe_gives Within view new ask reply within (Given told is) = record {
   orderly = λ before. subst IsOrderly (sym is) (orderly_answer view ask before);
-  kept = λ not_done. ap shape_of (is ∙ undone view ask reply told not_done) ∙ shape_but_upload (left_by view ask) view (left_but_upload view ask);
+  kept = λ not_done. ap view_shape (is ∙ undone view ask reply told not_done) ∙ shape_but_upload (left_by view ask) view (left_but_upload view ask);
   faults = within;
 }
 safe_gives Within view new ask reply within (Wanting wanting stays) = record {
   orderly = λ before. subst IsOrderly (sym stays) before;
-  kept = λ _. ap shape_of stays;
+  kept = λ _. ap view_shape stays;
   faults = within;
 }
 
@@ -145,7 +145,7 @@ safe_pruned Within repositories seen objects upload other limit reply counted wi
 -- a push that was accepted and is done: what is seen and staged is seen
 pub safe_taken : (Within : Reply → Type 0) (repositories now : Repositories) (seen both objects : Objects) (upload : Option UploadValue) (limit : ℕ) (name : List ℕ) (old : Repository) (new : References) (reply : Reply) (text : List ℕ)
     → ((q : List ℕ) → contains_key seen q ≡ true → get both q ≡ get seen q) → Within reply → reply ≡ Done text → get repositories name ≡ Some old → now ≡ insert repositories name (record old { references = new }) → measures_of objects ≡ measures_of both
-    → verdict.IsOrderly both old.references limit new → IsSafe Within (view_of repositories seen upload limit) reply (view_of now objects upload limit)
+    → verdict.IsAcceptable both old.references limit new → IsSafe Within (view_of repositories seen upload limit) reply (view_of now objects upload limit)
 safe_taken Within repositories now seen both objects upload limit name old new reply text grown within done here set measured accepted =
     subst (λ r. IsSafe Within (view_of repositories seen upload limit) reply (view_of r objects upload limit)) (sym set) (record {
       orderly = λ before.

@@ -3,7 +3,7 @@ use Rattle.std.proofs.Common.{◌≡◌, ◌≢◌, ◌⊎◌, ℕ, false, true,
 use Rattle.std.specs.FinMap.{get}
 use Rattle.std.specs.List.{AllByRecursion}
 use Rattle.std.specs.Option.{option_map}
-use Rattle.looks.specs.Growth.{GrowsBy}
+use Rattle.looks.specs.Growth.{GrowsAmong}
 use Rattle.fork_request.specs.Asked.{Ask}
 use Rattle.fork_request.specs.Told.{is_done, is_host_fault}
 use Rattle.fork_request.specs.declared.host_request.HostRequest.{HostRequest}
@@ -16,16 +16,16 @@ use Rattle.fork_host.specs.Faults.{HostFaults}
 use Rattle.fork_host.specs.Given.{asker_of}
 use Rattle.fork_host.specs.Safe.{IsNamedReply, TellsSeen}
 use Rattle.fork_host.specs.Sent.{seen_in_world, sent_in_world, sent_names}
-use Rattle.fork_host.specs.Shape.{SameShape, shape_of as shape_seen}
+use Rattle.fork_host.specs.Shape.{SameShape, view_shape as shape_seen}
 use Rattle.fork_host.specs.Shown.{Accounts, HostState, IsWhole, Trusted, state_of, world_of}
-use Rattle.fork_host.specs.Step.{AreNamed, IsRun, IsStep}
+use Rattle.fork_host.specs.Step.{AreNamedAt, IsRun, IsStep}
 use Rattle.fork_host.specs.Swept.{Tends}
 use Rattle.fork_host.proofs.TendingLemmas.{own_step, shape_tended, whole_tended, world_tended}
 
 -- a tenant was answered
 pub answered_step : (old new : HostState) (t : List ℕ) (ask : Ask) (reply : Reply) → (Trusted old → Steps (world_of old) (Asks t ask) reply (world_of new)) → IsWhole new → new.vault.honest ≡ old.vault.honest
     → (is_done reply ≡ false → (tenant : List ℕ) → SameShape tenant (world_of old) (world_of new)) → ((tenant : List ℕ) → tenant ≢ t → SameShape tenant (world_of old) (world_of new))
-    → IsNamedReply ask reply → TellsSeen (seen_in_world (world_of old) t) ask reply → IsBounded (sent_in_world (world_of old) t ask) old.vault new.vault reply → GrowsBy (sent_names (sent_in_world (world_of old) t ask)) old.vault.places new.vault.places → IsStep old (Asks t ask) reply new
+    → IsNamedReply ask reply → TellsSeen (seen_in_world (world_of old) t) ask reply → IsBounded (sent_in_world (world_of old) t ask) old.vault new.vault reply → GrowsAmong (sent_names (sent_in_world (world_of old) t ask)) old.vault.places new.vault.places → IsStep old (Asks t ask) reply new
 answered_step old new t ask reply explained whole honest kept others named seen bounded grows = record {
   explained = explained;
   honest = honest;
@@ -103,7 +103,7 @@ run_others old new (e ∷ events) [] t run none = absurd run
 run_others old new (e ∷ events) (r ∷ replies) t run none = run_others run.0 new events replies t run.2 none.1 ∙ run.1.others t none.0
 
 -- what was told under a name has it
-pub run_named : (old new : HostState) (events : List Event) (replies : List Reply) → IsRun old events replies new → AreNamed events replies
+pub run_named : (old new : HostState) (events : List Event) (replies : List Reply) → IsRun old events replies new → AreNamedAt events replies
 run_named old new [] [] run = tt
 run_named old new [] (r ∷ replies) run = absurd run
 run_named old new (e ∷ events) [] run = absurd run

@@ -20,7 +20,7 @@ use Rattle.fork_request.specs.declared.reply.Reply.TheVariants.{Refused, Failed}
 use Rattle.fork_push.specs.declared.refusal.PushRefusal.{PushRefusal}
 use Rattle.fork_push.specs.Push.{judged}
 use Rattle.fork_push.specs.Verdict as verdict
-use Rattle.fork_model.specs.Answer.{Held, push_refusal, pushed, taken}
+use Rattle.fork_model.specs.Answer.{Finished, push_refusal, pushed, taken}
 use Rattle.fork_model.specs.View.{View, Repositories}
 use Rattle.fork_host.specs.Own.{KeepsStaged, both_in, staged_in, visible_in}
 use Rattle.fork_host.specs.Pushed.{IsTaken, view_of}
@@ -33,7 +33,7 @@ pub same_view : (old new : Repositories) (seen objects : Objects) (upload : Opti
 same_view old new seen objects upload limit repositories is = λ i. view_of (repositories i) (is i) upload limit
 
 -- a row over what is seen, as it is told otherwise
-pub yields_from : (repositories now : Repositories) (seen other objects others : Objects) (upload : Option UploadValue) (limit : ℕ) (name : List ℕ) (was : Repository) (held : Held) (reply : Reply) → seen ≡ other → objects ≡ others
+pub yields_from : (repositories now : Repositories) (seen other objects others : Objects) (upload : Option UploadValue) (limit : ℕ) (name : List ℕ) (was : Repository) (held : Finished) (reply : Reply) → seen ≡ other → objects ≡ others
     → Yields (pushed (view_of repositories seen upload limit) name was held) (view_of repositories seen upload limit) reply (view_of now objects upload limit)
     → Yields (pushed (view_of repositories other upload limit) name was held) (view_of repositories other upload limit) reply (view_of now others upload limit)
 yields_from repositories now seen other objects others upload limit name was held reply is same yields =
@@ -75,7 +75,7 @@ first_counts (Some object) other is = refl
 
 -- over any store
 pub taken_safe : (Within : Reply → Type 0) (first before after : VaultState) (own : List ℕ) (old new : Repositories) (upload : Option UploadValue) (limit : ℕ) (name : List ℕ) (was : Repository) (references : References) (reply : Reply)
-    → Within reply → get old name ≡ Some was → shape_of before.tenants ≡ shape_of first.tenants → verdict.IsOrderly (both_in first own) was.references limit references
+    → Within reply → get old name ≡ Some was → shape_of before.tenants ≡ shape_of first.tenants → verdict.IsAcceptable (both_in first own) was.references limit references
     → IsTaken own (insert old name (record was { references = references })) before reply new after
     → IsSafe Within (view_of old (visible_in first own) upload limit) reply (view_of new (visible_in after own) upload limit)
 taken_safe Within first before after own old new upload limit name was references reply within here shape accepted done =

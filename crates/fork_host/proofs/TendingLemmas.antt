@@ -22,7 +22,7 @@ use Rattle.fork_host.specs.Bounds.{IsBounded}
 use Rattle.fork_host.specs.Faults.{NoneOfObjects}
 use Rattle.fork_host.specs.Own.{staged_in, visible_in}
 use Rattle.fork_host.specs.Rows.{vault_told}
-use Rattle.fork_host.specs.Shape.{SameShape, shape_of as shape_seen}
+use Rattle.fork_host.specs.Shape.{SameShape, view_shape as shape_seen}
 use Rattle.fork_host.specs.Shown.{Account, Accounts, IsWhole, seen_by, state_of, world_of}
 use Rattle.fork_host.specs.Staged.{IsStaged}
 use Rattle.fork_host.specs.Swept.{Tends, IsTended}

@@ -29,8 +29,8 @@ use Rattle.fork_host.specs.Adding.{new_account, new_view}
 use Rattle.fork_host.specs.Own.{IsOwn, IsReady, staged_in, visible_in}
 use Rattle.fork_host.specs.Rows.{Yields}
 use Rattle.fork_host.specs.Safe.{IsSafe}
-use Rattle.fork_host.specs.Sent.{seen_in_world, seen_of, sent_by, sent_in_world, sent_of}
-use Rattle.fork_host.specs.Shape.{SameShape, shape_of}
+use Rattle.fork_host.specs.Sent.{seen_in_world, seen_of, sent_by, sent_in_world, brought_by}
+use Rattle.fork_host.specs.Shape.{SameShape, view_shape}
 use Rattle.fork_host.specs.Shown.{Account, Accounts, HostState, IsWhole, Trusted, shown, state_of, world_of}
 use Rattle.fork_host.specs.Staged.{IsStaged}
 use Rattle.fork_host.proofs.AddingLemmas.{orderly_more, orderly_none, right_more, right_none}
@@ -183,14 +183,14 @@ orderly_after old new t account after orderly here set own still = record {
 
 -- each other tenant's shape stays
 pub shape_still : (old new : HostState) (q : List ℕ) (o : Option Account) → measures_of (visible_in new.vault q) ≡ measures_of (visible_in old.vault q)
-    → option_map shape_of (option_map (λ a. shown a new.vault q) o) ≡ option_map shape_of (option_map (λ a. shown a old.vault q) o)
+    → option_map view_shape (option_map (λ a. shown a new.vault q) o) ≡ option_map view_shape (option_map (λ a. shown a old.vault q) o)
 shape_still old new q None same = refl
 shape_still old new q (Some a) same = ap Some (shape_measured a.repositories (visible_in old.vault q) (visible_in new.vault q) (shown a new.vault q).upload (shown a old.vault q).upload a.limit same)
 
 others_shape : (old new : HostState) (t q : List ℕ) (after : Account) → new.accounts ≡ insert old.accounts t after → IsOwn t old.vault new.vault → eq_by_cmp name_cmp q t ≡ false → SameShape q (world_of old) (world_of new)
 others_shape old new t q after set own apart =
-    ap (option_map shape_of) (get_world new q ∙ ap (option_map (λ a. shown a new.vault q)) (at_other old new t q after set apart))
-    ∙ shape_still old new q (get old.accounts q) (seen_still old new t q own apart) ∙ ap (option_map shape_of) (sym (get_world old q))
+    ap (option_map view_shape) (get_world new q ∙ ap (option_map (λ a. shown a new.vault q)) (at_other old new t q after set apart))
+    ∙ shape_still old new q (get old.accounts q) (seen_still old new t q own apart) ∙ ap (option_map view_shape) (sym (get_world old q))
 
 pub others_stay : (old new : HostState) (t : List ℕ) (after : Account) → new.accounts ≡ insert old.accounts t after → IsOwn t old.vault new.vault → (q : List ℕ) → q ≢ t → SameShape q (world_of old) (world_of new)
 others_stay old new t after set own q differs = by (eq_by_cmp name_cmp q t) refl
@@ -201,13 +201,13 @@ others_stay old new t after set own q differs = by (eq_by_cmp name_cmp q t) refl
 
 -- and so does that of the tenant, where its view's does
 pub all_stay : (old new : HostState) (t : List ℕ) (account after : Account) → get old.accounts t ≡ Some account → new.accounts ≡ insert old.accounts t after → IsOwn t old.vault new.vault
-    → shape_of (shown after new.vault t) ≡ shape_of (shown account old.vault t) → (q : List ℕ) → SameShape q (world_of old) (world_of new)
+    → view_shape (shown after new.vault t) ≡ view_shape (shown account old.vault t) → (q : List ℕ) → SameShape q (world_of old) (world_of new)
 all_stay old new t account after here set own same q = by (eq_by_cmp name_cmp q t) refl
   where
     by : (b : Bool) → eq_by_cmp name_cmp q t ≡ b → SameShape q (world_of old) (world_of new)
     by true tied =
-        ap (option_map shape_of) (at_own old new t q after set tied) ∙ ap Some same
-        ∙ ap (option_map shape_of) (sym (ap (get (world_of old)) (tied_names q t tied) ∙ get_world old t ∙ ap (option_map (λ a. shown a old.vault t)) here))
+        ap (option_map view_shape) (at_own old new t q after set tied) ∙ ap Some same
+        ∙ ap (option_map view_shape) (sym (ap (get (world_of old)) (tied_names q t tied) ∙ get_world old t ∙ ap (option_map (λ a. shown a old.vault t)) here))
     by false apart = others_shape old new t q after set own apart
 
 -- what each tenant has staged is what came of its upload, where it is so of this one
@@ -240,4 +240,4 @@ pub seen_here : (state : HostState) (t : List ℕ) (account : Account) → get s
 seen_here state t account here = ap seen_of (get_world state t ∙ ap (option_map (λ a. shown a state.vault t)) here)
 
 pub sent_here : (state : HostState) (t : List ℕ) (ask : Ask) (account : Account) → get state.accounts t ≡ Some account → sent_in_world (world_of state) t ask ≡ sent_by (shown account state.vault t) ask
-sent_here state t ask account here = ap (λ o. sent_of o ask) (get_world state t ∙ ap (option_map (λ a. shown a state.vault t)) here)
+sent_here state t ask account here = ap (λ o. brought_by o ask) (get_world state t ∙ ap (option_map (λ a. shown a state.vault t)) here)

@@ -1,15 +1,17 @@
 -- Which host faults a step may be answered with, by what became of the store under the vault.
 use Rattle.std.specs.Prelude.{◌≡◌, ◌≢◌, ◌⊎◌, ℕ, IsTrue, List, Contains, Option}
 use Rattle.git_name.specs.Object.{Object, object_name}
+use Rattle.git_name.specs.Count.{Rises}
 use Rattle.loose_store.specs.Files.{Files}
 use Rattle.loose_store.specs.Stored.{Whole}
-use Rattle.fork_reach.specs.Faults.{CountsFault, Rises}
+use Rattle.fork_reach.specs.Faults.{CountsFault}
 use Rattle.fork_reach.specs.declared.source.SourceFault.{SourceFault}
 use Rattle.fork_reach.specs.declared.source.SourceFault.TheVariants as source
 use Rattle.fork_request.specs.declared.host_fault.HostFault.TheVariants.{Memory, Store, Damaged, Collision}
 use Rattle.fork_request.specs.declared.reply.Reply.{Reply}
 use Rattle.fork_request.specs.declared.reply.Reply.TheVariants.{Done, Refused, Failed}
 use Rattle.fork_ledger.specs.Tenants.{VaultState}
+use Rattle.fork_ledger.specs.AllStaged.{StoresAmong}
 use Rattle.std.specs.Prelude.{Some}
 
 -- a failure of the store is counted and told, and nothing else is
@@ -30,10 +32,6 @@ pub record IsCollision (sent : List Object) (files : Files) : Type 0 where
   pub named : object_name other ≡ object_name object
   pub differ : other ≢ object
 
--- no other objects than those sent came to stand whole on the store
-abbrev pub StoresSent : List Object → Files → Files → Type 0
-StoresSent sent old new = (name : List ℕ) (object : Object) → Whole new name object → Whole old name object ⊎ Contains sent object
-
 -- the store stays as honest as it was; and the host faults of a step in which these objects were sent: `store` only where the count of failures rose; `damaged` never over
 -- an honest store; and over an honest store `collision` only where two different objects met. But for a fault of the store or want
 -- of memory, which may leave anything under the one name that was written, an honest store gains nothing that was not sent
@@ -42,16 +40,16 @@ pub record IsBounded (sent : List Object) (old new : VaultState) (reply : Reply)
   pub counted : CountsReply old.failures new.failures reply
   pub undamaged : IsTrue old.honest → reply ≢ Failed Damaged
   pub collided : IsTrue old.honest → reply ≡ Failed Collision → IsCollision sent old.files
-  pub stored : IsTrue old.honest → reply ≢ Failed Store → reply ≢ Failed Memory → StoresSent sent old.files new.files
+  pub stored : IsTrue old.honest → reply ≢ Failed Store → reply ≢ Failed Memory → StoresAmong sent old.files new.files
 
 -- the store was asked with success, and at the most these objects came to it
 pub record Gains (sent : List Object) (old new : VaultState) : Type 0 where
   pub honest : new.honest ≡ old.honest
   pub failures : new.failures ≡ old.failures
-  pub stored : IsTrue old.honest → StoresSent sent old.files new.files
+  pub stored : IsTrue old.honest → StoresAmong sent old.files new.files
 
 -- the store was read, with this fault or none, and the catalogue stayed
-pub record IsRead (old new : VaultState) (fault : Option SourceFault) : Type 0 where
+pub record ReadsStore (old new : VaultState) (fault : Option SourceFault) : Type 0 where
   pub honest : new.honest ≡ old.honest
   pub counted : CountsFault old.failures new.failures fault
   pub files : IsTrue old.honest → new.files ≡ old.files

@@ -2,6 +2,7 @@
 use Rattle.std.specs.Prelude.{◌≡◌, ◌≢◌, List, [], ◌∷◌, ◌++◌}
 use Rattle.std.specs.List.{AllByRecursion}
 use Rattle.git_name.specs.Object.{Object}
+use Rattle.git_name.specs.Count.{greatest_count}
 use Rattle.fork_request.specs.declared.host_fault.HostFault.TheVariants.{Store, Damaged, Memory, Collision}
 use Rattle.fork_request.specs.declared.reply.Reply.{Reply}
 use Rattle.fork_request.specs.declared.reply.Reply.TheVariants.{Failed}
@@ -35,5 +36,5 @@ NeverDamaged = (old new : HostState) (events : List Event) (replies : List Reply
 
 -- and over any store `store` only where the count of failures rose, or stands at its greatest
 abbrev pub FailsForCause : Type 0
-FailsForCause = (old new : HostState) (events : List Event) (replies : List Reply) → IsRun old events replies new → new.vault.failures ≡ old.vault.failures → old.vault.failures ≢ 18446744073709551615
+FailsForCause = (old new : HostState) (events : List Event) (replies : List Reply) → IsRun old events replies new → new.vault.failures ≡ old.vault.failures → old.vault.failures ≢ greatest_count
     → AllByRecursion (λ reply. reply ≢ Failed Store) replies

@@ -7,12 +7,12 @@ use Rattle.fork_host.specs.declared.step.HostStep.{HostStep}
 use Rattle.fork_host.specs.declared.step.HostStep.TheVariants.{Tenant, Host}
 
 -- a tenant's request, or one of the host's own
-abbrev pub event_of : HostStep → Event
-event_of (Tenant name request) = Asks name.now (ask_of request)
-event_of (Host request) = HostAsks request
+abbrev pub event_given : HostStep → Event
+event_given (Tenant name request) = Asks name.now (ask_of request)
+event_given (Host request) = HostAsks request
 
-abbrev pub events_of : List HostStep → List Event
-events_of steps = map event_of steps
+abbrev pub events_given : List HostStep → List Event
+events_given steps = map event_given steps
 
 -- the tenant that asks in a step, where it is a tenant's
 abbrev pub asker_of : Event → Option (List ℕ)

@@ -3,7 +3,7 @@ use Rattle.std.specs.Prelude.{◌≡◌, ℕ, List}
 use Rattle.std.specs.Borrow.{Bor}
 use Rattle.std.specs.FinMap.{FinMap}
 use Rattle.git_name.specs.Name.{name_cmp}
-use Rattle.looks.specs.Growth.{GrowsBy}
+use Rattle.looks.specs.Growth.{GrowsAmong}
 use Rattle.looks.specs.Places.{Places}
 use Rattle.loose_store.specs.Files.{Files}
 use Rattle.fork_reach.specs.Objects.{Measures}
@@ -63,11 +63,11 @@ pub record IsSame {S : Type 0} (old new : Own S) : Type 0 where
 pub record Touches {S : Type 0} (names : List (List ℕ)) (old new : Own S) : Type 0 where
   pub same : IsSame old new
   pub own : IsOwn old.tenant.now old.vault.now new.vault.now
-  pub grows : GrowsBy names old.vault.now.places new.vault.now.places
+  pub grows : GrowsAmong names old.vault.now.places new.vault.now.places
 
 -- and what is staged stayed
 pub record Uses {S : Type 0} (names : List (List ℕ)) (old new : Own S) : Type 0 where
   pub same : IsSame old new
   pub own : IsOwn old.tenant.now old.vault.now new.vault.now
-  pub grows : GrowsBy names old.vault.now.places new.vault.now.places
+  pub grows : GrowsAmong names old.vault.now.places new.vault.now.places
   pub staged : KeepsStaged old.tenant.now old.vault.now new.vault.now

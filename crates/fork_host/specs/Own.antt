@@ -69,5 +69,5 @@ pub record Has (tenant : List ℕ) (seen staged : Objects) (old new : Tenants) :
   pub stages : (private_of new tenant).staged ≡ staged
 
 -- it sees these, and nothing is staged
-abbrev pub Settles : List ℕ → Objects → Tenants → Tenants → Type 0
-Settles tenant objects = Has tenant objects empty
+abbrev pub SeesOnly : List ℕ → Objects → Tenants → Tenants → Type 0
+SeesOnly tenant objects = Has tenant objects empty

@@ -11,7 +11,7 @@ use Rattle.push_stream.specs.Upload.{UploadValue}
 use Rattle.fork_request.specs.declared.reply.Reply.{Reply}
 use Rattle.fork_request.specs.declared.reply.Reply.TheVariants.{Done}
 use Rattle.fork_ledger.specs.Tenants.{VaultState}
-use Rattle.fork_model.specs.Answer.{Held}
+use Rattle.fork_model.specs.Answer.{Finished}
 use Rattle.fork_model.specs.View.{View, Repositories}
 use Rattle.fork_host.specs.Own.{both_in, visible_in}
 
@@ -25,13 +25,13 @@ Sends sent (Ok body) = body.objects.items ≡ sent
 Sends sent (Err error) = ⊤
 
 -- what the bytes of a stream gave is what the stream holds; want of memory tells nothing
-abbrev pub TellsHeld : Held → Result Body BodyError → Type 0
+abbrev pub TellsHeld : Finished → Result Body BodyError → Type 0
 TellsHeld held (Ok body) = held ≡ Ok (body.commands.items, body.objects.items)
 TellsHeld held (Err (Fault fault)) = held ≡ Err fault
 TellsHeld held (Err Memory) = ⊤
 
 -- a brief that was made of a stream is that of what the stream holds; want of memory tells nothing
-abbrev pub TellsBrief : Held → Result Brief BodyError → Type 0
+abbrev pub TellsBrief : Finished → Result Brief BodyError → Type 0
 TellsBrief held (Ok brief) = brief_of held ≡ Ok (brief.commands.items, brief.names.items)
 TellsBrief held (Err (Fault fault)) = held ≡ Err fault
 TellsBrief held (Err Memory) = ⊤

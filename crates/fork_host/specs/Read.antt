@@ -6,13 +6,13 @@ use Rattle.loose_store.specs.Files.{Files}
 use Rattle.loose_store.specs.Stored.{Whole}
 use Rattle.fork_ledger.specs.Store.{Recalls}
 use Rattle.fork_ledger.specs.Tenants.{Tenants}
-use Rattle.fork_sound.specs.Reading.{ReadingMap, ReadingValue, reading_of}
+use Rattle.fork_sound.specs.Reading.{ReadingMap, ReadingValue, object_reading}
 
 -- an object of this name was read, over an honest store the one that stands whole on it
 pub record IsRead (honest : Bool) (files : Files) (name : List ℕ) (reading : ReadingValue) : Type 0 where
   pub object : Object
   pub named : object_name object ≡ name
-  pub is : reading ≡ reading_of object
+  pub is : reading ≡ object_reading object
   pub whole : IsTrue honest → Whole files name object
 
 -- so it is with each that is kept

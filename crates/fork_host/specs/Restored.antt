@@ -1,10 +1,9 @@
 -- What a host is restored to, and why it is not: states, judged by what stands on an honest store.
 use Rattle.std.specs.Prelude.{◌≡◌, ◌⊎◌, ℕ, ◌≤◌, ◌<◌, ◌++◌, [], ◌∷◌, Bool, None, Some, ◌&&◌, ◌||◌, not, is_none, List, Option, Contains, map, ⊤}
-use Rattle.std.specs.BTreeMap.{is_at}
-use Rattle.std.specs.List.{AllByRecursion, find, flat_map, list_any}
+use Rattle.std.specs.List.{AllByRecursion, find, flat_map}
 use Rattle.std.specs.FinMap.{entries, get}
-use Rattle.git_name.specs.Name.{name_cmp}
 use Rattle.git_name.specs.Object.{Object}
+use Rattle.git_name.specs.Same.{is_one_of}
 use Rattle.git_reftx.specs.Known.{Kinds}
 use Rattle.git_reftx.specs.Repository.{Repository}
 use Rattle.git_reftx.specs.Transaction.{is_branch, is_commit}
@@ -31,10 +30,6 @@ target_of reference = reference.1
 -- the target isn't known, or is no commit where the reference is a branch
 abbrev pub is_bad_target : Kinds → List ℕ × List ℕ → Bool
 is_bad_target kinds (reference, target) = is_none (kinds target) || (is_branch reference && not (is_commit (kinds target)))
-
--- whether this is one of the names
-abbrev pub is_one_of : List (List ℕ) → List ℕ → Bool
-is_one_of names name = list_any (is_at (name_cmp name)) names
 
 -- of these names the first whose object isn't there, isn't in its grammar, or has a link that isn't met among them
 abbrev pub first_bad : List (List ℕ) → Objects → Option (List ℕ)
@@ -69,7 +64,7 @@ abbrev pub KeepsLimit : Files → TenantState → Type 0
 KeepsLimit files tenant = OnStore files tenant.seen (λ objects. use_of objects ≤ tenant.limit)
 
 -- the tenant is one of these, and so it is with each before it
-pub record IsFirst (Is : TenantState → Type 0) (states : States) (tenant : TenantState) : Type 0 where
+pub record AllBefore (Is : TenantState → Type 0) (states : States) (tenant : TenantState) : Type 0 where
   pub front : States
   pub back : States
   pub parts : states ≡ front ++ tenant ∷ back
@@ -85,20 +80,20 @@ TellsBad files name Store = ⊤
 TellsBad files name Memory = ⊤
 
 -- want of memory, or of the store
-abbrev pub IsFault : RestoreError → Type 0
-IsFault error = (error ≡ Store) ⊎ (error ≡ Memory)
+abbrev pub IsStoreOrMemory : RestoreError → Type 0
+IsStoreOrMemory error = (error ≡ Store) ⊎ (error ≡ Memory)
 
 -- why states are refused: first the objects of all tenants, tenant by tenant and name by name; then the targets of all references;
 -- then the limits; and want of memory or a failing store at any time
-pub data IsRefused (files : Files) (states : States) : RestoreError → Type 0 where
-  ByObject : (tenant : TenantState) (name : List ℕ) (error : RestoreError) → IsFirst (HasObjects files) states tenant
-      → OnStore files tenant.seen (λ objects. first_bad tenant.seen objects ≡ Some name) → TellsBad files name error → IsRefused files states error
-  ByTarget : (tenant : TenantState) (reference target : List ℕ) → AllByRecursion (HasObjects files) states → IsFirst (HasTargets files) states tenant
-      → OnStore files tenant.seen (λ objects. first_astray tenant.repositories objects ≡ Some (reference, target)) → IsRefused files states (Unsound target)
-  ByLimit : (tenant : TenantState) → AllByRecursion (HasObjects files) states → AllByRecursion (HasTargets files) states → IsFirst (KeepsLimit files) states tenant
-      → OnStore files tenant.seen (λ objects. tenant.limit < use_of objects) → IsRefused files states (OverLimit tenant.name)
-  WantsMemory : IsRefused files states Memory
-  WantsStore : IsRefused files states Store
+pub data AreRefused (files : Files) (states : States) : RestoreError → Type 0 where
+  ByObject : (tenant : TenantState) (name : List ℕ) (error : RestoreError) → AllBefore (HasObjects files) states tenant
+      → OnStore files tenant.seen (λ objects. first_bad tenant.seen objects ≡ Some name) → TellsBad files name error → AreRefused files states error
+  ByTarget : (tenant : TenantState) (reference target : List ℕ) → AllByRecursion (HasObjects files) states → AllBefore (HasTargets files) states tenant
+      → OnStore files tenant.seen (λ objects. first_astray tenant.repositories objects ≡ Some (reference, target)) → AreRefused files states (Unsound target)
+  ByLimit : (tenant : TenantState) → AllByRecursion (HasObjects files) states → AllByRecursion (HasTargets files) states → AllBefore (KeepsLimit files) states tenant
+      → OnStore files tenant.seen (λ objects. tenant.limit < use_of objects) → AreRefused files states (OverLimit tenant.name)
+  WantsMemory : AreRefused files states Memory
+  WantsStore : AreRefused files states Store
 
 -- a tenant's state but for its offers, which no host makes or keeps yet
 abbrev pub without_offers : TenantState → TenantState

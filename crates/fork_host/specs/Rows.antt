@@ -54,9 +54,9 @@ query_told view (Err (query.Refused refusal)) = Refused refusal
 query_told view (Err (query.Failed fault)) = Failed (fault_told fault)
 
 -- objects are kept, or a host fault leaves all of them
-pub data IsKept (kept old : Objects) (reply : Reply) (new : Objects) : Type 0 where
-  Kept : reply ≡ Done [] → new ≡ kept → IsKept kept old reply new
-  Unkept : (fault : HostFault) → reply ≡ Failed fault → new ≡ old → IsKept kept old reply new
+pub data KeepsObjects (kept old : Objects) (reply : Reply) (new : Objects) : Type 0 where
+  Kept : reply ≡ Done [] → new ≡ kept → KeepsObjects kept old reply new
+  Unkept : (fault : HostFault) → reply ≡ Failed fault → new ≡ old → KeepsObjects kept old reply new
 
 -- the same over any store, as far as names, kinds and lengths go: among those that are kept are the roots
 pub data IsPruned (roots : List (List ℕ)) (old : Objects) (reply : Reply) (new : Objects) : Type 0 where

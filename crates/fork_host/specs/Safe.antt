@@ -9,12 +9,12 @@ use Rattle.fork_request.specs.Told.{is_done}
 use Rattle.fork_request.specs.declared.reply.Reply.{Reply}
 use Rattle.fork_model.specs.Sound.{IsOrderly}
 use Rattle.fork_model.specs.View.{View}
-use Rattle.fork_host.specs.Shape.{shape_of}
+use Rattle.fork_host.specs.Shape.{view_shape}
 
 -- a view that is in order stays so, its shape stays where the reply has no data, and the reply keeps its bounds
 pub record IsSafe (Within : Reply → Type 0) (old : View) (reply : Reply) (new : View) : Type 0 where
   pub orderly : IsOrderly old → IsOrderly new
-  pub kept : is_done reply ≡ false → shape_of new ≡ shape_of old
+  pub kept : is_done reply ≡ false → view_shape new ≡ view_shape old
   pub faults : Within reply
 
 -- what is answered under a name has that name: the record that `cat-file` gives is of an object of the name that was asked for, and

@@ -33,13 +33,13 @@ sent_by view Prunes = []
 sent_by view NoRequest = []
 
 -- an unknown tenant brings none
-abbrev pub sent_of : Option View → Ask → List Object
-sent_of None ask = []
-sent_of (Some view) ask = sent_by view ask
+abbrev pub brought_by : Option View → Ask → List Object
+brought_by None ask = []
+brought_by (Some view) ask = sent_by view ask
 
 -- those of a tenant of a world
 abbrev pub sent_in_world : World → List ℕ → Ask → List Object
-sent_in_world world tenant ask = sent_of (get world tenant) ask
+sent_in_world world tenant ask = brought_by (get world tenant) ask
 
 -- what a tenant of a world sees; an unknown one sees nothing
 abbrev pub seen_of : Option View → Objects

@@ -10,9 +10,9 @@ pub record Shape : Type 0 where
   pub objects : Measures
   pub limit : ℕ
 
-abbrev pub shape_of : View → Shape
-shape_of view = record { repositories = view.repositories; objects = measures_of view.objects; limit = view.limit }
+abbrev pub view_shape : View → Shape
+view_shape view = record { repositories = view.repositories; objects = measures_of view.objects; limit = view.limit }
 
 -- the tenant's shape is the same in both worlds
 abbrev pub SameShape : List ℕ → World → World → Type 0
-SameShape tenant old new = option_map shape_of (get new tenant) ≡ option_map shape_of (get old tenant)
+SameShape tenant old new = option_map view_shape (get new tenant) ≡ option_map view_shape (get old tenant)

@@ -1,8 +1,9 @@
 -- What a host shows: each tenant's account, and what the vault shows that tenant.
 use Rattle.std.specs.Prelude.{◌≡◌, ℕ, IsTrue, List, Option, Some, map, option_map, refl}
-use Rattle.std.specs.Coded.{Coded, code_by, coded×, coded_ℕ, coded_list, coded_option}
+use Rattle.std.specs.Coded.{Coded, code_by, coded×, coded_ℕ, coded_option}
 use Rattle.std.specs.FinMap.{FinMap, code, contains_key, entries, from_sorted, get}
 use Rattle.git_name.specs.Name.{name_cmp}
+use Rattle.git_name.specs.Text.{bytes_code}
 use Rattle.git_reftx.specs.Repository.{repository_code}
 use Rattle.push_stream.specs.Incoming.{reading_code}
 use Rattle.push_stream.specs.Reading.{Reading}
@@ -64,9 +65,6 @@ pub record IsWhole (state : HostState) : Type 0 where
   pub right : Trusted state → IsRightWorld (world_of state)
   pub there : (tenant : List ℕ) → contains_key state.vault.tenants tenant ≡ contains_key state.accounts tenant
   pub staged : StagesUploads state
-
-abbrev bytes_code : Coded (List ℕ)
-bytes_code = coded_list coded_ℕ
 
 -- accounts and states have codes, so that they can be a model's value
 abbrev pub account_code : Coded Account

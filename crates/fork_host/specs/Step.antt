@@ -44,7 +44,7 @@ IsRun old [] (reply ∷ replies) new = ⊥
 IsRun old (event ∷ events) [] new = ⊥
 
 -- each reply is named so
-abbrev pub AreNamed : List Event → List Reply → Type 0
-AreNamed (event ∷ events) (reply ∷ replies) = IsNamedAt event reply × AreNamed events replies
-AreNamed [] replies = ⊤
-AreNamed (event ∷ events) [] = ⊤
+abbrev pub AreNamedAt : List Event → List Reply → Type 0
+AreNamedAt (event ∷ events) (reply ∷ replies) = IsNamedAt event reply × AreNamedAt events replies
+AreNamedAt [] replies = ⊤
+AreNamedAt (event ∷ events) [] = ⊤

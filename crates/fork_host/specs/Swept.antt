@@ -12,7 +12,7 @@ use Rattle.fork_request.specs.declared.reply.Reply.{Reply}
 use Rattle.fork_request.specs.declared.reply.Reply.TheVariants.{Done, Refused, Failed}
 use Rattle.fork_model.specs.Runs.{Asks, HostAsks}
 use Rattle.fork_model.specs.World.{Event, number_line}
-use Rattle.looks.specs.Growth.{GrowsBy}
+use Rattle.looks.specs.Growth.{GrowsAmong}
 use Rattle.looks.specs.Looks.{Looks, Walks}
 use Rattle.looks.specs.Places.{Places, at_start}
 use Rattle.looks.specs.Slices.{Collects, Sweeps}
@@ -92,7 +92,7 @@ pub record Tends (request : HostRequest) (old : VaultState) (reply : Reply) (new
 
 -- the same of a step; a tenant's lets the catalogue's place stay, and the catalogue grow by names of what is sent alone
 abbrev pub TendsAt : HostState → Event → Reply → HostState → Type 0
-TendsAt old (Asks tenant ask) reply new = GrowsBy (sent_names (sent_in_world (world_of old) tenant ask)) old.vault.places new.vault.places
+TendsAt old (Asks tenant ask) reply new = GrowsAmong (sent_names (sent_in_world (world_of old) tenant ask)) old.vault.places new.vault.places
 TendsAt old (HostAsks request) reply new = Tends request old.vault reply new.vault
 
 -- sweeps of so many looks at the most, one after another

@@ -4,8 +4,8 @@ use Rattle.std.specs.FinMap.{entries, get}
 use Rattle.std.specs.List.{filter}
 use Rattle.std.specs.Option.{option_and_then}
 use Rattle.push_stream.specs.Upload.{UploadValue}
-use Rattle.fork_model.specs.View.{View}
 use Rattle.fork_model.specs.World.{World}
+use Rattle.fork_model.specs.Answer.{without_upload}
 use Rattle.git_name.specs.Maps.{map_values}
 use Rattle.fork_host.specs.Shown.{Account}
 
@@ -26,10 +26,6 @@ uploads_of world = flat_map (λ entry. opened entry.0 entry.1.upload) (entries w
 abbrev pub upload_at : World → List ℕ → Option UploadValue
 upload_at world tenant = option_and_then (λ view. view.upload) (get world tenant)
 
--- a view without its open upload
-abbrev pub closed : View → View
-closed view = record view { upload = None }
-
 -- a world whose views have no open upload
-abbrev pub closed_world : World → World
-closed_world world = map_values closed world
+abbrev pub without_uploads : World → World
+without_uploads world = map_values without_upload world

@@ -9,7 +9,7 @@ ghost use Rattle.fork_model.specs.Runs.{Asks};
 ghost use Rattle.fork_model.specs.Sound.{IsOrderlyWorld};
 ghost use Rattle.fork_model.specs.World.{Steps};
 ghost use Rattle.state_text.specs.Kept.{states_of};
-ghost use Rattle.looks.specs.Growth.{GrowsBy};
+ghost use Rattle.looks.specs.Growth.{GrowsAmong};
 ghost use Rattle.fork_ledger.specs.Tenants.{shape_of};
 ghost use Rattle.fork_host.specs.Adding.{new_account};
 ghost use Rattle.fork_host.specs.Bounds.{IsBounded};
@@ -183,7 +183,7 @@ impl Accounts {
         ensures named { IsNamedReply (ask_of request.entry) result }
         ensures seen { TellsSeen (seen_in_world (world_of (state_of self.old vault.old)) name.now) (ask_of request.entry) result }
         ensures faults { IsBounded (sent_in_world (world_of (state_of self.old vault.old)) name.now (ask_of request.entry)) vault.old vault.new result }
-        ensures grows { GrowsBy (sent_names (sent_in_world (world_of (state_of self.old vault.old)) name.now (ask_of request.entry))) vault.old.places vault.new.places }
+        ensures grows { GrowsAmong (sent_names (sent_in_world (world_of (state_of self.old vault.old)) name.now (ask_of request.entry))) vault.old.places vault.new.places }
     {
         let Some(tenant) = self.tenants.get_mut(name) else {
             return Reply::Refused(Refusal::UnknownTenant);
@@ -224,7 +224,7 @@ fn answer_from<S: LooseFiles>(
     ensures named { IsNamedReply (ask_of request.entry) result }
     ensures seen { TellsSeen (visible_in vault.old name.now) (ask_of request.entry) result }
     ensures own { IsOwn name.now vault.old vault.new }
-    ensures grows { GrowsBy (sent_names (sent_by (shown tenant.old vault.old name.now) (ask_of request.entry))) vault.old.places vault.new.places }
+    ensures grows { GrowsAmong (sent_names (sent_by (shown tenant.old vault.old name.now) (ask_of request.entry))) vault.old.places vault.new.places }
     ensures staged { IsStaged vault.old.honest tenant.new.upload (staged_in vault.new name.now) }
 {
     let mut own = Own::new(vault, name);

@@ -195,11 +195,11 @@ impl<S: LooseFiles> Host<S> {
         tend(alloc, &mut self.vault, request)
     }
 
-    ghost use Rattle.fork_host.specs.Given.{event_of, events_of};
+    ghost use Rattle.fork_host.specs.Given.{event_given, events_given};
 
     /// Answers one step: a tenant's request or one of the host's own.
     pub fn step(&mut self, alloc: Global, step: HostStep<'_>) -> Reply
-        ensures { IsStep self.old (event_of step.entry) result self.new }
+        ensures { IsStep self.old (event_given step.entry) result self.new }
     {
         match step {
             HostStep::Tenant(name, request) => self.answer(alloc, name, request),
@@ -209,29 +209,29 @@ impl<S: LooseFiles> Host<S> {
 
     /// Answers the steps in turn. Memory for the replies is asked for before the first step.
     pub fn run(&mut self, alloc: Global, steps: &[HostStep<'_>]) -> Result<Vec<Reply>, NoMemory>
-        ensures ran { IfOk result (λ replies. IsRun self.old (events_of steps.now) replies.items self.new) }
+        ensures ran { IfOk result (λ replies. IsRun self.old (events_given steps.now) replies.items self.new) }
         ensures err { OnErr result (self.new ≡ self.old) }
         ensures orderly { IsOrderlyWorld (world_of self.new) }
         ensures right { Trusted self.old → IsRightWorld (world_of self.new) }
 
         // After sweeps alone that add up to at least twice the number of names that were catalogued, the
         // store has files of just the names of which some tenant has an object.
-        ensures sharp { Trusted self.old → IfOk result (λ replies. SharpAfterSweeps self.old.vault (events_of steps.now) replies.items self.new.vault) }
+        ensures sharp { Trusted self.old → IfOk result (λ replies. SharpAfterSweeps self.old.vault (events_given steps.now) replies.items self.new.vault) }
 
         // To each tenant that no host fault answered, the replies are those of a private host.
         ensures private_replies { Trusted self.old → IfOk result (λ replies. (tenant : List ℕ) (view : View)
             → map.get (world_of self.old) tenant ≡ Some view
-            → IsUnfaulted tenant (events_of steps.now) replies.items
-            → told tenant (events_of steps.now) replies.items ≡ (alone view (own tenant (events_of steps.now))).0) }
+            → IsUnfaulted tenant (events_given steps.now) replies.items
+            → told tenant (events_given steps.now) replies.items ≡ (alone view (own tenant (events_given steps.now))).0) }
         ensures private_view { Trusted self.old → IfOk result (λ replies. (tenant : List ℕ) (view : View)
             → map.get (world_of self.old) tenant ≡ Some view
-            → IsUnfaulted tenant (events_of steps.now) replies.items
-            → map.get (world_of self.new) tenant ≡ Some (alone view (own tenant (events_of steps.now))).1) }
+            → IsUnfaulted tenant (events_given steps.now) replies.items
+            → map.get (world_of self.new) tenant ≡ Some (alone view (own tenant (events_given steps.now))).1) }
 
         // What a tenant sees at the end, it saw at the start, or sent itself.
         ensures provenance { Trusted self.old → IfOk result (λ replies. (tenant : List ℕ) (view last : View) (name : List ℕ) (object : Object)
             → map.get (world_of self.old) tenant ≡ Some view → map.get (world_of self.new) tenant ≡ Some last → map.get last.objects name ≡ Some object
-            → (map.get view.objects name ≡ Some object) ⊎ WasSent view (exchanges tenant (events_of steps.now) replies.items) name object) }
+            → (map.get view.objects name ≡ Some object) ⊎ WasSent view (exchanges tenant (events_given steps.now) replies.items) name object) }
     {
         let _before = self.vault.invariant();
         let Ok(mut replies) = Vec::with_capacity(alloc, steps.len()) else {

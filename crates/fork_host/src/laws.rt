@@ -12,7 +12,7 @@ ghost use Rattle.fork_host.specs.Causes.{CollidesForCause, FailsForCause, NeverD
 ghost use Rattle.fork_host.specs.Given.{asker_of};
 ghost use Rattle.fork_host.specs.Shape.{SameShape};
 ghost use Rattle.fork_host.specs.Shown.{HostState, Trusted, world_of};
-ghost use Rattle.fork_host.specs.Step.{AreNamed, IsRun};
+ghost use Rattle.fork_host.specs.Step.{AreNamedAt, IsRun};
 
 /// A law, and no work: what a run comes to as a whole. It is two runs, parted behind any of its steps.
 /// Over an honest store it is a run of the world; over any store the honesty stays, a tenant that asked
@@ -26,7 +26,7 @@ pub fn a_run_is_its_steps()
         → (tenant : List ℕ) → SameShape tenant (world_of old) (world_of new) }
     ensures others { (old new : HostState) (events : List Event) (replies : List Reply) (tenant : List ℕ) → IsRun old events replies new → AllByRecursion (λ event. asker_of event ≢ Some tenant) events
         → SameShape tenant (world_of old) (world_of new) }
-    ensures named { (old new : HostState) (events : List Event) (replies : List Reply) → IsRun old events replies new → AreNamed events replies }
+    ensures named { (old new : HostState) (events : List Event) (replies : List Reply) → IsRun old events replies new → AreNamedAt events replies }
 {}
 
 /// A law, and no work: why a host fault is told in a run.

@@ -6,7 +6,7 @@ ghost use Rattle.push_stream.specs.declared.upload.TheConstants.{MAX_UPLOAD};
 ghost use Rattle.push_stream.specs.Record.{record_of};
 ghost use Rattle.push_stream.specs.Spelling.{records_of};
 ghost use Rattle.push_stream.specs.Upload.{upload_of};
-ghost use Rattle.fork_model.specs.Uploads.{object_at};
+ghost use Rattle.fork_model.specs.Uploads.{object_sent};
 ghost use Rattle.fork_host.specs.Handle.{staged_by};
 ghost use Rattle.fork_host.specs.Opening.{OnlyReads, reading_told};
 ghost use Rattle.fork_host.specs.Staged.{Came, IsStaged};
@@ -50,7 +50,7 @@ fn add_records<S: LooseFiles>(
     bytes: &mut Vec<u8>,
 ) -> Result<(), HostFault>
     requires there { AllByRecursion (λ one. map.contains_key (staged_by own.old) one.name ≡ true) sent.now }
-    ensures added { IsTrue own.old.vault.now.honest → OnOk result (bytes.new.items ≡ bytes.old.items ++ records_of (each (object_at (staged_by own.old)) sent.now)) }
+    ensures added { IsTrue own.old.vault.now.honest → OnOk result (bytes.new.items ≡ bytes.old.items ++ records_of (each (object_sent (staged_by own.old)) sent.now)) }
     ensures reads { OnlyReads own.old own.new (reading_told result) }
 {
     for one in sent {
@@ -67,7 +67,7 @@ fn add_record<S: LooseFiles>(
     bytes: &mut Vec<u8>,
 ) -> Result<(), HostFault>
     requires there { map.contains_key (staged_by own.old) one.now.name ≡ true }
-    ensures added { IsTrue own.old.vault.now.honest → OnOk result (bytes.new.items ≡ bytes.old.items ++ record_of (object_at (staged_by own.old) one.now)) }
+    ensures added { IsTrue own.old.vault.now.honest → OnOk result (bytes.new.items ≡ bytes.old.items ++ record_of (object_sent (staged_by own.old) one.now)) }
     ensures reads { OnlyReads own.old own.new (reading_told result) }
 {
     let sealed = staged(alloc, own, one.name)?;

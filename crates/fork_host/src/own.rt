@@ -3,21 +3,21 @@ ghost use Rattle.std.specs.FinMap as map;
 ghost use Rattle.std.specs.HashSet.{contains};
 ghost use Rattle.git_name.specs.Object.{object_name};
 ghost use Rattle.git_name.specs.Same.{same_name};
+ghost use Rattle.git_name.specs.Count.{fault_in, fault_in as source_fault_in};
 ghost use Rattle.git_reftx.specs.Transaction.{References};
-ghost use Rattle.looks.specs.Growth.{GrowsBy};
+ghost use Rattle.looks.specs.Growth.{GrowsAmong};
 ghost use Rattle.push_stream.specs.Brief.{brief_shown};
-ghost use Rattle.fork_reach.specs.Faults.{fault_in as source_fault_in};
 ghost use Rattle.fork_reach.specs.Objects.{use_of};
 ghost use Rattle.fork_reach.specs.Reach.{is_reached, linked_names};
 ghost use Rattle.fork_reach.specs.Source.{kind_in};
 ghost use Rattle.fork_ledger.specs.AllStaged.{MeetsAmong, StoresAmong, with_all_staged};
 ghost use Rattle.fork_ledger.specs.Private.{with_discarded, with_kept, with_published};
-ghost use Rattle.fork_ledger.specs.Store.{AsksStore, LeavesStore, Recalls, fault_in};
+ghost use Rattle.fork_ledger.specs.Store.{AsksStore, LeavesStore, Recalls};
 ghost use Rattle.fork_ledger.specs.Tenants.{at_tenant, private_of, shape_of};
 ghost use Rattle.fork_ledger.specs.Used.{capped};
 ghost use Rattle.fork_push.specs.Push.{judged};
-ghost use Rattle.fork_push.specs.Verdict.{IfAccepted, IsOrderly, TellsJudged, fault_of_verdict};
-ghost use Rattle.fork_host.specs.Bounds.{IsRead};
+ghost use Rattle.fork_push.specs.Verdict.{IfAccepted, IsAcceptable, TellsJudged, fault_of_verdict};
+ghost use Rattle.fork_host.specs.Bounds.{ReadsStore};
 ghost use Rattle.fork_host.specs.Sent.{sent_names};
 ghost use Rattle.std.specs.Prelude.{ℕ, List, Contains, Some, true};
 ghost use Rattle.std.specs.List.{AllByRecursion};
@@ -126,7 +126,7 @@ impl<'a, S: LooseFiles> Own<'a, S> {
         // Over any store.
         ensures shape { OnOk result (shape_of self.new.vault.now.tenants ≡ shape_of (at_tenant self.old.vault.now.tenants self.old.tenant.now (with_all_staged objects.items))) }
         ensures kept { OnErr result (shape_of self.new.vault.now.tenants ≡ shape_of self.old.vault.now.tenants) }
-        ensures grows { GrowsBy (sent_names objects.items) self.old.vault.now.places self.new.vault.now.places }
+        ensures grows { GrowsAmong (sent_names objects.items) self.old.vault.now.places self.new.vault.now.places }
         ensures store { AsksStore self.old.vault.now self.new.vault.now (fault_in result) }
         ensures same { IsSame self.old self.new }
     {
@@ -199,7 +199,7 @@ impl<'a, S: LooseFiles> Own<'a, S> {
         // Over any store.
         ensures rooted { IfOk result (λ found. (name : List ℕ) → Contains roots.now name → map.contains_key (visible_by self.old) name ≡ true → contains same_name found name ≡ true) }
         ensures shape { shape_of self.new.vault.now.tenants ≡ shape_of self.old.vault.now.tenants }
-        ensures read { IsRead self.old.vault.now self.new.vault.now (source_fault_in result) }
+        ensures read { ReadsStore self.old.vault.now self.new.vault.now (source_fault_in result) }
         ensures same { IsSame self.old self.new }
     {
         reach(alloc, self, roots)
@@ -218,9 +218,9 @@ impl<'a, S: LooseFiles> Own<'a, S> {
         ensures kept { IsTrue self.old.vault.now.honest → self.new.vault.now.tenants ≡ self.old.vault.now.tenants }
 
         // Over any store.
-        ensures accepted { IfAccepted result (IsOrderly (both_by self.old) references.now limit) }
+        ensures accepted { IfAccepted result (IsAcceptable (both_by self.old) references.now limit) }
         ensures shape { shape_of self.new.vault.now.tenants ≡ shape_of self.old.vault.now.tenants }
-        ensures read { IsRead self.old.vault.now self.new.vault.now (fault_of_verdict result) }
+        ensures read { ReadsStore self.old.vault.now self.new.vault.now (fault_of_verdict result) }
         ensures same { IsSame self.old self.new }
     {
         let mut both = Both {

@@ -4,7 +4,7 @@ ghost use Rattle.fork_reach.specs.Reach.{is_reached, linked_names};
 ghost use Rattle.fork_host.specs.Bounds.{IsBounded};
 ghost use Rattle.fork_host.specs.Handle.{Uses, visible_by};
 ghost use Rattle.fork_host.specs.Own.{visible_in};
-ghost use Rattle.fork_host.specs.Rows.{IsKept, IsPruned};
+ghost use Rattle.fork_host.specs.Rows.{KeepsObjects, IsPruned};
 
 use crate::own::Own;
 use crate::replies::{done, host_fault};
@@ -20,7 +20,7 @@ pub(crate) fn keep_reached<S: LooseFiles>(
     roots: &[Name],
 ) -> Reply
     requires there { map.contains_key own.old.vault.now.tenants own.old.tenant.now ≡ true }
-    ensures kept { IsTrue own.old.vault.now.honest → IsKept (map.retain_keys (visible_by own.old) (is_reached (linked_names (visible_by own.old)) (visible_by own.old) roots.now)) (visible_by own.old) result (visible_in own.new.vault.now own.old.tenant.now) }
+    ensures kept { IsTrue own.old.vault.now.honest → KeepsObjects (map.retain_keys (visible_by own.old) (is_reached (linked_names (visible_by own.old)) (visible_by own.old) roots.now)) (visible_by own.old) result (visible_in own.new.vault.now own.old.tenant.now) }
     // Over any store.
     ensures pruned { IsPruned roots.now (visible_by own.old) result (visible_in own.new.vault.now own.old.tenant.now) }
     ensures bounds { IsBounded [] own.old.vault.now own.new.vault.now result }

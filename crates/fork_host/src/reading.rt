@@ -1,7 +1,7 @@
 // What stands on the store of the objects that tenants saw, each read once.
 ghost use Rattle.std.specs.Prelude.{◌≡◌, ◌∷◌, [], Contains, IfOk, IsTrue, OnOk};
 ghost use Rattle.std.specs.FinMap as map;
-ghost use Rattle.fork_sound.specs.Reading.{reading_of};
+ghost use Rattle.fork_sound.specs.Reading.{object_reading};
 ghost use Rattle.fork_host.specs.Read.{AreRead, Reads};
 ghost use Rattle.state_text.specs.States.{TenantState as State};
 
@@ -95,7 +95,7 @@ fn keep(
     name: Name,
     sealed: &Sealed,
 ) -> Result<(), OpenError>
-    ensures { OnOk result (readings.new ≡ map.insert readings.old name (reading_of sealed.now)) }
+    ensures { OnOk result (readings.new ≡ map.insert readings.old name (object_reading sealed.now)) }
 {
     let Ok(reading) = Reading::of(alloc, sealed) else {
         return Err(OpenError::Memory);

@@ -1,4 +1,4 @@
-ghost use Rattle.fork_host.specs.Restored.{IsFault};
+ghost use Rattle.fork_host.specs.Restored.{IsStoreOrMemory};
 
 use crate::open_error::OpenError;
 use fork_request::TenantName;
@@ -24,7 +24,7 @@ pub enum RestoreError {
 
 // A host that is not opened over the store is not restored.
 impl From<OpenError> for RestoreError {
-    ghost from_gives = { λ _ error. IsFault error };
+    ghost from_gives = { λ _ error. IsStoreOrMemory error };
 
     fn from(error: OpenError) -> RestoreError {
         match error {

@@ -5,11 +5,11 @@ ghost use Rattle.fork_ledger.specs.Private.{nothing};
 ghost use Rattle.fork_ledger.specs.Store.{IsOver, LeavesStore};
 ghost use Rattle.fork_ledger.specs.Tenants.{private_of};
 ghost use Rattle.fork_model.specs.declared.limits.TheConstants.{MAX_TENANTS};
-ghost use Rattle.fork_host.specs.Own.{Changes, Settles};
+ghost use Rattle.fork_host.specs.Own.{Changes, SeesOnly};
 ghost use Rattle.fork_host.specs.Read.{AreRead};
 ghost use Rattle.fork_host.specs.Adding.{new_view, refusal_to_add};
 ghost use Rattle.fork_host.specs.Refilled.{IsBehind, IsJudged, IsRefilled, IsWhy, StandsAgainst};
-ghost use Rattle.fork_host.specs.Restored.{IsRefused, IsShownAgain, TellsBad};
+ghost use Rattle.fork_host.specs.Restored.{AreRefused, IsShownAgain, TellsBad};
 ghost use Rattle.fork_host.specs.Shown.{Trusted, world_of};
 ghost use Rattle.state_text.specs.Adding.{AreBefore};
 ghost use Rattle.state_text.specs.States.{Ascend};
@@ -39,7 +39,7 @@ impl<S: LooseFiles + Drop> Host<S> {
     pub fn restore(alloc: Global, files: S, states: States) -> Result<Host<S>, RestoreError>
         ensures trusted { IfOk result (λ host. IsTrue (S.honest files) → Trusted host) }
         ensures shown { IfOk result (λ host. IsTrue (S.honest files) → IsShownAgain (S.contents files) states (world_of host)) }
-        ensures refused { IfErr result (λ error. IsTrue (S.honest files) → IsRefused (S.contents files) states error) }
+        ensures refused { IfErr result (λ error. IsTrue (S.honest files) → AreRefused (S.contents files) states error) }
         ensures store { IfOk result (λ host. IsOver (S.contents files) (S.honest files) (S.failures files) host.vault) }
     {
         let Ok(mut survey) = Survey::new(alloc, files) else {
@@ -163,7 +163,7 @@ pub(crate) fn see_in<S: LooseFiles>(
     requires ascend { Ascend seen.now }
     requires read { AreRead vault.old.honest vault.old.files seen.now readings.now }
     ensures ok { OnOk result (IsRefilled name.now seen.now repositories.now limit vault.old vault.new) }
-    ensures err { OnErr result (Changes (Settles name.now map.empty) vault.old vault.new) }
+    ensures err { OnErr result (Changes (SeesOnly name.now map.empty) vault.old vault.new) }
     ensures against { IsTrue vault.old.honest → IfErr result (StandsAgainst vault.old.files seen.now repositories.now limit) }
     ensures files { vault.new.files ≡ vault.old.files }
     ensures honest { vault.new.honest ≡ vault.old.honest }

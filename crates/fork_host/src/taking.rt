@@ -11,9 +11,9 @@ ghost use Rattle.fork_request.specs.Told.{is_done};
 ghost use Rattle.fork_ledger.specs.Store.{LeavesStore};
 ghost use Rattle.fork_ledger.specs.Tenants.{shape_of};
 ghost use Rattle.fork_push.specs.Push.{judged};
-ghost use Rattle.fork_push.specs.Verdict.{IfAccepted, IsOrderly, TellsJudged, fault_of_verdict};
-ghost use Rattle.fork_model.specs.Answer.{Held, pushed};
-ghost use Rattle.fork_host.specs.Bounds.{IsBounded, IsRead};
+ghost use Rattle.fork_push.specs.Verdict.{IfAccepted, IsAcceptable, TellsJudged, fault_of_verdict};
+ghost use Rattle.fork_model.specs.Answer.{Finished, pushed};
+ghost use Rattle.fork_host.specs.Bounds.{IsBounded, ReadsStore};
 ghost use Rattle.fork_host.specs.Handle.{IsSame, Ready, Uses, both_by, staged_by, visible_by};
 ghost use Rattle.fork_host.specs.Own.{IsOwn, KeepsStaged, visible_in};
 ghost use Rattle.fork_host.specs.Rows.{Yields};
@@ -46,7 +46,7 @@ pub(crate) fn take_body<S: LooseFiles>(
     requires ready { Ready own.old limit }
     requires quiet { staged_by own.old ≡ map.empty }
     requires there { map.contains_key repositories.old name ≡ true }
-    ensures row { (upload : Option UploadValue) (held : Held) (was : Repository) → TellsHeld held finished → map.get repositories.old name ≡ Some was → IsTrue own.old.vault.now.honest
+    ensures row { (upload : Option UploadValue) (held : Finished) (was : Repository) → TellsHeld held finished → map.get repositories.old name ≡ Some was → IsTrue own.old.vault.now.honest
         → Yields (pushed (view_of repositories.old (visible_by own.old) upload limit) name was held)
         (view_of repositories.old (visible_by own.old) upload limit) result (view_of repositories.new (visible_in own.new.vault.now own.old.tenant.now) upload limit) }
     // Over any store.
@@ -207,9 +207,9 @@ fn verdict<S: LooseFiles>(
     ensures kept { IsTrue own.old.vault.now.honest → own.new.vault.now.tenants ≡ own.old.vault.now.tenants }
 
     // Over any store.
-    ensures accepted { (was : Repository) → map.get repositories.now name.now ≡ Some was → IfAccepted result (IsOrderly (both_by own.old) was.references limit) }
+    ensures accepted { (was : Repository) → map.get repositories.now name.now ≡ Some was → IfAccepted result (IsAcceptable (both_by own.old) was.references limit) }
     ensures shape { shape_of own.new.vault.now.tenants ≡ shape_of own.old.vault.now.tenants }
-    ensures read { IsRead own.old.vault.now own.new.vault.now (fault_of_verdict result) }
+    ensures read { ReadsStore own.old.vault.now own.new.vault.now (fault_of_verdict result) }
     ensures same { IsSame own.old own.new }
 {
     let Some(repository) = repositories.get(name) else {

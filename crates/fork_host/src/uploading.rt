@@ -1,7 +1,7 @@
 // A piece more of an upload, whose objects are staged as they come.
 ghost use Rattle.std.specs.Prelude.{◌≡◌, ◌≤◌, ◌+◌, ◌<◌, ◌++◌, ℕ, [], List, length, true};
 ghost use Rattle.std.specs.FinMap as map;
-ghost use Rattle.looks.specs.Growth.{GrowsBy};
+ghost use Rattle.looks.specs.Growth.{GrowsAmong};
 ghost use Rattle.push_stream.specs.Reading.{gained};
 ghost use Rattle.push_stream.specs.Stream.{sent_in, stream_of};
 ghost use Rattle.fork_host.specs.Bounds.{IsBounded};
@@ -30,7 +30,7 @@ pub(crate) fn feed<S: LooseFiles>(
     requires there { map.contains_key own.old.vault.now.tenants own.old.tenant.now ≡ true }
     ensures fed { IsFed own.old.tenant.now upload.old.brief piece.now own.old.vault.now result upload.new.brief own.new.vault.now }
     ensures bounds { (bytes : List ℕ) → Came own.old.vault.now.honest bytes upload.old.brief (staged_by own.old) → IsBounded (sent_in (stream_of (bytes ++ piece.now))) own.old.vault.now own.new.vault.now result }
-    ensures grows { GrowsBy (sent_names (gained upload.old.brief.flow piece.now)) own.old.vault.now.places own.new.vault.now.places }
+    ensures grows { GrowsAmong (sent_names (gained upload.old.brief.flow piece.now)) own.old.vault.now.places own.new.vault.now.places }
     ensures seen { KeepsSeen own.old.tenant.now own.old.vault.now own.new.vault.now }
     ensures own { IsOwn own.old.tenant.now own.old.vault.now own.new.vault.now }
     ensures same { IsSame own.old own.new }

@@ -12,7 +12,7 @@ use Rattle.git_name.specs.declared.kind.Kind.TheVariants.{Blob, Tree, Commit, Ta
 use Rattle.git_name.specs.Name.{name_cmp}
 use Rattle.git_name.specs.Object.{Object, object_name, typed_bytes}
 use Rattle.git_name.proofs.Names.{name_total, name_exact}
-use Rattle.looks.specs.Places.{is_listed, same_name}
+use Rattle.git_name.specs.Same.{is_listed, same_name}
 use Rattle.catalogue.proofs.PlaceLemmas.{one_name}
 use Rattle.fork_request.specs.declared.harm.Harm.{Harm}
 use Rattle.fork_request.specs.declared.harm.Harm.TheVariants.{Lost, Damaged}

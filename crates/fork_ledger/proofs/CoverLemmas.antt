@@ -7,8 +7,9 @@ use Rattle.std.specs.Ordering.{eq_by_cmp}
 use Rattle.std.proofs.lemmas.Cmp.{nat_list_eq_equiv}
 use Rattle.git_name.specs.Name.{name_cmp}
 use Rattle.git_name.proofs.Names.{name_total}
-use Rattle.looks.specs.Places.{Places, is_listed, same_name}
-use Rattle.catalogue.specs.Counted.{IsNext}
+use Rattle.git_name.specs.Same.{is_listed, same_name}
+use Rattle.looks.specs.Places.{Places}
+use Rattle.catalogue.specs.Counted.{LooksNextAt}
 use Rattle.catalogue.proofs.PlaceLemmas.{one_name, own_name}
 use Rattle.ledgers.proofs.HolderLemmas.{same_tests}
 use Rattle.loose_store.specs.Files.{Files, SameBut}
@@ -46,7 +47,7 @@ next_any (x ∷ front) back name = ap (λ b. same_name name x || b) (next_any fr
     or_true false = refl
 
 -- a file may be gone, and its name stays
-pub covers_failed : (files after : Files) (places : Places) (name : List ℕ) → Covers files places → IsNext places name → SameBut name files after → Covers after places
+pub covers_failed : (files after : Files) (places : Places) (name : List ℕ) → Covers files places → LooksNextAt places name → SameBut name files after → Covers after places
 covers_failed files after places name cover next but q there = by_name _ name q
     (λ here. ap (is_listed places.names) (sym here) ∙ ap (λ xs. is_listed xs name) next.whole ∙ next_any next.front next.back name)
     (λ apart differs. cover q (ap is_some (sym (but q apart)) ∙ there))

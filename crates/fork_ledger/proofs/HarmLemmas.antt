@@ -24,7 +24,7 @@ use Rattle.loose_store.specs.Stored.{Whole}
 use Rattle.fork_ledger.specs.Checked.{HasChecked, StandsAs}
 use Rattle.fork_ledger.specs.Harms.{AreFound, AreHarms, HarmMap, IsHarmed}
 use Rattle.fork_ledger.specs.Shown.{tenants_of}
-use Rattle.fork_ledger.specs.Store.{IsStored, IsTaken}
+use Rattle.fork_ledger.specs.Store.{IsStored, IsHeldBySome}
 use Rattle.fork_ledger.specs.Taken.{is_taken}
 use Rattle.fork_ledger.specs.Tenants.{Tenants, VaultState}
 use Rattle.fork_ledger.proofs.TakenLemmas.{taken_shown}
@@ -122,7 +122,7 @@ found_harms vault files ledgers m shown has = record {
 }
 
 -- and over an honest store there are none
-pub sound_harms : (vault : VaultState) (harms : Harmed) → IsTrue vault.honest → IsStored vault.tenants vault.files → ((q : List ℕ) → is_taken vault.tenants q ≡ true → IsTaken vault.tenants q) → AreFound harms vault → harms ≡ []
+pub sound_harms : (vault : VaultState) (harms : Harmed) → IsTrue vault.honest → IsStored vault.tenants vault.files → ((q : List ℕ) → is_taken vault.tenants q ≡ true → IsHeldBySome vault.tenants q) → AreFound harms vault → harms ≡ []
 sound_harms vault harms h stored takers found =
     none_harmed harms found.files (is_taken vault.tenants) found.are (λ q is.
     let taker = takers q is in

@@ -7,30 +7,30 @@ use Rattle.looks.specs.Places.{Places, looked_at}
 use Rattle.looks.specs.Looks.{Look, Looks, Walks}
 use Rattle.looks.specs.Looks.Look.{Stays, Leaves}
 use Rattle.looks.specs.Slices.{Sweeps}
-use Rattle.catalogue.specs.Counted.{IsNext}
+use Rattle.catalogue.specs.Counted.{LooksNextAt}
 use Rattle.ledgers.specs.Holders.{is_held_in}
 use Rattle.ledgers.specs.Ledgers.{AllWords}
 
 -- what the names behind it become as a name leaves
-abbrev pub Left : (old new : Places) (name : List ℕ) → IsNext old name → Type 0
+abbrev pub Left : (old new : Places) (name : List ℕ) → LooksNextAt old name → Type 0
 Left old new name next = (left : List (List ℕ)) × (new.names ≡ next.front ++ left) × IsPermutation next.back left
 
-pub look_leaves : (held : List ℕ → Bool) (old new : Places) (name : List ℕ) (next : IsNext old name) → held name ≡ false → Left old new name next → new.place ≡ looked_at old → Look held old new
+pub look_leaves : (held : List ℕ → Bool) (old new : Places) (name : List ℕ) (next : LooksNextAt old name) → held name ≡ false → Left old new name next → new.place ≡ looked_at old → Look held old new
 look_leaves held old new name next free left place = Leaves next.front next.back left.0 name next.whole next.at free left.1 left.2 place
 
-pub fewer_names : (old new : Places) (name : List ℕ) (next : IsNext old name) → Left old new name next → length new.names + 1 ≡ length old.names
+pub fewer_names : (old new : Places) (name : List ℕ) (next : LooksNextAt old name) → Left old new name next → length new.names + 1 ≡ length old.names
 fewer_names old new name next left =
     omega (arith, ap length next.whole, ap length left.1, length-append next.front left.0, length-append next.front (name ∷ next.back), length_permutation next.back left.0 left.2)
 
-pub look_stays : (held : List ℕ → Bool) (old new : Places) → 0 < length old.names → (old.names ≡ []) ⊎ ((name : List ℕ) × IsNext old name × (held name ≡ true)) → new.names ≡ old.names → new.place ≡ looked_at old + 1 → Look held old new
+pub look_stays : (held : List ℕ → Bool) (old new : Places) → 0 < length old.names → (old.names ≡ []) ⊎ ((name : List ℕ) × LooksNextAt old name × (held name ≡ true)) → new.names ≡ old.names → new.place ≡ looked_at old + 1 → Look held old new
 look_stays held old new some (inl none) names place = (let empty = ap length none in absurd (omega (arith, some, empty)))
 look_stays held old new some (inr next) names place = Stays next.1.front next.1.back next.0 next.1.whole next.1.at next.2 names place
 
 pub not_held : (n : ℕ) → n ≡ 0 → nat_lt 0 n ≡ false
 not_held n is = ap (nat_lt 0) is
 
-pub next_held : (places : Places) (count : List ℕ → ℕ) → (places.names ≡ []) ⊎ ((name : List ℕ) × IsNext places name × (0 < count name))
-    → (places.names ≡ []) ⊎ ((name : List ℕ) × IsNext places name × (nat_lt 0 (count name) ≡ true))
+pub next_held : (places : Places) (count : List ℕ → ℕ) → (places.names ≡ []) ⊎ ((name : List ℕ) × LooksNextAt places name × (0 < count name))
+    → (places.names ≡ []) ⊎ ((name : List ℕ) × LooksNextAt places name × (nat_lt 0 (count name) ≡ true))
 next_held places count (inl none) = inl none
 next_held places count (inr next) = inr (next.0, next.1, lt-ltb 0 (count next.0) next.2)
 

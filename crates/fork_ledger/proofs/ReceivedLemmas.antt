@@ -5,8 +5,9 @@ use Rattle.std.proofs.lemmas.List.{map-append}
 use Rattle.std.proofs.lemmas.List.Elements.{All-nil, All-push, Contains-append_left, Contains-append_right}
 use Rattle.std.specs.FinMap.{get}
 use Rattle.git_name.specs.Object.{Object, object_name}
-use Rattle.looks.specs.Growth.{GrowsBy}
-use Rattle.looks.specs.Places.{Places, is_listed, same_name}
+use Rattle.git_name.specs.Same.{is_listed, same_name}
+use Rattle.looks.specs.Growth.{GrowsAmong}
+use Rattle.looks.specs.Places.{Places}
 use Rattle.looks.proofs.GrowthLemmas.{grows_more, grows_then}
 use Rattle.ledgers.specs.AllStaged.{AreListed}
 use Rattle.ledgers.specs.Told.{entry_of}
@@ -78,8 +79,8 @@ listed_more entries entry old new listed before = All-push (λ x. is_listed new.
     (listed entry.name ∙ ap (λ b. b || is_listed old.names entry.name) (own_name entry.name))
 
 -- one more of these objects, whose name comes to the catalogue
-pub grows_on : (objects front : List Object) (object : Object) (back : List Object) (first old new : Places) → objects ≡ front ++ object ∷ back → GrowsBy (map object_name objects) first old → GrowsBy (object_name object ∷ []) old new
-    → GrowsBy (map object_name objects) first new
+pub grows_on : (objects front : List Object) (object : Object) (back : List Object) (first old new : Places) → objects ≡ front ++ object ∷ back → GrowsAmong (map object_name objects) first old → GrowsAmong (object_name object ∷ []) old new
+    → GrowsAmong (map object_name objects) first new
 grows_on objects front object back first old new order before one = grows_then (map object_name objects) first old new before (grows_more (object_name object ∷ []) (map object_name objects) old new there one)
   where
     parts : map object_name objects ≡ map object_name front ++ object_name object ∷ map object_name back

@@ -2,7 +2,8 @@
 use Rattle.std.proofs.Common.{◌≡◌, ℕ, List, [], ◌∷◌, Bool, true, false, ◌||◌, Option, Some, None, is_some, refl, sym, ap, subst, ◌∙◌}
 use Rattle.std.specs.FinMap.{contains_key, get}
 use Rattle.git_name.specs.Object.{Object}
-use Rattle.looks.specs.Places.{Places, is_listed}
+use Rattle.git_name.specs.Same.{is_listed}
+use Rattle.looks.specs.Places.{Places}
 use Rattle.looks.specs.Slices.{SweepsAll}
 use Rattle.ledgers.specs.Holders.{is_held_in}
 use Rattle.ledgers.specs.Ledgers.{AllWords}
@@ -11,7 +12,7 @@ use Rattle.commit_graph.specs.Graph.{Commits}
 use Rattle.fork_ledger.specs.Kept.{IsKept}
 use Rattle.fork_ledger.specs.Private.{Awaits, Private, Sees}
 use Rattle.fork_ledger.specs.Shown.{tenants_of}
-use Rattle.fork_ledger.specs.Store.{IsStored, IsTaken}
+use Rattle.fork_ledger.specs.Store.{IsStored, IsHeldBySome}
 use Rattle.fork_ledger.specs.Swept.{AreSwept, IsAccounted}
 use Rattle.fork_ledger.specs.Taken.{is_taken}
 use Rattle.fork_ledger.specs.Tenants.{Tenants, VaultState, private_of}
@@ -23,7 +24,7 @@ same_bool false true f g = g refl
 same_bool false false f g = refl
 
 -- a name that is held has a file
-stored_there : (tenants : Tenants) (files : Files) (name : List ℕ) → IsStored tenants files → IsTaken tenants name → contains_key files name ≡ true
+stored_there : (tenants : Tenants) (files : Files) (name : List ℕ) → IsStored tenants files → IsHeldBySome tenants name → contains_key files name ≡ true
 stored_there tenants files name stored taken = by (get own.visible name) (get own.staged name) refl refl taken.1
   where
     own : Private

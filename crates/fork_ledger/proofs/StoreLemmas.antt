@@ -3,12 +3,12 @@ use Rattle.std.proofs.Common.{◌≡◌, ◌≢◌, ℕ, List, Some, Result, Ok,
 use Rattle.std.specs.Prelude.{IfErr}
 use Rattle.std.specs.Option.{unwrap_or}
 use Rattle.git_name.specs.Object.{Object}
+use Rattle.git_name.specs.Count.{fault_in}
 use Rattle.loose_store.specs.Files.{Files}
 use Rattle.loose_store.specs.Stored.{Whole}
 use Rattle.loose_store.proofs.TypedLemmas.{one_object}
 use Rattle.fork_ledger.specs.declared.fault.VaultFault.{VaultFault}
 use Rattle.fork_ledger.specs.declared.fault.VaultFault.TheVariants.{Damaged}
-use Rattle.fork_ledger.specs.Store.{fault_in}
 
 -- a fault that is no damage
 pub undamaged_in : {A : Type 0} (r : Result A VaultFault) → IfErr r (λ fault. fault ≢ Damaged) → fault_in r ≢ Some Damaged

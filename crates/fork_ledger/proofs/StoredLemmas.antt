@@ -14,7 +14,7 @@ use Rattle.loose_store.specs.Files.{Files, SameBut}
 use Rattle.loose_store.specs.Stored.{Whole}
 use Rattle.loose_store.proofs.TypedLemmas.{one_object}
 use Rattle.fork_ledger.specs.Private.{Holds, Sees, Awaits, Private, is_held_by, nothing, standing, with_discarded, with_kept, with_published, with_staged}
-use Rattle.fork_ledger.specs.Store.{IsStored, IsTaken, StoresAlone}
+use Rattle.fork_ledger.specs.Store.{IsStored, IsHeldBySome, StoresAlone}
 use Rattle.fork_ledger.specs.Tenants.{Tenants, at_tenant, private_of, with_tenant}
 use Rattle.fork_ledger.proofs.SeenLemmas.{get_kept}
 use Rattle.fork_ledger.proofs.TenantLemmas.{absent_still, by_test, private_at, private_new, private_none, private_others, self_apart}
@@ -108,7 +108,7 @@ brings_staged own object name other (Awaits is) = by_test (contains_key own.stag
         (λ apart. inl (Awaits (sym (ap (λ b. cond b (Some (standing own object)) (get own.staged name)) apart) ∙ found)))
 
 -- one name's file is written where nobody holds the name
-pub stored_still : (tenants : Tenants) (old new : Files) (name : List ℕ) → SameBut name old new → (IsTaken tenants name → new ≡ old) → IsStored tenants old → IsStored tenants new
+pub stored_still : (tenants : Tenants) (old new : Files) (name : List ℕ) → SameBut name old new → (IsHeldBySome tenants name → new ≡ old) → IsStored tenants old → IsStored tenants new
 stored_still tenants old new name others held stored tenant q object holds = by_test (eq_by_cmp name_cmp q name) _
     (λ tied. subst (λ files. Whole files q object) (sym (held (tenant, taken (tied_names q name tied)))) before)
     (λ apart. record { file = others q (self_apart q name apart) ∙ before.file; named = before.named })
@@ -138,7 +138,7 @@ stored_staged tenants t files object whole stored = λ tenant name other holds. 
     at name other (inr new) = subst (λ n. Whole files n other) (sym new.0) (subst (λ o. Whole files (object_name object) o) (sym new.1) whole)
 
 -- a name that is held has an object on an honest store
-pub never_damaged : (tenants : Tenants) (files : Files) (name : List ℕ) → IsStored tenants files → IsTaken tenants name → ((object : Object) → Whole files name object → ⊥) → ⊥
+pub never_damaged : (tenants : Tenants) (files : Files) (name : List ℕ) → IsStored tenants files → IsHeldBySome tenants name → ((object : Object) → Whole files name object → ⊥) → ⊥
 never_damaged tenants files name stored taken none = by (get own.visible name) (get own.staged name) refl refl taken.1
   where
     own : Private

@@ -16,7 +16,7 @@ use Rattle.ledgers.proofs.SumLemmas.{same_sums, worth}
 use Rattle.loose_store.specs.Files.{Files}
 use Rattle.fork_ledger.specs.Private.{is_held_by}
 use Rattle.fork_ledger.specs.Shown.{object_at, own_of, part, tenants_of}
-use Rattle.fork_ledger.specs.Store.{IsTaken}
+use Rattle.fork_ledger.specs.Store.{IsHeldBySome}
 use Rattle.fork_ledger.specs.Taken.{holders, is_taken}
 use Rattle.fork_ledger.proofs.ShownLemmas.{get_part, get_tenant, private_shown, shown_at}
 
@@ -56,14 +56,14 @@ no_word : (q : List ℕ) → contains_key (empty {X = Word} {R = name_cmp}) q �
 no_word q is = (let differs : false ≡ true = sym (ap is_some (get-empty {X = Word} name_cmp q)) ∙ is in let bad : ⊥ = cc in bad)
 
 -- a tenant that has an object of the name
-pub taken_held : (files : Files) (m : AllWords) (name : List ℕ) → IsTaken (tenants_of files m) name → is_held_in m name ≡ true
+pub taken_held : (files : Files) (m : AllWords) (name : List ℕ) → IsHeldBySome (tenants_of files m) name → is_held_in m name ≡ true
 taken_held files m name taken = by (get m taken.0) refl (sym (held_shown files (ledger_at m taken.0) name) ∙ ap (λ own. is_held_by own name) (sym (private_shown files m taken.0)) ∙ taken.1)
   where
     by : (o : Option Words) → get m taken.0 ≡ o → contains_key (ledger_at m taken.0) name ≡ true → is_held_in m name ≡ true
     by None here has = absurd (no_word name (sym (ap (λ o. contains_key (unwrap_or o empty) name) here) ∙ has))
     by (Some words) here has = held_by m taken.0 words name here (sym (ap (λ o. contains_key (unwrap_or o empty) name) here) ∙ has)
 
-pub held_taken : (files : Files) (m : AllWords) (name : List ℕ) → is_held_in m name ≡ true → IsTaken (tenants_of files m) name
+pub held_taken : (files : Files) (m : AllWords) (name : List ℕ) → is_held_in m name ≡ true → IsHeldBySome (tenants_of files m) name
 held_taken files m name held =
     let some = someone_has m name held in
     (some.0, ap (λ own. is_held_by own name) (private_shown files m some.0) ∙ held_shown files (ledger_at m some.0) name ∙ ap (λ o. contains_key (unwrap_or o empty) name) some.2 ∙ some.3)

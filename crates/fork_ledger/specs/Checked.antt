@@ -2,7 +2,8 @@
 use Rattle.std.specs.Prelude.{◌≡◌, ◌<◌, ◌&&◌, Bool, true, false, IsTrue, ℕ, List, Option, None, Some, take}
 use Rattle.std.specs.FinMap.{get, insert}
 use Rattle.git_name.specs.Object.{Object}
-use Rattle.looks.specs.Places.{is_listed}
+use Rattle.git_name.specs.Same.{is_listed}
+use Rattle.git_name.specs.Count.{greatest_count}
 use Rattle.fork_request.specs.declared.harm.Harm.{Harm}
 use Rattle.loose_store.specs.Files.{Files}
 use Rattle.loose_store.specs.Stored.{Whole}
@@ -30,7 +31,7 @@ with_harm harms name (Some harm) = insert harms name harm
 
 -- each name that was checked was asked of the store itself, which answers nothing once it has failed 2^64 - 1 times
 abbrev pub WasAsked : ℕ → (List ℕ → Bool) → Type 0
-WasAsked failures checked = (name : List ℕ) → checked name ≡ true → failures < 18446744073709551615
+WasAsked failures checked = (name : List ℕ) → checked name ≡ true → failures < greatest_count
 
 -- of the names that were checked, and of no other, these are the harms
 pub record HasChecked (honest : Bool) (contents : Files) (checked : List ℕ → Bool) (harms : HarmMap) : Type 0 where

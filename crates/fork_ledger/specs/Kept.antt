@@ -1,7 +1,8 @@
 -- What a vault keeps of its store, its catalogue and its ledgers (own).
 use Rattle.std.specs.Prelude.{◌≡◌, Some, true, List, ℕ}
 use Rattle.std.specs.FinMap.{contains_key, get}
-use Rattle.looks.specs.Places.{Places, is_listed}
+use Rattle.git_name.specs.Same.{is_listed}
+use Rattle.looks.specs.Places.{Places}
 use Rattle.ledgers.specs.Holders.{is_held_in}
 use Rattle.ledgers.specs.Ledgers.{AllWords}
 use Rattle.loose_store.specs.Files.{Files}

@@ -1,7 +1,7 @@
 -- The store under a vault (own): what stands on it of what tenants hold, what a call leaves of it, and which faults may come.
-use Rattle.std.specs.Prelude.{◌≡◌, ◌≢◌, ◌⊎◌, ℕ, Bool, true, List, IsTrue, Option, None, Some, Result, Ok, Err}
+use Rattle.std.specs.Prelude.{◌≡◌, ◌≢◌, ◌⊎◌, ℕ, Bool, true, List, IsTrue, Option, None, Some}
 use Rattle.git_name.specs.Object.{Object, object_name}
-use Rattle.fork_reach.specs.Faults.{Rises}
+use Rattle.git_name.specs.Count.{Rises}
 use Rattle.loose_store.specs.Files.{Files}
 use Rattle.loose_store.specs.Stored.{Whole}
 use Rattle.fork_ledger.specs.declared.fault.VaultFault.{VaultFault}
@@ -15,8 +15,8 @@ abbrev pub IsStored : Tenants → Files → Type 0
 IsStored tenants files = (tenant name : List ℕ) (object : Object) → Holds (private_of tenants tenant) name object → Whole files name object
 
 -- some tenant has an object of this name
-abbrev pub IsTaken : Tenants → List ℕ → Type 0
-IsTaken tenants name = (tenant : List ℕ) × (is_held_by (private_of tenants tenant) name ≡ true)
+abbrev pub IsHeldBySome : Tenants → List ℕ → Type 0
+IsHeldBySome tenants name = (tenant : List ℕ) × (is_held_by (private_of tenants tenant) name ≡ true)
 
 -- the vault is over a store of these contents, of this honesty and so many failures
 pub record IsOver (contents : Files) (trusted : Bool) (count : ℕ) (vault : VaultState) : Type 0 where
@@ -55,11 +55,6 @@ pub record Recalls (honest : Bool) (tenant name : List ℕ) (files : Files) (old
   pub named : object_name object ≡ name
   pub whole : IsTrue honest → Whole files name object
   pub becomes : Becomes shape_of honest (at_tenant old tenant (with_staged object)) new
-
--- the fault of a result
-abbrev pub fault_in : {A : Type 0} → Result A VaultFault → Option VaultFault
-fault_in (Ok a) = None
-fault_in (Err fault) = Some fault
 
 -- a failure of the store is counted, and nothing else is
 abbrev pub CountsFault : ℕ → ℕ → Option VaultFault → Type 0

@@ -1,7 +1,7 @@
 -- What slices leave, one after another, with no other call between (own).
 use Rattle.std.specs.Prelude.{◌≡◌, ℕ, List, [], ◌∷◌, true}
 use Rattle.std.specs.FinMap.{contains_key}
-use Rattle.looks.specs.Places.{is_listed}
+use Rattle.git_name.specs.Same.{is_listed}
 use Rattle.looks.specs.Slices.{Sweeps}
 use Rattle.fork_ledger.specs.Taken.{is_taken}
 use Rattle.fork_ledger.specs.Tenants.{VaultState}

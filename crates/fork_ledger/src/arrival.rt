@@ -2,10 +2,11 @@
 ghost use Rattle.std.specs.Prelude.{◌≡◌, ◌≢◌, true, false, IsTrue, IfErr, OnOk};
 ghost use Rattle.std.specs.FinMap.{contains_key};
 ghost use Rattle.git_name.specs.Object.{Object, object_name};
+ghost use Rattle.git_name.specs.Count.{fault_in};
 ghost use Rattle.loose_store.specs.Files.{SameBut};
 ghost use Rattle.loose_store.specs.Stored.{Whole};
 ghost use Rattle.fork_ledger.specs.AllStaged.{StaysWhole};
-ghost use Rattle.fork_ledger.specs.Store.{CountsFault, Meets, fault_in};
+ghost use Rattle.fork_ledger.specs.Store.{CountsFault, Meets};
 
 use crate::fault::VaultFault;
 use git_name::Sealed;

@@ -1,9 +1,10 @@
 // The files of held names are read, each once, and what is wrong with them is noted.
 ghost use Rattle.std.specs.Prelude.{◌≡◌, ◌≢◌, ◌<◌, ◌+◌, ℕ, List, IsTrue, IfErr, IfOk, OnOk, true};
+ghost use Rattle.git_name.specs.Count.{fault_in, greatest_count};
 ghost use Rattle.catalogue.specs.Counted.{places_of};
 ghost use Rattle.ledgers.specs.Holders.{is_held_in};
 ghost use Rattle.fork_ledger.specs.Checked.{HasChecked, Shows, WasAsked, checked_until};
-ghost use Rattle.fork_ledger.specs.Store.{CountsFault, fault_in};
+ghost use Rattle.fork_ledger.specs.Store.{CountsFault};
 
 use crate::fault::VaultFault;
 use crate::harms::Harms;
@@ -21,7 +22,7 @@ fn harm_of<S: LooseFiles>(
     name: Name,
 ) -> Result<Option<Harm>, VaultFault>
     ensures shows { IfOk result (λ harm. Shows files.old.honest files.old.contents name harm) }
-    ensures asked { IfOk result (λ harm. files.old.failures < 18446744073709551615) }
+    ensures asked { IfOk result (λ harm. files.old.failures < greatest_count) }
     ensures kept { IsTrue files.old.honest → files.new.contents ≡ files.old.contents }
     ensures honest { files.new.honest ≡ files.old.honest }
     ensures cause { CountsFault files.old.failures files.new.failures (fault_in result) }

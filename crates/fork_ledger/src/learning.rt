@@ -2,12 +2,13 @@
 ghost use Rattle.std.specs.Prelude.{◌≡◌, ◌≢◌, ◌+◌, ◌≤◌, ◌<◌, length, IsTrue, IfErr, IfOk, IfSome};
 ghost use Rattle.std.specs.Bool.{OnTrue};
 ghost use Rattle.std.specs.List.{AllByRecursion};
+ghost use Rattle.git_name.specs.Count.{fault_in};
 ghost use Rattle.commit_graph.specs.Parents.{parents_in};
 ghost use Rattle.fork_ledger.specs.Learning.{HasItsParents, left_to_do};
 ghost use Rattle.fork_ledger.specs.Linked.{AreLinked, IsLinked};
 ghost use Rattle.fork_ledger.specs.declared.learning.TheConstants.{MOST};
-ghost use Rattle.fork_ledger.specs.Store.{CountsFault, fault_in};
-ghost use Rattle.read_cache.specs.Stores.{CountsRead};
+ghost use Rattle.fork_ledger.specs.Store.{CountsFault};
+ghost use Rattle.read_cache.specs.Stores.{CountsCachedRead};
 
 use crate::fault::VaultFault;
 use commit_graph::{Graph, parent_names};
@@ -55,7 +56,7 @@ fn read_parents<S: LooseFiles>(
     ensures linked { IsTrue files.old.honest → IfOk result (λ found. IfSome found (λ parents. IsLinked files.old.contents name parents.items)) }
     ensures kept { IsTrue files.old.honest → files.new.contents ≡ files.old.contents }
     ensures honest { files.new.honest ≡ files.old.honest }
-    ensures cause { CountsRead files.old.failures files.new.failures result }
+    ensures cause { CountsCachedRead files.old.failures files.new.failures result }
     ensures undamaged { IfErr result (λ fault. fault ≢ StoreFault.Damaged) }
 {
     if let Some((kind, bytes)) = files.lend(name) {
@@ -83,7 +84,7 @@ fn begin<S: LooseFiles>(
     ensures waiting { IfOk result (λ is_begun. OnTrue is_begun (length waiting.new.items ≡ length waiting.old.items + 1)) }
     ensures kept { IsTrue files.old.honest → files.new.contents ≡ files.old.contents }
     ensures honest { files.new.honest ≡ files.old.honest }
-    ensures cause { CountsRead files.old.failures files.new.failures result }
+    ensures cause { CountsCachedRead files.old.failures files.new.failures result }
     ensures undamaged { IfErr result (λ fault. fault ≢ StoreFault.Damaged) }
 {
     if begun.len() >= MOST {
@@ -136,7 +137,7 @@ fn go_on<S: LooseFiles>(
     ensures less { length begun.old.keys ≤ MOST → IfOk result (λ went_on. OnTrue went_on (left_to_do (length begun.new.keys) (length waiting.new.items) ≤ left_to_do (length begun.old.keys) (length waiting.old.items))) }
     ensures kept { IsTrue files.old.honest → files.new.contents ≡ files.old.contents }
     ensures honest { files.new.honest ≡ files.old.honest }
-    ensures cause { CountsRead files.old.failures files.new.failures result }
+    ensures cause { CountsCachedRead files.old.failures files.new.failures result }
     ensures undamaged { IfErr result (λ fault. fault ≢ StoreFault.Damaged) }
 {
     let met = first_unknown(graph, last.parents.as_slice(), last.met);
@@ -166,7 +167,7 @@ fn learn_all<S: LooseFiles>(
     ensures linked { IsTrue files.old.honest → AreLinked graph.old files.old.contents → AreLinked graph.new files.old.contents }
     ensures kept { IsTrue files.old.honest → files.new.contents ≡ files.old.contents }
     ensures honest { files.new.honest ≡ files.old.honest }
-    ensures cause { CountsRead files.old.failures files.new.failures result }
+    ensures cause { CountsCachedRead files.old.failures files.new.failures result }
     ensures undamaged { IfErr result (λ fault. fault ≢ StoreFault.Damaged) }
 {
     if graph.place(commit).is_some() {

@@ -1,11 +1,12 @@
 // Looks at the catalogue, one place after another.
 ghost use Rattle.std.specs.Prelude.{◌≡◌, ◌≢◌, ◌<◌, ◌+◌, IsTrue, IfErr, IfOk, OnOk, OnErr, length, if◌then◌else◌};
+ghost use Rattle.git_name.specs.Count.{fault_in};
 ghost use Rattle.looks.specs.Looks.{Look};
-ghost use Rattle.catalogue.specs.Counted.{IsNext, places_of};
+ghost use Rattle.catalogue.specs.Counted.{LooksNextAt, places_of};
 ghost use Rattle.ledgers.specs.Holders.{holders_of, is_held_in};
 ghost use Rattle.fork_ledger.specs.Kept.{Covers, IsExact, KeepsHeld, TakesAway};
 ghost use Rattle.fork_ledger.specs.Linked.{AreLinked};
-ghost use Rattle.fork_ledger.specs.Store.{CountsFault, fault_in};
+ghost use Rattle.fork_ledger.specs.Store.{CountsFault};
 
 use crate::fault::VaultFault;
 use commit_graph::Graph;
@@ -23,7 +24,7 @@ fn take_away<S: LooseFiles>(
     graph: &mut Graph,
     name: Name,
 ) -> Result<(), VaultFault>
-    requires next { IsNext (places_of holdings.old.catalogue) name }
+    requires next { LooksNextAt (places_of holdings.old.catalogue) name }
     requires free { holders_of holdings.old.ledgers name ≡ 0 }
     ensures look { OnOk result (Look (is_held_in holdings.old.ledgers) (places_of holdings.old.catalogue) (places_of holdings.new.catalogue)) }
     ensures count { OnOk result (length (places_of holdings.new.catalogue).names + 1 ≡ length (places_of holdings.old.catalogue).names) }

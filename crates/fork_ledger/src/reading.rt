@@ -1,7 +1,8 @@
 ghost use Rattle.std.specs.Prelude.{◌≡◌, ◌≢◌, true, is_some, Some, IsTrue, IfErr, IfOk, IfSome};
 ghost use Rattle.git_name.specs.Object.{Object, object_name};
+ghost use Rattle.git_name.specs.Count.{fault_in};
 ghost use Rattle.loose_store.specs.Stored.{Whole};
-ghost use Rattle.fork_ledger.specs.Store.{CountsFault, fault_in};
+ghost use Rattle.fork_ledger.specs.Store.{CountsFault};
 
 use crate::fault::VaultFault;
 use git_name::{Name, Sealed};

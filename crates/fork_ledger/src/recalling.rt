@@ -1,7 +1,7 @@
 // Objects that a tenant saw before, of which all is known that its ledger keeps.
 ghost use Rattle.std.specs.Prelude.{◌≡◌, ◌∷◌, [], true, IsTrue, OnErr, OnOk};
 ghost use Rattle.std.specs.FinMap.{contains_key};
-ghost use Rattle.looks.specs.Growth.{GrowsBy};
+ghost use Rattle.looks.specs.Growth.{GrowsAmong};
 ghost use Rattle.catalogue.specs.Counted.{places_of};
 ghost use Rattle.ledgers.specs.Ledgers.{at_ledger};
 ghost use Rattle.ledgers.specs.Words.{staged_words};
@@ -37,7 +37,7 @@ pub(crate) fn recall_known<S: LooseFiles>(
 ) -> Result<(), RecallFault>
     ensures ok { OnOk result (IsKnown files.now.honest files.now.contents name kind length × (holdings.new.ledgers ≡ at_ledger holdings.old.ledgers tenant.now (staged_words name kind length))) }
     ensures err { OnErr result (holdings.new.ledgers ≡ holdings.old.ledgers) }
-    ensures grows { GrowsBy (name ∷ []) (places_of holdings.old.catalogue) (places_of holdings.new.catalogue) }
+    ensures grows { GrowsAmong (name ∷ []) (places_of holdings.old.catalogue) (places_of holdings.new.catalogue) }
     ensures covers { (stored : Files) → Covers stored (places_of holdings.old.catalogue) → Covers stored (places_of holdings.new.catalogue) }
     ensures exact { IsTrue files.now.honest → IsExact files.now.contents (places_of holdings.old.catalogue) → IsExact files.now.contents (places_of holdings.new.catalogue) }
 {
@@ -60,7 +60,7 @@ fn recall(
 ) -> Result<(), AllocError>
     ensures ok { OnOk result (holdings.new.ledgers ≡ at_ledger holdings.old.ledgers tenant.now (staged_words name kind length)) }
     ensures err { OnErr result (holdings.new.ledgers ≡ holdings.old.ledgers) }
-    ensures grows { GrowsBy (name ∷ []) (places_of holdings.old.catalogue) (places_of holdings.new.catalogue) }
+    ensures grows { GrowsAmong (name ∷ []) (places_of holdings.old.catalogue) (places_of holdings.new.catalogue) }
     ensures covers { (files : Files) → Covers files (places_of holdings.old.catalogue) → Covers files (places_of holdings.new.catalogue) }
     ensures exact { (files : Files) → contains_key files name ≡ true → IsExact files (places_of holdings.old.catalogue) → IsExact files (places_of holdings.new.catalogue) }
 {

@@ -1,8 +1,9 @@
 // Objects that are received: their names in the catalogue, and their files on the store.
 ghost use Rattle.std.specs.Prelude.{◌≡◌, ◌||◌, ◌∷◌, [], true, List, ℕ, IsTrue, IfErr, IfOk, OnOk, map as map_list};
 ghost use Rattle.git_name.specs.Object.{Object, object_name};
-ghost use Rattle.looks.specs.Growth.{GrowsBy};
-ghost use Rattle.looks.specs.Places.{is_listed, same_name};
+ghost use Rattle.git_name.specs.Same.{is_listed, same_name};
+ghost use Rattle.git_name.specs.Count.{fault_in};
+ghost use Rattle.looks.specs.Growth.{GrowsAmong};
 ghost use Rattle.catalogue.specs.Counted.{places_of};
 ghost use Rattle.ledgers.specs.AllStaged.{AreListed};
 ghost use Rattle.ledgers.specs.Holders.{is_held_in};
@@ -10,7 +11,7 @@ ghost use Rattle.ledgers.specs.Told.{entry_of};
 ghost use Rattle.loose_store.specs.Stored.{Whole};
 ghost use Rattle.fork_ledger.specs.AllStaged.{MeetsAmong, Receives, StaysWhole, StoresAmong};
 ghost use Rattle.fork_ledger.specs.Kept.{Covers, HasFiles, IsExact, KeepsHeld};
-ghost use Rattle.fork_ledger.specs.Store.{CountsFault, Meets, StoresAlone, fault_in};
+ghost use Rattle.fork_ledger.specs.Store.{CountsFault, Meets, StoresAlone};
 
 use crate::arrival::arrive;
 use crate::fault::VaultFault;
@@ -30,7 +31,7 @@ pub(crate) fn receive<S: LooseFiles>(
 ) -> Result<(), VaultFault>
     ensures ledgers { holdings.new.ledgers ≡ holdings.old.ledgers }
     ensures listed { OnOk result ((q : List ℕ) → is_listed (places_of holdings.new.catalogue).names q ≡ (same_name (object_name sealed) q || is_listed (places_of holdings.old.catalogue).names q)) }
-    ensures grows { GrowsBy (object_name sealed ∷ []) (places_of holdings.old.catalogue) (places_of holdings.new.catalogue) }
+    ensures grows { GrowsAmong (object_name sealed ∷ []) (places_of holdings.old.catalogue) (places_of holdings.new.catalogue) }
     ensures whole { IsTrue files.old.honest → OnOk result (Whole files.new.contents (object_name sealed) sealed) }
     ensures stands { IsTrue files.old.honest → StaysWhole files.old.contents files.new.contents }
     ensures keeps { IsTrue files.old.honest → HasFiles holdings.old.ledgers files.old.contents → KeepsHeld holdings.old.ledgers files.old.contents files.new.contents }
@@ -75,7 +76,7 @@ pub(crate) fn receive_all<S: LooseFiles>(
 ) -> Result<(), VaultFault>
     ensures ledgers { holdings.new.ledgers ≡ holdings.old.ledgers }
     ensures listed { OnOk result (AreListed (places_of holdings.new.catalogue) (map_list entry_of objects.items)) }
-    ensures grows { GrowsBy (map_list object_name objects.items) (places_of holdings.old.catalogue) (places_of holdings.new.catalogue) }
+    ensures grows { GrowsAmong (map_list object_name objects.items) (places_of holdings.old.catalogue) (places_of holdings.new.catalogue) }
     ensures receives { IsTrue files.old.honest → OnOk result (Receives objects.items files.old.contents files.new.contents (places_of holdings.old.catalogue) (places_of holdings.new.catalogue)) }
     ensures stands { IsTrue files.old.honest → StaysWhole files.old.contents files.new.contents }
     ensures covers { IsTrue files.old.honest → Covers files.old.contents (places_of holdings.old.catalogue) → Covers files.new.contents (places_of holdings.new.catalogue) }

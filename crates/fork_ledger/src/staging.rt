@@ -1,7 +1,8 @@
 // Objects that a tenant stages: their names in the catalogue, their files on the store, and their words in one ledger.
 ghost use Rattle.std.specs.Prelude.{◌≡◌, ◌∷◌, [], true, List, ℕ, IsTrue, IfErr, OnErr, OnOk, length, map as map_list};
 ghost use Rattle.git_name.specs.Object.{Object, object_name};
-ghost use Rattle.looks.specs.Growth.{GrowsBy};
+ghost use Rattle.git_name.specs.Count.{fault_in};
+ghost use Rattle.looks.specs.Growth.{GrowsAmong};
 ghost use Rattle.catalogue.specs.Counted.{places_of};
 ghost use Rattle.ledgers.specs.AllStaged.{all_staged_words};
 ghost use Rattle.ledgers.specs.Holders.{is_held_in};
@@ -11,7 +12,7 @@ ghost use Rattle.ledgers.specs.Words.{staged_words};
 ghost use Rattle.loose_store.specs.Stored.{Whole};
 ghost use Rattle.fork_ledger.specs.AllStaged.{MeetsAmong, Receives, StaysWhole, StoresAmong};
 ghost use Rattle.fork_ledger.specs.Kept.{Covers, HasFiles, IsExact, KeepsHeld};
-ghost use Rattle.fork_ledger.specs.Store.{CountsFault, Meets, StoresAlone, fault_in};
+ghost use Rattle.fork_ledger.specs.Store.{CountsFault, Meets, StoresAlone};
 
 use crate::fault::VaultFault;
 use crate::receiving::{entries_of, receive, receive_all};
@@ -32,7 +33,7 @@ pub(crate) fn stage_whole<S: LooseFiles>(
 ) -> Result<(), VaultFault>
     ensures ok { OnOk result (holdings.new.ledgers ≡ at_ledger holdings.old.ledgers tenant.now (staged_words (object_name sealed) sealed.kind (length sealed.bytes))) }
     ensures err { OnErr result (holdings.new.ledgers ≡ holdings.old.ledgers) }
-    ensures grows { GrowsBy (object_name sealed ∷ []) (places_of holdings.old.catalogue) (places_of holdings.new.catalogue) }
+    ensures grows { GrowsAmong (object_name sealed ∷ []) (places_of holdings.old.catalogue) (places_of holdings.new.catalogue) }
     ensures whole { IsTrue files.old.honest → OnOk result (Whole files.new.contents (object_name sealed) sealed) }
     ensures keeps { IsTrue files.old.honest → HasFiles holdings.old.ledgers files.old.contents → KeepsHeld holdings.old.ledgers files.old.contents files.new.contents }
     ensures stands { IsTrue files.old.honest → StaysWhole files.old.contents files.new.contents }
@@ -68,7 +69,7 @@ pub(crate) fn stage_all_whole<S: LooseFiles>(
 ) -> Result<(), VaultFault>
     ensures ok { OnOk result (holdings.new.ledgers ≡ at_ledger holdings.old.ledgers tenant.now (all_staged_words (map_list entry_of objects.items))) }
     ensures err { OnErr result (holdings.new.ledgers ≡ holdings.old.ledgers) }
-    ensures grows { GrowsBy (map_list object_name objects.items) (places_of holdings.old.catalogue) (places_of holdings.new.catalogue) }
+    ensures grows { GrowsAmong (map_list object_name objects.items) (places_of holdings.old.catalogue) (places_of holdings.new.catalogue) }
     ensures receives { IsTrue files.old.honest → OnOk result (Receives objects.items files.old.contents files.new.contents (places_of holdings.old.catalogue) (places_of holdings.new.catalogue)) }
     ensures stands { IsTrue files.old.honest → StaysWhole files.old.contents files.new.contents }
     ensures covers { IsTrue files.old.honest → Covers files.old.contents (places_of holdings.old.catalogue) → Covers files.new.contents (places_of holdings.new.catalogue) }

@@ -1,6 +1,7 @@
 ghost use Rattle.std.specs.Prelude.{◌≡◌, ◌⊎◌, IsTrue, IfErr, IfOk, IfSome};
 ghost use Rattle.git_name.specs.Object.{object_name};
-ghost use Rattle.fork_ledger.specs.Store.{CountsFault, fault_in};
+ghost use Rattle.git_name.specs.Count.{fault_in};
+ghost use Rattle.fork_ledger.specs.Store.{CountsFault};
 ghost use Rattle.fork_ledger.specs.Surveyed.{IsSurveyed};
 
 use crate::fault::VaultFault;

@@ -1,5 +1,6 @@
 // Slices and whole rounds of looks.
 ghost use Rattle.std.specs.Prelude.{◌≡◌, ◌≢◌, ◌≤◌, ◌<◌, ◌+◌, ℕ, IsTrue, IfErr, IfOk, OnOk, OnErr, length, if◌then◌else◌};
+ghost use Rattle.git_name.specs.Count.{fault_in};
 ghost use Rattle.looks.specs.Looks.{Looks, Walks};
 ghost use Rattle.looks.specs.Places.{at_start};
 ghost use Rattle.looks.specs.Slices.{Collects, Sweeps};
@@ -7,7 +8,7 @@ ghost use Rattle.catalogue.specs.Counted.{places_of};
 ghost use Rattle.ledgers.specs.Holders.{is_held_in};
 ghost use Rattle.fork_ledger.specs.Kept.{Covers, IsExact, KeepsHeld, TakesAway};
 ghost use Rattle.fork_ledger.specs.Linked.{AreLinked};
-ghost use Rattle.fork_ledger.specs.Store.{CountsFault, fault_in};
+ghost use Rattle.fork_ledger.specs.Store.{CountsFault};
 
 use crate::fault::VaultFault;
 use crate::looking::look_once;

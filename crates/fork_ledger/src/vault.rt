@@ -2,19 +2,21 @@ ghost use Rattle.std.specs.Prelude.{◌≡◌, ◌≢◌, ◌⊎◌, ◌≤◌, 
 ghost use Rattle.std.specs.FinMap as map;
 ghost use Rattle.std.specs.List.{AllByRecursion};
 ghost use Rattle.git_name.specs.Object.{object_name};
+ghost use Rattle.git_name.specs.Same.{is_listed};
+ghost use Rattle.git_name.specs.Count.{fault_in};
 ghost use Rattle.commit_graph.specs.Graph.{IsGraph, name_at, parents_at};
 ghost use Rattle.fork_reach.specs.Known.{AreParents, seen_name, seen_place};
 ghost use Rattle.fork_reach.specs.Objects.{use_of};
-ghost use Rattle.looks.specs.Growth.{GrowsBy};
+ghost use Rattle.looks.specs.Growth.{GrowsAmong};
 ghost use Rattle.looks.specs.Looks.{Looks, Walks};
-ghost use Rattle.looks.specs.Places.{at_start, is_listed};
+ghost use Rattle.looks.specs.Places.{at_start};
 ghost use Rattle.looks.specs.Slices.{Collects, Sweeps};
 ghost use Rattle.fork_ledger.specs.AllStaged.{MeetsAmong, StoresAmong, with_all_staged};
 ghost use Rattle.fork_ledger.specs.Checked.{WasAsked};
 ghost use Rattle.fork_ledger.specs.Harms.{AreFound};
 ghost use Rattle.fork_ledger.specs.Kept.{IsExact, TakesAway};
 ghost use Rattle.fork_ledger.specs.Private.{both_of, held_in, with_discarded, with_kept, with_published, with_staged};
-ghost use Rattle.fork_ledger.specs.Store.{AsksStore, IsOver, LeavesStore, Meets, Recalls, StoresAlone, fault_in};
+ghost use Rattle.fork_ledger.specs.Store.{AsksStore, IsOver, LeavesStore, Meets, Recalls, StoresAlone};
 ghost use Rattle.fork_ledger.specs.Swept.{IsAccounted};
 ghost use Rattle.fork_ledger.specs.Taken.{is_taken};
 ghost use Rattle.fork_ledger.specs.Tenants.{at_tenant, private_of, shape_of, with_tenant};
@@ -302,7 +304,7 @@ impl<S: LooseFiles> Vault<S> {
         ensures exact { IsTrue self.old.honest → OnOk result (IsExact self.old.files self.old.places → IsExact self.new.files self.new.places) }
 
         // Over any store.
-        ensures grows { GrowsBy (object_name sealed ∷ []) self.old.places self.new.places }
+        ensures grows { GrowsAmong (object_name sealed ∷ []) self.old.places self.new.places }
         ensures shape { OnOk result (shape_of self.new.tenants ≡ shape_of (at_tenant self.old.tenants tenant.now (with_staged sealed))) }
         ensures kept { OnErr result (shape_of self.new.tenants ≡ shape_of self.old.tenants) }
         ensures store { AsksStore self.old self.new (fault_in result) }
@@ -328,7 +330,7 @@ impl<S: LooseFiles> Vault<S> {
         ensures exact { IsTrue self.old.honest → OnOk result (IsExact self.old.files self.old.places → IsExact self.new.files self.new.places) }
 
         // Over any store.
-        ensures grows { GrowsBy (map_list object_name objects.items) self.old.places self.new.places }
+        ensures grows { GrowsAmong (map_list object_name objects.items) self.old.places self.new.places }
         ensures shape { OnOk result (shape_of self.new.tenants ≡ shape_of (at_tenant self.old.tenants tenant.now (with_all_staged objects.items))) }
         ensures kept { OnErr result (shape_of self.new.tenants ≡ shape_of self.old.tenants) }
         ensures store { AsksStore self.old self.new (fault_in result) }
@@ -347,7 +349,7 @@ impl<S: LooseFiles> Vault<S> {
     ) -> Result<(), RecallFault>
         ensures recalls { OnOk result (Recalls self.old.honest tenant.now name self.old.files self.old.tenants self.new.tenants) }
         ensures err { OnErr result (self.new.tenants ≡ self.old.tenants) }
-        ensures grows { GrowsBy (name ∷ []) self.old.places self.new.places }
+        ensures grows { GrowsAmong (name ∷ []) self.old.places self.new.places }
         ensures exact { IsTrue self.old.honest → IsExact self.old.files self.old.places → IsExact self.new.files self.new.places }
         ensures files { self.new.files ≡ self.old.files }
         ensures honest { self.new.honest ≡ self.old.honest }

@@ -13,7 +13,7 @@ use Rattle.fork_request.proofs.NameLemmas.{plain_test}
 use Rattle.fork_request.specs.declared.refusal.Refusal.TheVariants.{BadName, TooMany, UploadOpen}
 use Rattle.fork_request.specs.declared.reply.Reply.{Reply}
 use Rattle.fork_request.specs.declared.reply.Reply.TheVariants.{Done, Refused}
-use Rattle.fork_model.specs.Answer.{answer, fetch_answer, push_answer, push_into, pushed, told, told_over}
+use Rattle.fork_model.specs.Answer.{answer, fetch_answer, push_answer, push_into, pushed, reply_of, told_over}
 use Rattle.fork_model.specs.Sound.{IsOrderly, IsRight}
 use Rattle.fork_model.specs.Transfer.{AreSendable, HasPrerequisites, received, within_quota}
 use Rattle.fork_model.specs.View.{View}
@@ -36,7 +36,7 @@ fetched_text : (view : View) (word : List ℕ) (items : List (List ℕ)) (reposi
 unfolding answer fetch_answer fetch_told
 fetched_text view word items repository selection text there chosen is =
     let said = told_behind view (is_plain_name 64 word) (nat_lt 64 (length items)) word (told_over word (λ repository. fetch_told view.objects repository items) (get view.repositories word)) text is in
-    let found = ap (told_over word (λ repository. fetch_told view.objects repository items)) there ∙ ap (λ sides. told (fetched_of view.objects sides)) chosen in
+    let found = ap (told_over word (λ repository. fetch_told view.objects repository items)) there ∙ ap (λ sides. reply_of (fetched_of view.objects sides)) chosen in
     same_text (fetched view.objects selection.wanted selection.excluded) text (sym found ∙ said)
 
 -- a push into a repository that is there, where no upload is open

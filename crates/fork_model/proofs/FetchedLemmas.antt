@@ -12,7 +12,7 @@ use Rattle.git_name.proofs.Names.{name_total}
 use Rattle.push_stream.specs.Spelling.{records_of}
 use Rattle.push_stream.specs.Stream.{Flows, stream_of}
 use Rattle.push_stream.proofs.WrittenLemmas.{records_flow}
-use Rattle.fork_query.specs.Fetch.{fetched, record_at, record_or_none}
+use Rattle.fork_query.specs.Fetch.{fetched, record_named, record_or_none}
 use Rattle.fork_query.proofs.KeyLemmas.{keys_ascend}
 use Rattle.fork_reach.specs.Source.{Objects}
 use Rattle.fork_reach.proofs.KeptObjects.{tied_names}
@@ -66,11 +66,11 @@ each_value P objects kept holds =
 
 -- the records of names are those of the objects under them
 records_found : (objects : Objects) (es : List (List ℕ × Object)) → AllByRecursion (λ e. get objects e.0 ≡ Some e.1) es
-    → flat_map (record_at objects) (map (λ e. e.0) es) ≡ records_of (map (λ e. e.1) es)
+    → flat_map (record_named objects) (map (λ e. e.0) es) ≡ records_of (map (λ e. e.1) es)
 records_found objects [] all = refl
 records_found objects (e ∷ es) all = ap₂ (λ first rest. first ++ rest) (ap record_or_none all.0) (records_found objects es all.1)
 
-records_kept : (objects : Objects) (kept : List ℕ → Bool) → flat_map (record_at objects) (keys (retain_keys objects kept)) ≡ records_of (values (retain_keys objects kept))
+records_kept : (objects : Objects) (kept : List ℕ → Bool) → flat_map (record_named objects) (keys (retain_keys objects kept)) ≡ records_of (values (retain_keys objects kept))
 records_kept objects kept =
     let some = retain_keys objects kept in
     records_found objects (entries some) (each_weaker (λ e. get some e.0 ≡ Some e.1) (λ e. get objects e.0 ≡ Some e.1) (entries some) (λ e is. (found_kept objects kept e.0 e.1 is).1) (each_entry some))

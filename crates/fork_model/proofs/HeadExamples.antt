@@ -10,7 +10,7 @@ use Rattle.git_reftx.specs.Repository.{Repository, main_branch, new_repository}
 use Rattle.git_reftx.specs.Transaction.{References}
 use Rattle.fork_reach.specs.Source.{Objects}
 use Rattle.fork_query.specs.Head.{head_line, head_told}
-use Rattle.fork_query.specs.Items.{commit_of, commit_of_item, found_name}
+use Rattle.fork_query.specs.Items.{commit_behind, commit_of_item, found_name}
 use Rattle.fork_query.specs.RevList.{revisions_of, revisions_told}
 use Rattle.fork_query.specs.Sides.{selected, with_item}
 use Rattle.fork_request.specs.Asked.{AsksHead, AsksRevisions, SetsHead}
@@ -18,7 +18,7 @@ use Rattle.fork_request.specs.Names.{is_plain_name}
 use Rattle.fork_request.specs.declared.refusal.Refusal.TheVariants.{BadName, BadRef, NoRef, NoRepository}
 use Rattle.fork_request.specs.declared.reply.Reply.{Reply}
 use Rattle.fork_request.specs.declared.reply.Reply.TheVariants.{Done, Refused}
-use Rattle.fork_model.specs.Answer.{answer, added, copied, few_items, head_answer, named_repository, rev_list_answer, set_head_answer, set_head_in, told, told_over}
+use Rattle.fork_model.specs.Answer.{answer, added, copied, few_items, head_answer, named_repository, rev_list_answer, set_head_answer, set_head_in, reply_of, told_over}
 use Rattle.fork_model.specs.View.{View}
 
 -- a view without objects, and with this repository `r`
@@ -75,14 +75,14 @@ a_head_before_a_push_is_no_reference : answer (having new_repository) (AsksRevis
 unfolding answer rev_list_answer revisions_told name_in
 a_head_before_a_push_is_no_reference =
     over new_repository (λ o. (few_items (codes "HEAD" ∷ []) (told_over (codes "r") (λ repository. revisions_told nothing repository (codes "HEAD" ∷ [])) o), having new_repository))
-    ∙ ap (λ o. (told (revisions_of nothing (with_item false (commit_of nothing (found_name nothing (codes "HEAD") o)) (selected (commit_of_item nothing new_repository) []))), having new_repository)) no_branch
+    ∙ ap (λ o. (reply_of (revisions_of nothing (with_item false (commit_behind nothing (found_name nothing (codes "HEAD") o)) (selected (commit_of_item nothing new_repository) []))), having new_repository)) no_branch
 
 -- behind one `HEAD` and its branch are told alike, on either side
 a_head_behind_a_push_is_its_branch : (objects : Objects) (references : References) (target : List ℕ) → get references main_branch ≡ Some target
     → commit_of_item objects (with_main references) (codes "HEAD") ≡ commit_of_item objects (with_main references) main_branch
 unfolding name_in
 a_head_behind_a_push_is_its_branch objects references target there =
-    ap (λ o. commit_of objects (found_name objects (codes "HEAD") o)) there ∙ ap (λ o. commit_of objects (found_name objects main_branch o)) (sym there)
+    ap (λ o. commit_behind objects (found_name objects (codes "HEAD") o)) there ∙ ap (λ o. commit_behind objects (found_name objects main_branch o)) (sym there)
 
 a_tag_is_no_head : answer (having new_repository) (SetsHead (codes "r") (codes "refs/tags/v")) ≡ (Refused (BadRef (codes "refs/tags/v")), having new_repository)
 unfolding answer set_head_answer least_broken_rule

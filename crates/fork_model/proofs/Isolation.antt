@@ -7,7 +7,7 @@ use Rattle.std.specs.Ordering.{eq_by_cmp, is_eq}
 use Rattle.std.specs.Cmp.{IsTotalOrder}
 use Rattle.std.specs.List.{AllByRecursion}
 use Rattle.std.specs.FinMap.{FinMap, IsAntisymmetric, get, get-insert, get_tied, insert}
-use Rattle.fork_model.specs.Runs.{Event, Asks, HostAsks, own, told, alone, TenantStep, Answered, Unknown, Faulted, OwnStep, HostAnswered, HostFaulted, Steps, Explains, IsSteady, IsUnfaulted, meeting, met}
+use Rattle.fork_model.specs.Runs.{Event, Asks, HostAsks, own, told, alone, TenantStep, Answered, Unknown, Faulted, OwnStep, HostAnswered, HostFaulted, Steps, Explains, IsSteady, AreFine, meeting, met}
 
 one_value : {X : Type 0} (o : Option X) (x y : X) → o ≡ Some x → o ≡ Some y → x ≡ y
 one_value o x y is other = cc
@@ -68,7 +68,7 @@ module _ {Tenant View Context Ask HostAsk Reply : Type 0} (cmp : Tenant → Tena
   own_request old new ask reply (HostFaulted bad stays) = stays
 
   -- a run tells each tenant, and leaves it, what it would in a host of its own that meets the same
-  pub run_seen : (t : Tenant) (old new : FinMap cmp View) (steps : List (Event Tenant Ask HostAsk)) (replies : List Reply) (run : Explains cmp meets answer unknown is_fault HostSays old steps replies new) → IsUnfaulted is_fault (told cmp t steps replies) → IsPrivate answer unknown (get old t) (met cmp meets answer unknown is_fault HostSays t old steps replies new run) (told cmp t steps replies) (get new t)
+  pub run_seen : (t : Tenant) (old new : FinMap cmp View) (steps : List (Event Tenant Ask HostAsk)) (replies : List Reply) (run : Explains cmp meets answer unknown is_fault HostSays old steps replies new) → AreFine is_fault (told cmp t steps replies) → IsPrivate answer unknown (get old t) (met cmp meets answer unknown is_fault HostSays t old steps replies new run) (told cmp t steps replies) (get new t)
   run_seen t old new [] [] run fine = (refl, ap (λ w. get w t) run)
   run_seen t old new [] (reply ∷ replies) run fine = absurd run
   run_seen t old new (Asks u ask ∷ steps) [] run fine = absurd run
@@ -82,7 +82,7 @@ module _ {Tenant View Context Ask HostAsk Reply : Type 0} (cmp : Tenant → Tena
       behind : List (Context × Ask)
       behind = met cmp meets answer unknown is_fault HostSays t run.0 steps replies new run.2
 
-      by_tenant : (b : Bool) → eq_by_cmp cmp t u ≡ b → IsUnfaulted is_fault (cond b (reply ∷ told cmp t steps replies) (told cmp t steps replies)) → (IsUnfaulted is_fault (told cmp t steps replies) → IsPrivate answer unknown (get run.0 t) behind (told cmp t steps replies) (get new t)) → IsPrivate answer unknown (get old t) (cond b ((meets old u, ask) ∷ behind) behind) (cond b (reply ∷ told cmp t steps replies) (told cmp t steps replies)) (get new t)
+      by_tenant : (b : Bool) → eq_by_cmp cmp t u ≡ b → AreFine is_fault (cond b (reply ∷ told cmp t steps replies) (told cmp t steps replies)) → (AreFine is_fault (told cmp t steps replies) → IsPrivate answer unknown (get run.0 t) behind (told cmp t steps replies) (get new t)) → IsPrivate answer unknown (get old t) (cond b ((meets old u, ask) ∷ behind) behind) (cond b (reply ∷ told cmp t steps replies) (told cmp t steps replies)) (get new t)
       by_tenant false e fine rest = subst (λ o. IsPrivate answer unknown o behind (told cmp t steps replies) (get new t)) (other_step old run.0 t u ask reply e run.1) (rest fine)
       by_tenant true e fine rest =
           let here = own_step old run.0 t u ask reply e fine.0 run.1 in
@@ -90,7 +90,7 @@ module _ {Tenant View Context Ask HostAsk Reply : Type 0} (cmp : Tenant → Tena
           (ap (λ s. s ∷ told cmp t steps replies) here.0 ∙ ap (λ ss. (seen_once answer unknown (get old t) (meets old u, ask)).0 ∷ ss) more.0, more.1)
 
   -- the same at a tenant of the world
-  pub run_met : (t : Tenant) (old new : FinMap cmp View) (steps : List (Event Tenant Ask HostAsk)) (replies : List Reply) (view : View) (run : Explains cmp meets answer unknown is_fault HostSays old steps replies new) → IsUnfaulted is_fault (told cmp t steps replies) → get old t ≡ Some view → (told cmp t steps replies ≡ (alone answer view (met cmp meets answer unknown is_fault HostSays t old steps replies new run)).0) × (get new t ≡ Some (alone answer view (met cmp meets answer unknown is_fault HostSays t old steps replies new run)).1)
+  pub run_met : (t : Tenant) (old new : FinMap cmp View) (steps : List (Event Tenant Ask HostAsk)) (replies : List Reply) (view : View) (run : Explains cmp meets answer unknown is_fault HostSays old steps replies new) → AreFine is_fault (told cmp t steps replies) → get old t ≡ Some view → (told cmp t steps replies ≡ (alone answer view (met cmp meets answer unknown is_fault HostSays t old steps replies new run)).0) × (get new t ≡ Some (alone answer view (met cmp meets answer unknown is_fault HostSays t old steps replies new run)).1)
   run_met t old new steps replies view run fine here =
       let all = run_seen t old new steps replies run fine in
       let asked = met cmp meets answer unknown is_fault HostSays t old steps replies new run in
@@ -98,13 +98,13 @@ module _ {Tenant View Context Ask HostAsk Reply : Type 0} (cmp : Tenant → Tena
       (all.0 ∙ ap (λ (p : List Reply × Option View). p.0) same, all.1 ∙ ap (λ (p : List Reply × Option View). p.1) same)
 
   -- and where it meets the same beside each request
-  pub run_alone : (t : Tenant) (context : Context) (old new : FinMap cmp View) (steps : List (Event Tenant Ask HostAsk)) (replies : List Reply) (view : View) (run : Explains cmp meets answer unknown is_fault HostSays old steps replies new) → IsSteady cmp meets answer unknown is_fault HostSays t context old steps replies new run → IsUnfaulted is_fault (told cmp t steps replies) → get old t ≡ Some view → (told cmp t steps replies ≡ (alone answer view (meeting context (own cmp t steps))).0) × (get new t ≡ Some (alone answer view (meeting context (own cmp t steps))).1)
+  pub run_alone : (t : Tenant) (context : Context) (old new : FinMap cmp View) (steps : List (Event Tenant Ask HostAsk)) (replies : List Reply) (view : View) (run : Explains cmp meets answer unknown is_fault HostSays old steps replies new) → IsSteady cmp meets answer unknown is_fault HostSays t context old steps replies new run → AreFine is_fault (told cmp t steps replies) → get old t ≡ Some view → (told cmp t steps replies ≡ (alone answer view (meeting context (own cmp t steps))).0) × (get new t ≡ Some (alone answer view (meeting context (own cmp t steps))).1)
   run_alone t context old new steps replies view run steady fine here =
       let all = run_met t old new steps replies view run fine here in
       (all.0 ∙ ap (λ asked. (alone answer view asked).0) steady, all.1 ∙ ap (λ asked. Some (alone answer view asked).1) steady)
 
   -- two runs in which a tenant meets and asks the same
-  pub runs_met_agree : (t : Tenant) (old new : FinMap cmp View) (steps : List (Event Tenant Ask HostAsk)) (replies : List Reply) (old2 new2 : FinMap cmp View) (steps2 : List (Event Tenant Ask HostAsk)) (replies2 : List Reply) (run : Explains cmp meets answer unknown is_fault HostSays old steps replies new) → IsUnfaulted is_fault (told cmp t steps replies) → (run2 : Explains cmp meets answer unknown is_fault HostSays old2 steps2 replies2 new2) → IsUnfaulted is_fault (told cmp t steps2 replies2) → get old t ≡ get old2 t
+  pub runs_met_agree : (t : Tenant) (old new : FinMap cmp View) (steps : List (Event Tenant Ask HostAsk)) (replies : List Reply) (old2 new2 : FinMap cmp View) (steps2 : List (Event Tenant Ask HostAsk)) (replies2 : List Reply) (run : Explains cmp meets answer unknown is_fault HostSays old steps replies new) → AreFine is_fault (told cmp t steps replies) → (run2 : Explains cmp meets answer unknown is_fault HostSays old2 steps2 replies2 new2) → AreFine is_fault (told cmp t steps2 replies2) → get old t ≡ get old2 t
       → met cmp meets answer unknown is_fault HostSays t old steps replies new run ≡ met cmp meets answer unknown is_fault HostSays t old2 steps2 replies2 new2 run2 → (told cmp t steps replies ≡ told cmp t steps2 replies2) × (get new t ≡ get new2 t)
   runs_met_agree t old new steps replies old2 new2 steps2 replies2 run fine run2 fine2 agree same =
       let one = run_seen t old new steps replies run fine in
@@ -113,7 +113,7 @@ module _ {Tenant View Context Ask HostAsk Reply : Type 0} (cmp : Tenant → Tena
       (one.0 ∙ (ap (λ (p : List Reply × Option View). p.0) joined ∙ sym two.0), one.1 ∙ (ap (λ (p : List Reply × Option View). p.1) joined ∙ sym two.1))
 
   -- and where it meets one and the same beside each request, and asks the same
-  pub runs_agree : (t : Tenant) (context : Context) (old new : FinMap cmp View) (steps : List (Event Tenant Ask HostAsk)) (replies : List Reply) (old2 new2 : FinMap cmp View) (steps2 : List (Event Tenant Ask HostAsk)) (replies2 : List Reply) (run : Explains cmp meets answer unknown is_fault HostSays old steps replies new) → IsUnfaulted is_fault (told cmp t steps replies) → (run2 : Explains cmp meets answer unknown is_fault HostSays old2 steps2 replies2 new2) → IsUnfaulted is_fault (told cmp t steps2 replies2) → get old t ≡ get old2 t → own cmp t steps ≡ own cmp t steps2
+  pub runs_agree : (t : Tenant) (context : Context) (old new : FinMap cmp View) (steps : List (Event Tenant Ask HostAsk)) (replies : List Reply) (old2 new2 : FinMap cmp View) (steps2 : List (Event Tenant Ask HostAsk)) (replies2 : List Reply) (run : Explains cmp meets answer unknown is_fault HostSays old steps replies new) → AreFine is_fault (told cmp t steps replies) → (run2 : Explains cmp meets answer unknown is_fault HostSays old2 steps2 replies2 new2) → AreFine is_fault (told cmp t steps2 replies2) → get old t ≡ get old2 t → own cmp t steps ≡ own cmp t steps2
       → IsSteady cmp meets answer unknown is_fault HostSays t context old steps replies new run → IsSteady cmp meets answer unknown is_fault HostSays t context old2 steps2 replies2 new2 run2 → (told cmp t steps replies ≡ told cmp t steps2 replies2) × (get new t ≡ get new2 t)
   runs_agree t context old new steps replies old2 new2 steps2 replies2 run fine run2 fine2 agree same steady steady2 =
       runs_met_agree t old new steps replies old2 new2 steps2 replies2 run fine run2 fine2 agree (steady ∙ ap (meeting context) same ∙ sym steady2)

@@ -16,11 +16,11 @@ use Rattle.git_reftx.specs.Transaction.{References, changed, first_refusal, miss
 use Rattle.push_stream.specs.Stream.{Stream, finished, stream_of}
 use Rattle.fork_push.specs.declared.refusal.PushRefusal.{PushRefusal}
 use Rattle.fork_push.specs.declared.refusal.PushRefusal.TheVariants as push
-use Rattle.fork_push.specs.Push.{is_missing, judged, within_limit, wrong_type, unless_refused as unless_push}
+use Rattle.fork_push.specs.Push.{is_missing, judged, within_limit, wrong_type, refusal_or as unless_push}
 use Rattle.fork_reach.specs.Objects.{with_objects}
 use Rattle.fork_reach.specs.Source.{Objects, kind_in}
 use Rattle.fork_query.specs.Fetch.{fetch_told, fetched_of}
-use Rattle.fork_query.specs.Items.{commit_of, commit_of_item, found_name, named_by, object_of_item}
+use Rattle.fork_query.specs.Items.{commit_behind, commit_of_item, found_name, named_by, object_of_item}
 use Rattle.fork_query.specs.MergeBase.{bases_of, bases_told}
 use Rattle.fork_query.specs.RevList.{revisions_of, revisions_told}
 use Rattle.fork_query.specs.Sides.{bare, is_excluded, selected, with_item, with_rest}
@@ -32,7 +32,7 @@ use Rattle.fork_request.specs.declared.refusal.Refusal.{Refusal}
 use Rattle.fork_request.specs.declared.refusal.Refusal.TheVariants.{BadName, Missing, TooMany, UploadOpen}
 use Rattle.fork_request.specs.declared.reply.Reply.{Reply}
 use Rattle.fork_request.specs.declared.reply.Reply.TheVariants.{Refused}
-use Rattle.fork_model.specs.Answer.{answer, left_by, ls_tree_answer, rev_list_answer, merge_base_answer, fetch_answer, push_answer, part_end_answer, update_answer, carried_out, end_in, few_items, named_repository, push_into, push_refusal, pushed, taken, told, told_over, update_in, upload_ended, upload_into, with_references}
+use Rattle.fork_model.specs.Answer.{answer, left_by, ls_tree_answer, rev_list_answer, merge_base_answer, fetch_answer, push_answer, part_end_answer, update_answer, carried_out, end_in, few_items, named_repository, push_into, push_refusal, pushed, taken, reply_of, told_over, update_in, upload_ended, upload_into, with_references}
 use Rattle.fork_model.specs.Missing.{InRepository, IsLacking, IsMissing, LacksInStream, LacksItem, LacksSent, Linked, Pointed, LacksTarget, links_sent}
 use Rattle.fork_model.specs.Runs.{Asks, Answered, Unknown, Faulted}
 use Rattle.fork_model.specs.View.{View}
@@ -83,7 +83,7 @@ unseen_item objects repository item name named unseen =
     ap (found_name objects item) named ∙ ap (λ o. cond (is_some o) (Ok name) (Err (Missing name))) unseen
 
 unseen_commit : (objects : Objects) (repository : Repository) (item name : List ℕ) → named_by repository item ≡ Some name → get objects name ≡ None → commit_of_item objects repository item ≡ Err (Missing name)
-unseen_commit objects repository item name named unseen = ap (commit_of objects) (unseen_item objects repository item name named unseen)
+unseen_commit objects repository item name named unseen = ap (commit_behind objects) (unseen_item objects repository item name named unseen)
 
 -- a row goes over a repository that is there
 in_repository : (view : View) (word : List ℕ) (Holds : Repository → Type 0) (row : Option Repository → Reply × View) (left : Reply × View) → (at : InRepository view word Holds) → row (Some at.repository) ≡ left
@@ -215,19 +215,19 @@ unfolding answer ls_tree_answer rev_list_answer merge_base_answer fetch_answer p
 lacking_answer view name (AsksObject asked) is = ap (λ n. answer view (AsksObject n)) is.0 ∙ unheld_answer view name is.1
 lacking_answer view name (AsksTree asked) is =
     ap (λ n. answer view (AsksTree n)) is.0
-    ∙ ap (λ o. (told (cond (is_some o) (rows_or name (entries_at_end view.objects (peeled view.objects name))) (Err (Missing name))), view)) is.1
+    ∙ ap (λ o. (reply_of (cond (is_some o) (rows_or name (entries_at_end view.objects (peeled view.objects name))) (Err (Missing name))), view)) is.1
 lacking_answer view name (AsksRevisions repository items) is =
     in_repository view repository _ (λ o. (few_items items (told_over repository (λ r. revisions_told view.objects r items) o), view)) _ is
     (ap (λ reply. (reply, view)) (few_asked items _ is.holds.0
-    ∙ ap (λ r. told (revisions_of view.objects r)) (first_item (commit_of_item view.objects is.repository) items is.holds.1.first.before is.holds.1.first.behind is.holds.1.item (Missing name) is.holds.1.first.parts is.holds.1.first.passed
+    ∙ ap (λ r. reply_of (revisions_of view.objects r)) (first_item (commit_of_item view.objects is.repository) items is.holds.1.first.before is.holds.1.first.behind is.holds.1.item (Missing name) is.holds.1.first.parts is.holds.1.first.passed
     (unseen_commit view.objects is.repository is.holds.1.item name is.holds.1.named is.holds.1.unseen))))
 lacking_answer view name (AsksBases repository first second) is =
     in_repository view repository _ (λ o. (told_over repository (λ r. bases_told view.objects r first second) o, view)) _ is
-    (ap (λ r. (told r, view)) (bases_lack view.objects is.repository first second name is.holds))
+    (ap (λ r. (reply_of r, view)) (bases_lack view.objects is.repository first second name is.holds))
 lacking_answer view name (Fetches repository items) is =
     in_repository view repository _ (λ o. (few_items items (told_over repository (λ r. fetch_told view.objects r items) o), view)) _ is
     (ap (λ reply. (reply, view)) (few_asked items _ is.holds.0
-    ∙ ap (λ r. told (fetched_of view.objects r)) (first_item (object_of_item view.objects is.repository) items is.holds.1.first.before is.holds.1.first.behind is.holds.1.item (Missing name) is.holds.1.first.parts is.holds.1.first.passed
+    ∙ ap (λ r. reply_of (fetched_of view.objects r)) (first_item (object_of_item view.objects is.repository) items is.holds.1.first.before is.holds.1.first.behind is.holds.1.item (Missing name) is.holds.1.first.parts is.holds.1.first.passed
     (unseen_item view.objects is.repository is.holds.1.item name is.holds.1.named is.holds.1.unseen))))
 lacking_answer view name (Updates repository body) is =
     in_repository view repository _ (update_in view repository body) _ is

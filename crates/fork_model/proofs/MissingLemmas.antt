@@ -7,14 +7,14 @@ use Rattle.fork_request.specs.Told.{is_host_fault}
 use Rattle.fork_request.specs.declared.refusal.Refusal.TheVariants.{Missing}
 use Rattle.fork_request.specs.declared.reply.Reply.{Reply}
 use Rattle.fork_request.specs.declared.reply.Reply.TheVariants.{Refused}
-use Rattle.fork_model.specs.Answer.{answer, cat_file_answer, told}
+use Rattle.fork_model.specs.Answer.{answer, cat_file_answer, reply_of}
 use Rattle.fork_model.specs.Runs.{Asks, Answered, Unknown, Faulted}
 use Rattle.fork_model.specs.View.{View}
 use Rattle.fork_model.specs.World.{World, Steps}
 
 pub unheld_answer : (view : View) (name : List ℕ) → get view.objects name ≡ None → answer view (AsksObject name) ≡ (Refused (Missing name), view)
 unfolding answer cat_file_answer object_told
-unheld_answer view name none = ap (λ found. (told (record_found name found), view)) none
+unheld_answer view name none = ap (λ found. (reply_of (record_found name found), view)) none
 
 some_same : (a b : View) → Some a ≡ Some b → a ≡ b
 some_same a b is = cc

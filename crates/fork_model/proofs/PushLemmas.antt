@@ -13,11 +13,11 @@ use Rattle.fork_reach.specs.Objects.{use_of}
 use Rattle.fork_reach.specs.Source.{Objects, kind_in}
 use Rattle.fork_push.specs.declared.refusal.PushRefusal.{PushRefusal}
 use Rattle.fork_push.specs.declared.refusal.PushRefusal.TheVariants.{OverQuota, WrongType}
-use Rattle.fork_push.specs.Push.{judged, link_refusal, links_under, missing, wrong_type, is_wrong, within_limit, unless_refused}
-use Rattle.fork_model.specs.Answer.{Held}
+use Rattle.fork_push.specs.Push.{judged, link_refusal, links_under, missing, wrong_type, is_wrong, within_limit, refusal_or}
+use Rattle.fork_model.specs.Answer.{Finished}
 
 -- the objects of a whole stream are in their grammars
-abbrev pub AreHeld : Held → Type 0
+abbrev pub AreHeld : Finished → Type 0
 AreHeld (Ok held) = AreObjects held.1
 AreHeld (Err fault) = ⊤
 
@@ -41,7 +41,7 @@ second_none : {X : Type 0} (a b : Option X) → option_or a b ≡ None → b ≡
 second_none None b is = is
 second_none (Some x) b is = absurd (cc)
 
-unrefused : (refusal : Option PushRefusal) (verdict : Result References PushRefusal) (new : References) → unless_refused refusal verdict ≡ Ok new → (refusal ≡ None) × (verdict ≡ Ok new)
+unrefused : (refusal : Option PushRefusal) (verdict : Result References PushRefusal) (new : References) → refusal_or refusal verdict ≡ Ok new → (refusal ≡ None) × (verdict ≡ Ok new)
 unrefused None verdict new is = (refl, is)
 unrefused (Some refusal) verdict new is = absurd (cc)
 

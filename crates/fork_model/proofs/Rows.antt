@@ -40,7 +40,7 @@ use Rattle.fork_request.specs.declared.refusal.Refusal.{Refusal}
 use Rattle.fork_request.specs.declared.refusal.Refusal.TheVariants.{BadName, BadRef, BadRequest, NoRepository, NoUpload, RepositoryExists, StagedTooLong, TooMany, UploadOpen}
 use Rattle.fork_request.specs.declared.reply.Reply.{Reply}
 use Rattle.fork_request.specs.declared.reply.Reply.TheVariants.{Done, Refused}
-use Rattle.fork_model.specs.Answer.{Held, answer, left_by, without_upload, init_answer, drop_answer, fork_answer, push_answer, part_answer, part_end_answer, part_drop_answer, update_answer, set_head_answer, cat_file_answer, ls_tree_answer, rev_list_answer, merge_base_answer, fetch_answer, references_answer, head_answer, quota_answer, prune_answer, pruned, targets_of, named_repository, added, dropped, copied, push_into, pushed, taken, open_upload, upload_into, end_in, upload_ended, update_in, carried_out, with_references, with_head, set_head_in, told, told_over, told_references, transaction_refusal, command_refusal, push_refusal}
+use Rattle.fork_model.specs.Answer.{Finished, answer, left_by, without_upload, init_answer, drop_answer, fork_answer, push_answer, part_answer, part_end_answer, part_drop_answer, update_answer, set_head_answer, cat_file_answer, ls_tree_answer, rev_list_answer, merge_base_answer, fetch_answer, references_answer, head_answer, quota_answer, prune_answer, pruned, targets_of, named_repository, added, dropped, copied, push_into, pushed, taken, open_upload, upload_into, end_in, upload_ended, update_in, carried_out, with_references, with_head, set_head_in, reply_of, told_over, told_references, transaction_refusal, command_refusal, push_refusal}
 use Rattle.fork_model.specs.Sound.{AreReferences, IsOrderly, IsRight}
 use Rattle.fork_model.specs.View.{View, Repositories}
 use Rattle.fork_reach.proofs.KeptObjects.{at_key, kept_all, named_all, tied_names}
@@ -237,7 +237,7 @@ faulty_row : (view : View) (word : List ℕ) (old : Repository) (fault : StreamF
 unfolding judged
 faulty_row view word old fault = refuses view (push_refusal (Stream fault))
 
-pushed_row : (view : View) (word : List ℕ) (old : Repository) (held : Held) → get view.repositories word ≡ Some old → IsRepositoryName word → (IsRight view → AreHeld held) → IsRow view (pushed view word old held)
+pushed_row : (view : View) (word : List ℕ) (old : Repository) (held : Finished) → get view.repositories word ≡ Some old → IsRepositoryName word → (IsRight view → AreHeld held) → IsRow view (pushed view word old held)
 pushed_row view word old (Ok held) there right are =
     taken_row view word old (with_objects view.objects held.1) (judged (with_objects view.objects held.1) old.references view.limit (Ok (held.0, map object_name held.1)))
     (λ new is orderly.
@@ -344,7 +344,7 @@ set_head_row view word reference None there = refuses view (NoRepository word)
 set_head_row view word reference (Some old) there = with_head_row view word old reference (branch_in reference) refl there
 
 -- a row that tells what was found, and leaves the view
-told_row : (view : View) (found : Result (List ℕ) Refusal) → IsRow view (told found, view)
+told_row : (view : View) (found : Result (List ℕ) Refusal) → IsRow view (reply_of found, view)
 told_row view (Ok text) = Does text refl (λ was. was) (λ was. was)
 told_row view (Err refusal) = refuses view refusal
 

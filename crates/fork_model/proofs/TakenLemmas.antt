@@ -18,7 +18,7 @@ use Rattle.git_reftx.specs.Repository.{Repository}
 use Rattle.git_reftx.specs.Transaction.{References, least_upper, refusal_of, transacted}
 use Rattle.push_stream.specs.Stream.{finished, stream_of}
 use Rattle.fork_push.specs.declared.refusal.PushRefusal.TheVariants.{Missing, OverQuota, WrongType}
-use Rattle.fork_push.specs.Push.{has_kind, is_missing, is_wrong, judged, link_refusal, links_under, same_kind, unless_refused, within_limit}
+use Rattle.fork_push.specs.Push.{has_kind, is_missing, is_wrong, judged, link_refusal, links_under, same_kind, refusal_or, within_limit}
 use Rattle.fork_query.specs.Fetch.{fetched}
 use Rattle.fork_reach.specs.Objects.{use_of}
 use Rattle.fork_reach.specs.Reach.{is_reached, linked_names, links_of_found}
@@ -84,7 +84,7 @@ judged_met : (seen objects : Objects) (old : References) (limit : ℕ) (names : 
     → judged objects old limit (Ok ([], names)) ≡ cond (nat_lt limit (use_of objects)) (Err OverQuota) (Ok old)
 unfolding judged
 judged_met seen objects old limit names right met =
-    ap₂ unless_refused (no_link_refused objects (links_under objects names) met) (ap (within_limit objects limit) (unchanged seen old (kind_in objects) right))
+    ap₂ refusal_or (no_link_refused objects (links_under objects names) met) (ap (within_limit objects limit) (unchanged seen old (kind_in objects) right))
 
 of_map : {A B : Type 0} (P : B → Type 0) (f : A → B) (xs : List A) → AllByRecursion (λ x. P (f x)) xs → AllByRecursion P (map f xs)
 of_map P f [] all = tt

@@ -8,7 +8,7 @@ use Rattle.git_reftx.specs.Repository.{Repository}
 use Rattle.git_reftx.specs.Transaction.{is_commit}
 use Rattle.fork_reach.specs.Source.{Objects, kind_in}
 use Rattle.fork_query.specs.Fetch.{fetched_of}
-use Rattle.fork_query.specs.Items.{commit_of, commit_of_item, found_commit, found_name, named_by, object_of_item}
+use Rattle.fork_query.specs.Items.{commit_behind, commit_of_item, found_commit, found_name, named_by, object_of_item}
 use Rattle.fork_query.specs.MergeBase.{bases_of, bases_told}
 use Rattle.fork_query.specs.Objects.{record_found}
 use Rattle.fork_query.specs.RevList.{revisions_of}
@@ -20,7 +20,7 @@ use Rattle.fork_request.specs.declared.refusal.Refusal.{Refusal}
 use Rattle.fork_request.specs.declared.refusal.Refusal.TheVariants.{BadName, Missing, NotACommit, TooMany}
 use Rattle.fork_request.specs.declared.reply.Reply.{Reply}
 use Rattle.fork_request.specs.declared.reply.Reply.TheVariants.{Refused}
-use Rattle.fork_model.specs.Answer.{few_items, named_repository, told}
+use Rattle.fork_model.specs.Answer.{few_items, named_repository, reply_of}
 use Rattle.fork_model.specs.Missing.{InRepository, LacksItem}
 use Rattle.fork_model.specs.View.{View}
 
@@ -73,12 +73,12 @@ commit_unseen_of objects repository name item is = by (object_of_item objects re
     never n None tells = cc
     never n (Some end) tells = no_commit n end (is_commit (kind_in objects end)) tells
 
-    by : (r : Result (List ℕ) Refusal) → object_of_item objects repository item ≡ r → commit_of objects r ≡ Err (Missing name) → (named_by repository item ≡ Some name) × (get objects name ≡ None)
+    by : (r : Result (List ℕ) Refusal) → object_of_item objects repository item ≡ r → commit_behind objects r ≡ Err (Missing name) → (named_by repository item ≡ Some name) × (get objects name ≡ None)
     by (Ok n) at tells = absurd (never n (peeled objects n) tells)
     by (Err refusal) at tells = unseen_of objects repository name item (at ∙ tells)
 
 -- a row that tells what was found tells a refusal of it
-pub refused_of : (r : Result (List ℕ) Refusal) (refusal : Refusal) → told r ≡ Refused refusal → r ≡ Err refusal
+pub refused_of : (r : Result (List ℕ) Refusal) (refusal : Refusal) → reply_of r ≡ Refused refusal → r ≡ Err refusal
 refused_of (Ok text) refusal is = absurd (cc)
 refused_of (Err other) refusal is = (let same : other ≡ refusal = cc in ap Err same)
 
@@ -125,14 +125,14 @@ bases_lack_of objects repository a b name is = by (commit_of_item objects reposi
         let found = commit_unseen_of objects repository name a (at_a ∙ tells) in
         record { item = a; first = record { before = []; behind = b ∷ []; parts = refl; passed = tt }; named = found.0; unseen = found.1 }
 
-pub object_of : (objects : Objects) (asked name : List ℕ) (o : Option Object) → get objects asked ≡ o → told (record_found asked o) ≡ Refused (Missing name) → (asked ≡ name) × (get objects name ≡ None)
+pub object_of : (objects : Objects) (asked name : List ℕ) (o : Option Object) → get objects asked ≡ o → reply_of (record_found asked o) ≡ Refused (Missing name) → (asked ≡ name) × (get objects name ≡ None)
 object_of objects asked name None at is = (let same : asked ≡ name = cc in (same, ap (get objects) (sym same) ∙ at))
 object_of objects asked name (Some object) at is = absurd (cc)
 
-no_tree : (asked name : List ℕ) (o : _) → told (rows_or asked o) ≡ Refused (Missing name) → ⊥
+no_tree : (asked name : List ℕ) (o : _) → reply_of (rows_or asked o) ≡ Refused (Missing name) → ⊥
 no_tree asked name None is = cc
 no_tree asked name (Some entries) is = cc
 
-pub tree_of : (objects : Objects) (asked name : List ℕ) (entries : _) (o : Option Object) → get objects asked ≡ o → told (cond (is_some o) (rows_or asked entries) (Err (Missing asked))) ≡ Refused (Missing name) → (asked ≡ name) × (get objects name ≡ None)
+pub tree_of : (objects : Objects) (asked name : List ℕ) (entries : _) (o : Option Object) → get objects asked ≡ o → reply_of (cond (is_some o) (rows_or asked entries) (Err (Missing asked))) ≡ Refused (Missing name) → (asked ≡ name) × (get objects name ≡ None)
 tree_of objects asked name entries None at is = (let same : asked ≡ name = cc in (same, ap (get objects) (sym same) ∙ at))
 tree_of objects asked name entries (Some object) at is = absurd (no_tree asked name entries is)

@@ -16,12 +16,12 @@ use Rattle.push_stream.specs.Stream.{Stream, finished, stream_of}
 use Rattle.push_stream.specs.Upload.{UploadValue}
 use Rattle.fork_push.specs.declared.refusal.PushRefusal.{PushRefusal}
 use Rattle.fork_push.specs.declared.refusal.PushRefusal.TheVariants as push
-use Rattle.fork_push.specs.Push.{is_missing, is_wrong, judged, within_limit, wrong_type, unless_refused as unless_push}
+use Rattle.fork_push.specs.Push.{is_missing, is_wrong, judged, within_limit, wrong_type, refusal_or as unless_push}
 use Rattle.fork_reach.specs.Objects.{use_of, with_objects}
 use Rattle.fork_reach.specs.Source.{Objects, kind_in}
 use Rattle.fork_request.specs.declared.refusal.Refusal.TheVariants.{Missing, UploadOpen}
 use Rattle.fork_request.specs.declared.reply.Reply.TheVariants.{Refused}
-use Rattle.fork_model.specs.Answer.{Held, push_into, push_refusal, pushed, stream_refusal, taken, transaction_refusal, upload_into}
+use Rattle.fork_model.specs.Answer.{Finished, push_into, push_refusal, pushed, stream_refusal, taken, transaction_refusal, upload_into}
 use Rattle.fork_model.specs.Missing.{IsFirst, LacksInStream, LacksInUpload, LacksSent, Linked, Pointed, links_sent}
 use Rattle.fork_model.specs.View.{View}
 use Rattle.fork_model.proofs.ToldTargets.{an_object, both_lacking, no_object, transacted_of}
@@ -106,7 +106,7 @@ pushed_of view repository old s name is = by (finished s) refl is
     by_verdict objects (Ok new) tells = absurd (cc)
     by_verdict objects (Err refusal) tells = (refusal, refl, cc)
 
-    by : (held : Held) → finished s ≡ held → (pushed view repository old held).0 ≡ Refused (Missing name) → LacksInStream view.objects s name
+    by : (held : Finished) → finished s ≡ held → (pushed view repository old held).0 ≡ Refused (Missing name) → LacksInStream view.objects s name
     by (Ok held) whole tells =
         let verdict = by_verdict (with_objects view.objects held.1) (judged (with_objects view.objects held.1) old.references view.limit (Ok (held.0, map object_name held.1))) tells in
         record { commands = held.0; sent = held.1; whole = whole; lacks = sent_of view.objects old.references view.limit held.0 held.1 verdict.0 name verdict.1 verdict.2 }

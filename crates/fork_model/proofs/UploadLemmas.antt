@@ -13,16 +13,16 @@ use Rattle.push_stream.specs.Upload.{upload_of}
 use Rattle.fork_reach.specs.Objects.{with_objects}
 use Rattle.fork_reach.specs.Source.{Objects}
 use Rattle.fork_reach.proofs.KeptObjects.{kept_all}
-use Rattle.fork_model.specs.Uploads.{AreSent, object_at, stream_among, upload_among}
+use Rattle.fork_model.specs.Uploads.{AreSent, object_sent, stream_among, upload_among}
 use Rattle.fork_model.proofs.ClosedLemmas.{each_of}
 use Rattle.fork_model.proofs.ProvenanceLemmas.{among_both}
 use Rattle.fork_model.proofs.TransferLemmas.{came, none_there}
 
 -- each object is found by what was told of it
-pub found_again : (objects : Objects) (sent : List Object) → AllByRecursion (λ object. get objects (object_name object) ≡ Some object) sent → map (object_at objects) (map sent_of sent) ≡ sent
+pub found_again : (objects : Objects) (sent : List Object) → AllByRecursion (λ object. get objects (object_name object) ≡ Some object) sent → map (object_sent objects) (map sent_of sent) ≡ sent
 found_again objects [] each = refl
 found_again objects (object ∷ sent) each =
-    let here : object_at objects (sent_of object) ≡ object = ap (λ found. unwrap_or found (record { kind = object.kind; bytes = [] })) each.0 in
+    let here : object_sent objects (sent_of object) ≡ object = ap (λ found. unwrap_or found (record { kind = object.kind; bytes = [] })) each.0 in
     let later = found_again objects sent each.1 in
     λ i. here i ∷ later i
 

@@ -106,11 +106,11 @@ push_refusal (push.Transaction refusal) = transaction_refusal refusal
 push_refusal push.OverQuota = OverQuota
 
 -- what a whole stream holds, or the fault of the stream
-abbrev pub Held : Type 0
-Held = Result (List Command × List Object) StreamFault
+abbrev pub Finished : Type 0
+Finished = Result (List Command × List Object) StreamFault
 
 -- the objects that the tenant sees and the sent ones: of several of one name the one that it sees counts, else the first sent
-abbrev pub both : View → Held → Objects
+abbrev pub both : View → Finished → Objects
 both view (Ok held) = with_objects view.objects held.1
 both view (Err fault) = view.objects
 
@@ -121,7 +121,7 @@ taken view word old objects (Ok references) =
 taken view word old objects (Err refusal) = (Refused (push_refusal refusal), view)
 
 -- what a push of a stream that is at its end does
-abbrev pub pushed : View → List ℕ → Repository → Held → Reply × View
+abbrev pub pushed : View → List ℕ → Repository → Finished → Reply × View
 pushed view word old held = taken view word old (both view held) (judged (both view held) old.references view.limit (brief_of held))
 
 -- `push REPO` and a body: the repository is there, no upload is open, and the body is judged
@@ -200,22 +200,22 @@ unfoldable pub set_head_answer : View → List ℕ → List ℕ → Reply × Vie
 set_head_answer view word reference = named_repository view word (set_head_in view word reference (get view.repositories word))
 
 -- how a reply tells what was found
-abbrev pub told : Result (List ℕ) Refusal → Reply
-told (Ok text) = Done text
-told (Err refusal) = Refused refusal
+abbrev pub reply_of : Result (List ℕ) Refusal → Reply
+reply_of (Ok text) = Done text
+reply_of (Err refusal) = Refused refusal
 
 -- `cat-file NAME`: the record of the object
 unfoldable pub cat_file_answer : View → List ℕ → Reply × View
-cat_file_answer view name = (told (object_told view.objects name), view)
+cat_file_answer view name = (reply_of (object_told view.objects name), view)
 
 -- `ls-tree NAME`: the entries of the tree that the name leads to
 unfoldable pub ls_tree_answer : View → List ℕ → Reply × View
-ls_tree_answer view name = (told (tree_told view.objects name), view)
+ls_tree_answer view name = (reply_of (tree_told view.objects name), view)
 
 -- what is asked over a repository that is there
 abbrev pub told_over : List ℕ → (Repository → Result (List ℕ) Refusal) → Option Repository → Reply
 told_over word query None = Refused (NoRepository word)
-told_over word query (Some repository) = told (query repository)
+told_over word query (Some repository) = reply_of (query repository)
 
 -- items, of which there are not too many
 abbrev pub few_items : List (List ℕ) → Reply → Reply

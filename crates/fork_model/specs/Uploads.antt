@@ -17,12 +17,12 @@ pub record AreSent (objects : Objects) (sent : List Object) : Type 0 where
   pub alone : (name : List ℕ) (object : Object) → get objects name ≡ Some object → IsAmong sent name object
 
 -- one that was sent, among these objects; where it is not there, of no bytes
-abbrev pub object_at : Objects → Sent → Object
-object_at objects sent = unwrap_or (get objects sent.name) (record { kind = sent.kind; bytes = [] })
+abbrev pub object_sent : Objects → Sent → Object
+object_sent objects sent = unwrap_or (get objects sent.name) (record { kind = sent.kind; bytes = [] })
 
 -- a stream with its objects
 abbrev pub stream_among : Objects → Flow → Stream
-stream_among objects (Going commands sent headed rest) = Flows commands (map (object_at objects) sent) headed rest
+stream_among objects (Going commands sent headed rest) = Flows commands (map (object_sent objects) sent) headed rest
 stream_among objects (Broken fault) = Breaks fault
 
 -- an upload with its objects

@@ -1,9 +1,10 @@
 -- What a tenant sees of a host: its repositories, each with its HEAD and its references, its objects, its open upload, its limit.
-use Rattle.std.specs.Prelude.{ℕ, List, Option, refl}
-use Rattle.std.specs.Coded.{Coded, code_by, coded×, coded_ℕ, coded_list, coded_option}
+use Rattle.std.specs.Prelude.{ℕ, Option, refl}
+use Rattle.std.specs.Coded.{Coded, code_by, coded×, coded_ℕ, coded_option}
 use Rattle.std.specs.FinMap.{FinMap, code}
 use Rattle.git_name.specs.Name.{name_cmp}
 use Rattle.git_name.specs.contracts.sealed.Sealed as sealed
+use Rattle.git_name.specs.Text.{bytes_code}
 use Rattle.git_reftx.specs.Repository.{Repository, repository_code}
 use Rattle.push_stream.specs.Upload.{UploadValue, upload_code}
 use Rattle.fork_reach.specs.Source.{Objects}
@@ -18,9 +19,6 @@ pub record View : Type 0 where
   pub objects : Objects
   pub upload : Option UploadValue
   pub limit : ℕ
-
-abbrev bytes_code : Coded (List ℕ)
-bytes_code = coded_list coded_ℕ
 
 -- a view has a code, so that it can be a model's value
 abbrev pub view_code : Coded View

@@ -70,11 +70,11 @@ alone view asks = Runs.alone (λ _. answer) view (Runs.meeting (tt {0}) asks)
 
 -- no reply of these is a host fault
 abbrev pub AreFine : List Reply → Type 0
-AreFine = Runs.IsUnfaulted is_host_fault
+AreFine = Runs.AreFine is_host_fault
 
 -- no reply to the tenant is one
 abbrev pub IsUnfaulted : List ℕ → List Event → List Reply → Type 0
-IsUnfaulted tenant steps replies = Runs.IsUnfaulted is_host_fault (told tenant steps replies)
+IsUnfaulted tenant steps replies = Runs.AreFine is_host_fault (told tenant steps replies)
 
 -- both worlds show the tenant alike
 abbrev pub Agree : List ℕ → World → World → Type 0

@@ -6,7 +6,7 @@ use Rattle.fork_host.specs.Adding.{refusal_to_add}
 use Rattle.fork_host.specs.declared.add_error.AddError.{AddError}
 use Rattle.fork_host.specs.Shown.{HostState, Trusted, world_of}
 use Rattle.fork_model.specs.World.{World}
-use Rattle.fork_program.specs.Given.{AreFree, AreGiven, AreUngiven, IsFirstRefused, IsUnadded, with_tenant, world_with}
+use Rattle.fork_program.specs.Given.{AreFree, AreGiven, AreUngiven, IsFirstRefused, IsUnadded, with_grant, world_with}
 use Rattle.fork_program.specs.declared.fault.Fault.{Fault}
 use Rattle.fork_program.specs.declared.fault.Fault.TheVariants.{TooLarge, BadObject, BadFrame, Read, Write, Memory, Store, Socket, NoState, Unreadable, Journal, NotKept, NotSaved, Line, Lost, Damaged, Unsound, OverLimit, There, TooManyTenants}
 
@@ -40,12 +40,12 @@ none_added grants old = record {
   made = refl;
 }
 
-pub one_added : (grants rest : List Grant) (grant : Grant) (first old new : World) → Adding grants (grant ∷ rest) first old → refusal_to_add old grant.tenant grant.limit ≡ None → new ≡ with_tenant old grant → Adding grants rest first new
+pub one_added : (grants rest : List Grant) (grant : Grant) (first old new : World) → Adding grants (grant ∷ rest) first old → refusal_to_add old grant.tenant grant.limit ≡ None → new ≡ with_grant old grant → Adding grants rest first new
 one_added grants rest grant first old new so_far free made = record {
   done = so_far.done ++ grant ∷ [];
   parts = so_far.parts ∙ sym (append_assoc so_far.done (grant ∷ []) rest);
   free = each_more (λ before g. refusal_to_add (world_with first before) g.tenant g.limit ≡ None) so_far.done grant so_far.free (subst (λ w. refusal_to_add w grant.tenant grant.limit ≡ None) so_far.made free);
-  made = made ∙ (ap (λ w. with_tenant w grant) so_far.made ∙ sym (fold-append with_tenant first so_far.done (grant ∷ [])));
+  made = made ∙ (ap (λ w. with_grant w grant) so_far.made ∙ sym (fold-append with_grant first so_far.done (grant ∷ [])));
 }
 
 -- nothing is left of a list without length

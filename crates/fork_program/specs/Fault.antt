@@ -14,31 +14,31 @@ use Rattle.fork_program.specs.declared.fault.Fault.{Fault}
 use Rattle.fork_program.specs.declared.fault.Fault.TheVariants.{TooLarge, BadObject, BadFrame, Read, Write, Memory, Store, Socket, NoState, Unreadable, Journal, NotKept, NotSaved, Line, Lost, Damaged, Unsound, OverLimit, There, TooManyTenants}
 
 -- what is said of a fault
-abbrev pub words_of : Fault → List ℕ
-words_of TooLarge = codes "too-large"
-words_of BadObject = codes "bad-object"
-words_of BadFrame = codes "bad frame"
-words_of Read = codes "read"
-words_of Write = codes "write"
-words_of Memory = codes "memory"
-words_of Store = codes "store"
-words_of Socket = codes "socket"
-words_of NoState = codes "no state"
-words_of Unreadable = codes "state unreadable"
-words_of Journal = codes "journal unreadable"
-words_of NotKept = codes "journal not written"
-words_of NotSaved = codes "state not saved"
-words_of (Line line) = codes "state line " ++ decimal line
-words_of (Lost name) = codes "lost " ++ encode_lower name
-words_of (Damaged name) = codes "damaged " ++ encode_lower name
-words_of (Unsound name) = codes "unsound " ++ encode_lower name
-words_of (OverLimit tenant) = codes "over limit " ++ tenant
-words_of (There tenant) = codes "tenant " ++ tenant ++ codes " is there already"
-words_of TooManyTenants = codes "too many tenants"
+abbrev pub said_of : Fault → List ℕ
+said_of TooLarge = codes "too-large"
+said_of BadObject = codes "bad-object"
+said_of BadFrame = codes "bad frame"
+said_of Read = codes "read"
+said_of Write = codes "write"
+said_of Memory = codes "memory"
+said_of Store = codes "store"
+said_of Socket = codes "socket"
+said_of NoState = codes "no state"
+said_of Unreadable = codes "state unreadable"
+said_of Journal = codes "journal unreadable"
+said_of NotKept = codes "journal not written"
+said_of NotSaved = codes "state not saved"
+said_of (Line line) = codes "state line " ++ decimal line
+said_of (Lost name) = codes "lost " ++ encode_lower name
+said_of (Damaged name) = codes "damaged " ++ encode_lower name
+said_of (Unsound name) = codes "unsound " ++ encode_lower name
+said_of (OverLimit tenant) = codes "over limit " ++ tenant
+said_of (There tenant) = codes "tenant " ++ tenant ++ codes " is there already"
+said_of TooManyTenants = codes "too many tenants"
 
 -- the line that says it
 abbrev pub fault_line : Fault → List ℕ
-fault_line fault = codes "forkhost: " ++ words_of fault ++ 10 ∷ []
+fault_line fault = codes "forkhost: " ++ said_of fault ++ 10 ∷ []
 
 -- how a session's fault is told
 abbrev pub session_fault : SessionFault → Fault

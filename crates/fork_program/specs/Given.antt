@@ -11,12 +11,12 @@ use Rattle.fork_program.specs.declared.fault.Fault.{Fault}
 use Rattle.fork_program.specs.declared.fault.Fault.TheVariants.{Memory, There, TooManyTenants}
 
 -- the world with one tenant more, which sees nothing
-abbrev pub with_tenant : World → Grant → World
-with_tenant world grant = insert world grant.tenant (new_view grant.limit)
+abbrev pub with_grant : World → Grant → World
+with_grant world grant = insert world grant.tenant (new_view grant.limit)
 
 -- the world with these tenants more
 abbrev pub world_with : World → List Grant → World
-world_with world grants = fold with_tenant world grants
+world_with world grants = fold with_grant world grants
 
 -- why a tenant was not added
 abbrev pub IsUnadded : World → Grant → Fault → Type 0

@@ -14,8 +14,8 @@ abbrev pub IsOfKind : Kind → List ℕ → Type 0
 IsOfKind kind bytes = (value : ObjectValue) × IsObject value kind bytes
 
 -- its name, and LF
-abbrev pub name_line : Kind → List ℕ → List ℕ
-name_line kind bytes = encode_lower (object_name (record { kind = kind; bytes = bytes })) ++ 10 ∷ []
+abbrev pub object_line : Kind → List ℕ → List ℕ
+object_line kind bytes = encode_lower (object_name (record { kind = kind; bytes = bytes })) ++ 10 ∷ []
 
 -- the input has more than an object may have
 abbrev pub IsTooLarge : Option (List ℕ) → Type 0
@@ -34,8 +34,8 @@ IsUnread input Memory = ⊤
 IsUnread input _ = ⊥
 
 -- the input is an object of the kind, and its name went out
-abbrev pub IsNamed : Kind → Option (List ℕ) → Option (List ℕ) → Option (List ℕ) → Type 0
-IsNamed kind input before after = (content : List ℕ) × IsContent input content × IsOfKind kind content × Appends before after (name_line kind content)
+abbrev pub TellsName : Kind → Option (List ℕ) → Option (List ℕ) → Option (List ℕ) → Type 0
+TellsName kind input before after = (content : List ℕ) × IsContent input content × IsOfKind kind content × Appends before after (object_line kind content)
 
 -- why no name went out, or not the whole of it
 abbrev pub IsUnnamed : Kind → Option (List ℕ) → Option (List ℕ) → Option (List ℕ) → Fault → Type 0

@@ -10,9 +10,9 @@ use Rattle.fork_command.specs.declared.command.Command.TheVariants.{HashObject, 
 use Rattle.fork_command.specs.declared.error.CommandError.TheVariants as refusal
 use Rattle.fork_frame.specs.declared.ended.Ended.TheVariants.{Clean}
 use Rattle.fork_program.specs.Fault.{fault_line}
-use Rattle.fork_program.specs.Hashing.{IsNamed, IsUnnamed}
+use Rattle.fork_program.specs.Hashing.{TellsName, IsUnnamed}
 use Rattle.fork_program.specs.Keeping.{IsUnchecked, IsUntouched, again_line, sound_line}
-use Rattle.fork_program.specs.Running.{IsRun, IsUnserved}
+use Rattle.fork_program.specs.Running.{IsSessionOf, IsUnserved}
 use Rattle.fork_program.specs.Serving.{IsListened, IsUnlistened}
 use Rattle.fork_program.specs.declared.ending.Ending.{Ending}
 use Rattle.fork_program.specs.declared.ending.Ending.TheVariants.{Done, Sound, Failed, Misused, BadTenant}
@@ -45,15 +45,15 @@ IsToTell (BadTenant word) = ⊤
 
 -- the command, which is no check, was done
 abbrev pub IsDone : Command → Option (List ℕ) → Option (List ℕ) → Option (List ℕ) → Type 0
-IsDone (HashObject kind) input before after = IsNamed kind input before after
-IsDone (Run hosting) input before after = IsRun hosting input before after Clean
+IsDone (HashObject kind) input before after = TellsName kind input before after
+IsDone (Run hosting) input before after = IsSessionOf hosting input before after Clean
 IsDone (Serve socket connections hosting) input before after = IsListened hosting connections × Keeps before after
 IsDone (Check dir) input before after = ⊥
 
 -- a check found the folder sound
-abbrev pub IsSound : Command → Option (List ℕ) → Option (List ℕ) → Option (List ℕ) → Option (List ℕ) → Type 0
-IsSound (Check dir) input left before after = Keeps input left × Appends before after sound_line
-IsSound command input left before after = ⊥
+abbrev pub FindsSound : Command → Option (List ℕ) → Option (List ℕ) → Option (List ℕ) → Option (List ℕ) → Type 0
+FindsSound (Check dir) input left before after = Keeps input left × Appends before after sound_line
+FindsSound command input left before after = ⊥
 
 -- why the command was not done
 abbrev pub IsUndone : Command → Option (List ℕ) → Option (List ℕ) → Option (List ℕ) → Option (List ℕ) → Fault → Type 0
@@ -70,13 +70,13 @@ ending_of (Err fault) = Failed fault
 -- how the command ended
 abbrev pub IsCarriedOut : Command → Option (List ℕ) → Option (List ℕ) → Option (List ℕ) → Option (List ℕ) → Ending → Type 0
 IsCarriedOut command input left before after Done = IsDone command input before after
-IsCarriedOut command input left before after (Sound count) = IsSound command input left before after
+IsCarriedOut command input left before after (Sound count) = FindsSound command input left before after
 IsCarriedOut command input left before after (Failed fault) = IsUndone command input left before after fault
 IsCarriedOut command input left before after ending = ⊥
 
 -- the words ask for a check, and the folder is sound
 pub data IsChecked (kinds : Kinds) (met : Option (Text × List Row)) (input left before after : Option (List ℕ)) : Type 0 where
-  Checked : (command : Command) → kinds ≡ [] → Asks met command → IsSound command input left before after → IsChecked kinds met input left before after
+  Checked : (command : Command) → kinds ≡ [] → Asks met command → FindsSound command input left before after → IsChecked kinds met input left before after
 
 -- all is well
 pub data IsWell (kinds : Kinds) (met : Option (Text × List Row)) (input left before after : Option (List ℕ)) : Type 0 where

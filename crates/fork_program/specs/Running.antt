@@ -36,20 +36,20 @@ pub record IsKeptHostOf (hosting : Hosting) (host : HostState) : Type 0 where
   pub of : IsHostOf hosting host
 
 -- a session of such a host was served up to this end
-pub record IsRun (hosting : Hosting) (input before after : Option (List ℕ)) (ended : Ended) : Type 0 where
+pub record IsSessionOf (hosting : Hosting) (input before after : Option (List ℕ)) (ended : Ended) : Type 0 where
   pub first : HostState
   pub last : HostState
   pub host : IsHostOf hosting first
   pub served : IsServed first last input before after ended
 
 -- why a session was not served up to its input's end
-abbrev pub IsCutShort : HostState → HostState → Option (List ℕ) → Option (List ℕ) → Option (List ℕ) → Fault → Type 0
-IsCutShort first last input before after BadFrame = IsServed first last input before after ended.BadFrame
-IsCutShort first last input before after Read = IsStopped first last input before after session.Read
-IsCutShort first last input before after Write = IsStopped first last input before after session.Write
-IsCutShort first last input before after Memory = IsStopped first last input before after session.Memory
-IsCutShort first last input before after NotKept = IsStopped first last input before after session.Journal
-IsCutShort first last input before after _ = ⊥
+abbrev pub EndsEarly : HostState → HostState → Option (List ℕ) → Option (List ℕ) → Option (List ℕ) → Fault → Type 0
+EndsEarly first last input before after BadFrame = IsServed first last input before after ended.BadFrame
+EndsEarly first last input before after Read = IsStopped first last input before after session.Read
+EndsEarly first last input before after Write = IsStopped first last input before after session.Write
+EndsEarly first last input before after Memory = IsStopped first last input before after session.Memory
+EndsEarly first last input before after NotKept = IsStopped first last input before after session.Journal
+EndsEarly first last input before after _ = ⊥
 
 -- why there is no such host
 pub data IsUnhosted (hosting : Hosting) (fault : Fault) : Type 0 where
@@ -67,6 +67,6 @@ pub data IsUnserved (hosting : Hosting) (input left before after : Option (List 
   -- the state could not be saved before the session
   Unready : is_some hosting.dir ≡ true → fault ≡ NotSaved → (first : HostState) → IsHostOf hosting first → IsUntouched input left before after → IsUnserved hosting input left before after fault
   -- the session was cut short, for want of a journal only where a folder keeps the host
-  Cut : (first last : HostState) → IsHostOf hosting first → (fault ≡ NotKept → is_some hosting.dir ≡ true) → IsCutShort first last input before after fault → IsUnserved hosting input left before after fault
+  Cut : (first last : HostState) → IsHostOf hosting first → (fault ≡ NotKept → is_some hosting.dir ≡ true) → EndsEarly first last input before after fault → IsUnserved hosting input left before after fault
   -- the session was served, and then the state could not be saved
-  Unsaved : is_some hosting.dir ≡ true → fault ≡ NotSaved → IsRun hosting input before after ended.Clean → IsUnserved hosting input left before after fault
+  Unsaved : is_some hosting.dir ≡ true → fault ≡ NotSaved → IsSessionOf hosting input before after ended.Clean → IsUnserved hosting input left before after fault

@@ -2,7 +2,7 @@ ghost use Rattle.std.specs.Prelude.{◌≡◌, ◌++◌, OnOk};
 ghost use Rattle.std.specs.Io.KnownBytes.{Appends};
 ghost use Rattle.fork_program.specs.declared.fault.Fault.TheVariants as fault;
 ghost use Rattle.hex.specs.Hex.{encode_lower};
-ghost use Rattle.fork_program.specs.Fault.{fault_line, words_of};
+ghost use Rattle.fork_program.specs.Fault.{fault_line, said_of};
 
 use fork_request::TenantName;
 use git_name::Name;
@@ -68,7 +68,7 @@ impl Fault {
 
     // Writes what is said of the fault.
     fn write_words<W: Write>(&self, writer: &mut W) -> io::Result<()>
-        ensures { OnOk result (Appends (W.contents writer.old) (W.contents writer.new) (words_of self.now)) }
+        ensures { OnOk result (Appends (W.contents writer.old) (W.contents writer.new) (said_of self.now)) }
     {
         match self {
             Fault::TooLarge => writer.write_all(b"too-large"),
@@ -115,7 +115,7 @@ fn write_name<W: Write>(before: &[u8], name: &Name, writer: &mut W) -> io::Resul
 
 // Writes that this tenant is there already.
 fn write_there<W: Write>(tenant: &TenantName, writer: &mut W) -> io::Result<()>
-    ensures { OnOk result (Appends (W.contents writer.old) (W.contents writer.new) (words_of (fault.There tenant.now))) }
+    ensures { OnOk result (Appends (W.contents writer.old) (W.contents writer.new) (said_of (fault.There tenant.now))) }
 {
     writer.write_all(b"tenant ")?;
     writer.write_all(tenant.as_bytes())?;

@@ -1,5 +1,5 @@
 ghost use Rattle.std.specs.Prelude.{◌≡◌, ◌↔◌, IfErr, IsTrue, OnOk};
-ghost use Rattle.fork_program.specs.Hashing.{IsNamed, IsOfKind, IsUnnamed, name_line};
+ghost use Rattle.fork_program.specs.Hashing.{TellsName, IsOfKind, IsUnnamed, object_line};
 
 use crate::content::read_content;
 use crate::fault::Fault;
@@ -21,7 +21,7 @@ fn is_object(kind: Kind, bytes: &[u8]) -> bool
 
 // The name of the object of this kind, and LF.
 fn line_of(kind: Kind, bytes: &[u8]) -> [u8; 65]
-    ensures { result ≡ name_line kind bytes.now }
+    ensures { result ≡ object_line kind bytes.now }
 {
     let mut line = [b'\n'; 65];
     let name = name_of(kind, bytes);
@@ -38,7 +38,7 @@ pub fn hash_object<R: Read, W: Write>(
     reader: &mut R,
     writer: &mut W,
 ) -> Result<(), Fault>
-    ensures ok { OnOk result (IsNamed kind (R.remaining reader.old)
+    ensures ok { OnOk result (TellsName kind (R.remaining reader.old)
         (W.contents writer.old) (W.contents writer.new)) }
     ensures err { IfErr result (IsUnnamed kind (R.remaining reader.old)
         (W.contents writer.old) (W.contents writer.new)) }

@@ -2,7 +2,7 @@ ghost use Rattle.std.specs.Prelude.{◌≡◌, IfErr, OnOk, is_some, true};
 ghost use Rattle.fork_command.specs.declared.hosting.Hosting.{Hosting};
 ghost use Rattle.fork_frame.specs.declared.ended.Ended.TheVariants.{Clean};
 ghost use Rattle.fork_wire.specs.Sessions.{IsServed};
-ghost use Rattle.fork_program.specs.Running.{IsCutShort, IsKeptHostOf, IsRun, IsUnserved};
+ghost use Rattle.fork_program.specs.Running.{EndsEarly, IsKeptHostOf, IsSessionOf, IsUnserved};
 
 use crate::fault::Fault;
 use crate::hosts::{host_in_folder, host_in_memory};
@@ -28,7 +28,7 @@ fn session<S: LooseFiles, J: Journal, R: Read, W: Write>(
 ) -> Result<(), Fault>
     ensures ok { OnOk result (IsServed host.old host.new (R.remaining reader.old)
         (W.contents writer.old) (W.contents writer.new) Clean) }
-    ensures err { IfErr result (IsCutShort host.old host.new (R.remaining reader.old)
+    ensures err { IfErr result (EndsEarly host.old host.new (R.remaining reader.old)
         (W.contents writer.old) (W.contents writer.new)) }
     ensures cause { IfErr result (λ fault. fault ≡ Fault.NotKept → J.can_fail) }
 {
@@ -49,7 +49,7 @@ fn keep_session<'x, H: Files<File = File> + AllocGlobal, S: LooseFiles, R: Read,
     reader: &mut R,
     writer: &mut W,
 ) -> Result<(), Fault>
-    ensures ok { (hosting : Hosting) → IsKeptHostOf hosting host.old → OnOk result (IsRun hosting (R.remaining reader.old)
+    ensures ok { (hosting : Hosting) → IsKeptHostOf hosting host.old → OnOk result (IsSessionOf hosting (R.remaining reader.old)
         (W.contents writer.old) (W.contents writer.new) Clean) }
     ensures err { (hosting : Hosting) → IsKeptHostOf hosting host.old → IfErr result (IsUnserved hosting (R.remaining reader.old)
         (R.remaining reader.new) (W.contents writer.old) (W.contents writer.new)) }
@@ -71,7 +71,7 @@ fn run_in_memory<H: RandomSource, R: Read, W: Write>(
     reader: &mut R,
     writer: &mut W,
 ) -> Result<(), Fault>
-    ensures ok { OnOk result (IsRun hosting.entry (R.remaining reader.old)
+    ensures ok { OnOk result (IsSessionOf hosting.entry (R.remaining reader.old)
         (W.contents writer.old) (W.contents writer.new) Clean) }
     ensures err { IfErr result (IsUnserved hosting.entry (R.remaining reader.old) (R.remaining reader.new)
         (W.contents writer.old) (W.contents writer.new)) }
@@ -90,7 +90,7 @@ fn run_in_folder<'x, H: Files<File = File> + AllocGlobal + RandomSource, R: Read
     writer: &mut W,
 ) -> Result<(), Fault>
     requires { is_some hosting.dir ≡ true }
-    ensures ok { OnOk result (IsRun hosting.entry (R.remaining reader.old)
+    ensures ok { OnOk result (IsSessionOf hosting.entry (R.remaining reader.old)
         (W.contents writer.old) (W.contents writer.new) Clean) }
     ensures err { IfErr result (IsUnserved hosting.entry (R.remaining reader.old) (R.remaining reader.new)
         (W.contents writer.old) (W.contents writer.new)) }
@@ -109,7 +109,7 @@ pub fn run<H: Files<File = File> + AllocGlobal + RandomSource, R: Read, W: Write
     reader: &mut R,
     writer: &mut W,
 ) -> Result<(), Fault>
-    ensures ok { OnOk result (IsRun hosting.entry (R.remaining reader.old)
+    ensures ok { OnOk result (IsSessionOf hosting.entry (R.remaining reader.old)
         (W.contents writer.old) (W.contents writer.new) Clean) }
     ensures err { IfErr result (IsUnserved hosting.entry (R.remaining reader.old) (R.remaining reader.new)
         (W.contents writer.old) (W.contents writer.new)) }

@@ -1,7 +1,7 @@
 ghost use Rattle.std.specs.Prelude.{◌≡◌, IfErr, OnOk, None};
 ghost use Rattle.fork_host.specs.Adding.{refusal_to_add};
 ghost use Rattle.fork_host.specs.Shown.{Trusted, world_of};
-ghost use Rattle.fork_program.specs.Given.{AreGiven, AreUngiven, IsUnadded, with_tenant};
+ghost use Rattle.fork_program.specs.Given.{AreGiven, AreUngiven, IsUnadded, with_grant};
 
 use crate::fault::Fault;
 use fork_command::Grant;
@@ -12,7 +12,7 @@ use std::alloc::Global;
 
 // Adds a tenant.
 fn add<S: LooseFiles>(host: &mut Host<S>, alloc: Global, grant: Grant) -> Result<(), Fault>
-    ensures ok { OnOk result (world_of host.new ≡ with_tenant (world_of host.old) grant) }
+    ensures ok { OnOk result (world_of host.new ≡ with_grant (world_of host.old) grant) }
     ensures free { OnOk result (refusal_to_add (world_of host.old) grant.tenant grant.limit ≡ None) }
     ensures err { IfErr result (IsUnadded (world_of host.old) grant) }
     ensures trusted { Trusted host.old → Trusted host.new }

@@ -13,7 +13,7 @@ use Rattle.fork_push.specs.declared.refusal.PushRefusal.TheVariants.{OverQuota}
 use Rattle.fork_push.specs.declared.verdict.Verdict.{Verdict}
 use Rattle.fork_push.specs.declared.verdict.Verdict.TheVariants.{Accepted, Refused, Failed}
 use Rattle.fork_push.specs.Push.{within_limit}
-use Rattle.fork_push.specs.Verdict.{IfAccepted, IsOrderly, TellsJudged}
+use Rattle.fork_push.specs.Verdict.{IfAccepted, IsAcceptable, TellsJudged}
 
 fits : (limit used : ℕ) → nat_lt limit used ≡ false → used ≤ limit
 fits limit used is = grind (arith, nat_tests)
@@ -28,7 +28,7 @@ accepted_within both limit (Err refusal) new is = (let differs : ⊥ = cc in abs
 
 -- a verdict on objects of the same measures
 pub orderly : (both others : Objects) (old : References) (limit : ℕ) (commands : List Command) (verdict : Verdict) → measures_of both ≡ measures_of others
-    → TellsJudged (within_limit both limit (transacted old commands (kind_in both))) verdict → IfAccepted verdict (IsOrderly others old limit)
+    → TellsJudged (within_limit both limit (transacted old commands (kind_in both))) verdict → IfAccepted verdict (IsAcceptable others old limit)
 orderly both others old limit commands (Accepted new) same told =
     let found = accepted_within both limit (transacted old commands (kind_in both)) new told in
     record {

@@ -54,13 +54,13 @@ abbrev pub within_limit : Objects → ℕ → Result References TxRefusal → Re
 within_limit both limit (Ok new) = if nat_lt limit (use_of both) then Err OverQuota else Ok new
 within_limit both limit (Err refusal) = Err (Transaction refusal)
 
-abbrev pub unless_refused : Option PushRefusal → Result References PushRefusal → Result References PushRefusal
-unless_refused (Some refusal) verdict = Err refusal
-unless_refused None verdict = verdict
+abbrev pub refusal_or : Option PushRefusal → Result References PushRefusal → Result References PushRefusal
+refusal_or (Some refusal) verdict = Err refusal
+refusal_or None verdict = verdict
 
 -- the references after a push over both sides' objects, or the first refusal. `both` are the objects that the tenant
 -- sees and the sent ones; of several of one name the one that the tenant sees counts, else the first that was sent
 unfoldable pub judged : Objects → References → ℕ → Result BriefValue StreamFault → Result References PushRefusal
 judged both old limit (Err fault) = Err (Stream fault)
 judged both old limit (Ok brief) =
-    unless_refused (link_refusal both (links_under both brief.1)) (within_limit both limit (transacted old brief.0 (kind_in both)))
+    refusal_or (link_refusal both (links_under both brief.1)) (within_limit both limit (transacted old brief.0 (kind_in both)))

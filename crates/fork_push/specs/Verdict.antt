@@ -22,7 +22,7 @@ fault_of_verdict (Refused refusal) = None
 fault_of_verdict (Failed fault) = Some fault
 
 -- what is accepted passed its transaction and the limit
-pub record IsOrderly (both : Objects) (old : References) (limit : ℕ) (new : References) : Type 0 where
+pub record IsAcceptable (both : Objects) (old : References) (limit : ℕ) (new : References) : Type 0 where
   pub commands : List Command
   pub carried : transacted old commands (kind_in both) ≡ Ok new
   pub within : use_of both ≤ limit

@@ -4,7 +4,7 @@ ghost use Rattle.git_reftx.specs.Transaction.{transacted};
 ghost use Rattle.fork_reach.specs.Faults.{IsAsked};
 ghost use Rattle.fork_reach.specs.Source.{kind_in};
 ghost use Rattle.fork_push.specs.Push.{judged, within_limit};
-ghost use Rattle.fork_push.specs.Verdict.{IfAccepted, IsOrderly, TellsJudged, fault_of_verdict};
+ghost use Rattle.fork_push.specs.Verdict.{IfAccepted, IsAcceptable, TellsJudged, fault_of_verdict};
 
 use crate::both_kinds::BothKinds;
 use crate::refusal::PushRefusal;
@@ -29,7 +29,7 @@ pub fn judge<S: Sides>(
     ensures judged { IsTrue (S.state sides.old).honest → TellsJudged (judged (S.state sides.old).objects references.now limit (brief_shown finished.now)) result }
 
     // Over any store.
-    ensures accepted { IfAccepted result (IsOrderly (S.state sides.old).objects references.now limit) }
+    ensures accepted { IfAccepted result (IsAcceptable (S.state sides.old).objects references.now limit) }
     ensures asked { IsAsked (S.state sides.old) (S.state sides.new) (fault_of_verdict result) }
 {
     match finished {
@@ -48,7 +48,7 @@ fn judge_brief<S: Sides>(
     limit: u64,
 ) -> Verdict
     ensures judged { IsTrue (S.state sides.old).honest → TellsJudged (judged (S.state sides.old).objects references.now limit (Ok (brief.now.commands.items, brief.now.names.items))) result }
-    ensures accepted { IfAccepted result (IsOrderly (S.state sides.old).objects references.now limit) }
+    ensures accepted { IfAccepted result (IsAcceptable (S.state sides.old).objects references.now limit) }
     ensures asked { IsAsked (S.state sides.old) (S.state sides.new) (fault_of_verdict result) }
 {
     match judge_sent(alloc, sides, brief.names.as_slice()) {

@@ -2,7 +2,7 @@ ghost use Rattle.std.specs.Prelude.{◌≡◌, IfNone, None, false};
 ghost use Rattle.std.specs.Bool.{OnTrue};
 ghost use Rattle.std.specs.List.{find};
 ghost use Rattle.std.specs.Option.{option_or};
-ghost use Rattle.git_tree.specs.Entry.{entry_of};
+ghost use Rattle.git_tree.specs.Entry.{plain_entry};
 ghost use Rattle.git_object.specs.Links.{entry_links, link_to};
 ghost use Rattle.git_object.specs.ObjectIn.{links_in};
 ghost use Rattle.fork_push.specs.Push.{is_missing, is_wrong};
@@ -26,7 +26,7 @@ fn is_met<S: Source>(source: &S, name: Name, kind: Kind) -> bool
 // Whether the object of a tree's entry is there, and of the kind that the mode wants. A gitlink wants
 // none.
 fn is_entry_met<S: Source>(source: &S, entry: TreeEntry<'_>) -> bool
-    ensures { OnTrue result (find (is_wrong (S.state source.now).objects) (entry_links (entry_of entry.entry)) ≡ None) }
+    ensures { OnTrue result (find (is_wrong (S.state source.now).objects) (entry_links (plain_entry entry.entry)) ≡ None) }
 {
     match entry.mode.link_kind() {
         Some(kind) => is_met(source, entry.name, kind),

@@ -7,7 +7,7 @@ use Rattle.git_name.specs.Name.{name_cmp}
 use Rattle.git_name.proofs.Names.{name_total}
 use Rattle.fork_reach.specs.Source.{Objects}
 use Rattle.fork_reach.proofs.KeptObjects.{tied_names}
-use Rattle.fork_query.specs.Followed.{AreEnds, Ends}
+use Rattle.fork_query.specs.Followed.{AreEnds, TagEnds}
 use Rattle.fork_query.specs.Peel.{peeled}
 
 -- nothing is known at first
@@ -15,7 +15,7 @@ pub none_followed : (objects : Objects) → AreEnds objects empty
 none_followed objects tag = subst (λ found. IfSome found (λ end. end ≡ peeled objects tag)) (sym (get-empty name_cmp tag)) tt
 
 -- one more tag, under which stands what it stands for
-pub one_followed : (objects : Objects) (ends : Ends) (tag : List ℕ) (end : Option (List ℕ)) → AreEnds objects ends → end ≡ peeled objects tag → AreEnds objects (insert ends tag end)
+pub one_followed : (objects : Objects) (ends : TagEnds) (tag : List ℕ) (end : Option (List ℕ)) → AreEnds objects ends → end ≡ peeled objects tag → AreEnds objects (insert ends tag end)
 one_followed objects ends tag end are is other =
     subst (λ found. IfSome found (λ e. e ≡ peeled objects other)) (sym (get-insert name_total ends tag end other)) (by (eq_by_cmp name_cmp other tag) refl)
   where

@@ -14,23 +14,23 @@ use Rattle.git_name.specs.Same.{same_name}
 use Rattle.git_name.proofs.SortedNames.{strictly_sorted}
 use Rattle.push_stream.specs.Record.{record_of}
 use Rattle.fork_reach.specs.declared.lending.Lent.{Lent}
-use Rattle.fork_reach.specs.Lending.{IsLent, IsNamed, object_lent}
+use Rattle.fork_reach.specs.Lending.{IsLent, HasOwnName, object_lent}
 use Rattle.fork_reach.specs.Reach.{is_among}
 use Rattle.fork_reach.specs.Source.{SourceState}
-use Rattle.fork_query.specs.Fetch.{record_at, record_or_none}
+use Rattle.fork_query.specs.Fetch.{record_named, record_or_none}
 use Rattle.fork_query.specs.Lent.{record_lent}
 use Rattle.fork_query.specs.Objects.{AreRecords}
 use Rattle.fork_query.specs.Sent.{IsSent}
 
 -- each is under its own name
-all_named : {Base Rest : Type 0} (state : SourceState Base Rest) (lent : List Lent) → AllByRecursion (IsLent state) lent → AllByRecursion IsNamed lent
+all_named : {Base Rest : Type 0} (state : SourceState Base Rest) (lent : List Lent) → AllByRecursion (IsLent state) lent → AllByRecursion HasOwnName lent
 all_named state [] all = tt
 all_named state (one ∷ rest) all = (all.0.2, all_named state rest all.1)
 
 -- their records are those of what stands under their names
-records_at : {Base Rest : Type 0} (state : SourceState Base Rest) (lent : List Lent) → AllByRecursion (IsLent state) lent → flat_map record_lent lent ≡ flat_map (record_at state.objects) (map (λ one. one.name) lent)
+records_at : {Base Rest : Type 0} (state : SourceState Base Rest) (lent : List Lent) → AllByRecursion (IsLent state) lent → flat_map record_lent lent ≡ flat_map (record_named state.objects) (map (λ one. one.name) lent)
 records_at state [] all = refl
-records_at state (one ∷ rest) all = ap (λ text. record_lent one ++ text) (records_at state rest all.1) ∙ ap (λ found. record_or_none found ++ flat_map (record_at state.objects) (map (λ o. o.name) rest)) (sym all.0.1)
+records_at state (one ∷ rest) all = ap (λ text. record_lent one ++ text) (records_at state rest all.1) ∙ ap (λ found. record_or_none found ++ flat_map (record_named state.objects) (map (λ o. o.name) rest)) (sym all.0.1)
 
 -- what stands still stands when it is moved
 still_lent : {Base Rest : Type 0} (state : SourceState Base Rest) (lent sorted : List Lent) → AllByRecursion (IsLent state) lent → IsPermutation lent sorted → AllByRecursion (IsLent state) sorted
@@ -38,7 +38,7 @@ still_lent state lent sorted all moved = recursion_from_All (IsLent state) sorte
 
 -- what is lent is written as records of objects
 pub lent_are_records : {Base Rest : Type 0} (state : SourceState Base Rest) (lent sorted : List Lent) (text : List ℕ) → AllByRecursion (IsLent state) lent → IsPermutation lent sorted
-    → (AllByRecursion IsNamed sorted → text ≡ flat_map record_lent sorted) → AreRecords text
+    → (AllByRecursion HasOwnName sorted → text ≡ flat_map record_lent sorted) → AreRecords text
 lent_are_records state lent sorted text all moved written =
     (map object_lent sorted, written (all_named state sorted (still_lent state lent sorted all moved)) ∙ sym (flat_map-map record_of object_lent sorted))
 
@@ -54,7 +54,7 @@ sorted_names (first ∷ rest) up k d low below =
 -- what is lent of distinct names, sorted, is sent
 pub lent_is_sent : {Base Rest : Type 0} (state : SourceState Base Rest) (names : List (List ℕ)) (lent sorted : List Lent) (text : List ℕ)
     → map (λ one. one.name) lent ≡ names → IsDistinct same_name names → AllByRecursion (IsLent state) lent → IsPermutation lent sorted → IsSortedByKey (λ one. one.name) name_cmp sorted
-    → (AllByRecursion IsNamed sorted → text ≡ flat_map record_lent sorted) → IsSent state.objects (is_among names) text
+    → (AllByRecursion HasOwnName sorted → text ≡ flat_map record_lent sorted) → IsSent state.objects (is_among names) text
 lent_is_sent state names lent sorted text are distinct all moved up written =
     let listed = map (λ (one : Lent). one.name) sorted in
     let same : IsPermutation names listed = subst (λ ns. IsPermutation ns listed) are (IsPermutation-map (λ one. one.name) lent sorted moved) in

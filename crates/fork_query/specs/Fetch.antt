@@ -18,12 +18,12 @@ abbrev pub record_or_none : Option Object → List ℕ
 record_or_none None = []
 record_or_none (Some object) = record_of object
 
-abbrev pub record_at : Objects → List ℕ → List ℕ
-record_at objects name = record_or_none (get objects name)
+abbrev pub record_named : Objects → List ℕ → List ℕ
+record_named objects name = record_or_none (get objects name)
 
 -- the records of what links lead to
 unfoldable pub fetched : Objects → List (List ℕ) → List (List ℕ) → List ℕ
-fetched objects wanted excluded = flat_map (record_at objects) (keys (beyond (linked_names objects) objects wanted excluded))
+fetched objects wanted excluded = flat_map (record_named objects) (keys (beyond (linked_names objects) objects wanted excluded))
 
 abbrev pub fetched_of : Objects → Result Selection Refusal → Result (List ℕ) Refusal
 fetched_of objects (Ok selection) = Ok (fetched objects selection.wanted selection.excluded)

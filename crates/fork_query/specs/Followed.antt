@@ -6,9 +6,9 @@ use Rattle.fork_reach.specs.Source.{Objects}
 use Rattle.fork_query.specs.Peel.{peeled}
 
 -- what tags stand for, under their names
-abbrev pub Ends : Type 0
-Ends = FinMap name_cmp (Option (List ℕ))
+abbrev pub TagEnds : Type 0
+TagEnds = FinMap name_cmp (Option (List ℕ))
 
 -- each is what its tag stands for among these objects
-abbrev pub AreEnds : Objects → Ends → Type 0
+abbrev pub AreEnds : Objects → TagEnds → Type 0
 AreEnds objects ends = (tag : List ℕ) → IfSome (get ends tag) (λ end. end ≡ peeled objects tag)

@@ -35,13 +35,13 @@ abbrev pub found_commit : Objects → List ℕ → Option (List ℕ) → Result 
 found_commit objects name None = Err (NotACommit name)
 found_commit objects name (Some end) = if is_commit (kind_in objects end) then Ok end else Err (NotACommit name)
 
-abbrev pub commit_of : Objects → Result (List ℕ) Refusal → Result (List ℕ) Refusal
-commit_of objects (Ok name) = found_commit objects name (peeled objects name)
-commit_of objects (Err refusal) = Err refusal
+abbrev pub commit_behind : Objects → Result (List ℕ) Refusal → Result (List ℕ) Refusal
+commit_behind objects (Ok name) = found_commit objects name (peeled objects name)
+commit_behind objects (Err refusal) = Err refusal
 
 -- the name of an item's commit: tags are followed
 abbrev pub commit_of_item : Objects → Repository → List ℕ → Result (List ℕ) Refusal
-commit_of_item objects repository item = commit_of objects (object_of_item objects repository item)
+commit_of_item objects repository item = commit_behind objects (object_of_item objects repository item)
 
 -- as objects or as commits are wanted
 abbrev pub named_item : Want → Objects → Repository → List ℕ → Result (List ℕ) Refusal

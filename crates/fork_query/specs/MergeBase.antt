@@ -1,18 +1,15 @@
 -- `merge-base A B`: the best common ancestors of two commits (git-merge-base(1), `--all`; the order by name is own).
-use Rattle.std.specs.Prelude.{◌≡◌, ℕ, ◌&&◌, not, Bool, true, List, [], ◌∷◌, Result, Ok, Err}
+use Rattle.std.specs.Prelude.{◌≡◌, ℕ, ◌&&◌, not, Bool, true, List, Result, Ok, Err}
 use Rattle.std.specs.List.{list_any}
 use Rattle.std.specs.Str.{bytes_eq}
 use Rattle.std.specs.FinMap.{contains_key, keys, retain_keys}
 use Rattle.git_reftx.specs.Repository.{Repository}
-use Rattle.fork_reach.specs.Reach.{is_among, is_reached, parent_names}
+use Rattle.fork_reach.specs.Reach.{is_among}
 use Rattle.fork_reach.specs.Source.{Objects}
+use Rattle.fork_reach.specs.Descent.{is_ancestor}
 use Rattle.fork_request.specs.declared.refusal.Refusal.{Refusal}
 use Rattle.fork_query.specs.Items.{commit_of_item}
 use Rattle.fork_query.specs.Objects.{name_lines}
-
--- a commit is its own ancestor
-abbrev pub is_ancestor : Objects → List ℕ → List ℕ → Bool
-is_ancestor objects descendant name = is_reached (parent_names objects) objects (descendant ∷ []) name
 
 abbrev pub is_common : Objects → List ℕ → List ℕ → List ℕ → Bool
 is_common objects a b name = is_ancestor objects a name && is_ancestor objects b name

@@ -6,11 +6,11 @@ use Rattle.git_name.specs.Name.{name_cmp}
 use Rattle.fork_reach.specs.Hidden.{without}
 use Rattle.fork_reach.specs.Reach.{is_among, is_reached, linked_names}
 use Rattle.fork_reach.specs.Source.{Objects}
-use Rattle.fork_query.specs.Fetch.{record_at}
+use Rattle.fork_query.specs.Fetch.{record_named}
 
 -- the text is the records of the objects of the names that pass the test, ascending
 abbrev pub IsSent : Objects → (List ℕ → Bool) → List ℕ → Type 0
-IsSent objects passes text = (names : List (List ℕ)) × IsStrictlySortedBy name_cmp names × ((name : List ℕ) → is_among names name ≡ passes name) × (text ≡ flat_map (record_at objects) names)
+IsSent objects passes text = (names : List (List ℕ)) × IsStrictlySortedBy name_cmp names × ((name : List ℕ) → is_among names name ≡ passes name) × (text ≡ flat_map (record_named objects) names)
 
 -- they are those of what the roots reach past the hidden names
 abbrev pub IsSentPast : Objects → (List ℕ → Bool) → List (List ℕ) → List ℕ → Type 0

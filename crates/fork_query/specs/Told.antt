@@ -12,7 +12,7 @@ Tells view found (Err (Refused refusal)) = found ≡ Err refusal
 Tells view found (Err (Failed fault)) = ⊤
 
 -- the fault that it tells
-abbrev pub fault_told : {B : Type 0} → Result B QueryError → Option SourceFault
-fault_told (Ok told) = None
-fault_told (Err (Refused refusal)) = None
-fault_told (Err (Failed fault)) = Some fault
+abbrev pub query_fault : {B : Type 0} → Result B QueryError → Option SourceFault
+query_fault (Ok told) = None
+query_fault (Err (Refused refusal)) = None
+query_fault (Err (Failed fault)) = Some fault

@@ -2,10 +2,11 @@ ghost use Rattle.std.specs.Prelude.{◌≡◌, List, ℕ, true, IsTrue, IfOk};
 ghost use Rattle.std.specs.FinMap.{contains_key};
 ghost use Rattle.std.specs.HashSet.{contains};
 ghost use Rattle.git_name.specs.Same.{same_name};
-ghost use Rattle.fork_reach.specs.Faults.{IsAsked, fault_in};
+ghost use Rattle.git_name.specs.Count.{fault_in};
+ghost use Rattle.fork_reach.specs.Faults.{IsAsked};
 ghost use Rattle.fork_query.specs.MergeBase.{ListsSeen, bases_told, is_base, merge_bases};
 ghost use Rattle.fork_query.specs.Objects.{name_lines};
-ghost use Rattle.fork_query.specs.Told.{Tells, fault_told};
+ghost use Rattle.fork_query.specs.Told.{Tells, query_fault};
 
 use crate::followed::Followed;
 use crate::items::named_item;
@@ -91,7 +92,7 @@ pub fn merge_base<S: Ancestry>(
     ensures told { IsTrue (S.state source.old).honest → Tells (λ text. text.items) (bases_told (S.state source.old).objects repository.now a.now b.now) result }
     // Over any source.
     ensures seen { IfOk result (λ text. ListsSeen (S.state source.old).objects text.items) }
-    ensures asked { IsAsked (S.state source.old) (S.state source.new) (fault_told result) }
+    ensures asked { IsAsked (S.state source.old) (S.state source.new) (query_fault result) }
 {
     let mut followed = Followed::new(alloc);
     let a = named_item(alloc, Want::Commit, source, &mut followed, repository, a)?;

@@ -3,11 +3,12 @@ ghost use Rattle.std.specs.HashSet.{contains};
 ghost use Rattle.std.specs.List.{flat_map};
 ghost use Rattle.git_name.specs.Same.{same_name};
 ghost use Rattle.git_name.specs.Text.{words_of};
-ghost use Rattle.fork_reach.specs.Faults.{IsAsked, fault_in};
-ghost use Rattle.fork_query.specs.Fetch.{fetch_told, fetched, record_at};
+ghost use Rattle.git_name.specs.Count.{fault_in};
+ghost use Rattle.fork_reach.specs.Faults.{IsAsked};
+ghost use Rattle.fork_query.specs.Fetch.{fetch_told, fetched, record_named};
 ghost use Rattle.fork_query.specs.Objects.{AreRecords};
 ghost use Rattle.fork_query.specs.Sent.{IsSentPast};
-ghost use Rattle.fork_query.specs.Told.{Tells, fault_told};
+ghost use Rattle.fork_query.specs.Told.{Tells, query_fault};
 
 use crate::lent::lent_records;
 use crate::query_error::QueryError;
@@ -27,7 +28,7 @@ fn send<S: Source>(
     name: Name,
     text: Vec<u8>,
 ) -> Result<Vec<u8>, SourceFault>
-    ensures sent { IsTrue (S.state source.old).honest → IfOk result (λ longer. longer.items ≡ text.items ++ record_at (S.state source.old).objects name) }
+    ensures sent { IsTrue (S.state source.old).honest → IfOk result (λ longer. longer.items ≡ text.items ++ record_named (S.state source.old).objects name) }
     ensures named { IfOk result (λ longer. AreRecords text.items → AreRecords longer.items) }
     ensures asked { IsAsked (S.state source.old) (S.state source.new) (fault_in result) }
 {
@@ -46,7 +47,7 @@ fn send_all<S: Source>(
     source: &mut S,
     names: Vec<Name>,
 ) -> Result<Vec<u8>, SourceFault>
-    ensures sent { IsTrue (S.state source.old).honest → IfOk result (λ text. text.items ≡ flat_map (record_at (S.state source.old).objects) names.items) }
+    ensures sent { IsTrue (S.state source.old).honest → IfOk result (λ text. text.items ≡ flat_map (record_named (S.state source.old).objects) names.items) }
     ensures named { IfOk result (λ text. AreRecords text.items) }
     ensures asked { IsAsked (S.state source.old) (S.state source.new) (fault_in result) }
 {
@@ -120,7 +121,7 @@ pub fn fetch<S: Source>(
     ensures told { IsTrue (S.state source.old).honest → Tells (λ text. text.items) (fetch_told (S.state source.old).objects repository.now (words_of items.now)) result }
     // Over any source.
     ensures named { IfOk result (λ text. AreRecords text.items) }
-    ensures asked { IsAsked (S.state source.old) (S.state source.new) (fault_told result) }
+    ensures asked { IsAsked (S.state source.old) (S.state source.new) (query_fault result) }
 {
     let sides = select(alloc, Want::Object, source, repository, items)?;
     Ok(records(alloc, source, &sides)?)

@@ -20,9 +20,9 @@ pub(crate) struct Followed {
 impl Model for Followed {
     ghost use Rattle.std.specs.FinMap as finite;
     ghost use Rattle.std.specs.Coded.{coded_list, coded_option, coded_ℕ};
-    ghost use Rattle.fork_query.specs.Followed.{Ends};
+    ghost use Rattle.fork_query.specs.Followed.{TagEnds};
 
-    ghost Value = { Ends };
+    ghost Value = { TagEnds };
 
     ghost coded = { finite.code (coded_list coded_ℕ) (coded_option (coded_list coded_ℕ)) };
 

@@ -6,7 +6,7 @@ ghost use Rattle.fork_reach.specs.Source.{kind_in};
 ghost use Rattle.fork_query.specs.Followed.{AreEnds};
 ghost use Rattle.fork_query.specs.Items.{found_commit, named_by, named_item, object_of_item, reference_of};
 ghost use Rattle.fork_query.specs.Peel.{peeled};
-ghost use Rattle.fork_query.specs.Told.{Tells, fault_told};
+ghost use Rattle.fork_query.specs.Told.{Tells, query_fault};
 
 use crate::followed::Followed;
 use crate::peeling::peel;
@@ -52,7 +52,7 @@ fn object_of_item<S: Source>(
     item: &[u8],
 ) -> Result<Name, QueryError>
     ensures told { Tells (λ name. name) (object_of_item (S.state source.now).objects repository.now item.now) result }
-    ensures asked { IsAsked (S.state source.now) (S.state source.now) (fault_told result) }
+    ensures asked { IsAsked (S.state source.now) (S.state source.now) (query_fault result) }
 {
     let Some(name) = named_by(repository, item) else {
         let Ok(word) = item.to_vec(alloc) else {
@@ -85,7 +85,7 @@ fn commit_at<S: Source>(
 ) -> Result<Name, QueryError>
     ensures told { IsTrue (S.state source.old).honest → AreEnds (S.state source.old).objects followed.old → Tells (λ name. name) (found_commit (S.state source.old).objects name (peeled (S.state source.old).objects name)) result }
     ensures known { IsTrue (S.state source.old).honest → AreEnds (S.state source.old).objects followed.old → OnOk result (AreEnds (S.state source.old).objects followed.new) }
-    ensures asked { IsAsked (S.state source.old) (S.state source.new) (fault_told result) }
+    ensures asked { IsAsked (S.state source.old) (S.state source.new) (query_fault result) }
 {
     let Some(end) = peel(alloc, source, followed, name)? else {
         return Err(QueryError::Refused(Refusal::NotACommit(name)));
@@ -107,7 +107,7 @@ pub(crate) fn named_item<S: Source>(
 ) -> Result<Name, QueryError>
     ensures told { IsTrue (S.state source.old).honest → AreEnds (S.state source.old).objects followed.old → Tells (λ name. name) (named_item want (S.state source.old).objects repository.now item.now) result }
     ensures known { IsTrue (S.state source.old).honest → AreEnds (S.state source.old).objects followed.old → OnOk result (AreEnds (S.state source.old).objects followed.new) }
-    ensures asked { IsAsked (S.state source.old) (S.state source.new) (fault_told result) }
+    ensures asked { IsAsked (S.state source.old) (S.state source.new) (query_fault result) }
 {
     let name = object_of_item(alloc, source, repository, item)?;
     match want {

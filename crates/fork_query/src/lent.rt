@@ -4,7 +4,7 @@ ghost use Rattle.std.specs.List.{AllByRecursion, flat_map};
 ghost use Rattle.std.specs.List.Sorted.{IsSortedByKey};
 ghost use Rattle.git_name.specs.Name.{name_cmp};
 ghost use Rattle.git_name.specs.Same.{same_name};
-ghost use Rattle.fork_reach.specs.Lending.{IsNamed};
+ghost use Rattle.fork_reach.specs.Lending.{HasOwnName};
 ghost use Rattle.fork_query.specs.Lent.{record_lent};
 ghost use Rattle.fork_query.specs.Objects.{AreRecords};
 ghost use Rattle.fork_query.specs.Sent.{IsSentPast};
@@ -36,7 +36,7 @@ fn room_for(lent: &[Lent<'_>]) -> usize {
 
 // Their records.
 fn write_all(alloc: Global, lent: &[Lent<'_>]) -> Result<Vec<u8>, AllocError>
-    ensures { AllByRecursion IsNamed lent.now → IfOk result (λ text. text.items ≡ flat_map record_lent lent.now) }
+    ensures { AllByRecursion HasOwnName lent.now → IfOk result (λ text. text.items ≡ flat_map record_lent lent.now) }
 {
     let mut text = Vec::with_capacity(alloc, room_for(lent))?;
     for one in lent {

@@ -1,7 +1,7 @@
 ghost use Rattle.std.specs.Prelude.{◌≡◌, IfOk, IsTrue};
 ghost use Rattle.fork_reach.specs.Faults.{IsAsked};
 ghost use Rattle.fork_query.specs.Objects.{IsRecordUnder, object_told};
-ghost use Rattle.fork_query.specs.Told.{Tells, fault_told};
+ghost use Rattle.fork_query.specs.Told.{Tells, query_fault};
 
 use crate::query_error::QueryError;
 use fork_reach::{Source, SourceFault};
@@ -16,7 +16,7 @@ pub fn cat_file<S: Source>(alloc: Global, source: &mut S, name: Name) -> Result<
     ensures told { IsTrue (S.state source.old).honest → Tells (λ text. text.items) (object_told (S.state source.old).objects name) result }
     // Over any source.
     ensures named { IfOk result (λ text. IsRecordUnder name text.items) }
-    ensures asked { IsAsked (S.state source.old) (S.state source.new) (fault_told result) }
+    ensures asked { IsAsked (S.state source.old) (S.state source.new) (query_fault result) }
 {
     let Some(sealed) = source.read(alloc, name)? else {
         return Err(QueryError::Refused(Refusal::Missing(name)));

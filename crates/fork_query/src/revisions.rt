@@ -1,11 +1,12 @@
 ghost use Rattle.std.specs.Prelude.{◌≡◌, IsTrue, IfOk, map as mapped};
 ghost use Rattle.std.specs.FinMap as map;
 ghost use Rattle.git_name.specs.Text.{words_of};
-ghost use Rattle.fork_reach.specs.Faults.{IsAsked, fault_in};
+ghost use Rattle.git_name.specs.Count.{fault_in};
+ghost use Rattle.fork_reach.specs.Faults.{IsAsked};
 ghost use Rattle.fork_query.specs.Dates.{newest_first, noted_date};
 ghost use Rattle.fork_query.specs.Objects.{name_lines};
 ghost use Rattle.fork_query.specs.RevList.{revision_list, revisions_told};
-ghost use Rattle.fork_query.specs.Told.{Tells, fault_told};
+ghost use Rattle.fork_query.specs.Told.{Tells, query_fault};
 
 use crate::dated::Dated;
 use crate::name_lines::{NAME_LINE, write_name};
@@ -78,7 +79,7 @@ pub fn rev_list<S: Source>(
 ) -> Result<Vec<u8>, QueryError>
     ensures told { IsTrue (S.state source.old).honest → Tells (λ text. text.items) (revisions_told (S.state source.old).objects repository.now (words_of items.now)) result }
     // Over any source.
-    ensures asked { IsAsked (S.state source.old) (S.state source.new) (fault_told result) }
+    ensures asked { IsAsked (S.state source.old) (S.state source.new) (query_fault result) }
 {
     let sides = select(alloc, Want::Commit, source, repository, items)?;
     Ok(revisions(alloc, source, &sides)?)

@@ -4,7 +4,7 @@ ghost use Rattle.fork_reach.specs.Faults.{IsAsked};
 ghost use Rattle.fork_query.specs.Followed.{AreEnds};
 ghost use Rattle.fork_query.specs.Items.{named_item};
 ghost use Rattle.fork_query.specs.Sides.{added_item, added_name, bare, is_excluded, selected, selection_of};
-ghost use Rattle.fork_query.specs.Told.{Tells, fault_told};
+ghost use Rattle.fork_query.specs.Told.{Tells, query_fault};
 
 use crate::followed::Followed;
 use crate::items::named_item;
@@ -59,7 +59,7 @@ fn put_item<S: Source>(
 ) -> Result<(), QueryError>
     ensures told { IsTrue (S.state source.old).honest → AreEnds (S.state source.old).objects followed.old → Tells (λ _. selection_of sides.new) (added_item (selection_of sides.old) (is_excluded item.now) (named_item want (S.state source.old).objects repository.now (bare item.now))) result }
     ensures known { IsTrue (S.state source.old).honest → AreEnds (S.state source.old).objects followed.old → OnOk result (AreEnds (S.state source.old).objects followed.new) }
-    ensures asked { IsAsked (S.state source.old) (S.state source.new) (fault_told result) }
+    ensures asked { IsAsked (S.state source.old) (S.state source.new) (query_fault result) }
 {
     let name = named_item(alloc, want, source, followed, repository, bare(item))?;
     match put(name, is_excluded(item), sides) {
@@ -77,7 +77,7 @@ pub(crate) fn select<S: Source>(
     items: &[u8],
 ) -> Result<Sides, QueryError>
     ensures told { IsTrue (S.state source.old).honest → Tells selection_of (selected (named_item want (S.state source.old).objects repository.now) (words_of items.now)) result }
-    ensures asked { IsAsked (S.state source.old) (S.state source.new) (fault_told result) }
+    ensures asked { IsAsked (S.state source.old) (S.state source.new) (query_fault result) }
 {
     let mut followed = Followed::new(alloc);
     let mut sides = Sides {

@@ -1,11 +1,12 @@
 ghost use Rattle.std.specs.Prelude.{◌≡◌, ◌++◌, IsTrue, IfOk, OnOk, option_map};
 ghost use Rattle.std.specs.List.{flat_map};
 ghost use Rattle.std.specs.FinMap as map;
+ghost use Rattle.git_name.specs.Count.{fault_in};
 ghost use Rattle.git_tree.specs.Entry.{entry_with};
 ghost use Rattle.git_tree.specs.TreeIn.{tree_in};
-ghost use Rattle.fork_reach.specs.Faults.{IsAsked, fault_in};
+ghost use Rattle.fork_reach.specs.Faults.{IsAsked};
 ghost use Rattle.fork_query.specs.Peel.{peeled};
-ghost use Rattle.fork_query.specs.Told.{Tells, fault_told};
+ghost use Rattle.fork_query.specs.Told.{Tells, query_fault};
 ghost use Rattle.fork_query.specs.Trees.{entries_at_end, entries_of_found, entries_of_kind, entry_row, entry_type, six_digits, tree_name_in, tree_name_of, tree_told};
 
 use crate::followed::Followed;
@@ -166,7 +167,7 @@ fn rows_behind<S: Source>(
 pub fn ls_tree<S: Source>(alloc: Global, source: &mut S, name: Name) -> Result<Vec<u8>, QueryError>
     ensures told { IsTrue (S.state source.old).honest → Tells (λ text. text.items) (tree_told (S.state source.old).objects name) result }
     // Over any source.
-    ensures asked { IsAsked (S.state source.old) (S.state source.new) (fault_told result) }
+    ensures asked { IsAsked (S.state source.old) (S.state source.new) (query_fault result) }
 {
     if source.kind_of(name).is_none() {
         return Err(QueryError::Refused(Refusal::Missing(name)));

@@ -8,7 +8,7 @@ use Rattle.std.proofs.lemmas.List.Folds.{Any-from_list_any}
 use Rattle.git_name.specs.Same.{same_name}
 use Rattle.git_name.proofs.HashMaps.{one_name}
 use Rattle.commit_graph.specs.Graph.{Commits, IsGraph, name_at}
-use Rattle.fork_reach.specs.Descent.{GoesOn, IsParent, Puts, Settles, is_ancestor_of, is_best_of, is_common_at, is_common_of, is_parent_of, is_seen_at}
+use Rattle.fork_reach.specs.Descent.{GoesOn, IsParent, Puts, SettlesPlace, is_ancestor, is_best_of, is_common_at, is_common_of, is_parent_of, is_seen_at}
 use Rattle.fork_reach.specs.Known.{AreParents}
 use Rattle.fork_reach.specs.Reach.{is_among, parent_names}
 use Rattle.fork_reach.specs.Source.{Objects}
@@ -117,7 +117,7 @@ module _ (graph : Commits) (is : IsGraph graph) (objects : Objects) (a b : ℕ) 
             subst (λ p. p < length graph) (sym same) inside,
             (
               subst (λ p. p < length graph) (sym same) inside,
-              subst (λ p. is_ancestor_of objects (name_at graph from) (name_at graph p) ≡ true) (sym same)
+              subst (λ p. is_ancestor objects (name_at graph from) (name_at graph p) ≡ true) (sym same)
                   (root_reached (parent_names objects) objects (name_at graph from ∷ []) (name_at graph from) (sole (name_at graph from)) (subst (λ p. is_seen_at graph objects p ≡ true) same seen)),
             ),
           )
@@ -183,7 +183,7 @@ module _ (graph : Commits) (is : IsGraph graph) (objects : Objects) (a b : ℕ) 
     outdone_common : outdone at ≡ true → common_here ≡ true
     outdone_common there = or_left (outdone at) (from_a at && from_b at) there
 
-    settled_within : (gives : Bool) (waits now : ℕ → Bool) → ((place : ℕ) → waits place ≡ true → place ≤ at) → Settles (IsParent graph objects) at gives waits now → (place : ℕ) → now place ≡ true → place < at
+    settled_within : (gives : Bool) (waits now : ℕ → Bool) → ((place : ℕ) → waits place ≡ true → place ≤ at) → SettlesPlace (IsParent graph objects) at gives waits now → (place : ℕ) → now place ≡ true → place < at
     settled_within gives waits now most_waits settles place there = elim (settles.only place there) [
       | inl (apart, before) ↦ (let bound = most_waits place before in strict place bound apart)
       | inr (gave, parent) ↦ parent.before
@@ -196,7 +196,7 @@ module _ (graph : Commits) (is : IsGraph graph) (objects : Objects) (a b : ℕ) 
           | inr (inr more) ↦ absurd (omega arith)
         ]
 
-    settled_seen : (gives : Bool) (waits now : ℕ → Bool) → ((place : ℕ) → waits place ≡ true → is_seen_at graph objects place ≡ true) → Settles (IsParent graph objects) at gives waits now → (place : ℕ) → now place ≡ true → is_seen_at graph objects place ≡ true
+    settled_seen : (gives : Bool) (waits now : ℕ → Bool) → ((place : ℕ) → waits place ≡ true → is_seen_at graph objects place ≡ true) → SettlesPlace (IsParent graph objects) at gives waits now → (place : ℕ) → now place ≡ true → is_seen_at graph objects place ≡ true
     settled_seen gives waits now were settles place there = elim (settles.only place there) [
       | inl (apart, before) ↦ were place before
       | inr (gave, parent) ↦ parent.seen
@@ -324,12 +324,12 @@ module _ (graph : Commits) (is : IsGraph graph) (objects : Objects) (a b : ℕ) 
     -- a common ancestor has a place
     common_place : (name : List ℕ) → is_common_of objects name_a name_b name ≡ true → (place : ℕ) × (name_at graph place ≡ name) × Common graph objects a b place
     common_place name is_common =
-        let both = and_parts (is_ancestor_of objects name_b name) (is_ancestor_of objects name_a name) is_common in
+        let both = and_parts (is_ancestor objects name_b name) (is_ancestor objects name_a name) is_common in
         let found = placed graph is objects known a a_inside name (reached_led_to (parent_names objects) objects (name_a ∷ []) name both.1) in
-        (found.0, found.2, ((found.1, subst (λ n. is_ancestor_of objects name_a n ≡ true) (sym found.2) both.1), (found.1, subst (λ n. is_ancestor_of objects name_b n ≡ true) (sym found.2) both.0)))
+        (found.0, found.2, ((found.1, subst (λ n. is_ancestor objects name_a n ≡ true) (sym found.2) both.1), (found.1, subst (λ n. is_ancestor objects name_b n ≡ true) (sym found.2) both.0)))
 
     place_common : (place : ℕ) → Common graph objects a b place → is_common_of objects name_a name_b (name_at graph place) ≡ true
-    place_common place here = and_from (is_ancestor_of objects name_b (name_at graph place)) (is_ancestor_of objects name_a (name_at graph place)) here.1.1 here.0.1
+    place_common place here = and_from (is_ancestor objects name_b (name_at graph place)) (is_ancestor objects name_a (name_at graph place)) here.1.1 here.0.1
 
     there : (place : ℕ) → Reaches graph objects a place → contains_key objects (name_at graph place) ≡ true
     there place here = reached_there (parent_names objects) objects (name_a ∷ []) (name_at graph place) here.1

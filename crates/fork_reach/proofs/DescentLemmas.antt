@@ -1,7 +1,7 @@
 -- Places that wait, from the greatest down: what is common, and what is outdone.
 use Rattle.std.proofs.Common.{◌≡◌, ◌≢◌, ◌⊎◌, ◌<◌, ◌≤◌, ◌+◌, ℕ, zero, suc, Bool, true, inl, inr, sym, subst, arith}
 use Rattle.std.proofs.lemmas.Bool.{cases_order}
-use Rattle.fork_reach.specs.Descent.{Settles}
+use Rattle.fork_reach.specs.Descent.{SettlesPlace}
 
 -- one of two sides: who is an ancestor, from where on
 pub record IsSide (parent : ℕ → ℕ → Type 0) (from : ℕ) (is : ℕ → Type 0) : Type 0 where
@@ -52,7 +52,7 @@ module _ (parent : ℕ → ℕ → Type 0) (lower : (at place : ℕ) → parent 
 
   -- one side, as one went on from that place
   pub waits_on : (from : ℕ) (is : ℕ → Type 0) (below at : ℕ) (gives common : Bool) (waits outdone now now_outdone : ℕ → Bool) → IsSide parent from is → Waits parent from is below waits outdone → ((place : ℕ) → waits place ≡ true → place ≤ at) → ((place : ℕ) → outdone place ≡ true → place ≤ at) → at < below
-      → Settles parent at gives waits now → Settles parent at common outdone now_outdone → (gives ≡ true → waits at ≡ true) → (waits at ≡ true → (gives ≡ true) ⊎ (common ≡ true)) → (outdone at ≡ true → common ≡ true) → Waits parent from is at now now_outdone
+      → SettlesPlace parent at gives waits now → SettlesPlace parent at common outdone now_outdone → (gives ≡ true → waits at ≡ true) → (waits at ≡ true → (gives ≡ true) ⊎ (common ≡ true)) → (outdone at ≡ true → common ≡ true) → Waits parent from is at now now_outdone
   waits_on from is below at gives common waits outdone now now_outdone side state most most_outdone under settles settles_outdone given gone_on kept = record {
     sound = λ place is_now. elim (settles.only place is_now) [
       | inl (apart, before) ↦ (let within = most place before in (below_it place within apart, (state.sound place before).1))
@@ -87,7 +87,7 @@ module _ (parent : ℕ → ℕ → Type 0) (lower : (at place : ℕ) → parent 
   module _ (common : ℕ → Type 0) (down : (at place : ℕ) → common at → parent at place → common place) where
     -- what is outdone, as one went on from that place; between it and those that are done nothing is common
     pub outdone_on : (below at : ℕ) (gives : Bool) (outdone now : ℕ → Bool) → AreOutdone parent common below outdone → ((place : ℕ) → outdone place ≡ true → place ≤ at) → at < below → ((place : ℕ) → at < place → place < below → common place → ⊥)
-        → Settles parent at gives outdone now → (gives ≡ true → common at) → (common at → gives ≡ true) → AreOutdone parent common at now
+        → SettlesPlace parent at gives outdone now → (gives ≡ true → common at) → (common at → gives ≡ true) → AreOutdone parent common at now
     outdone_on below at gives outdone now state most under none settles is_common common_is = record {
       sound = λ place is_now. elim (settles.only place is_now) [
         | inl (apart, before) ↦ (let within = most place before in (below_it place within apart, (state.sound place before).1))

@@ -15,7 +15,7 @@ use Rattle.std.proofs.lemmas.Option.{same_Some, slice_get-get_or}
 use Rattle.git_name.specs.Same.{same_name}
 use Rattle.commit_graph.specs.Graph.{Commits, IsGraph, name_at, parents_at}
 use Rattle.nearby.proofs.PlaceLemmas.{only_place}
-use Rattle.fork_reach.specs.Descent.{IsParent, Puts, Settles, is_ancestor_of, is_seen_at}
+use Rattle.fork_reach.specs.Descent.{IsParent, Puts, SettlesPlace, is_ancestor, is_seen_at}
 use Rattle.fork_reach.specs.Known.{AreParents, if_seen, seen_name, seen_place}
 use Rattle.fork_reach.specs.Reach.{IsReached, Root, Next, is_reached, parent_names}
 use Rattle.fork_reach.specs.Source.{Objects}
@@ -25,7 +25,7 @@ use Rattle.fork_reach.proofs.SeeingLemmas.{sole_there}
 
 -- who is reached from a place, by its place
 abbrev pub Reaches : Commits → Objects → ℕ → ℕ → Type 0
-Reaches graph objects from place = (place < length graph) × (is_ancestor_of objects (name_at graph from) (name_at graph place) ≡ true)
+Reaches graph objects from place = (place < length graph) × (is_ancestor objects (name_at graph from) (name_at graph place) ≡ true)
 
 -- a commit stands at one place
 pub one_place : (graph : Commits) → IsGraph graph → (i j : ℕ) → i < length graph → j < length graph → name_at graph i ≡ name_at graph j → i ≡ j
@@ -96,7 +96,7 @@ stayed at place old mid took apart there = by (is_at (nat_cmp at) place) refl to
     by false other is = is ∙ there
 
 -- a place was taken out, and nothing was put in
-pub settles_taken : (parent : ℕ → ℕ → Type 0) (at : ℕ) (old new : ℕ → Bool) → ((place : ℕ) → new place ≡ cond (is_at (nat_cmp at) place) false (old place)) → Settles parent at false old new
+pub settles_taken : (parent : ℕ → ℕ → Type 0) (at : ℕ) (old new : ℕ → Bool) → ((place : ℕ) → new place ≡ cond (is_at (nat_cmp at) place) false (old place)) → SettlesPlace parent at false old new
 settles_taken parent at old new removed_at = record {
   keeps = λ place apart there. stayed at place (old place) (new place) (removed_at place) apart there;
   only = λ place there. inl (removed at place (old place) (new place) (removed_at place) there);
@@ -123,7 +123,7 @@ module _ (graph : Commits) (is : IsGraph graph) (objects : Objects) where
 
   -- a place was taken out, and its parents were put in
   pub settles_given : (at : ℕ) (places : List ℕ) (old mid new : ℕ → Bool) → at < length graph → AllByRecursion (λ p. p < at) places → map (name_at graph) places ≡ parents_at graph at
-      → ((place : ℕ) → mid place ≡ cond (is_at (nat_cmp at) place) false (old place)) → Puts places (is_seen_at graph objects) mid new → Settles (IsParent graph objects) at true old new
+      → ((place : ℕ) → mid place ≡ cond (is_at (nat_cmp at) place) false (old place)) → Puts places (is_seen_at graph objects) mid new → SettlesPlace (IsParent graph objects) at true old new
   settles_given at places old mid new inside before names removed_at puts = record {
     keeps = λ place apart there. puts.keeps place (stayed at place (old place) (mid place) (removed_at place) apart there);
     only = λ place there. elim (puts.only place there) [

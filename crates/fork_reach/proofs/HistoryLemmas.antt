@@ -6,12 +6,11 @@ use Rattle.std.specs.Map.{lookup}
 use Rattle.std.specs.Option.{option_map}
 use Rattle.git_name.specs.Maps.{map_values}
 use Rattle.git_name.specs.Object.{Object}
-use Rattle.git_name.specs.Same.{same_name}
+use Rattle.git_name.specs.Same.{is_listed, same_name}
 use Rattle.git_name.proofs.HashMaps.{get_of_hashed}
 use Rattle.git_name.proofs.MapLemmas.{get_map_values}
 use Rattle.git_name.proofs.Names.{name_total, name_exact}
 use Rattle.fork_reach.specs.History.{Note, note_at, note_of, note_of_found, notes_under}
-use Rattle.fork_reach.specs.Queuing.{stands_in}
 use Rattle.fork_reach.specs.Reach.{parent_names, parents_of_found}
 use Rattle.fork_reach.specs.Source.{Objects}
 use Rattle.fork_reach.proofs.HiddenLemmas.{get_kept}
@@ -22,17 +21,17 @@ some_noted None there = (let no : ⊥ = cc in absurd no)
 some_noted (Some object) there = refl
 
 -- who has a note stands in the queue
-pub noted_queued : (queue : List (List ℕ)) (notes : List Note) (name : List ℕ) → contains_key (notes_under queue notes) name ≡ true → stands_in queue name ≡ true
+pub noted_queued : (queue : List (List ℕ)) (notes : List Note) (name : List ℕ) → contains_key (notes_under queue notes) name ≡ true → is_listed queue name ≡ true
 noted_queued queue notes name there = noted_stands queue notes name (ap is_some (sym (get_of_hashed (zip queue notes) name)) ∙ there)
 
 -- the notes of a queue that was walked to its end are those of what was reached
-pub notes_end : (objects : Objects) (queue : List (List ℕ)) (notes : List Note) (reached : List ℕ → Bool) → notes ≡ map (note_at objects) queue → ((name : List ℕ) → stands_in queue name ≡ reached name) → ((name : List ℕ) → stands_in queue name ≡ true → contains_key objects name ≡ true)
+pub notes_end : (objects : Objects) (queue : List (List ℕ)) (notes : List Note) (reached : List ℕ → Bool) → notes ≡ map (note_at objects) queue → ((name : List ℕ) → is_listed queue name ≡ reached name) → ((name : List ℕ) → is_listed queue name ≡ true → contains_key objects name ≡ true)
     → notes_under queue notes ≡ map_values note_of (retain_keys objects reached)
 notes_end objects queue notes reached are is_reached there = same_map name_total name_exact (notes_under queue notes) (map_values note_of (retain_keys objects reached)) (λ name.
     get_of_hashed (zip queue notes) name ∙ ap (λ all. lookup (same_name name) (zip queue all)) are ∙ noted_by (note_at objects) queue name
-    ∙ at name (stands_in queue name) refl ∙ sym (get_map_values name_total note_of (retain_keys objects reached) name ∙ ap (option_map note_of) (get_kept objects reached name)))
+    ∙ at name (is_listed queue name) refl ∙ sym (get_map_values name_total note_of (retain_keys objects reached) name ∙ ap (option_map note_of) (get_kept objects reached name)))
   where
-    at : (name : List ℕ) (b : Bool) → stands_in queue name ≡ b → cond b (Some (note_at objects name)) None ≡ option_map note_of (cond (reached name) (get objects name) None)
+    at : (name : List ℕ) (b : Bool) → is_listed queue name ≡ b → cond b (Some (note_at objects name)) None ≡ option_map note_of (cond (reached name) (get objects name) None)
     at name true is = some_noted (get objects name) (there name is) ∙ ap (λ b. option_map note_of (cond b (get objects name) None)) (sym is ∙ is_reached name)
     at name false is = ap (λ b. option_map note_of (cond b (get objects name) None)) (sym is ∙ is_reached name)
 

@@ -14,7 +14,7 @@ use Rattle.git_name.specs.Same.{same_name}
 use Rattle.git_name.proofs.HashMaps.{get_of_hashed, one_name}
 use Rattle.nearby.proofs.PlaceLemmas.{only_place, placed}
 use Rattle.fork_reach.specs.History.{Note, noted_parents, notes_under, parents_of_noted}
-use Rattle.fork_reach.specs.Marks.{Fits, SeesPlaces, flag_at, is_marked, name_at}
+use Rattle.fork_reach.specs.Marks.{Fits, SeesPlaces, flag_at, is_marked, listed_name}
 use Rattle.fork_reach.proofs.NameLemmas.{same_tests}
 use Rattle.fork_reach.proofs.NoteLemmas.{at_place, get_noted, noted_there}
 use Rattle.fork_reach.proofs.SeeingLemmas.{inserts_hashed, sees_absent, sees_both, sees_known, sees_new}
@@ -23,23 +23,23 @@ abbrev Names : Type 0
 Names = List (List ℕ)
 
 -- a name that has a place stands there
-pub stands_there : (names : Names) (name : List ℕ) (at : ℕ) → position (same_name name) names ≡ Some at → (at < length names) × (name_at names at ≡ name)
-stands_there names name at is = (let found = position-Some (same_name name) names at [] is in (found.0, sym (one_name name (name_at names at) found.1)))
+pub stands_there : (names : Names) (name : List ℕ) (at : ℕ) → position (same_name name) names ≡ Some at → (at < length names) × (listed_name names at ≡ name)
+stands_there names name at is = (let found = position-Some (same_name name) names at [] is in (found.0, sym (one_name name (listed_name names at) found.1)))
 
 -- where no two names are equal, each has its own place
-pub own_place : (names : Names) (at : ℕ) → IsDistinct same_name names → at < length names → position (same_name (name_at names at)) names ≡ Some at
-own_place names at distinct inside = only_place names at (name_at names at) distinct (slice_get-get_or names at [] inside)
+pub own_place : (names : Names) (at : ℕ) → IsDistinct same_name names → at < length names → position (same_name (listed_name names at)) names ≡ Some at
+own_place names at distinct inside = only_place names at (listed_name names at) distinct (slice_get-get_or names at [] inside)
 
 -- so its flag is the one there
-pub marked_here : (names : Names) (marks : List Bool) (at : ℕ) → IsDistinct same_name names → at < length names → is_marked names marks (name_at names at) ≡ slice_index_or marks at false
+pub marked_here : (names : Names) (marks : List Bool) (at : ℕ) → IsDistinct same_name names → at < length names → is_marked names marks (listed_name names at) ≡ slice_index_or marks at false
 marked_here names marks at distinct inside = ap (flag_at marks) (own_place names at distinct inside)
 
 -- and so are its parents
-pub parents_here : (names : Names) (notes : List Note) (at : ℕ) → IsDistinct same_name names → length notes ≡ length names → at < length names → noted_parents (notes_under names notes) (name_at names at) ≡ parents_of_noted (slice_get notes at)
-parents_here names notes at distinct each inside = ap parents_of_noted (sym (get_noted names notes (name_at names at) (notes_under names notes) each refl) ∙ ap (at_place notes) (own_place names at distinct inside))
+pub parents_here : (names : Names) (notes : List Note) (at : ℕ) → IsDistinct same_name names → length notes ≡ length names → at < length names → noted_parents (notes_under names notes) (listed_name names at) ≡ parents_of_noted (slice_get notes at)
+parents_here names notes at distinct each inside = ap parents_of_noted (sym (get_noted names notes (listed_name names at) (notes_under names notes) each refl) ∙ ap (at_place notes) (own_place names at distinct inside))
 
 -- what was read there is its name
-pub read_here : (names : Names) (at : ℕ) (name : List ℕ) → at < length names → name ≡ slice_index_or names at name → name ≡ name_at names at
+pub read_here : (names : Names) (at : ℕ) (name : List ℕ) → at < length names → name ≡ slice_index_or names at name → name ≡ listed_name names at
 read_here names at name inside is = is ∙ get_or_default names at name [] inside
 
 -- the last of the places that wait is one of a name, and so are those before it
@@ -87,7 +87,7 @@ marked_less names old others now each name = by (position (same_name name) names
 
 other_place : (names : Names) (first name : List ℕ) (at k : ℕ) → position (same_name first) names ≡ Some at → position (same_name name) names ≡ Some k → same_name first name ≡ false → k ≢ at
 other_place names first name at k here there other same =
-    let equal : first ≡ name = sym (stands_there names first at here).1 ∙ ap (name_at names) (sym same) ∙ (stands_there names name k there).1 in
+    let equal : first ≡ name = sym (stands_there names first at here).1 ∙ ap (listed_name names) (sym same) ∙ (stands_there names name k there).1 in
     let no : false ≡ true = sym other ∙ ap (same_name first) (sym equal) ∙ nat_list_eq_equiv.refl first in
     cc
 
@@ -114,14 +114,14 @@ set_nowhere names marks first is name among = by (same_name first name) refl
 -- a name with no place is passed over
 pub sees_unplaced : (names : Names) (notes : List Note) (marks : List Bool) (waiting : List ℕ) (first : List ℕ) → Fits names notes marks waiting → position (same_name first) names ≡ None → SeesPlaces names notes (first ∷ []) marks waiting marks waiting
 sees_unplaced names notes marks waiting first fits is = record {
-  sees = sees_absent (notes_under names notes) (λ _. false) first (is_marked names marks) (map (name_at names) waiting) (there_under names notes fits.noted first ∙ unplaced names first is);
+  sees = sees_absent (notes_under names notes) (λ _. false) first (is_marked names marks) (map (listed_name names) waiting) (there_under names notes fits.noted first ∙ unplaced names first is);
   fits = fits;
 }
 
 -- and so is one whose flag is set
 pub sees_marked : (names : Names) (notes : List Note) (marks : List Bool) (waiting : List ℕ) (first : List ℕ) (at : ℕ) → Fits names notes marks waiting → position (same_name first) names ≡ Some at → slice_index_or marks at false ≡ true → SeesPlaces names notes (first ∷ []) marks waiting marks waiting
 sees_marked names notes marks waiting first at fits is set = record {
-  sees = sees_known (notes_under names notes) (λ _. false) first (is_marked names marks) (map (name_at names) waiting) (ap (flag_at marks) is ∙ set);
+  sees = sees_known (notes_under names notes) (λ _. false) first (is_marked names marks) (map (listed_name names) waiting) (ap (flag_at marks) is ∙ set);
   fits = fits;
 }
 
@@ -135,10 +135,10 @@ sees_set names notes marks waiting now_waiting first at fits is unset pushed =
     let inside = stands.0 in
     let flagged = fits.flagged in
     record {
-      sees = sees_new (notes_under names notes) (λ _. false) first seen (map (name_at names) waiting) now_seen (map (name_at names) now_waiting) (ap (flag_at marks) is ∙ unset) (inserts_hashed first seen now_seen (set_marked names marks first at flagged is))
+      sees = sees_new (notes_under names notes) (λ _. false) first seen (map (listed_name names) waiting) now_seen (map (listed_name names) now_waiting) (ap (flag_at marks) is ∙ unset) (inserts_hashed first seen now_seen (set_marked names marks first at flagged is))
           (ap (flag_at (slice_set marks at true)) is ∙ get_or-set_same marks at true false (omega arith))
           (there_under names notes fits.noted first ∙ sym (placed (same_name first) names) ∙ ap is_some is)
-          (ap (map (name_at names)) pushed ∙ map-append (name_at names) waiting (at ∷ []) ∙ ap (λ n. map (name_at names) waiting ++ n ∷ []) stands.1);
+          (ap (map (listed_name names)) pushed ∙ map-append (listed_name names) waiting (at ∷ []) ∙ ap (λ n. map (listed_name names) waiting ++ n ∷ []) stands.1);
       fits = record {
         noted = fits.noted;
         flagged = length-set marks at true ∙ flagged;
@@ -150,7 +150,7 @@ sees_set names notes marks waiting now_waiting first at fits is unset pushed =
 pub places_both : (names : Names) (notes : List Note) (xs ys : Names) (marks : List Bool) (waiting : List ℕ) (mid_marks : List Bool) (mid_waiting : List ℕ) (now_marks : List Bool) (now_waiting : List ℕ)
     → SeesPlaces names notes xs marks waiting mid_marks mid_waiting → SeesPlaces names notes ys mid_marks mid_waiting now_marks now_waiting → SeesPlaces names notes (xs ++ ys) marks waiting now_marks now_waiting
 places_both names notes xs ys marks waiting mid_marks mid_waiting now_marks now_waiting first second = record {
-  sees = sees_both (notes_under names notes) (λ _. false) xs ys (is_marked names marks) (map (name_at names) waiting) (is_marked names mid_marks) (map (name_at names) mid_waiting) (is_marked names now_marks) (map (name_at names) now_waiting) first.sees second.sees;
+  sees = sees_both (notes_under names notes) (λ _. false) xs ys (is_marked names marks) (map (listed_name names) waiting) (is_marked names mid_marks) (map (listed_name names) mid_waiting) (is_marked names now_marks) (map (listed_name names) now_waiting) first.sees second.sees;
   fits = second.fits;
 }
 
@@ -159,13 +159,13 @@ pub lent_back : (now rest : List Bool) (count : ℕ) → length now ≡ count �
 lent_back now rest count is = ap (λ n. take n (now ++ rest)) (sym is) ∙ take-append_seam now rest
 
 -- names that are listed by their flags, place by place
-listed_more : (test : List ℕ → Bool) (names : Names) (at : ℕ) → at < length names → filter test (take (at + 1) names) ≡ filter test (take at names) ++ filter test (name_at names at ∷ [])
-listed_more test names at inside = ap (filter test) (take_more names at [] inside) ∙ filter-append test (take at names) (name_at names at ∷ [])
+listed_more : (test : List ℕ → Bool) (names : Names) (at : ℕ) → at < length names → filter test (take (at + 1) names) ≡ filter test (take at names) ++ filter test (listed_name names at ∷ [])
+listed_more test names at inside = ap (filter test) (take_more names at [] inside) ∙ filter-append test (take at names) (listed_name names at ∷ [])
 
-pub listed_skip : (test : List ℕ → Bool) (names : Names) (at : ℕ) (found : List ℕ → Bool) → at < length names → test (name_at names at) ≡ false → ((name : List ℕ) → found name ≡ list_any (same_name name) (filter test (take at names)))
+pub listed_skip : (test : List ℕ → Bool) (names : Names) (at : ℕ) (found : List ℕ → Bool) → at < length names → test (listed_name names at) ≡ false → ((name : List ℕ) → found name ≡ list_any (same_name name) (filter test (take at names)))
     → (name : List ℕ) → found name ≡ list_any (same_name name) (filter test (take (at + 1) names))
 listed_skip test names at found inside out before name =
-    let last = name_at names at in
+    let last = listed_name names at in
     let none : filter test (last ∷ []) ≡ [] = ap (λ b. cond b (last ∷ []) []) out in
     before name ∙ sym (ap (list_any (same_name name)) (listed_more test names at inside) ∙ list_any-append (same_name name) (filter test (take at names)) (filter test (last ∷ []))
     ∙ ap (λ ns. list_any (same_name name) (filter test (take at names)) || list_any (same_name name) ns) none ∙ or_none (list_any (same_name name) (filter test (take at names))))
@@ -174,10 +174,10 @@ listed_skip test names at found inside out before name =
     or_none true = refl
     or_none false = refl
 
-pub listed_last : (test : List ℕ → Bool) (names : Names) (at : ℕ) (found now_found : List ℕ → Bool) → at < length names → test (name_at names at) ≡ true → ((name : List ℕ) → found name ≡ list_any (same_name name) (filter test (take at names)))
-    → ((name : List ℕ) → now_found name ≡ cond (same_name (name_at names at) name) true (found name)) → (name : List ℕ) → now_found name ≡ list_any (same_name name) (filter test (take (at + 1) names))
+pub listed_last : (test : List ℕ → Bool) (names : Names) (at : ℕ) (found now_found : List ℕ → Bool) → at < length names → test (listed_name names at) ≡ true → ((name : List ℕ) → found name ≡ list_any (same_name name) (filter test (take at names)))
+    → ((name : List ℕ) → now_found name ≡ cond (same_name (listed_name names at) name) true (found name)) → (name : List ℕ) → now_found name ≡ list_any (same_name name) (filter test (take (at + 1) names))
 listed_last test names at found now_found inside into before inserts name =
-    let last = name_at names at in
+    let last = listed_name names at in
     let front = filter test (take at names) in
     let one : filter test (last ∷ []) ≡ last ∷ [] = ap (λ b. cond b (last ∷ []) []) into in
     inserts name ∙ ap (cond (same_name last name) true) (before name) ∙ put_last (same_name last name) (same_name name last) (list_any (same_name name) front) (turned last name)

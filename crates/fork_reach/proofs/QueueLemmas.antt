@@ -5,9 +5,9 @@ use Rattle.std.proofs.lemmas.List.{drop-append-le, take-append-le, take_more}
 use Rattle.std.proofs.lemmas.Option.{get_or_from_slice_get, slice_get_within}
 use Rattle.std.proofs.lemmas.List.Elements.{Contains-append_left, Contains-append_right, Contains-append_cases}
 use Rattle.git_name.specs.Name.{name_cmp}
-use Rattle.git_name.specs.Same.{same_name}
+use Rattle.git_name.specs.Same.{is_listed, same_name}
 use Rattle.indexmap.specs.IndexSet.{insert_key}
-use Rattle.fork_reach.specs.Queuing.{Queues, stands_in}
+use Rattle.fork_reach.specs.Queuing.{Queues}
 use Rattle.fork_reach.specs.Seeing.{Sees}
 use Rattle.fork_reach.proofs.SeeingLemmas.{Inserts, none_there, sees_absent, sees_both, sees_known, sees_new, sees_none}
 
@@ -37,11 +37,11 @@ sees_behind objects ends names seen now_seen waits came sees = record {
 }
 
 -- a name that stands there already stays where it is
-pub joins_old : (queue : Names) (first : List ℕ) (now : Names) → now ≡ insert_key same_name queue first → stands_in queue first ≡ true → now ≡ queue
+pub joins_old : (queue : Names) (first : List ℕ) (now : Names) → now ≡ insert_key same_name queue first → is_listed queue first ≡ true → now ≡ queue
 joins_old queue first now inserted known = inserted ∙ ap (λ b. if b then queue else queue ++ first ∷ []) known
 
 -- and one that does not goes last
-pub joins_new : (queue : Names) (first : List ℕ) (now : Names) → now ≡ insert_key same_name queue first → stands_in queue first ≡ false → now ≡ queue ++ first ∷ []
+pub joins_new : (queue : Names) (first : List ℕ) (now : Names) → now ≡ insert_key same_name queue first → is_listed queue first ≡ false → now ≡ queue ++ first ∷ []
 joins_new queue first now inserted new = inserted ∙ ap (λ b. if b then queue else queue ++ first ∷ []) new
 
 -- no names
@@ -49,7 +49,7 @@ pub queues_none : {X : Type 0} (objects : FinMap name_cmp X) (queue : Names) →
 queues_none objects queue = record {
   came = [];
   behind = sym (append-nil queue);
-  sees = sees_none objects (λ _. false) (stands_in queue) [];
+  sees = sees_none objects (λ _. false) (is_listed queue) [];
 }
 
 -- some names, and then others
@@ -57,28 +57,28 @@ pub queues_both : {X : Type 0} (objects : FinMap name_cmp X) (xs ys queue mid no
 queues_both objects xs ys queue mid now first second = record {
   came = first.came ++ second.came;
   behind = second.behind ∙ ap (λ q. q ++ second.came) first.behind ∙ append_assoc queue first.came second.came;
-  sees = sees_both objects (λ _. false) xs ys (stands_in queue) [] (stands_in mid) first.came (stands_in now) (first.came ++ second.came) first.sees
-      (sees_behind objects (λ _. false) ys (stands_in mid) (stands_in now) first.came second.came second.sees);
+  sees = sees_both objects (λ _. false) xs ys (is_listed queue) [] (is_listed mid) first.came (is_listed now) (first.came ++ second.came) first.sees
+      (sees_behind objects (λ _. false) ys (is_listed mid) (is_listed now) first.came second.came second.sees);
 }
 
 -- a name that stands there already, or whose object is not there
-pub queues_same : {X : Type 0} (objects : FinMap name_cmp X) (first : List ℕ) (queue now : Names) → now ≡ queue → (stands_in queue first ≡ true) ⊎ (contains_key objects first ≡ false) → Queues objects (first ∷ []) queue now
+pub queues_same : {X : Type 0} (objects : FinMap name_cmp X) (first : List ℕ) (queue now : Names) → now ≡ queue → (is_listed queue first ≡ true) ⊎ (contains_key objects first ≡ false) → Queues objects (first ∷ []) queue now
 queues_same objects first queue now same why = subst (λ q. Queues objects (first ∷ []) queue q) (sym same) (record {
   came = [];
   behind = sym (append-nil queue);
   sees = by why;
 })
   where
-    by : (stands_in queue first ≡ true) ⊎ (contains_key objects first ≡ false) → Sees objects (λ _. false) (first ∷ []) (stands_in queue) [] (stands_in queue) []
-    by (inl known) = sees_known objects (λ _. false) first (stands_in queue) [] known
-    by (inr absent) = sees_absent objects (λ _. false) first (stands_in queue) [] absent
+    by : (is_listed queue first ≡ true) ⊎ (contains_key objects first ≡ false) → Sees objects (λ _. false) (first ∷ []) (is_listed queue) [] (is_listed queue) []
+    by (inl known) = sees_known objects (λ _. false) first (is_listed queue) [] known
+    by (inr absent) = sees_absent objects (λ _. false) first (is_listed queue) [] absent
 
 -- a name that is new, and whose object is there
-pub queues_new : {X : Type 0} (objects : FinMap name_cmp X) (first : List ℕ) (queue now : Names) → now ≡ queue ++ first ∷ [] → stands_in queue first ≡ false → Inserts first (stands_in queue) (stands_in now) → stands_in now first ≡ true → contains_key objects first ≡ true → Queues objects (first ∷ []) queue now
+pub queues_new : {X : Type 0} (objects : FinMap name_cmp X) (first : List ℕ) (queue now : Names) → now ≡ queue ++ first ∷ [] → is_listed queue first ≡ false → Inserts first (is_listed queue) (is_listed now) → is_listed now first ≡ true → contains_key objects first ≡ true → Queues objects (first ∷ []) queue now
 queues_new objects first queue now pushed new inserts stands there = record {
   came = first ∷ [];
   behind = pushed;
-  sees = sees_new objects (λ _. false) first (stands_in queue) [] (stands_in now) (first ∷ []) new inserts stands there refl;
+  sees = sees_new objects (λ _. false) first (is_listed queue) [] (is_listed now) (first ∷ []) new inserts stands there refl;
 }
 
 -- what stands at a place of the queue, and behind it

@@ -10,11 +10,11 @@ use Rattle.fork_reach.specs.Reach.{is_among, is_reached, parent_names}
 use Rattle.fork_reach.specs.Source.{Objects}
 
 -- a commit is its own ancestor
-abbrev pub is_ancestor_of : Objects → List ℕ → List ℕ → Bool
-is_ancestor_of objects descendant name = is_reached (parent_names objects) objects (descendant ∷ []) name
+abbrev pub is_ancestor : Objects → List ℕ → List ℕ → Bool
+is_ancestor objects descendant name = is_reached (parent_names objects) objects (descendant ∷ []) name
 
 abbrev pub is_common_of : Objects → List ℕ → List ℕ → List ℕ → Bool
-is_common_of objects a b name = is_ancestor_of objects b name && is_ancestor_of objects a name
+is_common_of objects a b name = is_ancestor objects b name && is_ancestor objects a name
 
 -- whether a commit has a name other than its own as a parent
 abbrev pub is_parent_of : Objects → List ℕ → List ℕ → Bool
@@ -46,7 +46,7 @@ abbrev pub is_seen_at : Commits → Objects → ℕ → Bool
 is_seen_at graph objects place = contains_key objects (name_at graph place)
 
 -- a place no longer waits, and where it gives, its parents do
-pub record Settles (parent : ℕ → ℕ → Type 0) (at : ℕ) (gives : Bool) (old new : ℕ → Bool) : Type 0 where
+pub record SettlesPlace (parent : ℕ → ℕ → Type 0) (at : ℕ) (gives : Bool) (old new : ℕ → Bool) : Type 0 where
   pub keeps : (place : ℕ) → place ≢ at → old place ≡ true → new place ≡ true
   pub only : (place : ℕ) → new place ≡ true → ((place ≢ at) × (old place ≡ true)) ⊎ ((gives ≡ true) × parent at place)
   pub adds : gives ≡ true → (place : ℕ) → parent at place → new place ≡ true
@@ -57,6 +57,6 @@ is_common_at from_a from_b outdone = outdone || (from_a && from_b)
 
 -- what waits from both sides, and what is outdone, as one went on from a place
 pub record GoesOn (parent : ℕ → ℕ → Type 0) (at : ℕ) (a b gone now_a now_b now_gone : ℕ → Bool) : Type 0 where
-  pub of_a : Settles parent at (not (is_common_at (a at) (b at) (gone at)) && a at) a now_a
-  pub of_b : Settles parent at (not (is_common_at (a at) (b at) (gone at)) && b at) b now_b
-  pub outdone : Settles parent at (is_common_at (a at) (b at) (gone at)) gone now_gone
+  pub of_a : SettlesPlace parent at (not (is_common_at (a at) (b at) (gone at)) && a at) a now_a
+  pub of_b : SettlesPlace parent at (not (is_common_at (a at) (b at) (gone at)) && b at) b now_b
+  pub outdone : SettlesPlace parent at (is_common_at (a at) (b at) (gone at)) gone now_gone

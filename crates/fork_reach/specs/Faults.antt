@@ -1,18 +1,10 @@
 -- What asking a source leaves of it, and what its faults may be (own).
-use Rattle.std.specs.Prelude.{◌≡◌, ◌≢◌, ◌⊎◌, ℕ, ◌+◌, IsTrue, Option, None, Some, Result, Ok, Err}
+use Rattle.std.specs.Prelude.{◌≡◌, ◌≢◌, ℕ, IsTrue, Option, None, Some}
+use Rattle.git_name.specs.Count.{Rises}
 use Rattle.fork_reach.specs.declared.source.SourceFault.{SourceFault}
 use Rattle.fork_reach.specs.declared.source.SourceFault.TheVariants.{Store, Damaged, Memory}
 use Rattle.fork_reach.specs.Objects.{measures_of}
 use Rattle.fork_reach.specs.Source.{SourceState}
-
--- a count of failures rises by one, and stays at the greatest of 64 bits
-abbrev pub Rises : ℕ → ℕ → Type 0
-Rises before now = (now ≡ before + 1) ⊎ ((before ≡ 18446744073709551615) × (now ≡ before))
-
--- the fault of a result
-abbrev pub fault_in : {A : Type 0} → Result A SourceFault → Option SourceFault
-fault_in (Ok a) = None
-fault_in (Err fault) = Some fault
 
 -- a failure of the store is counted, and nothing else is
 abbrev pub CountsFault : ℕ → ℕ → Option SourceFault → Type 0

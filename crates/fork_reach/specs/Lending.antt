@@ -14,12 +14,12 @@ abbrev pub object_lent : Lent → Object
 object_lent lent = record { kind = lent.kind; bytes = lent.bytes.now }
 
 -- its name is its own
-abbrev pub IsNamed : Lent → Type 0
-IsNamed lent = object_name (object_lent lent) ≡ lent.name
+abbrev pub HasOwnName : Lent → Type 0
+HasOwnName lent = object_name (object_lent lent) ≡ lent.name
 
 -- an honest source shows it under its name, which is its own
 abbrev pub IsLent : {Base Rest : Type 0} → SourceState Base Rest → Lent → Type 0
-IsLent state lent = IsTrue state.honest × (get state.objects lent.name ≡ Some (object_lent lent)) × IsNamed lent
+IsLent state lent = IsTrue state.honest × (get state.objects lent.name ≡ Some (object_lent lent)) × HasOwnName lent
 
 -- the names of what is lent
 abbrev pub lent_names : List Lent → List (List ℕ)

@@ -15,8 +15,8 @@ abbrev pub is_marked : List (List ℕ) → List Bool → List ℕ → Bool
 is_marked names marks name = flag_at marks (position (same_name name) names)
 
 -- the name at a place
-abbrev pub name_at : List (List ℕ) → ℕ → List ℕ
-name_at names at = slice_index_or names at []
+abbrev pub listed_name : List (List ℕ) → ℕ → List ℕ
+listed_name names at = slice_index_or names at []
 
 -- each name has a note and a flag, and the places that wait are those of names
 pub record Fits (names : List (List ℕ)) (notes : List Note) (marks : List Bool) (waiting : List ℕ) : Type 0 where
@@ -26,5 +26,5 @@ pub record Fits (names : List (List ℕ)) (notes : List Note) (marks : List Bool
 
 -- more names were seen to: the flags of those that have a place are set, and the places whose flags are new wait
 pub record SeesPlaces (names : List (List ℕ)) (notes : List Note) (more : List (List ℕ)) (marks : List Bool) (waiting : List ℕ) (now_marks : List Bool) (now_waiting : List ℕ) : Type 0 where
-  pub sees : Sees (notes_under names notes) (λ _. false) more (is_marked names marks) (map (name_at names) waiting) (is_marked names now_marks) (map (name_at names) now_waiting)
+  pub sees : Sees (notes_under names notes) (λ _. false) more (is_marked names marks) (map (listed_name names) waiting) (is_marked names now_marks) (map (listed_name names) now_waiting)
   pub fits : Fits names notes now_marks now_waiting

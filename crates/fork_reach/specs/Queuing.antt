@@ -1,17 +1,12 @@
 -- Names in a queue, each once, which is walked from its front on (own).
-use Rattle.std.specs.Prelude.{◌≡◌, ℕ, Bool, false, List, [], ◌++◌}
-use Rattle.std.specs.List.{list_any}
+use Rattle.std.specs.Prelude.{◌≡◌, ℕ, false, List, [], ◌++◌}
 use Rattle.std.specs.FinMap.{FinMap}
 use Rattle.git_name.specs.Name.{name_cmp}
-use Rattle.git_name.specs.Same.{same_name}
+use Rattle.git_name.specs.Same.{is_listed}
 use Rattle.fork_reach.specs.Seeing.{Sees}
-
--- whether a name stands in the queue
-abbrev pub stands_in : List (List ℕ) → List ℕ → Bool
-stands_in queue name = list_any (same_name name) queue
 
 -- names were queued: those came behind the others that are there and did not stand among them
 pub record Queues {X : Type 0} (objects : FinMap name_cmp X) (names queue now_queue : List (List ℕ)) : Type 0 where
   pub came : List (List ℕ)
   pub behind : now_queue ≡ queue ++ came
-  pub sees : Sees objects (λ _. false) names (stands_in queue) [] (stands_in now_queue) came
+  pub sees : Sees objects (λ _. false) names (is_listed queue) [] (is_listed now_queue) came

@@ -1,7 +1,8 @@
 ghost use Rattle.std.specs.Prelude.{◌≡◌, map, not, IsTrue, IfOk};
+ghost use Rattle.git_name.specs.Count.{fault_in};
 ghost use Rattle.git_object.specs.ObjectIn.{links_in};
 ghost use Rattle.fork_reach.specs.Along.{names_along, names_in, rests, rests_in};
-ghost use Rattle.fork_reach.specs.Faults.{IsAsked, fault_in};
+ghost use Rattle.fork_reach.specs.Faults.{IsAsked};
 
 use crate::source::{Source, SourceFault};
 use commit_graph::parent_names;

@@ -1,7 +1,8 @@
 ghost use Rattle.std.specs.Prelude.{◌≡◌, ◌<◌, IsTrue, length, is_some, map as mapped, false, true, []};
 ghost use Rattle.std.specs.List.{AllByRecursion};
+ghost use Rattle.git_name.specs.Count.{fault_in};
 ghost use Rattle.commit_graph.specs.Graph.{Commits, IsGraph, name_at, parents_at};
-ghost use Rattle.fork_reach.specs.Faults.{IsAsked, fault_in};
+ghost use Rattle.fork_reach.specs.Faults.{IsAsked};
 ghost use Rattle.fork_reach.specs.Known.{AreParents, seen_name, seen_place};
 
 use crate::source::{Source, SourceFault};

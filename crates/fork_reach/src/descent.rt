@@ -5,7 +5,7 @@ ghost use Rattle.std.specs.HashSet.{contains};
 ghost use Rattle.std.specs.List.{AllByRecursion};
 ghost use Rattle.git_name.specs.Same.{same_name};
 ghost use Rattle.commit_graph.specs.Graph.{name_at};
-ghost use Rattle.fork_reach.specs.Descent.{GoesOn, IsParent, Puts, Settles, has, is_best_of, is_seen_at};
+ghost use Rattle.fork_reach.specs.Descent.{GoesOn, IsParent, Puts, SettlesPlace, has, is_best_of, is_seen_at};
 ghost use Rattle.fork_reach.specs.Known.{AreParents};
 
 use crate::ancestry::Ancestry;
@@ -96,7 +96,7 @@ fn settle<S: Ancestry>(
 ) -> Result<(), AllocError>
     requires inside { at < length (S.commits source.now) }
     requires seen { is_seen_at (S.commits source.now) (S.state source.now).objects at ≡ true }
-    ensures { OnOk result (Settles (IsParent (S.commits source.now) (S.state source.now).objects) at gives (has places.old) (has places.new)) }
+    ensures { OnOk result (SettlesPlace (IsParent (S.commits source.now) (S.state source.now).objects) at gives (has places.old) (has places.new)) }
 {
     let _count = source.commit_count();
     places.remove(&at);

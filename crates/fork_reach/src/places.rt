@@ -3,7 +3,7 @@ ghost use Rattle.std.specs.HashSet.{contains};
 ghost use Rattle.std.specs.List.{list_any, slice_index_or};
 ghost use Rattle.git_name.specs.Same.{same_name};
 ghost use Rattle.fork_reach.specs.History.{notes_under, parents_of_noted};
-ghost use Rattle.fork_reach.specs.Marks.{Fits, SeesPlaces, is_marked, name_at};
+ghost use Rattle.fork_reach.specs.Marks.{Fits, SeesPlaces, is_marked, listed_name};
 ghost use Rattle.fork_reach.specs.NotedBases.{is_ancestor_noted, is_best_noted, is_common_noted, is_other_parent};
 
 use crate::noted::Noted;
@@ -139,7 +139,7 @@ impl<'a> Places<'a> {
         requires place { at < length self.now.names.now.keys }
         requires notes { length self.now.notes.now ≡ length self.now.names.now.keys }
         requires len { length marks.old ≡ length self.now.names.now.keys }
-        ensures marked { (name : List ℕ) → contains same_name self.now.names.now name ≡ true → is_marked self.now.names.now.keys marks.new name ≡ (is_marked self.now.names.now.keys marks.old name || is_other_parent (notes_under self.now.names.now.keys self.now.notes.now) name (name_at self.now.names.now.keys at)) }
+        ensures marked { (name : List ℕ) → contains same_name self.now.names.now name ≡ true → is_marked self.now.names.now.keys marks.new name ≡ (is_marked self.now.names.now.keys marks.old name || is_other_parent (notes_under self.now.names.now.keys self.now.notes.now) name (listed_name self.now.names.now.keys at)) }
         ensures len { length marks.new ≡ length self.now.names.now.keys }
     {
         let commit = self.names.as_slice()[at];

@@ -1,7 +1,8 @@
 ghost use Rattle.std.specs.Prelude.{◌≡◌, IsTrue, IfOk, IfSome, Some, is_some};
 ghost use Rattle.std.specs.FinMap as map;
 ghost use Rattle.git_name.specs.Object.{object_name};
-ghost use Rattle.fork_reach.specs.Faults.{IsAsked, fault_in};
+ghost use Rattle.git_name.specs.Count.{fault_in};
+ghost use Rattle.fork_reach.specs.Faults.{IsAsked};
 ghost use Rattle.fork_reach.specs.Source.{SourceState, kind_in};
 
 use git_name::{Hashing, Kind, Name, Sealed};

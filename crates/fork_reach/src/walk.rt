@@ -3,8 +3,9 @@ ghost use Rattle.std.specs.List.{Contains};
 ghost use Rattle.std.specs.HashSet.{contains};
 ghost use Rattle.std.specs.FinMap as map;
 ghost use Rattle.git_name.specs.Same.{same_name};
+ghost use Rattle.git_name.specs.Count.{fault_in};
 ghost use Rattle.fork_reach.specs.Along.{names_along};
-ghost use Rattle.fork_reach.specs.Faults.{IsAsked, fault_in};
+ghost use Rattle.fork_reach.specs.Faults.{IsAsked};
 ghost use Rattle.fork_reach.specs.Hidden.{without};
 ghost use Rattle.fork_reach.specs.Reach.{is_reached};
 

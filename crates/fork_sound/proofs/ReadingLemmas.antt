@@ -14,14 +14,14 @@ use Rattle.git_name.proofs.Names.{name_total}
 use Rattle.git_object.specs.ObjectIn.{links_in, object_in}
 use Rattle.git_object.specs.declared.link.Link.{Link}
 use Rattle.fork_reach.specs.Source.{Objects, kind_in}
-use Rattle.fork_sound.specs.Reading.{AreReadings, ReadingMap, is_bad_read, is_bad_reading, is_unmet_read, kind_read, reading_of}
+use Rattle.fork_sound.specs.Reading.{AreReadings, ReadingMap, is_bad_read, is_bad_reading, is_unmet_read, kind_read, object_reading}
 use Rattle.fork_sound.specs.Sound.{is_bad, is_bad_found, is_other, is_unmet}
 
 -- the kind of what is seen was read
 same_kind_read : (readings : ReadingMap) (seen : List ℕ → Bool) (objects : Objects) (name : List ℕ) → AreReadings readings seen objects → seen name ≡ true → kind_read readings name ≡ kind_in objects name
 same_kind_read readings seen objects name are is = ap (option_map (λ reading. reading.kind)) (are name is) ∙ by (get objects name)
   where
-    by : (found : Option Object) → option_map (λ reading. reading.kind) (option_map reading_of found) ≡ option_map (λ object. object.kind) found
+    by : (found : Option Object) → option_map (λ reading. reading.kind) (option_map object_reading found) ≡ option_map (λ object. object.kind) found
     by None = refl
     by (Some object) = refl
 
@@ -37,7 +37,7 @@ same_unmet readings seen objects are link = by (seen link.name) refl
 same_bad : (readings : ReadingMap) (seen : List ℕ → Bool) (objects : Objects) (name : List ℕ) → AreReadings readings seen objects → seen name ≡ true → is_bad_read readings seen name ≡ is_bad objects seen name
 same_bad readings seen objects name are is = ap (is_bad_reading readings seen) (are name is) ∙ by (get objects name)
   where
-    by : (found : Option Object) → is_bad_reading readings seen (option_map reading_of found) ≡ is_bad_found objects seen found
+    by : (found : Option Object) → is_bad_reading readings seen (option_map object_reading found) ≡ is_bad_found objects seen found
     by None = refl
     by (Some object) = λ i. is_none (object_in object.kind object.bytes) || list_any (λ link. same_unmet readings seen objects are link i) (links_in object.kind object.bytes)
 

@@ -18,8 +18,8 @@ pub record ReadingValue : Type 0 where
   pub wrong : Bool
   pub links : List Link
 
-abbrev pub reading_of : Object → ReadingValue
-reading_of object = record {
+abbrev pub object_reading : Object → ReadingValue
+object_reading object = record {
   kind = object.kind;
   size = length object.bytes;
   wrong = is_none (object_in object.kind object.bytes);
@@ -32,7 +32,7 @@ ReadingMap = FinMap name_cmp ReadingValue
 
 -- these are the readings of the objects that are found under the names that are seen
 abbrev pub AreReadings : ReadingMap → (List ℕ → Bool) → Objects → Type 0
-AreReadings readings seen objects = (name : List ℕ) → seen name ≡ true → get readings name ≡ option_map reading_of (get objects name)
+AreReadings readings seen objects = (name : List ℕ) → seen name ≡ true → get readings name ≡ option_map object_reading (get objects name)
 
 -- the kind that was read under a name
 abbrev pub kind_read : ReadingMap → List ℕ → Option Kind

@@ -1,7 +1,7 @@
 ghost use Rattle.std.specs.Prelude.{◌≡◌, IfOk};
 ghost use Rattle.git_object.specs.Held.{object_of};
 ghost use Rattle.git_object.specs.Links.{links_of};
-ghost use Rattle.fork_sound.specs.Reading.{reading_of};
+ghost use Rattle.fork_sound.specs.Reading.{object_reading};
 
 use git_name::{Kind, Sealed};
 use git_object::{Link, Object, links};
@@ -29,7 +29,7 @@ impl Model for Reading {
 impl Reading {
     /// Of this object.
     pub fn of(alloc: Global, sealed: &Sealed) -> Result<Reading, AllocError>
-        ensures { IfOk result (λ reading. reading ≡ reading_of sealed.now) }
+        ensures { IfOk result (λ reading. reading ≡ object_reading sealed.now) }
     {
         let kind = sealed.kind();
         let size = sealed.bytes().len() as u64;

@@ -15,6 +15,7 @@ use Rattle.git_name.specs.declared.kind.Kind.TheVariants.{Blob, Tree, Commit, Ta
 use Rattle.git_name.proofs.MapLemmas.{entries_map_values}
 use Rattle.git_name.proofs.Names.{name_total, name_exact}
 use Rattle.git_name.proofs.TreeMaps.{find_is_lookup}
+use Rattle.git_name.specs.Same.{is_one_of}
 use Rattle.git_object.specs.ObjectIn.{links_in, object_in}
 use Rattle.git_object.specs.declared.link.Link.{Link}
 use Rattle.git_reftx.specs.Transaction.{References, is_branch, is_commit}
@@ -29,14 +30,14 @@ use Rattle.fork_sound.specs.Sound.{is_bad, is_bad_found, is_other, is_unmet}
 use Rattle.fork_model.specs.Sound.{AreReferences, IsMet, IsSound, IsSoundWorld}
 use Rattle.fork_model.specs.View.{View}
 use Rattle.fork_model.specs.World.{World}
-use Rattle.state_text.specs.Kept.{kept_of, states_of}
+use Rattle.fork_model.specs.Answer.{without_upload}
+use Rattle.state_text.specs.Kept.{state_kept, states_of}
 use Rattle.state_text.specs.States.{States, TenantState}
-use Rattle.fork_host.specs.Restored.{AreOnStore, ByLimit, ByObject, ByTarget, IsFault, IsFirst, IsRefused, IsShownAgain, WantsMemory, WantsStore, first_astray, first_bad, is_bad_target, is_one_of, references_in}
+use Rattle.fork_host.specs.Restored.{AreOnStore, ByLimit, ByObject, ByTarget, IsStoreOrMemory, AllBefore, AreRefused, IsShownAgain, WantsMemory, WantsStore, first_astray, first_bad, is_bad_target, references_in, HasWorld}
 use Rattle.fork_host.specs.declared.restore_error.RestoreError.{RestoreError}
 use Rattle.fork_host.proofs.RecallLemmas.{one_whole}
 use Rattle.fork_host.proofs.RestoreLemmas.{one_of}
-use Rattle.fork_host.specs.Uploads.{closed, closed_world}
-use Rattle.fork_state.specs.Loaded.{HasWorld}
+use Rattle.fork_host.specs.Uploads.{without_uploads}
 
 -- entries are what is found
 of_entry : {X : Type 0} (values : FinMap name_cmp X) (name : List ℕ) (value : X) → Contains (entries values) (name, value) → get values name ≡ Some value
@@ -66,7 +67,7 @@ record Fine (files : Files) (tenant : TenantState) : Type 0 where
   pub sound : IsSound view
   pub whole : (name : List ℕ) (object : Object) → get view.objects name ≡ Some object → Whole files name object
 
-all_fine : (files : Files) (es : List (List ℕ × View)) → ((name : List ℕ) (view : View) → Contains es (name, view) → Fine files (kept_of (name, view))) → AllByRecursion (Fine files) (map kept_of es)
+all_fine : (files : Files) (es : List (List ℕ × View)) → ((name : List ℕ) (view : View) → Contains es (name, view) → Fine files (state_kept (name, view))) → AllByRecursion (Fine files) (map state_kept es)
 all_fine files [] fine = tt
 all_fine files (e ∷ es) fine = (fine e.0 e.1 (first e es), all_fine files es (λ name view is. fine name view (later e es (name, view) is)))
 
@@ -87,7 +88,7 @@ fine_world files world sound has =
       whole = λ key object found. has name view key object here found;
     })
 
-fine_at : (P : TenantState → Type 0) (files : Files) (states : States) (tenant : TenantState) → AllByRecursion (Fine files) states → IsFirst P states tenant → Fine files tenant
+fine_at : (P : TenantState → Type 0) (files : Files) (states : States) (tenant : TenantState) → AllByRecursion (Fine files) states → AllBefore P states tenant → Fine files tenant
 fine_at P files states tenant all at = one_fine (Fine files) at.front tenant at.back (subst (AllByRecursion (Fine files)) at.parts all)
 
 there : (objects : Objects) (name : List ℕ) → Contains (keys objects) name → (object : Object) × (get objects name ≡ Some object)
@@ -173,7 +174,7 @@ none_astray files tenant fine =
 none_some : {A : Type 0} (o : Option A) (a : A) (G : Type 0) → o ≡ None → o ≡ Some a → G
 none_some o a G none some = absurd (cc (sym none ∙ some))
 
-pub accepts : (world : World) (files : Files) (error : RestoreError) → IsSoundWorld world → HasWorld files world → IsRefused files (states_of world) error → IsFault error
+pub accepts : (world : World) (files : Files) (error : RestoreError) → IsSoundWorld world → HasWorld files world → AreRefused files (states_of world) error → IsStoreOrMemory error
 accepts world files error sound has (ByObject tenant name told at against tells) =
     let fine = fine_at _ files (states_of world) tenant (fine_world files world sound has) at in
     let same = same_objects files against.objects fine.view.objects tenant.seen against.stored fine.seen fine.whole in
@@ -194,16 +195,16 @@ accepts world files error sound has WantsMemory = inr refl
 accepts world files error sound has WantsStore = inl refl
 
 -- entries of the same states
-same_rows : (files : Files) (es fs : List (List ℕ × View)) → map kept_of es ≡ map kept_of fs → ((name : List ℕ) (view : View) → Contains es (name, view) → view.upload ≡ None)
+same_rows : (files : Files) (es fs : List (List ℕ × View)) → map state_kept es ≡ map state_kept fs → ((name : List ℕ) (view : View) → Contains es (name, view) → view.upload ≡ None)
     → ((name : List ℕ) (view : View) (key : List ℕ) (object : Object) → Contains es (name, view) → get view.objects key ≡ Some object → Whole files key object)
     → ((name : List ℕ) (view : View) (key : List ℕ) (object : Object) → Contains fs (name, view) → get view.objects key ≡ Some object → Whole files key object)
-    → es ≡ map (λ e. (e.0, closed e.1)) fs
+    → es ≡ map (λ e. (e.0, without_upload e.1)) fs
 same_rows files [] [] same quiet left right = refl
 same_rows files [] (f ∷ fs) same quiet left right = absurd (cc)
 same_rows files (e ∷ es) [] same quiet left right = absurd (cc)
 same_rows files (e ∷ es) (f ∷ fs) same quiet left right =
-    let head : kept_of e ≡ kept_of f = cc in
-    let tail : map kept_of es ≡ map kept_of fs = cc in
+    let head : state_kept e ≡ state_kept f = cc in
+    let tail : map state_kept es ≡ map state_kept fs = cc in
     let names = ap (λ t. t.name) head in
     let limits = ap (λ t. t.limit) head in
     let repositories = same_entries_map e.1.repositories f.1.repositories (ap (λ t. t.repositories) head) in
@@ -220,11 +221,11 @@ same_rows files (e ∷ es) (f ∷ fs) same quiet left right =
       all = λ name object is stored. let found = there objects name is in found.1 ∙ ap Some (one_whole files name found.0 object (whole name found.0 found.1) stored);
     }
 
-pub shows : (world new : World) (files : Files) → IsSoundWorld world → HasWorld files world → IsShownAgain files (states_of world) new → new ≡ closed_world world
+pub shows : (world new : World) (files : Files) → IsSoundWorld world → HasWorld files world → IsShownAgain files (states_of world) new → new ≡ without_uploads world
 shows world new files sound has shown =
-    same_entries_map new (closed_world world)
+    same_entries_map new (without_uploads world)
     (same_rows files (entries new) (entries world) shown.states
     (λ name view is. shown.quiet name view (of_entry new name view is))
     (λ name view key object is. shown.whole name view key object (of_entry new name view is))
     (λ name view key object is. has name view key object (of_entry world name view is))
-    ∙ sym (entries_map_values closed world))
+    ∙ sym (entries_map_values without_upload world))

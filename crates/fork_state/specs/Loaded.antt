@@ -1,31 +1,27 @@
 -- Why a text is not loaded, and what is loaded of a text that was saved.
-use Rattle.std.specs.Prelude.{◌≡◌, ℕ, List, Some, ⊤}
-use Rattle.std.specs.FinMap.{get}
-use Rattle.git_name.specs.Object.{Object}
+use Rattle.std.specs.Prelude.{◌≡◌, ℕ, List, ⊤}
 use Rattle.loose_store.specs.Files.{Files}
-use Rattle.loose_store.specs.Stored.{Whole}
 use Rattle.fork_model.specs.Sound.{IsSoundWorld}
-use Rattle.fork_model.specs.View.{View}
 use Rattle.fork_model.specs.World.{World}
 use Rattle.state_text.specs.Fault.{IsWrongLine}
 use Rattle.state_text.specs.Kept.{states_of}
 use Rattle.state_text.specs.States.{States}
 use Rattle.state_text.specs.Text.{IsStateText}
-use Rattle.fork_host.specs.Restored.{IsFault, IsRefused, IsShownAgain}
-use Rattle.fork_host.specs.Uploads.{closed_world}
+use Rattle.fork_host.specs.Restored.{IsStoreOrMemory, AreRefused, IsShownAgain, HasWorld}
+use Rattle.fork_host.specs.Uploads.{without_uploads}
 use Rattle.fork_host.specs.declared.restore_error.RestoreError.{RestoreError}
 use Rattle.fork_host.specs.declared.restore_error.RestoreError.TheVariants as restore
 use Rattle.fork_state.specs.declared.fault.LoadFault.{LoadFault}
 use Rattle.fork_state.specs.declared.fault.LoadFault.TheVariants.{Line, Lost, Damaged, Unsound, OverLimit, Store, Memory}
 
 -- how what stands against a restored host is told
-abbrev pub load_fault : RestoreError → LoadFault
-load_fault (restore.Lost name) = Lost name
-load_fault (restore.Damaged name) = Damaged name
-load_fault (restore.Unsound name) = Unsound name
-load_fault (restore.OverLimit tenant) = OverLimit tenant
-load_fault restore.Store = Store
-load_fault restore.Memory = Memory
+abbrev pub restore_fault : RestoreError → LoadFault
+restore_fault (restore.Lost name) = Lost name
+restore_fault (restore.Damaged name) = Damaged name
+restore_fault (restore.Unsound name) = Unsound name
+restore_fault (restore.OverLimit tenant) = OverLimit tenant
+restore_fault restore.Store = Store
+restore_fault restore.Memory = Memory
 
 -- the text is a state text
 abbrev pub IsText : List ℕ → Type 0
@@ -41,7 +37,7 @@ IsTextFault text fault = IsText text
 pub record IsRefusedText (files : Files) (text : List ℕ) (error : RestoreError) : Type 0 where
   pub states : States
   pub tells : IsStateText states text
-  pub refused : IsRefused files states error
+  pub refused : AreRefused files states error
 
 -- the first wrong line of what is no state text; or else why its states are refused
 abbrev pub IsLoadFault : Files → List ℕ → LoadFault → Type 0
@@ -59,14 +55,10 @@ pub record IsLoaded (files : Files) (text : List ℕ) (world : World) : Type 0 w
   pub tells : IsStateText states text
   pub shown : IsShownAgain files states world
 
--- the store has each object that a tenant of the world sees
-abbrev pub HasWorld : Files → World → Type 0
-HasWorld files world = (tenant : List ℕ) (view : View) (name : List ℕ) (object : Object) → get world tenant ≡ Some view → get view.objects name ≡ Some object → Whole files name object
-
 -- where the store has the objects of a sound world, the world's states are refused for want of memory or of the store alone
 abbrev pub AcceptsItsWorld : Type 0
-AcceptsItsWorld = (world : World) (files : Files) (error : RestoreError) → IsSoundWorld world → HasWorld files world → IsRefused files (states_of world) error → IsFault error
+AcceptsItsWorld = (world : World) (files : Files) (error : RestoreError) → IsSoundWorld world → HasWorld files world → AreRefused files (states_of world) error → IsStoreOrMemory error
 
 -- and what is shown again is that world, uploads aside
 abbrev pub ShowsItsWorld : Type 0
-ShowsItsWorld = (world new : World) (files : Files) → IsSoundWorld world → HasWorld files world → IsShownAgain files (states_of world) new → new ≡ closed_world world
+ShowsItsWorld = (world new : World) (files : Files) → IsSoundWorld world → HasWorld files world → IsShownAgain files (states_of world) new → new ≡ without_uploads world

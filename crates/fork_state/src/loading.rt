@@ -1,7 +1,7 @@
 ghost use Rattle.std.specs.Prelude.{◌≡◌, IfErr, IfOk, IsTrue};
 ghost use Rattle.fork_ledger.specs.Store.{IsOver};
 ghost use Rattle.fork_host.specs.Shown.{Trusted, world_of};
-ghost use Rattle.fork_state.specs.Loaded.{IsLoadFault, IsLoaded, IsText, IsTextFault, load_fault};
+ghost use Rattle.fork_state.specs.Loaded.{IsLoadFault, IsLoaded, IsText, IsTextFault, restore_fault};
 
 use crate::fault::LoadFault;
 use fork_host::{Host, RestoreError};
@@ -38,7 +38,7 @@ pub fn load<S: LooseFiles + Drop>(
 
 // How what stands against a restored host is told.
 fn of_restore(error: RestoreError) -> LoadFault
-    ensures { result ≡ load_fault error }
+    ensures { result ≡ restore_fault error }
 {
     match error {
         RestoreError::Lost(name) => LoadFault::Lost(name),

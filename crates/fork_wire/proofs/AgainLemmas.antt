@@ -13,7 +13,7 @@ use Rattle.fork_frame.specs.declared.frame.Frame.{Frame}
 use Rattle.fork_host.specs.Shown.{HostState, Trusted, world_of}
 use Rattle.fork_host.specs.Step.{IsRun}
 use Rattle.fork_host.proofs.StepLemmas.{run_explained, run_joined as states_joined}
-use Rattle.fork_wire.specs.Again.{AreFine, AreSettled, is_settled, is_settled_host, settled}
+use Rattle.fork_wire.specs.Again.{AreSettled, is_settled, is_settled_host, settled}
 use Rattle.fork_wire.specs.Kept.{is_kept, is_kept_of, kept_of, replies_kept}
 use Rattle.fork_wire.specs.Sessions.{IsAnswered, event_of, events_of}
 use Rattle.fork_wire.proofs.Going.{answered_so_far}
@@ -29,7 +29,7 @@ use Rattle.fork_request.specs.declared.reply.Reply.{Reply}
 use Rattle.fork_request.specs.declared.reply.Reply.TheVariants.{Done, Refused, Failed}
 use Rattle.fork_model.specs.Answer.{answer}
 use Rattle.fork_model.specs.Runs.{Asks, HostAsks, Answered, Unknown, Faulted, TenantStep, OwnStep, HostAnswered, HostFaulted}
-use Rattle.fork_model.specs.World.{Event, Explains, HostSays, Steps, World, nothing_met}
+use Rattle.fork_model.specs.World.{AreFine, Event, Explains, HostSays, Steps, World, nothing_met}
 
 one_value : {X : Type 0} (o : Option X) (x y : X) → o ≡ Some x → o ≡ Some y → x ≡ y
 one_value o x y is other = cc

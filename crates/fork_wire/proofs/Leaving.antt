@@ -20,7 +20,7 @@ use Rattle.fork_model.proofs.StepLemmas.{answer_tells}
 use Rattle.fork_model.proofs.Worlds.{insert_same}
 use Rattle.fork_frame.specs.declared.asker.Asker.{Asker}
 use Rattle.fork_frame.specs.declared.asker.Asker.TheVariants.{Tenant, Host}
-use Rattle.fork_wire.specs.Kept.{ends_upload, is_kept_of, leaves, only_asks}
+use Rattle.fork_wire.specs.Kept.{is_part_end, is_kept_of, leaves, only_asks}
 use Rattle.fork_wire.specs.Sessions.{event_by}
 
 -- a row whose test chooses between two replies
@@ -52,7 +52,7 @@ asking_leaves view Prunes is = absurd (cc)
 asking_leaves view NoRequest is = refl
 
 -- what a refusal leaves is the view, but where the upload ends
-left_there : (view : View) (ask : Ask) → not (ends_upload ask) ≡ true → left_by view ask ≡ view
+left_there : (view : View) (ask : Ask) → not (is_part_end ask) ≡ true → left_by view ask ≡ view
 left_there view (Inits repository) is = refl
 left_there view (Drops repository) is = refl
 left_there view (Forks source copy) is = refl

@@ -20,11 +20,10 @@ use Rattle.push_stream.proofs.PieceLemmas.{piece_joins}
 use Rattle.fork_model.specs.Answer.{answer, open_upload, part_answer}
 use Rattle.fork_model.specs.Runs.{Answered}
 use Rattle.fork_model.specs.View.{View}
-use Rattle.fork_model.specs.World.{Explains, Steps, World}
+use Rattle.fork_model.specs.World.{AreFine, Explains, Steps, World}
 use Rattle.fork_frame.specs.Frame.{IsFrame}
 use Rattle.fork_frame.specs.declared.frame.Frame.{Frame}
-use Rattle.fork_wire.specs.Again.{AreFine}
-use Rattle.fork_wire.specs.Reopening.{AreParts, part_frame, with_upload}
+use Rattle.fork_wire.specs.Reopening.{ArePartFrames, part_frame, with_upload}
 use Rattle.fork_wire.specs.Sessions.{event_of, events_of}
 
 few_enough : (a b : ℕ) → a + b ≤ 33554432 → nat_lt 33554432 (a + b) ≡ false
@@ -105,7 +104,7 @@ some_pieces world tenant view (piece ∷ pieces) some here none fits right =
     parts_open world tenant [] view piece pieces here (ap open_upload none) (omega (arith, fits)) right
 
 -- all parts of an upload open it again, where none is open
-pub opened_again : (world : World) (tenant bytes : List ℕ) (view : View) (frames : List Frame) → get world tenant ≡ Some view → view.upload ≡ None → length bytes ≤ MAX_UPLOAD → AreParts tenant bytes frames
+pub opened_again : (world : World) (tenant bytes : List ℕ) (view : View) (frames : List Frame) → get world tenant ≡ Some view → view.upload ≡ None → length bytes ≤ MAX_UPLOAD → ArePartFrames tenant bytes frames
     → (replies : List Reply) × Explains world (events_of frames) replies (insert world tenant (with_upload view bytes)) × AreFine replies
 opened_again world tenant bytes view frames here none fits parts =
     let few = subst (λ b. length b ≤ MAX_UPLOAD) (sym parts.whole) fits in

@@ -15,7 +15,7 @@ use Rattle.fork_model.specs.World.{World}
 use Rattle.fork_host.specs.Uploads.{opened, upload_at, uploads_of}
 use Rattle.fork_frame.specs.Frame.{IsFrame, frame_bytes}
 use Rattle.fork_frame.specs.declared.frame.Frame.{Frame}
-use Rattle.fork_wire.specs.Reopening.{AreParts, Reopens, part_frame}
+use Rattle.fork_wire.specs.Reopening.{ArePartFrames, Reopens, part_frame}
 use Rattle.fork_wire.proofs.UploadsLemmas.{all_named, uploads_by}
 
 one_frame : (frame : Frame) → flat_map frame_bytes (frame ∷ []) ≡ frame_bytes frame
@@ -95,7 +95,7 @@ slice_sent tenant bytes at next before during after so_far named few written =
 
 -- all of it
 pub all_sent : (tenant front bytes : List ℕ) (before after : Option (List ℕ)) → Sending tenant front before after → front ≡ bytes
-    → (frames : List Frame) × AreParts tenant bytes frames × Appends before after (flat_map frame_bytes frames)
+    → (frames : List Frame) × ArePartFrames tenant bytes frames × Appends before after (flat_map frame_bytes frames)
 all_sent tenant front bytes before after so_far is =
     (so_far.frames, record { pieces = so_far.pieces; some = so_far.some; whole = so_far.whole ∙ is; sent = so_far.sent; right = so_far.wrote.right }, so_far.wrote.written)
 

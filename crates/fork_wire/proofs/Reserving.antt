@@ -2,6 +2,7 @@
 use Rattle.std.proofs.Common.{◌≡◌, false, Option, None, Some, ℕ, ◌+◌, List, [], ◌∷◌, ◌++◌, length, length-append, refl, arith}
 use Rattle.std.specs.Prelude.{IfSome}
 use Rattle.std.specs.Io.KnownBytes.{Consumes, IsAtEnd}
+use Rattle.fork_model.specs.World.{AreFine}
 use Rattle.fork_request.specs.Told.{is_host_fault}
 use Rattle.fork_request.specs.declared.reply.Reply.{Reply}
 use Rattle.fork_host.specs.Shown.{HostState}
@@ -10,7 +11,7 @@ use Rattle.fork_frame.specs.declared.ended.Ended.{Ended}
 use Rattle.fork_frame.specs.declared.ended.Ended.TheVariants.{Clean, BadFrame}
 use Rattle.fork_frame.specs.declared.frame.Frame.{Frame}
 use Rattle.fork_frame.proofs.StreamLemmas.{ends_clean, is_stream}
-use Rattle.fork_wire.specs.Again.{AreFine, IsAnsweredAgain, IsServedAgain}
+use Rattle.fork_wire.specs.Again.{IsAnsweredAgain, IsServedAgain}
 use Rattle.fork_wire.proofs.Going.{Going, answered_so_far, going_more, not_yet}
 
 -- so many frames were answered, and none by a host fault; nothing is known of a writer or a journal

@@ -20,13 +20,13 @@ use Rattle.fork_request.specs.Told.{is_host_fault}
 use Rattle.fork_request.specs.declared.reply.Reply.{Reply}
 use Rattle.fork_model.specs.Sound.{IsOrderlyWorld}
 use Rattle.fork_model.specs.View.{View}
-use Rattle.fork_model.specs.World.{Explains, World}
+use Rattle.fork_model.specs.World.{AreFine, Explains, World}
 use Rattle.fork_model.proofs.ClosedLemmas.{joined}
+use Rattle.fork_model.specs.Answer.{without_upload}
 use Rattle.fork_reach.proofs.KeptObjects.{tied_names}
 use Rattle.fork_host.specs.Shown.{HostState, Trusted, world_of}
-use Rattle.fork_host.specs.Uploads.{closed, closed_world, opened, upload_at, uploads_of}
+use Rattle.fork_host.specs.Uploads.{without_uploads, opened, upload_at, uploads_of}
 use Rattle.fork_frame.specs.declared.frame.Frame.{Frame}
-use Rattle.fork_wire.specs.Again.{AreFine}
 use Rattle.fork_wire.specs.Reopening.{Reopens, with_upload}
 use Rattle.fork_wire.specs.Sessions.{IsAnswered, event_of, events_of}
 use Rattle.fork_wire.proofs.AgainLemmas.{explained_of, run_joined, same_world_run}
@@ -38,7 +38,7 @@ is_left names q = list_any (eq_by_cmp name_cmp q) names
 
 -- on the way to a world: the views of these tenants have their uploads still closed, and all others are its own
 abbrev IsOnTheWay : World → List (List ℕ) → World → Type 0
-IsOnTheWay world names now = (q : List ℕ) → get now q ≡ cond (is_left names q) (option_map closed (get world q)) (get world q)
+IsOnTheWay world names now = (q : List ℕ) → get now q ≡ cond (is_left names q) (option_map without_upload (get world q)) (get world q)
 
 abbrev names_of : List (List ℕ × View) → List (List ℕ)
 names_of es = map (λ e. e.0) es
@@ -53,42 +53,42 @@ none_is None is = refl
 none_is (Some x) is = absurd (cc)
 
 -- at first all are closed, and at last none is
-way_begins : (world : World) → IsOnTheWay world (keys world) (closed_world world)
-way_begins world = λ q. get_map_values name_total closed world q ∙ by q (is_left (keys world) q) (contains_key-keys world q)
+way_begins : (world : World) → IsOnTheWay world (keys world) (without_uploads world)
+way_begins world = λ q. get_map_values name_total without_upload world q ∙ by q (is_left (keys world) q) (contains_key-keys world q)
   where
-    by : (q : List ℕ) (b : Bool) → contains_key world q ≡ b → option_map closed (get world q) ≡ cond b (option_map closed (get world q)) (get world q)
+    by : (q : List ℕ) (b : Bool) → contains_key world q ≡ b → option_map without_upload (get world q) ≡ cond b (option_map without_upload (get world q)) (get world q)
     by q true there = refl
-    by q false absent = (let none = none_is (get world q) absent in ap (option_map closed) none ∙ sym none)
+    by q false absent = (let none = none_is (get world q) absent in ap (option_map without_upload) none ∙ sym none)
 
 way_ends : (world now : World) → IsOnTheWay world [] now → world ≡ now
 way_ends world now way = same_map name_total name_exact world now (λ q. sym (way q))
 
 -- the first of those that are closed
-first_closed : (world now : World) (t : List ℕ) (view : View) (names : List (List ℕ)) → get world t ≡ Some view → IsOnTheWay world (t ∷ names) now → get now t ≡ Some (closed view)
+first_closed : (world now : World) (t : List ℕ) (view : View) (names : List (List ℕ)) → get world t ≡ Some view → IsOnTheWay world (t ∷ names) now → get now t ≡ Some (without_upload view)
 first_closed world now t view names here way =
-    way t ∙ ap (λ b. cond (b || is_left names t) (option_map closed (get world t)) (get world t)) ((eq_by_cmp_equiv name_total).refl t) ∙ ap (option_map closed) here
+    way t ∙ ap (λ b. cond (b || is_left names t) (option_map without_upload (get world t)) (get world t)) ((eq_by_cmp_equiv name_total).refl t) ∙ ap (option_map without_upload) here
 
 -- one that has no open upload is its own already
-way_still : (world now : World) (t : List ℕ) (view : View) (names : List (List ℕ)) → get world t ≡ Some view → closed view ≡ view → AllByRecursion (λ k. name_cmp t k ≡ Less) names → IsOnTheWay world (t ∷ names) now → IsOnTheWay world names now
+way_still : (world now : World) (t : List ℕ) (view : View) (names : List (List ℕ)) → get world t ≡ Some view → without_upload view ≡ view → AllByRecursion (λ k. name_cmp t k ≡ Less) names → IsOnTheWay world (t ∷ names) now → IsOnTheWay world names now
 way_still world now t view names here same above way = λ q. way q ∙ by q (eq_by_cmp name_cmp q t) refl
   where
-    itself : option_map closed (get world t) ≡ cond (is_left names t) (option_map closed (get world t)) (get world t)
-    itself = ap (option_map closed) here ∙ ap Some same ∙ sym here ∙ ap (λ b. cond b (option_map closed (get world t)) (get world t)) (sym (front_apart t names above))
+    itself : option_map without_upload (get world t) ≡ cond (is_left names t) (option_map without_upload (get world t)) (get world t)
+    itself = ap (option_map without_upload) here ∙ ap Some same ∙ sym here ∙ ap (λ b. cond b (option_map without_upload (get world t)) (get world t)) (sym (front_apart t names above))
 
-    by : (q : List ℕ) (b : Bool) → eq_by_cmp name_cmp q t ≡ b → cond (b || is_left names q) (option_map closed (get world q)) (get world q) ≡ cond (is_left names q) (option_map closed (get world q)) (get world q)
-    by q true tied = subst (λ k. option_map closed (get world k) ≡ cond (is_left names k) (option_map closed (get world k)) (get world k)) (sym (tied_names q t tied)) itself
+    by : (q : List ℕ) (b : Bool) → eq_by_cmp name_cmp q t ≡ b → cond (b || is_left names q) (option_map without_upload (get world q)) (get world q) ≡ cond (is_left names q) (option_map without_upload (get world q)) (get world q)
+    by q true tied = subst (λ k. option_map without_upload (get world k) ≡ cond (is_left names k) (option_map without_upload (get world k)) (get world k)) (sym (tied_names q t tied)) itself
     by q false apart = refl
 
 -- and one whose upload was opened is its own then
 way_more : (world now : World) (t : List ℕ) (view : View) (names : List (List ℕ)) → get world t ≡ Some view → AllByRecursion (λ k. name_cmp t k ≡ Less) names → IsOnTheWay world (t ∷ names) now → IsOnTheWay world names (insert now t view)
 way_more world now t view names here above way = λ q. get-insert name_total now t view q ∙ by q (eq_by_cmp name_cmp q t) refl
   where
-    itself : Some view ≡ cond (is_left names t) (option_map closed (get world t)) (get world t)
-    itself = sym here ∙ ap (λ b. cond b (option_map closed (get world t)) (get world t)) (sym (front_apart t names above))
+    itself : Some view ≡ cond (is_left names t) (option_map without_upload (get world t)) (get world t)
+    itself = sym here ∙ ap (λ b. cond b (option_map without_upload (get world t)) (get world t)) (sym (front_apart t names above))
 
-    by : (q : List ℕ) (b : Bool) → eq_by_cmp name_cmp q t ≡ b → cond b (Some view) (get now q) ≡ cond (is_left names q) (option_map closed (get world q)) (get world q)
-    by q true tied = subst (λ k. Some view ≡ cond (is_left names k) (option_map closed (get world k)) (get world k)) (sym (tied_names q t tied)) itself
-    by q false apart = way q ∙ ap (λ b. cond (b || is_left names q) (option_map closed (get world q)) (get world q)) apart
+    by : (q : List ℕ) (b : Bool) → eq_by_cmp name_cmp q t ≡ b → cond b (Some view) (get now q) ≡ cond (is_left names q) (option_map without_upload (get world q)) (get world q)
+    by q true tied = subst (λ k. Some view ≡ cond (is_left names k) (option_map without_upload (get world k)) (get world k)) (sym (tied_names q t tied)) itself
+    by q false apart = way q ∙ ap (λ b. cond (b || is_left names q) (option_map without_upload (get world q)) (get world q)) apart
 
 -- frames that are served without a host fault
 pub record IsServedFine (old : World) (frames : List Frame) (new : World) : Type 0 where
@@ -112,11 +112,11 @@ served_both old mid new frames first others parts replies run fine other = recor
 }
 
 -- a view of which no upload is open
-closed_still : (view : View) → view.upload ≡ None → closed view ≡ view
+closed_still : (view : View) → view.upload ≡ None → without_upload view ≡ view
 closed_still view none = λ i. (let is = sym none in record { repositories = view.repositories; objects = view.objects; upload = is i; limit = view.limit })
 
 -- and one of which one is, as it was opened
-opened_view : (view : View) (upload : UploadValue) (bytes : List ℕ) → view.upload ≡ Some upload → upload_of bytes ≡ upload → with_upload (closed view) bytes ≡ view
+opened_view : (view : View) (upload : UploadValue) (bytes : List ℕ) → view.upload ≡ Some upload → upload_of bytes ≡ upload → with_upload (without_upload view) bytes ≡ view
 opened_view view upload bytes open_is stands =
     let is = ap Some stands ∙ sym open_is in
     λ i. record { repositories = view.repositories; objects = view.objects; upload = is i; limit = view.limit }
@@ -128,7 +128,7 @@ one_more : (world now : World) (t : List ℕ) (view : View) (names : List (List 
 one_more world now t view names uploads frames None none here few above way opens rest = rest now frames (way_still world now t view names here (closed_still view none) above way) opens
 one_more world now t view names uploads frames (Some upload) open_is here few above way (first, others, parts, one, more) rest =
     let fits = subst (λ (u : UploadValue). u.count ≤ MAX_UPLOAD) (sym one.stands) (few upload open_is) in
-    let done = opened_again now t one.bytes (closed view) first (first_closed world now t view names here way) refl fits one.parts in
+    let done = opened_again now t one.bytes (without_upload view) first (first_closed world now t view names here way) refl fits one.parts in
     let mid = insert now t view in
     served_both now mid world frames first others parts done.0 (subst (λ v. Explains now (events_of first) done.0 (insert now t v)) (opened_view view upload one.bytes open_is one.stands) done.1) done.2
     (rest mid others (way_more world now t view names here above way) more)
@@ -165,17 +165,17 @@ opened_along world (e ∷ es) now frames sorted has few way opens =
     (λ mid others on more. opened_along world es mid others sorted.1 (has_rest world e es sorted.0 has) few on more))
 
 -- all uploads of a world
-pub all_opened : (world : World) (frames : List Frame) → IsOrderlyWorld world → Reopens (uploads_of world) frames → (replies : List Reply) × Explains (closed_world world) (events_of frames) replies world × AreFine replies
+pub all_opened : (world : World) (frames : List Frame) → IsOrderlyWorld world → Reopens (uploads_of world) frames → (replies : List Reply) × Explains (without_uploads world) (events_of frames) replies world × AreFine replies
 all_opened world frames orderly opens =
-    let served = opened_along world (entries world) (closed_world world) frames (keys_ascend world) (λ q view is. get-entries world q ∙ is) (λ t view upload here is. (orderly.views t view here).upload upload is) (way_begins world) opens in
+    let served = opened_along world (entries world) (without_uploads world) frames (keys_ascend world) (λ q view is. get-entries world q ∙ is) (λ t view upload here is. (orderly.views t view here).upload upload is) (way_begins world) opens in
     (served.replies, served.run, served.fine)
 
 -- and whatever serves them without a host fault
 pub all_served : (world : World) (frames : List Frame) (old new : HostState) (replies : List Reply) → IsOrderlyWorld world → Reopens (uploads_of world) frames → IsAnswered old new frames replies → AreFine replies → Trusted old
-    → world_of old ≡ closed_world world → world_of new ≡ world
+    → world_of old ≡ without_uploads world → world_of new ≡ world
 all_served world frames old new replies orderly opens answered fine trusted same =
     let told = all_opened world frames orderly opens in
-    same_world_run (world_of old) (world_of new) (closed_world world) world (events_of frames) replies told.0 same (explained_of old new frames replies answered trusted) told.1 fine told.2
+    same_world_run (world_of old) (world_of new) (without_uploads world) world (events_of frames) replies told.0 same (explained_of old new frames replies answered trusted) told.1 fine told.2
 
 -- the uploads that these tenants have open
 abbrev pub uploads_by : World → List (List ℕ) → List (List ℕ × UploadValue)

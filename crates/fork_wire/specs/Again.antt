@@ -6,17 +6,13 @@ use Rattle.fork_request.specs.declared.host_request.HostRequest.{HostRequest}
 use Rattle.fork_request.specs.declared.host_request.HostRequest.TheVariants.{Sweep, Collect, Census, Fsck, Bad}
 use Rattle.fork_request.specs.declared.reply.Reply.{Reply}
 use Rattle.fork_model.specs.Runs.{Asks, HostAsks}
-use Rattle.fork_model.specs.World.{Event}
+use Rattle.fork_model.specs.World.{AreFine, Event}
 use Rattle.fork_host.specs.Shown.{HostState}
 use Rattle.fork_host.specs.Step.{IsStep}
 use Rattle.fork_frame.specs.Frame.{IsRequestStream}
 use Rattle.fork_frame.specs.declared.ended.Ended.{Ended}
 use Rattle.fork_frame.specs.declared.frame.Frame.{Frame}
 use Rattle.fork_wire.specs.Sessions.{IsAnswered, event_of}
-
--- no reply is a host fault
-abbrev pub AreFine : List Reply → Type 0
-AreFine replies = AllByRecursion (λ reply. is_host_fault reply ≡ false) replies
 
 -- whether the world settles what is told of a request of the host itself: what tells of its store it does not
 abbrev pub is_settled_host : HostRequest → Bool

@@ -33,14 +33,14 @@ only_asks (SetsHead repository reference) = false
 only_asks Prunes = false
 
 -- a request that ends the upload, also where it is refused
-abbrev pub ends_upload : Ask → Bool
-ends_upload (EndsParts repository) = true
-ends_upload ask = false
+abbrev pub is_part_end : Ask → Bool
+is_part_end (EndsParts repository) = true
+is_part_end ask = false
 
 -- the view is as it was before the request was answered so
 abbrev pub leaves : Ask → Reply → Bool
 leaves ask (Done text) = only_asks ask
-leaves ask (Refused refusal) = not (ends_upload ask)
+leaves ask (Refused refusal) = not (is_part_end ask)
 leaves ask (Failed fault) = true
 
 -- what a tenant sends is kept where it may have changed the tenant's view

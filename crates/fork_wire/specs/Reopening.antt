@@ -12,7 +12,7 @@ abbrev pub part_frame : List ℕ → List ℕ → Frame
 part_frame tenant piece = record { asker = Tenant tenant; payload = codes "part\n" ++ piece }
 
 -- frames by which a tenant sends these bytes: one at least, and each a right frame
-pub record AreParts (tenant bytes : List ℕ) (frames : List Frame) : Type 0 where
+pub record ArePartFrames (tenant bytes : List ℕ) (frames : List Frame) : Type 0 where
   pub pieces : List (List ℕ)
   pub some : 1 ≤ length pieces
   pub whole : concat pieces ≡ bytes
@@ -27,7 +27,7 @@ with_upload view bytes = record view { upload = Some (upload_of bytes) }
 pub record ReopensOne (tenant : List ℕ) (upload : UploadValue) (frames : List Frame) : Type 0 where
   pub bytes : List ℕ
   pub stands : upload_of bytes ≡ upload
-  pub parts : AreParts tenant bytes frames
+  pub parts : ArePartFrames tenant bytes frames
 
 -- frames that open these uploads again, one after another
 abbrev pub Reopens : List (List ℕ × UploadValue) → List Frame → Type 0

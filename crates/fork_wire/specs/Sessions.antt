@@ -39,9 +39,9 @@ abbrev pub is_of : List ℕ → Asker → Bool
 is_of tenant (Tenant name) = eq_by_cmp name_cmp tenant name
 is_of tenant Host = false
 
-abbrev pub sent_by : List ℕ → List Frame → List (List ℕ)
-sent_by tenant [] = []
-sent_by tenant (frame ∷ frames) = cond (is_of tenant frame.asker) (frame.payload ∷ sent_by tenant frames) (sent_by tenant frames)
+abbrev pub payloads_of : List ℕ → List Frame → List (List ℕ)
+payloads_of tenant [] = []
+payloads_of tenant (frame ∷ frames) = cond (is_of tenant frame.asker) (frame.payload ∷ payloads_of tenant frames) (payloads_of tenant frames)
 
 -- the frames of these replies, one after another
 abbrev pub frames_of : List Reply → List ℕ

@@ -2,7 +2,7 @@
 ghost use Rattle.std.specs.Prelude.{◌≡◌, IsTrue, false, true};
 ghost use Rattle.std.specs.Io.KnownBytes.{Appends};
 ghost use Rattle.fork_request.specs.Asked.{asked};
-ghost use Rattle.fork_wire.specs.Kept.{ends_upload as may_end, is_kept, kept_one, leaves as is_left, only_asks as is_asking};
+ghost use Rattle.fork_wire.specs.Kept.{is_part_end as may_end, is_kept, kept_one, leaves as is_left, only_asks as is_asking};
 
 use crate::journal::Journal;
 use fork_frame::{Asker, Frame};

@@ -4,17 +4,17 @@ ghost use Rattle.push_stream.specs.declared.upload.TheConstants.{MAX_UPLOAD};
 ghost use Rattle.fork_model.specs.Sound.{IsOrderlyWorld};
 ghost use Rattle.fork_model.specs.View.{View};
 ghost use Rattle.fork_request.specs.declared.reply.Reply.{Reply};
-ghost use Rattle.fork_model.specs.World.{Agree, Explains, IsUnfaulted, World};
+ghost use Rattle.fork_model.specs.World.{Agree, AreFine, Explains, IsUnfaulted, World};
 ghost use Rattle.fork_host.specs.Shown.{HostState, Trusted, world_of};
-ghost use Rattle.fork_host.specs.Uploads.{closed_world, uploads_of};
+ghost use Rattle.fork_host.specs.Uploads.{without_uploads, uploads_of};
 ghost use Rattle.fork_frame.specs.declared.frame.Frame.{Frame};
 ghost use Rattle.fork_frame.specs.Frame.{AreFrames, IsRequestStream};
 ghost use Rattle.fork_frame.specs.declared.ended.Ended.{Ended};
 ghost use Rattle.fork_frame.specs.declared.ended.Ended.TheVariants.{Clean};
-ghost use Rattle.fork_wire.specs.Again.{AreFine, AreSettled, settled};
+ghost use Rattle.fork_wire.specs.Again.{AreSettled, settled};
 ghost use Rattle.fork_wire.specs.Kept.{kept_bytes, kept_of};
-ghost use Rattle.fork_wire.specs.Reopening.{AreParts, Reopens, with_upload};
-ghost use Rattle.fork_wire.specs.Sessions.{IsAnswered, events_of, frames_of, sent_by, told_to};
+ghost use Rattle.fork_wire.specs.Reopening.{ArePartFrames, Reopens, with_upload};
+ghost use Rattle.fork_wire.specs.Sessions.{IsAnswered, events_of, frames_of, payloads_of, told_to};
 
 /// A law, and no work: where two hosts over trusted stores show a tenant alike, and it sends the same
 /// payloads to both, the same bytes go out to it, whatever others send between, and both show it alike
@@ -26,14 +26,14 @@ pub fn two_sessions_agree()
         → IsAnswered old new frames replies → IsUnfaulted tenant (events_of frames) replies
         → IsAnswered old2 new2 frames2 replies2 → IsUnfaulted tenant (events_of frames2) replies2
         → Trusted old → Trusted old2 → Agree tenant (world_of old) (world_of old2)
-        → sent_by tenant frames ≡ sent_by tenant frames2
+        → payloads_of tenant frames ≡ payloads_of tenant frames2
         → told_to tenant frames replies ≡ told_to tenant frames2 replies2 }
     ensures worlds { (tenant : List ℕ) (old new : HostState) (frames : List Frame) (replies : List Reply)
         → (old2 new2 : HostState) (frames2 : List Frame) (replies2 : List Reply)
         → IsAnswered old new frames replies → IsUnfaulted tenant (events_of frames) replies
         → IsAnswered old2 new2 frames2 replies2 → IsUnfaulted tenant (events_of frames2) replies2
         → Trusted old → Trusted old2 → Agree tenant (world_of old) (world_of old2)
-        → sent_by tenant frames ≡ sent_by tenant frames2
+        → payloads_of tenant frames ≡ payloads_of tenant frames2
         → Agree tenant (world_of new) (world_of new2) }
 {}
 
@@ -76,7 +76,7 @@ pub fn a_session_in_two_halves_is_the_whole()
 /// and change nothing else.
 pub fn parts_open_an_upload_again()
     ensures { (world : World) (tenant bytes : List ℕ) (view : View) (frames : List Frame)
-        → get world tenant ≡ Some view → view.upload ≡ None → length bytes ≤ MAX_UPLOAD → AreParts tenant bytes frames
+        → get world tenant ≡ Some view → view.upload ≡ None → length bytes ≤ MAX_UPLOAD → ArePartFrames tenant bytes frames
         → (replies : List Reply) × Explains world (events_of frames) replies (insert world tenant (with_upload view bytes)) × AreFine replies }
 {}
 
@@ -84,7 +84,7 @@ pub fn parts_open_an_upload_again()
 /// lead to that world; and so does whatever serves them without a host fault over a trusted store.
 pub fn all_uploads_open_again()
     ensures opened { (world : World) (frames : List Frame) → IsOrderlyWorld world → Reopens (uploads_of world) frames
-        → (replies : List Reply) × Explains (closed_world world) (events_of frames) replies world × AreFine replies }
+        → (replies : List Reply) × Explains (without_uploads world) (events_of frames) replies world × AreFine replies }
     ensures served { (world : World) (frames : List Frame) (old new : HostState) (replies : List Reply) → IsOrderlyWorld world → Reopens (uploads_of world) frames
-        → IsAnswered old new frames replies → AreFine replies → Trusted old → world_of old ≡ closed_world world → world_of new ≡ world }
+        → IsAnswered old new frames replies → AreFine replies → Trusted old → world_of old ≡ without_uploads world → world_of new ≡ world }
 {}

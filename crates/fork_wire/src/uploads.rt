@@ -6,7 +6,7 @@ ghost use Rattle.fork_host.specs.Shown.{Trusted, world_of};
 ghost use Rattle.fork_host.specs.Uploads.{opened, upload_at, uploads_of};
 ghost use Rattle.fork_frame.specs.Frame.{IsFrame, frame_bytes};
 ghost use Rattle.fork_frame.specs.declared.frame.Frame.{Frame as FrameValue};
-ghost use Rattle.fork_wire.specs.Reopening.{AreParts, Reopens, part_frame};
+ghost use Rattle.fork_wire.specs.Reopening.{ArePartFrames, Reopens, part_frame};
 
 use crate::journal::NotKept;
 use fork_frame::{Asker, Frame, write_frame};
@@ -57,7 +57,7 @@ fn write_upload<W: Write>(
     tenant: &TenantName,
     bytes: &[u8],
 ) -> Result<(), NotKept>
-    ensures { OnOk result ((frames : List FrameValue) × AreParts tenant.now bytes.now frames
+    ensures { OnOk result ((frames : List FrameValue) × ArePartFrames tenant.now bytes.now frames
         × Appends (W.contents writer.old) (W.contents writer.new) (flat_map frame_bytes frames)) }
 {
     // Only for its clause: the bytes are a tenant's name.

@@ -22,7 +22,7 @@ use Rattle.git_header.specs.IdentIn.{ident_in}
 use Rattle.git_header.specs.Parting.{header_part, message_part, name_behind}
 use Rattle.git_header.specs.Row.{name_or_none, Gathered, gather}
 use Rattle.git_header.specs.Tests.{is_name, is_header}
-use Rattle.git_commit.specs.CommitIn.{is_commit, commit_from, commit_in}
+use Rattle.git_commit.specs.CommitIn.{is_right_commit, commit_from, commit_in}
 use Rattle.git_commit.proofs.ParentLemmas.{names_are}
 use Rattle.git_header.proofs.RowLemmas.{gather_headers}
 use Rattle.git_commit.proofs.CommitLemmas.{sound_commit, commit_right, last_place, no_commit}
@@ -66,7 +66,7 @@ commit_again v is =
 
 -- ---- the tests
 
-value_decides : (v : CommitValue) → Decides (is_commit v) (IsCommitValue v)
+value_decides : (v : CommitValue) → Decides (is_right_commit v) (IsCommitValue v)
 value_decides v =
     let names = Decides-and _ _ (name_decides v.tree) (all_decides is_name IsName name_decides v.parents) in
     let idents = Decides-and _ _ (Decides-and _ _ names (ident_decides v.author)) (ident_decides v.committer) in
@@ -75,7 +75,7 @@ value_decides v =
       λ is. parts.1 ((((is.tree, is.parents), is.author), is.committer), is.headers),
     )
 
-pub commit_decides : (v : CommitValue) (bytes : List ℕ) → Decides (is_commit v && bytes_eq (spelled_commit v) bytes) (IsCommit v bytes)
+pub commit_decides : (v : CommitValue) (bytes : List ℕ) → Decides (is_right_commit v && bytes_eq (spelled_commit v) bytes) (IsCommit v bytes)
 commit_decides v bytes =
     let parts = Decides-and _ _ (value_decides v) (bytes_eq-Decides (spelled_commit v) bytes) in (
       λ test. let p = parts.0 test in record { right = p.0; spelling = sym p.1 },
@@ -96,14 +96,14 @@ unfolding commit_in
 commit_in_is bytes v is =
     let found = commit_from (header_part bytes) (message_part bytes) in
     let same = found_in v bytes is in
-    chosen (is_commit found && bytes_eq (spelled_commit found) bytes) found ((commit_decides found bytes).1 (subst (λ (c : CommitValue). IsCommit c bytes) (sym same) is)) ∙ ap Some same
+    chosen (is_right_commit found && bytes_eq (spelled_commit found) bytes) found ((commit_decides found bytes).1 (subst (λ (c : CommitValue). IsCommit c bytes) (sym same) is)) ∙ ap Some same
 
 -- and nothing else
 pub is_commit_in : (bytes : List ℕ) (v : CommitValue) → commit_in bytes ≡ Some v → IsCommit v bytes
 unfolding commit_in
 is_commit_in bytes v h =
     let found = commit_from (header_part bytes) (message_part bytes) in
-    let is = chosen_is (is_commit found && bytes_eq (spelled_commit found) bytes) found v h in
+    let is = chosen_is (is_right_commit found && bytes_eq (spelled_commit found) bytes) found v h in
     subst (λ (c : CommitValue). IsCommit c bytes) is.1 ((commit_decides found bytes).0 is.0)
 
 pub no_commit_in : (bytes : List ℕ) → ((v : CommitValue) → IsCommit v bytes → ⊥) → commit_in bytes ≡ None

@@ -7,15 +7,15 @@ use Rattle.git_name.specs.Name.{IsName}
 use Rattle.git_name.specs.declared.kind.Kind.TheVariants.{Commit}
 use Rattle.git_header.specs.declared.fault.HeaderFault.{HeaderFault}
 use Rattle.git_header.specs.declared.fault.HeaderFault.TheVariants as fault
-use Rattle.git_name.specs.Text.{Lacks, ended}
-use Rattle.git_header.specs.Line.{IsLine, IsOther, Begins, ending}
+use Rattle.git_name.specs.Text.{Begins, Lacks, ended}
+use Rattle.git_header.specs.Line.{IsLine, IsOther, ending}
 use Rattle.git_header.specs.Ident.{spelled_ident}
 use Rattle.git_header.specs.Header.{NoHeader, header_grammar, header_lines}
 use Rattle.git_commit.specs.Commit.{CommitValue, IsCommitValue, IsCommit, parent_line, commit_lines}
-use Rattle.git_header.specs.Judging.{AreRight, Misplaced, IsBroken, Bad, IsFirstFault}
-use Rattle.git_header.specs.Value.{IsNameText, IsIdentLine, Holds, IsNoValue}
+use Rattle.git_header.specs.Judging.{AreRightLines, Misplaced, IsBroken, Bad, IsFirstFault}
+use Rattle.git_header.specs.Value.{IsNameText, IsIdentLine, HoldsValue, IsNoValue}
 use Rattle.git_commit.specs.Fault.{Place, First, AfterTree, AfterAuthor, Further, commit_grammar, IsCommitFault}
-use Rattle.git_commit.specs.Parents.{parents_in, AreParents}
+use Rattle.git_commit.specs.Parents.{parents_spelled, AreParentLines}
 use Rattle.git_header.proofs.Splits.{split_unique, same_rest, heads}
 use Rattle.git_commit.proofs.ParentLemmas.{parents_of}
 use Rattle.git_header.proofs.JudgingLemmas.{itself, IsUsual, IsSound, IsWithin, right_within, fault_within, fault_here, fault_behind, right_lines, right_not_broken, one_fault, no_fault}
@@ -41,7 +41,7 @@ word_lacks byte low word (ParentWord is) = All-same (λ b. b ≢ byte) _ _ is (A
 word_lacks byte low word (AuthorWord is) = All-same (λ b. b ≢ byte) _ _ is (All-from_recursion (λ b. b ≢ byte) (codes "author ") (search (rules, arith)))
 word_lacks byte low word (CommitterWord is) = All-same (λ b. b ≢ byte) _ _ is (All-from_recursion (λ b. b ≢ byte) (codes "committer ") (search (rules, arith)))
 
-held : (byte : ℕ) → byte < 32 → (word : List ℕ) → IsWord word → (IsValue : List ℕ → Type 0) (line : List ℕ) → ((value : List ℕ) → IsValue value → Lacks byte value) → Holds word IsValue line → Lacks byte line
+held : (byte : ℕ) → byte < 32 → (word : List ℕ) → IsWord word → (IsValue : List ℕ → Type 0) (line : List ℕ) → ((value : List ℕ) → IsValue value → Lacks byte value) → HoldsValue word IsValue line → Lacks byte line
 held byte low word is IsValue line lack h = All-same (λ b. b ≢ byte) _ _ h.spelling (All-append (λ b. b ≢ byte) word h.value (word_lacks byte low word is) (lack h.value h.is))
 
 no_zero_at : (p : Place) (line : List ℕ) → commit_grammar.Right p line → Lacks 0 line
@@ -129,14 +129,14 @@ headers_fault why text wrong = fault_within itself Further (header_grammar Commi
 
 -- ---- a whole commit
 
-pub parents_right : (names : List (List ℕ)) → AllByRecursion IsName names → AreRight commit_grammar AfterTree (map parent_line names) AfterTree
+pub parents_right : (names : List (List ℕ)) → AllByRecursion IsName names → AreRightLines commit_grammar AfterTree (map parent_line names) AfterTree
 parents_right [] are = refl
 parents_right (n ∷ names) are = (inl (record { value = encode_lower n; spelling = refl; is = (n, are.0, refl) }), parents_right names are.1)
 
 abbrev pub last_place : CommitValue → Place
 last_place v = Further (place_behind v.headers)
 
-pub commit_right : (v : CommitValue) → IsCommitValue v → AreRight commit_grammar First (commit_lines v) (last_place v)
+pub commit_right : (v : CommitValue) → IsCommitValue v → AreRightLines commit_grammar First (commit_lines v) (last_place v)
 commit_right v is = (
   record { value = encode_lower v.tree; spelling = refl; is = (v.tree, is.tree, refl) },
   right_lines commit_grammar AfterTree AfterTree (last_place v) (map parent_line v.parents) _ (parents_right v.parents is.parents) (
@@ -169,9 +169,9 @@ parents_first (n ∷ names) name bytes after are is spelled begins =
     parent_no_end m is_name = no_end_at AfterTree (parent_line m) (inl (record { value = encode_lower m; spelling = refl; is = (m, is_name, refl) }))
 
 -- what stands behind the first line of parents
-pub parents_step : (name bytes after : List ℕ) → AreParents bytes → IsName name → IsLine (parent_line name) after bytes → (parents_in bytes ≡ name ∷ parents_in after) × AreParents after
+pub parents_step : (name bytes after : List ℕ) → AreParentLines bytes → IsName name → IsLine (parent_line name) after bytes → (parents_spelled bytes ≡ name ∷ parents_spelled after) × AreParentLines after
 parents_step name bytes after row is line =
-    let cut = parents_first (parents_in bytes) name bytes after row.each is row.spelling line.parts in
+    let cut = parents_first (parents_spelled bytes) name bytes after row.each is row.spelling line.parts in
     let rest = parents_of cut.0 after cut.3 cut.2 in
     (cut.1 ∙ ap (λ (t : List (List ℕ)). name ∷ t) (sym rest.0), rest.1)
 
@@ -184,10 +184,10 @@ parents_no_fault (n ∷ names) why bytes are spelled some wrong =
     (parent_broken why bytes (encode_lower n ++ 10 ∷ rest) whole wrong)
 
 -- bytes of lines of parents begin with one
-pub row_no_fault : (why : HeaderFault) (bytes : List ℕ) → AreParents bytes → 0 < length bytes → IsNoValue (codes "parent ") IsNameText fault.Name why bytes → ⊥
-row_no_fault why bytes row some wrong = parents_no_fault (parents_in bytes) why bytes row.each row.spelling some wrong
+pub row_no_fault : (why : HeaderFault) (bytes : List ℕ) → AreParentLines bytes → 0 < length bytes → IsNoValue (codes "parent ") IsNameText fault.Name why bytes → ⊥
+row_no_fault why bytes row some wrong = parents_no_fault (parents_spelled bytes) why bytes row.each row.spelling some wrong
 
-pub row_none : (bytes : List ℕ) → length bytes ≡ 0 → parents_in bytes ≡ []
+pub row_none : (bytes : List ℕ) → length bytes ≡ 0 → parents_spelled bytes ≡ []
 row_none [] none = (parents_of [] [] tt refl).0
 row_none (b ∷ bytes) none = absurd (omega arith)
 

@@ -7,7 +7,7 @@ use Rattle.git_name.specs.Name.{IsName}
 use Rattle.git_header.specs.Header.{header_lines}
 use Rattle.git_name.specs.Text.{Lacks, ended}
 use Rattle.git_header.specs.Line.{IsLine, ending}
-use Rattle.git_header.specs.Value.{ident_line, name_line}
+use Rattle.git_header.specs.Value.{ident_line, word_and_name}
 use Rattle.git_header.proofs.FieldLemmas.{differ}
 use Rattle.git_header.proofs.JudgingLemmas.{lines_then}
 use Rattle.git_header.proofs.Splits.{heads, same_rest, split_unique}
@@ -24,7 +24,7 @@ others v = ident_line (codes "author ") v.author ∷ ident_line (codes "committe
 tree_at : (v : CommitValue) (tree after bytes : List ℕ) → IsName tree → IsLine (codes "tree " ++ encode_lower tree) after bytes → IsCommit v bytes
     → (tree ≡ v.tree) × (after ≡ flat_map ended (map parent_line v.parents ++ others v) ++ ending v.message)
 tree_at v tree after bytes is line commit =
-    let first = name_line (codes "tree ") v.tree in
+    let first = word_and_name (codes "tree ") v.tree in
     let no_end = sound_commit.no_end First first (record { value = encode_lower v.tree; spelling = refl; is = (v.tree, commit.right.tree, refl) }) in
     let parts = split_unique 10 (codes "tree " ++ encode_lower tree) after first (flat_map ended (map parent_line v.parents ++ others v) ++ ending v.message) line.no_end no_end
     (sym line.parts ∙ commit.spelling ∙ lines_then first (map parent_line v.parents ++ others v) (ending v.message)) in

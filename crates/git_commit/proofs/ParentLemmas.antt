@@ -8,7 +8,7 @@ use Rattle.git_name.proofs.ReadingLemmas.{name_in-encode_lower}
 use Rattle.git_name.specs.Text.{Lacks, ended}
 use Rattle.git_commit.specs.Commit.{parent_line}
 use Rattle.git_header.specs.Row.{name_or_none}
-use Rattle.git_commit.specs.Parents.{parents_in, AreParents}
+use Rattle.git_commit.specs.Parents.{parents_spelled, AreParentLines}
 use Rattle.git_header.proofs.RowLemmas.{lines_of, hex_lacks}
 
 -- ---- continuation lines
@@ -35,12 +35,12 @@ names_are [] are = refl
 names_are (n ∷ names) are =
     ap (λ o. name_or_none o ∷ map name_of_line (map parent_line names)) (name_in-encode_lower n are.0) ∙ ap (λ (t : List (List ℕ)). n ∷ t) (names_are names are.1)
 
-parents_are : (names : List (List ℕ)) → AllByRecursion IsName names → parents_in (flat_map ended (map parent_line names)) ≡ names
-unfolding parents_in
+parents_are : (names : List (List ℕ)) → AllByRecursion IsName names → parents_spelled (flat_map ended (map parent_line names)) ≡ names
+unfolding parents_spelled
 parents_are names are = ap (map name_of_line) (lines_of (map parent_line names) (parents_lack names are)) ∙ names_are names are
 
 -- bytes of lines of parents hold just these
-pub parents_of : (names : List (List ℕ)) (bytes : List ℕ) → AllByRecursion IsName names → bytes ≡ flat_map ended (map parent_line names) → (parents_in bytes ≡ names) × AreParents bytes
+pub parents_of : (names : List (List ℕ)) (bytes : List ℕ) → AllByRecursion IsName names → bytes ≡ flat_map ended (map parent_line names) → (parents_spelled bytes ≡ names) × AreParentLines bytes
 parents_of names bytes are is =
-    let same : parents_in bytes ≡ names = ap parents_in is ∙ parents_are names are in
+    let same : parents_spelled bytes ≡ names = ap parents_spelled is ∙ parents_are names are in
     (same, record { each = subst (AllByRecursion IsName) (sym same) are; spelling = is ∙ ap (λ (v : List (List ℕ)). flat_map ended (map parent_line v)) (sym same) })

@@ -10,8 +10,8 @@ use Rattle.git_header.specs.Line.{IsLine, ending}
 use Rattle.git_header.specs.Ident.{IdentValue, IsIdentValue, spelled_ident}
 use Rattle.git_header.specs.Header.{HeaderValue, NoHeader, IsHeader, header_lines}
 use Rattle.git_commit.specs.Commit.{CommitValue, IsCommit, parent_line, commit_lines}
-use Rattle.git_header.specs.Value.{name_line, ident_line}
-use Rattle.git_header.specs.Judging.{AreRight, IsFirstFault}
+use Rattle.git_header.specs.Value.{word_and_name, ident_line}
+use Rattle.git_header.specs.Judging.{AreRightLines, IsFirstFault}
 use Rattle.git_commit.specs.Fault.{Place, First, AfterTree, AfterAuthor, Further, commit_grammar, IsCommitFault}
 use Rattle.git_header.proofs.Splits.{same_rest, heads}
 use Rattle.git_header.proofs.RowLemmas.{headers_unique}
@@ -26,14 +26,14 @@ use Rattle.git_header.proofs.ValueLemmas.{name_same}
 abbrev pub Read : List ℕ → List (List ℕ) → Place → List ℕ → Type 0
 Read bytes lines place rest = IsRead commit_grammar First bytes lines place rest
 
-pub read_on : (bytes : List ℕ) (lines more : List (List ℕ)) (p q : Place) (rest after : List ℕ) → Read bytes lines p rest → AreRight commit_grammar p more q → rest ≡ flat_map ended more ++ after → Read bytes (lines ++ more) q after
+pub read_on : (bytes : List ℕ) (lines more : List (List ℕ)) (p q : Place) (rest after : List ℕ) → Read bytes lines p rest → AreRightLines commit_grammar p more q → rest ≡ flat_map ended more ++ after → Read bytes (lines ++ more) q after
 read_on bytes lines more p q rest after read right parts = go_on commit_grammar First bytes lines more p q rest after read right parts
 
 pub read_fault : (why : HeaderFault) (bytes : List ℕ) (lines : List (List ℕ)) (p : Place) (rest : List ℕ) → Read bytes lines p rest → IsFirstFault commit_grammar p why rest → IsCommitFault why bytes
 read_fault why bytes lines p rest read wrong = fault_later commit_grammar First why bytes lines p rest read wrong
 
 abbrev tree_line : List ℕ → List ℕ
-tree_line tree = name_line (codes "tree ") tree
+tree_line tree = word_and_name (codes "tree ") tree
 
 abbrev author_line : IdentValue → List ℕ
 author_line ident = ident_line (codes "author ") ident

@@ -5,7 +5,7 @@ use Rattle.git_name.specs.Name.{IsName}
 use Rattle.git_name.specs.declared.kind.Kind.TheVariants.{Commit}
 use Rattle.git_header.specs.Ident.{IdentValue, IsIdentValue}
 use Rattle.git_header.specs.Header.{HeaderValue, IsHeader, header_lines}
-use Rattle.git_header.specs.Value.{ident_line, name_line}
+use Rattle.git_header.specs.Value.{ident_line, word_and_name}
 use Rattle.git_name.specs.Text.{ended}
 use Rattle.git_header.specs.Line.{ending}
 
@@ -27,12 +27,12 @@ pub record IsCommitValue (commit : CommitValue) : Type 0 where
   pub headers : AllByRecursion (IsHeader Commit) commit.headers
 
 abbrev pub parent_line : List ℕ → List ℕ
-parent_line name = name_line (codes "parent ") name
+parent_line name = word_and_name (codes "parent ") name
 
 -- the lines of the header, in order
 abbrev pub commit_lines : CommitValue → List (List ℕ)
 commit_lines commit =
-    name_line (codes "tree ") commit.tree ∷ (map parent_line commit.parents
+    word_and_name (codes "tree ") commit.tree ∷ (map parent_line commit.parents
     ++ ident_line (codes "author ") commit.author ∷ ident_line (codes "committer ") commit.committer ∷ flat_map header_lines commit.headers)
 
 -- each line and its line feed, and the message behind an empty line where there is one

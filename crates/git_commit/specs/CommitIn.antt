@@ -12,8 +12,8 @@ use Rattle.git_header.specs.Row.{gather}
 use Rattle.git_header.specs.Tests.{is_name, is_ident, is_header}
 
 -- the test of a commit's parts
-abbrev pub is_commit : CommitValue → Bool
-is_commit commit = is_name commit.tree && list_all is_name commit.parents && is_ident commit.author && is_ident commit.committer && list_all (is_header Commit) commit.headers
+abbrev pub is_right_commit : CommitValue → Bool
+is_right_commit commit = is_name commit.tree && list_all is_name commit.parents && is_ident commit.author && is_ident commit.committer && list_all (is_header Commit) commit.headers
 
 -- the parts that lines and a message are, if they are those of a commit at all
 abbrev pub commit_from : List (List ℕ) → Option (List ℕ) → CommitValue
@@ -33,4 +33,4 @@ commit_from lines message =
 unfoldable pub commit_in : List ℕ → Option CommitValue
 commit_in bytes =
     let commit = commit_from (header_part bytes) (message_part bytes) in
-    if is_commit commit && bytes_eq (spelled_commit commit) bytes then Some commit else None
+    if is_right_commit commit && bytes_eq (spelled_commit commit) bytes then Some commit else None

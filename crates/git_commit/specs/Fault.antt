@@ -1,11 +1,11 @@
 -- Which fault bytes have that are no commit (own): that of the first faulty line.
 use Rattle.std.specs.Prelude.{◌⊎◌, ℕ, List, codes, ◌==◌, slice_index, if◌then◌else◌, Bool}
 use Rattle.git_name.specs.declared.kind.Kind.TheVariants.{Commit}
+use Rattle.git_name.specs.Text.{Begins}
 use Rattle.git_header.specs.declared.fault.HeaderFault.{HeaderFault}
 use Rattle.git_header.specs.declared.fault.HeaderFault.TheVariants as fault
-use Rattle.git_header.specs.Line.{Begins}
 use Rattle.git_header.specs.Header.{HeaderPlace, NoHeader, SomeHeader, header_grammar}
-use Rattle.git_header.specs.Value.{IsIdentLine, IsNameText, Holds}
+use Rattle.git_header.specs.Value.{IsIdentLine, IsNameText, HoldsValue}
 use Rattle.git_header.specs.Judging.{Grammar, IsFirstFault}
 
 -- the places of a commit's header
@@ -23,11 +23,11 @@ MayStand AfterAuthor line = Begins (codes "committer ") line
 MayStand (Further place) line = (header_grammar Commit).Stands place line
 
 -- the lines of a right form
-abbrev pub IsRight : Place → List ℕ → Type 0
-IsRight First line = Holds (codes "tree ") IsNameText line
-IsRight AfterTree line = Holds (codes "parent ") IsNameText line ⊎ Holds (codes "author ") IsIdentLine line
-IsRight AfterAuthor line = Holds (codes "committer ") IsIdentLine line
-IsRight (Further place) line = (header_grammar Commit).Right place line
+abbrev pub IsRightLine : Place → List ℕ → Type 0
+IsRightLine First line = HoldsValue (codes "tree ") IsNameText line
+IsRightLine AfterTree line = HoldsValue (codes "parent ") IsNameText line ⊎ HoldsValue (codes "author ") IsIdentLine line
+IsRightLine AfterAuthor line = HoldsValue (codes "committer ") IsIdentLine line
+IsRightLine (Further place) line = (header_grammar Commit).Right place line
 
 -- the header may end behind the committer
 abbrev pub MayEndAt : Place → Type 0
@@ -58,7 +58,7 @@ form_fault (Further place) line = fault.HeaderLine
 abbrev pub commit_grammar : Grammar Place HeaderFault
 commit_grammar = record {
   Stands = MayStand;
-  Right = IsRight;
+  Right = IsRightLine;
   MayEnd = MayEndAt;
   next = place_after;
   order = fault.HeaderOrder;

@@ -7,10 +7,10 @@ use Rattle.git_header.specs.Row.{lines_in, name_or_none}
 use Rattle.git_commit.specs.Commit.{parent_line}
 
 -- the names in lines of parents
-unfoldable pub parents_in : List ℕ → List (List ℕ)
-parents_in bytes = map (λ line. name_or_none (name_in (drop 7 line))) (lines_in bytes)
+unfoldable pub parents_spelled : List ℕ → List (List ℕ)
+parents_spelled bytes = map (λ line. name_or_none (name_in (drop 7 line))) (lines_in bytes)
 
 -- the bytes are lines of parents
-pub record AreParents (bytes : List ℕ) : Type 0 where
-  pub each : AllByRecursion IsName (parents_in bytes)
-  pub spelling : bytes ≡ flat_map ended (map parent_line (parents_in bytes))
+pub record AreParentLines (bytes : List ℕ) : Type 0 where
+  pub each : AllByRecursion IsName (parents_spelled bytes)
+  pub spelling : bytes ≡ flat_map ended (map parent_line (parents_spelled bytes))

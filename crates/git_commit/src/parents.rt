@@ -4,7 +4,7 @@ ghost use Rattle.git_name.specs.Name.{IsName};
 ghost use Rattle.git_name.specs.Text.{ended};
 ghost use Rattle.git_commit.specs.Commit.{parent_line};
 ghost use Rattle.std.proofs.Props.{props};
-ghost use Rattle.git_commit.specs.Parents.{AreParents};
+ghost use Rattle.git_commit.specs.Parents.{AreParentLines};
 ghost use Rattle.git_header.specs.Judging.{IsFirstFault};
 ghost use Rattle.git_commit.specs.Fault.{AfterTree, commit_grammar};
 
@@ -16,18 +16,18 @@ use git_name::Name;
 #[derive(Clone, Copy, Debug)]
 pub struct Parents<'a> {
     rest: &'a [u8],
-    pub ghost row: { AreParents rest.now } by { Prim.hlevel props },
+    pub ghost row: { AreParentLines rest.now } by { Prim.hlevel props },
 }
 
 impl<'a> Iterator for Parents<'a> {
     ghost use Rattle.std.specs.Iterator.{YieldsFirst, item_count};
-    ghost use Rattle.git_commit.specs.Parents.{parents_in};
+    ghost use Rattle.git_commit.specs.Parents.{parents_spelled};
 
     type Item = Name;
 
-    ghost next_gives = { YieldsFirst (λ s. parents_in s.rest.now) };
+    ghost next_gives = { YieldsFirst (λ s. parents_spelled s.rest.now) };
 
-    ghost remaining = { item_count (λ s. parents_in s.rest.now) };
+    ghost remaining = { item_count (λ s. parents_spelled s.rest.now) };
 
     fn next(&mut self) -> Option<Name> {
         if self.rest.is_empty() {
@@ -43,7 +43,7 @@ impl<'a> Iterator for Parents<'a> {
 
 // The lines of parents at the front, and what stands behind them.
 fn take_parents(text: &[u8]) -> Result<(&[u8], &[u8]), CommitFault>
-    ensures found { IfOk result (λ p. AreParents p.0.now) }
+    ensures found { IfOk result (λ p. AreParentLines p.0.now) }
     ensures parts { IfOk result (λ p. text.now ≡ p.0.now ++ p.1.now) }
     ensures last { IfOk result (λ p. (line : List ℕ) → p.1.now ≢ codes "parent " ++ line) }
     ensures exact { IfErr result (λ why. IsFirstFault commit_grammar AfterTree why text.now) }

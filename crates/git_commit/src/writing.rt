@@ -3,8 +3,8 @@ ghost use Rattle.std.specs.List.{flat_map, AllByRecursion};
 ghost use Rattle.git_name.specs.Name.{IsName};
 ghost use Rattle.git_name.specs.Text.{ended};
 ghost use Rattle.git_header.specs.Line.{ending};
-ghost use Rattle.git_header.specs.Header.{continued, header_lines};
-ghost use Rattle.git_header.specs.Value.{name_line, ident_line};
+ghost use Rattle.git_header.specs.Header.{continuing, header_lines};
+ghost use Rattle.git_header.specs.Value.{word_and_name, ident_line};
 ghost use Rattle.git_commit.specs.Commit.{IsCommit, parent_line};
 ghost use Rattle.git_header.specs.View.{ident_of};
 ghost use Rattle.git_header.specs.Ident.{spelled_time, spelled_ident};
@@ -19,7 +19,7 @@ use std::alloc::{AllocError, Global};
 
 // Writes a word, a name and a line feed.
 fn put_name(out: &mut Vec<u8>, word: &[u8], name: &Name) -> Result<(), AllocError>
-    ensures line { OnOk result (out.new.items ≡ out.old.items ++ ended (name_line word.now name.now)) }
+    ensures line { OnOk result (out.new.items ≡ out.old.items ++ ended (word_and_name word.now name.now)) }
     ensures name { IsName name.now }
 {
     // The clauses learn here that it is a name.
@@ -79,7 +79,7 @@ fn put_ident_line(out: &mut Vec<u8>, word: &[u8], ident: Ident<'_>) -> Result<()
 
 // Writes continuation lines.
 fn put_more(out: &mut Vec<u8>, more: Continuation<'_>) -> Result<(), AllocError>
-    ensures { OnOk result (out.new.items ≡ out.old.items ++ flat_map ended (map continued (more_left more.entry))) }
+    ensures { OnOk result (out.new.items ≡ out.old.items ++ flat_map ended (map continuing (more_left more.entry))) }
 {
     for value in more {
         out.push(b' ')?;

@@ -10,9 +10,9 @@ use Rattle.git_header.specs.declared.fault.HeaderFault.{HeaderFault}
 use Rattle.git_header.specs.declared.fault.HeaderFault.TheVariants as fault
 use Rattle.git_name.specs.Text.{Lacks, ended}
 use Rattle.git_header.specs.Line.{IsEnding, IsLine, IsNoLine}
-use Rattle.git_header.specs.Header.{HeaderValue, IsPlain, IsKey, IsOwnWord, HasOwnWord, IsHeader, IsHeaderLine, IsContinuation, HeaderPlace, NoHeader, SomeHeader, header_grammar, header_lines, continued}
+use Rattle.git_header.specs.Header.{HeaderValue, IsPlain, IsKey, IsOwnWord, HasOwnWord, IsHeader, IsHeaderLine, IsContinuation, HeaderPlace, NoHeader, SomeHeader, header_grammar, header_lines, continuing}
 use Rattle.git_header.specs.Row.{IsMore, more_in}
-use Rattle.git_header.specs.Judging.{AreRight, HoldsZero, Misplaced, Malformed, IsBroken, Early, Unended, Bad, IsFirstFault}
+use Rattle.git_header.specs.Judging.{AreRightLines, HoldsZero, Misplaced, Malformed, IsBroken, Early, Unended, Bad, IsFirstFault}
 use Rattle.git_header.proofs.Splits.{split_unique, split_none, heads}
 use Rattle.git_header.proofs.JudgingLemmas.{itself, IsUsual, lines_then, no_line_broken, fault_here, fault_behind, right_lines}
 
@@ -35,15 +35,15 @@ pub space_goes_on : (text x : List ℕ) → text ≡ 32 ∷ x → IsEnding text 
 space_goes_on text x is (None, ends) = let no_such : ⊥ = cc in no_such
 space_goes_on text x is (Some m, ends) = differ 32 10 (heads 32 10 x m (sym is ∙ ends)) (omega arith)
 
-pub continued_right : (kind : Kind) (values : List (List ℕ)) → AllByRecursion IsPlain values → AreRight (header_grammar kind) SomeHeader (map continued values) SomeHeader
+pub continued_right : (kind : Kind) (values : List (List ℕ)) → AllByRecursion IsPlain values → AreRightLines (header_grammar kind) SomeHeader (map continuing values) SomeHeader
 continued_right kind [] plain = refl
 continued_right kind (v ∷ values) plain = (inr (record { value = v; value_is = plain.0; spelling = refl }), continued_right kind values plain.1)
 
 -- no line behind continuation lines
-pub more_fault : (kind : Kind) (values : List (List ℕ)) (why : HeaderFault) (text rest x : List ℕ) → AllByRecursion IsPlain values → text ≡ flat_map ended (map continued values) ++ rest → rest ≡ 32 ∷ x → IsNoLine why rest
+pub more_fault : (kind : Kind) (values : List (List ℕ)) (why : HeaderFault) (text rest x : List ℕ) → AllByRecursion IsPlain values → text ≡ flat_map ended (map continuing values) ++ rest → rest ≡ 32 ∷ x → IsNoLine why rest
     → IsFirstFault (header_grammar kind) SomeHeader why text
 more_fault kind values why text rest x plain parts space wrong =
-    fault_behind (header_grammar kind) SomeHeader SomeHeader why (map continued values) rest text (continued_right kind values plain) parts
+    fault_behind (header_grammar kind) SomeHeader SomeHeader why (map continuing values) rest text (continued_right kind values plain) parts
     (fault_here (header_grammar kind) SomeHeader why rest (no_line_broken itself (header_grammar kind) (usual kind) why SomeHeader rest wrong (λ ends _. space_goes_on rest x space ends)))
 
 line_of_space : (line after rest x : List ℕ) → IsLine line after rest → rest ≡ 32 ∷ x → (value : List ℕ) × (line ≡ 32 ∷ value)
@@ -57,9 +57,9 @@ all_push : {X : Type 0} (P : X → Type 0) (xs : List X) (x : X) → AllByRecurs
 all_push P [] x all one = (one, tt)
 all_push P (y ∷ ys) x all one = (all.0, all_push P ys x all.1 one)
 
-map_push : (values : List (List ℕ)) (v : List ℕ) → map continued (values ++ v ∷ []) ≡ map continued values ++ continued v ∷ []
+map_push : (values : List (List ℕ)) (v : List ℕ) → map continuing (values ++ v ∷ []) ≡ map continuing values ++ continuing v ∷ []
 map_push [] v = refl
-map_push (w ∷ values) v = ap (λ (t : List (List ℕ)). continued w ∷ t) (map_push values v)
+map_push (w ∷ values) v = ap (λ (t : List (List ℕ)). continuing w ∷ t) (map_push values v)
 
 pub lines_push : (lines more : List (List ℕ)) (text rest after : List ℕ) → text ≡ flat_map ended lines ++ rest → rest ≡ flat_map ended more ++ after → text ≡ flat_map ended (lines ++ more) ++ after
 lines_push lines more text rest after parts parts_2 =
@@ -69,17 +69,17 @@ pub one_line : (line after rest : List ℕ) → rest ≡ line ++ 10 ∷ after �
 one_line line after rest parts = parts ∙ sym (lines_then line [] after)
 
 abbrev pub MoreSoFar : List ℕ → List ℕ → Type 0
-MoreSoFar text rest = (values : List (List ℕ)) × AllByRecursion IsPlain values × (text ≡ flat_map ended (map continued values) ++ rest)
+MoreSoFar text rest = (values : List (List ℕ)) × AllByRecursion IsPlain values × (text ≡ flat_map ended (map continuing values) ++ rest)
 
 -- one continuation line more
-pub more_step : (values : List (List ℕ)) (text rest x line after : List ℕ) → AllByRecursion IsPlain values → text ≡ flat_map ended (map continued values) ++ rest → rest ≡ 32 ∷ x → IsLine line after rest → Lacks 0 line → MoreSoFar text after
+pub more_step : (values : List (List ℕ)) (text rest x line after : List ℕ) → AllByRecursion IsPlain values → text ≡ flat_map ended (map continuing values) ++ rest → rest ≡ 32 ∷ x → IsLine line after rest → Lacks 0 line → MoreSoFar text after
 more_step values text rest x line after plain parts space is no_zero =
     let value = line_of_space line after rest x is space in
     let plain_value : IsPlain value.0 = record { no_end = all_right 10 (32 ∷ []) value.0 (All-same (λ x. x ≢ 10) _ _ (sym value.1) is.no_end); no_zero = all_right 0 (32 ∷ []) value.0 (All-same (λ x. x ≢ 0) _ _ (sym value.1) no_zero) } in
-    let one : rest ≡ flat_map ended (continued value.0 ∷ []) ++ after = one_line (continued value.0) after rest (is.parts ∙ ap (λ (l : List ℕ). l ++ 10 ∷ after) value.1) in (
+    let one : rest ≡ flat_map ended (continuing value.0 ∷ []) ++ after = one_line (continuing value.0) after rest (is.parts ∙ ap (λ (l : List ℕ). l ++ 10 ∷ after) value.1) in (
       values ++ value.0 ∷ [],
       all_push IsPlain values value.0 plain plain_value,
-      lines_push (map continued values) (continued value.0 ∷ []) text rest after parts one ∙ ap (λ (ls : List (List ℕ)). flat_map ended ls ++ after) (sym (map_push values value.0)),
+      lines_push (map continuing values) (continuing value.0 ∷ []) text rest after parts one ∙ ap (λ (ls : List (List ℕ)). flat_map ended ls ++ after) (sym (map_push values value.0)),
     )
 
 -- ---- one further header
@@ -144,7 +144,7 @@ behind_key_fault kind why line after text key value is parts right wrong =
 
 -- ---- further headers one after another
 
-pub header_right : (kind : Kind) (p : HeaderPlace) (h : HeaderValue) → IsHeader kind h → AreRight (header_grammar kind) p (header_lines h) SomeHeader
+pub header_right : (kind : Kind) (p : HeaderPlace) (h : HeaderValue) → IsHeader kind h → AreRightLines (header_grammar kind) p (header_lines h) SomeHeader
 header_right kind NoHeader h is = (record { key = h.key; value = h.value; key_is = is.key; value_is = is.value; spelling = refl }, continued_right kind h.more is.more)
 header_right kind SomeHeader h is = (inl (record { key = h.key; value = h.value; key_is = is.key; value_is = is.value; spelling = refl }), continued_right kind h.more is.more)
 
@@ -152,11 +152,11 @@ abbrev pub place_behind : List HeaderValue → HeaderPlace
 place_behind [] = NoHeader
 place_behind (h ∷ hs) = SomeHeader
 
-more_right : (kind : Kind) (hs : List HeaderValue) → AllByRecursion (IsHeader kind) hs → AreRight (header_grammar kind) SomeHeader (flat_map header_lines hs) SomeHeader
+more_right : (kind : Kind) (hs : List HeaderValue) → AllByRecursion (IsHeader kind) hs → AreRightLines (header_grammar kind) SomeHeader (flat_map header_lines hs) SomeHeader
 more_right kind [] are = refl
 more_right kind (h ∷ hs) are = right_lines (header_grammar kind) SomeHeader SomeHeader SomeHeader (header_lines h) (flat_map header_lines hs) (header_right kind SomeHeader h are.0) (more_right kind hs are.1)
 
-pub headers_right : (kind : Kind) (hs : List HeaderValue) → AllByRecursion (IsHeader kind) hs → AreRight (header_grammar kind) NoHeader (flat_map header_lines hs) (place_behind hs)
+pub headers_right : (kind : Kind) (hs : List HeaderValue) → AllByRecursion (IsHeader kind) hs → AreRightLines (header_grammar kind) NoHeader (flat_map header_lines hs) (place_behind hs)
 headers_right kind [] are = refl
 headers_right kind (h ∷ hs) are = right_lines (header_grammar kind) NoHeader SomeHeader SomeHeader (header_lines h) (flat_map header_lines hs) (header_right kind NoHeader h are.0) (more_right kind hs are.1)
 
@@ -175,7 +175,7 @@ fault_as_next kind why text fresh wrong = from wrong.lines wrong.place wrong.res
         not_right l a is r (inl right) = r right
         not_right l a is r (inr goes) = fresh (goes.value ++ 10 ∷ a) (is.parts ∙ ap (λ (x : List ℕ). x ++ 10 ∷ a) goes.spelling)
 
-    from : (ls : List (List ℕ)) (p : HeaderPlace) (rest : List ℕ) → AreRight (header_grammar kind) NoHeader ls p → text ≡ flat_map ended ls ++ rest → IsBroken (header_grammar kind) why p rest → IsFirstFault (header_grammar kind) SomeHeader why text
+    from : (ls : List (List ℕ)) (p : HeaderPlace) (rest : List ℕ) → AreRightLines (header_grammar kind) NoHeader ls p → text ≡ flat_map ended ls ++ rest → IsBroken (header_grammar kind) why p rest → IsFirstFault (header_grammar kind) SomeHeader why text
     from [] p rest right parts broken = fault_here (header_grammar kind) SomeHeader why text (here why (subst (λ q. IsBroken (header_grammar kind) why q text) (sym right) (subst (IsBroken (header_grammar kind) why p) (sym parts) broken)))
     from (l ∷ ls) p rest right parts broken = record { lines = l ∷ ls; place = p; rest = rest; right = (inl right.0, right.1); parts = parts; broken = broken }
 

@@ -10,7 +10,7 @@ use Rattle.git_name.specs.declared.kind.Kind.TheVariants.{Commit}
 use Rattle.git_header.specs.declared.fault.HeaderFault.{HeaderFault}
 use Rattle.git_name.specs.Text.{Lacks, ended}
 use Rattle.git_header.specs.Line.{IsEnding, IsLine, IsNoLine}
-use Rattle.git_header.specs.Header.{HeaderValue, IsHeader, IsPlain, NoHeader, SomeHeader, header_grammar, header_lines, continued}
+use Rattle.git_header.specs.Header.{HeaderValue, IsHeader, IsPlain, NoHeader, SomeHeader, header_grammar, header_lines, continuing}
 use Rattle.git_header.specs.Judging.{IsFirstFault}
 use Rattle.git_header.specs.Row.{AreHeaders, headers_in, IsMore, more_in}
 use Rattle.git_header.proofs.Splits.{split_unique, heads, tails}
@@ -29,13 +29,13 @@ abbrev Fresh : List ℕ → Type 0
 Fresh text = (line : List ℕ) → text ≢ 32 ∷ line
 
 -- continuation lines end where no further one begins
-more_agree : (vs ws : List (List ℕ)) (a b : List ℕ) → AllByRecursion IsPlain vs → AllByRecursion IsPlain ws → Fresh a → Fresh b → flat_map ended (map continued vs) ++ a ≡ flat_map ended (map continued ws) ++ b → (vs ≡ ws) × (a ≡ b)
+more_agree : (vs ws : List (List ℕ)) (a b : List ℕ) → AllByRecursion IsPlain vs → AllByRecursion IsPlain ws → Fresh a → Fresh b → flat_map ended (map continuing vs) ++ a ≡ flat_map ended (map continuing ws) ++ b → (vs ≡ ws) × (a ≡ b)
 more_agree [] [] a b p q fresh_a fresh_b same = (refl, same)
-more_agree [] (w ∷ ws) a b p q fresh_a fresh_b same = absurd (fresh_a _ (same ∙ lines_then (continued w) (map continued ws) b))
-more_agree (v ∷ vs) [] a b p q fresh_a fresh_b same = absurd (fresh_b _ (sym same ∙ lines_then (continued v) (map continued vs) a))
+more_agree [] (w ∷ ws) a b p q fresh_a fresh_b same = absurd (fresh_a _ (same ∙ lines_then (continuing w) (map continuing ws) b))
+more_agree (v ∷ vs) [] a b p q fresh_a fresh_b same = absurd (fresh_b _ (sym same ∙ lines_then (continuing v) (map continuing vs) a))
 more_agree (v ∷ vs) (w ∷ ws) a b p q fresh_a fresh_b same =
-    let one = split_unique 10 v (flat_map ended (map continued vs) ++ a) w (flat_map ended (map continued ws) ++ b) p.0.no_end q.0.no_end
-    (tails 32 32 _ _ (sym (lines_then (continued v) (map continued vs) a) ∙ same ∙ lines_then (continued w) (map continued ws) b)) in
+    let one = split_unique 10 v (flat_map ended (map continuing vs) ++ a) w (flat_map ended (map continuing ws) ++ b) p.0.no_end q.0.no_end
+    (tails 32 32 _ _ (sym (lines_then (continuing v) (map continuing vs) a) ∙ same ∙ lines_then (continuing w) (map continuing ws) b)) in
     let later = more_agree vs ws a b p.1 q.1 fresh_a fresh_b one.1 in
     (ap (λ (h : List ℕ). h ∷ vs) one.0 ∙ ap (λ (t : List (List ℕ)). w ∷ t) later.0, later.1)
 
@@ -47,8 +47,8 @@ fresh_row : (kind : Kind) (hs : List HeaderValue) → AllByRecursion (IsHeader k
 fresh_row kind [] are line e = let no_such : ⊥ = cc in no_such
 fresh_row kind (h ∷ hs) are line e = from h.key _ are.0.key.some are.0.key.no_space (sym (lines_first h hs) ∙ e)
   where
-    lines_first : (h : HeaderValue) (hs : List HeaderValue) → flat_map ended (flat_map header_lines (h ∷ hs)) ≡ (h.key ++ 32 ∷ h.value) ++ 10 ∷ flat_map ended (map continued h.more ++ flat_map header_lines hs)
-    lines_first h hs = append_assoc (h.key ++ 32 ∷ h.value) (10 ∷ []) (flat_map ended (map continued h.more ++ flat_map header_lines hs))
+    lines_first : (h : HeaderValue) (hs : List HeaderValue) → flat_map ended (flat_map header_lines (h ∷ hs)) ≡ (h.key ++ 32 ∷ h.value) ++ 10 ∷ flat_map ended (map continuing h.more ++ flat_map header_lines hs)
+    lines_first h hs = append_assoc (h.key ++ 32 ∷ h.value) (10 ∷ []) (flat_map ended (map continuing h.more ++ flat_map header_lines hs))
 
     from : (key rest : List ℕ) → key ≢ [] → Lacks 32 key → (key ++ 32 ∷ h.value) ++ 10 ∷ rest ≡ 32 ∷ line → ⊥
     from [] rest some lacks same = some refl
@@ -56,15 +56,15 @@ fresh_row kind (h ∷ hs) are line e = from h.key _ are.0.key.some are.0.key.no_
 
 same_header : (kind : Kind) (h k : HeaderValue) (a b : List ℕ) → IsHeader kind h → IsHeader kind k → Fresh a → Fresh b → flat_map ended (header_lines h) ++ a ≡ flat_map ended (header_lines k) ++ b → (h ≡ k) × (a ≡ b)
 same_header kind h k a b is is_k fresh_a fresh_b same =
-    let first = split_unique 10 (h.key ++ 32 ∷ h.value) (flat_map ended (map continued h.more) ++ a) (k.key ++ 32 ∷ k.value) (flat_map ended (map continued k.more) ++ b) (key_line_end kind h is) (key_line_end kind k is_k)
-    (sym (lines_then (h.key ++ 32 ∷ h.value) (map continued h.more) a) ∙ same ∙ lines_then (k.key ++ 32 ∷ k.value) (map continued k.more) b) in
+    let first = split_unique 10 (h.key ++ 32 ∷ h.value) (flat_map ended (map continuing h.more) ++ a) (k.key ++ 32 ∷ k.value) (flat_map ended (map continuing k.more) ++ b) (key_line_end kind h is) (key_line_end kind k is_k)
+    (sym (lines_then (h.key ++ 32 ∷ h.value) (map continuing h.more) a) ∙ same ∙ lines_then (k.key ++ 32 ∷ k.value) (map continuing k.more) b) in
     let sides = split_unique 32 h.key h.value k.key k.value is.key.no_space is_k.key.no_space first.0 in
     let more = more_agree h.more k.more a b is.more is_k.more fresh_a fresh_b first.1 in
     (ap (λ x. made x h.value h.more) sides.0 ∙ ap (λ x. made k.key x h.more) sides.1 ∙ ap (λ x. made k.key k.value x) more.0, more.1)
 
 first_header : (kind : Kind) (hs : List HeaderValue) (h : HeaderValue) (bytes after : List ℕ) → AllByRecursion (IsHeader kind) hs → IsHeader kind h → bytes ≡ flat_map ended (flat_map header_lines hs) → bytes ≡ flat_map ended (header_lines h) ++ after → Fresh after
     → (others : List HeaderValue) × (hs ≡ h ∷ others) × (after ≡ flat_map ended (flat_map header_lines others)) × AllByRecursion (IsHeader kind) others
-first_header kind [] h bytes after are is spelled begins fresh = absurd (none (h.key ++ 32 ∷ h.value) _ (sym (sym spelled ∙ begins ∙ lines_then (h.key ++ 32 ∷ h.value) (map continued h.more) after)))
+first_header kind [] h bytes after are is spelled begins fresh = absurd (none (h.key ++ 32 ∷ h.value) _ (sym (sym spelled ∙ begins ∙ lines_then (h.key ++ 32 ∷ h.value) (map continuing h.more) after)))
   where
     none : (l rest : List ℕ) → l ++ 10 ∷ rest ≡ [] → ⊥
     none [] rest e = let no_such : ⊥ = cc in no_such
@@ -89,9 +89,9 @@ headers_no_fault kind why bytes row wrong =
 headers_go_on : (kind : Kind) (hs : List HeaderValue) (bytes : List ℕ) → AllByRecursion (IsHeader kind) hs → bytes ≡ flat_map ended (flat_map header_lines hs) → 0 < length bytes → IsEnding bytes → ⊥
 headers_go_on kind [] bytes are spelled some ends = let len : length bytes ≡ 0 = ap length spelled in absurd (omega arith)
 headers_go_on kind (h ∷ hs) bytes are spelled some ends =
-    no_line_ends (h.key ++ 32 ∷ h.value) (flat_map ended (map continued h.more ++ flat_map header_lines hs)) bytes
+    no_line_ends (h.key ++ 32 ∷ h.value) (flat_map ended (map continuing h.more ++ flat_map header_lines hs)) bytes
     (record {
-      parts = spelled ∙ append_assoc (h.key ++ 32 ∷ h.value) (10 ∷ []) (flat_map ended (map continued h.more ++ flat_map header_lines hs));
+      parts = spelled ∙ append_assoc (h.key ++ 32 ∷ h.value) (10 ∷ []) (flat_map ended (map continuing h.more ++ flat_map header_lines hs));
       no_end = key_line_end kind h are.0;
       some = further_some kind NoHeader (h.key ++ 32 ∷ h.value) (record { key = h.key; value = h.value; key_is = are.0.key; value_is = are.0.value; spelling = refl });
     }) ends
@@ -105,16 +105,16 @@ no_headers kind (b ∷ bytes) none = absurd (omega arith)
 
 -- ---- continuation lines
 
-more_first : (vs : List (List ℕ)) (text line after : List ℕ) → AllByRecursion IsPlain vs → text ≡ flat_map ended (map continued vs) → IsLine line after text
-    → (others : List (List ℕ)) × (vs ≡ drop 1 line ∷ others) × (after ≡ flat_map ended (map continued others)) × AllByRecursion IsPlain others
+more_first : (vs : List (List ℕ)) (text line after : List ℕ) → AllByRecursion IsPlain vs → text ≡ flat_map ended (map continuing vs) → IsLine line after text
+    → (others : List (List ℕ)) × (vs ≡ drop 1 line ∷ others) × (after ≡ flat_map ended (map continuing others)) × AllByRecursion IsPlain others
 more_first [] text line after plain spelled is = absurd (none line after (sym is.parts ∙ spelled))
   where
     none : (l rest : List ℕ) → l ++ 10 ∷ rest ≡ [] → ⊥
     none [] rest e = let no_such : ⊥ = cc in no_such
     none (b ∷ l) rest e = let no_such : ⊥ = cc in no_such
 more_first (v ∷ vs) text line after plain spelled is =
-    let whole : text ≡ continued v ++ 10 ∷ flat_map ended (map continued vs) = spelled ∙ append_assoc (continued v) (10 ∷ []) (flat_map ended (map continued vs)) in
-    let parts = split_unique 10 line after (continued v) (flat_map ended (map continued vs)) is.no_end (further_no_end Commit SomeHeader (continued v) (inr (record { value = v; value_is = plain.0; spelling = refl }))) (sym is.parts ∙ whole) in
+    let whole : text ≡ continuing v ++ 10 ∷ flat_map ended (map continuing vs) = spelled ∙ append_assoc (continuing v) (10 ∷ []) (flat_map ended (map continuing vs)) in
+    let parts = split_unique 10 line after (continuing v) (flat_map ended (map continuing vs)) is.no_end (further_no_end Commit SomeHeader (continuing v) (inr (record { value = v; value_is = plain.0; spelling = refl }))) (sym is.parts ∙ whole) in
     (vs, ap (λ (l : List ℕ). drop 1 l ∷ vs) (sym parts.0), parts.1, plain.1)
 
 -- what stands behind the first continuation line
@@ -124,12 +124,12 @@ first_more text line after row is =
     let rest = more_of_values cut.0 after cut.3 cut.2 in
     (cut.1 ∙ ap (λ (t : List (List ℕ)). drop 1 line ∷ t) (sym rest.0), rest.1)
 
-more_is_line : (vs : List (List ℕ)) (why : HeaderFault) (text : List ℕ) → AllByRecursion IsPlain vs → text ≡ flat_map ended (map continued vs) → 0 < length text → IsNoLine why text → ⊥
+more_is_line : (vs : List (List ℕ)) (why : HeaderFault) (text : List ℕ) → AllByRecursion IsPlain vs → text ≡ flat_map ended (map continuing vs) → 0 < length text → IsNoLine why text → ⊥
 more_is_line [] why text plain spelled some wrong = let len : length text ≡ 0 = ap length spelled in absurd (omega arith)
 more_is_line (v ∷ vs) why text plain spelled some wrong =
-    let rest = flat_map ended (map continued vs) in
-    let whole : text ≡ continued v ++ 10 ∷ rest = spelled ∙ append_assoc (continued v) (10 ∷ []) rest in
-    right_not_broken (header_grammar Commit) (sound_headers Commit) why SomeHeader (continued v) rest text (inr (record { value = v; value_is = plain.0; spelling = refl })) whole
+    let rest = flat_map ended (map continuing vs) in
+    let whole : text ≡ continuing v ++ 10 ∷ rest = spelled ∙ append_assoc (continuing v) (10 ∷ []) rest in
+    right_not_broken (header_grammar Commit) (sound_headers Commit) why SomeHeader (continuing v) rest text (inr (record { value = v; value_is = plain.0; spelling = refl })) whole
     (no_line_broken itself (header_grammar Commit) (usual Commit) why SomeHeader text wrong (λ ends _. space_goes_on text (v ++ 10 ∷ rest) whole ends))
 
 pub more_no_fault : (why : HeaderFault) (text : List ℕ) → IsMore text → 0 < length text → IsNoLine why text → ⊥

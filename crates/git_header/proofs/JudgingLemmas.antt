@@ -7,7 +7,7 @@ use Rattle.git_header.specs.declared.fault.HeaderFault.{HeaderFault}
 use Rattle.git_header.specs.declared.fault.HeaderFault.TheVariants as fault
 use Rattle.git_name.specs.Text.{Lacks, ended}
 use Rattle.git_header.specs.Line.{IsEnding, IsLine, IsNoLine, ending}
-use Rattle.git_header.specs.Judging.{Grammar, AreRight, IsBadLine, HoldsZero, Misplaced, Malformed, IsBroken, Early, Unended, Bad, IsFirstFault}
+use Rattle.git_header.specs.Judging.{Grammar, AreRightLines, IsBadLine, HoldsZero, Misplaced, Malformed, IsBroken, Early, Unended, Bad, IsFirstFault}
 use Rattle.git_header.proofs.Splits.{split_unique, split_none, heads}
 
 -- a line of a right form is a line, and stands where it may
@@ -80,7 +80,7 @@ right_not_broken g sound f p line after rest right parts (Unended some lacks e) 
 right_not_broken g sound f p line after rest right parts (Bad m b is bad) =
     right_not_bad g sound f p m (subst (g.Right p) (line_unique line m after b rest (right_is_line g sound p line after rest right parts) is).0 right) bad
 
-agree : {P F : Type 0} (g : Grammar P F) → IsSound g → (f h : F) (p q r : P) (ls ms : List (List ℕ)) (x y : List ℕ) → AreRight g p ls q → AreRight g p ms r → flat_map ended ls ++ x ≡ flat_map ended ms ++ y → IsBroken g f q x → IsBroken g h r y → f ≡ h
+agree : {P F : Type 0} (g : Grammar P F) → IsSound g → (f h : F) (p q r : P) (ls ms : List (List ℕ)) (x y : List ℕ) → AreRightLines g p ls q → AreRightLines g p ms r → flat_map ended ls ++ x ≡ flat_map ended ms ++ y → IsBroken g f q x → IsBroken g h r y → f ≡ h
 agree g sound f h p q r [] [] x y right right_2 same broken broken_2 =
     broken_unique g f h p x (subst (λ t. IsBroken g f t x) (sym right) broken) (subst (λ t. IsBroken g h t x) (sym right_2) (subst (IsBroken g h r) (sym same) broken_2))
 agree g sound f h p q r [] (m ∷ ms) x y right right_2 same broken broken_2 =
@@ -89,7 +89,7 @@ agree g sound f h p q r (l ∷ ls) [] x y right right_2 same broken broken_2 =
     absurd (right_not_broken g sound h p l (flat_map ended ls ++ x) y right.0 (sym same ∙ lines_then l ls x) (subst (λ t. IsBroken g h t y) (sym right_2) broken_2))
 agree g sound f h p q r (l ∷ ls) (m ∷ ms) x y right right_2 same broken broken_2 =
     let parts = split_unique 10 l (flat_map ended ls ++ x) m (flat_map ended ms ++ y) (sound.no_end p l right.0) (sound.no_end p m right_2.0) (sym (lines_then l ls x) ∙ same ∙ lines_then m ms y) in
-    agree g sound f h (g.next p l) q r ls ms x y right.1 (subst (λ t. AreRight g (g.next p t) ms r) (sym parts.0) right_2.1) parts.1 broken broken_2
+    agree g sound f h (g.next p l) q r ls ms x y right.1 (subst (λ t. AreRightLines g (g.next p t) ms r) (sym parts.0) right_2.1) parts.1 broken broken_2
 
 -- a text has one first fault at the most
 pub one_fault : {P F : Type 0} (g : Grammar P F) → IsSound g → (p : P) (f h : F) (text : List ℕ) → IsFirstFault g p f text → IsFirstFault g p h text → f ≡ h
@@ -100,7 +100,7 @@ right_end_not_broken g f p rest may ends (Early ends_2 n e) = n may
 right_end_not_broken g f p rest may ends (Unended some lacks e) = no_cut_ends rest some lacks ends
 right_end_not_broken g f p rest may ends (Bad l a is bad) = no_line_ends l a rest is ends
 
-whole : {P F : Type 0} (g : Grammar P F) → IsSound g → (f : F) (p q r : P) (ls ms : List (List ℕ)) (x y : List ℕ) → AreRight g p ls q → AreRight g p ms r → flat_map ended ls ++ x ≡ flat_map ended ms ++ y → g.MayEnd q → IsEnding x → IsBroken g f r y → ⊥
+whole : {P F : Type 0} (g : Grammar P F) → IsSound g → (f : F) (p q r : P) (ls ms : List (List ℕ)) (x y : List ℕ) → AreRightLines g p ls q → AreRightLines g p ms r → flat_map ended ls ++ x ≡ flat_map ended ms ++ y → g.MayEnd q → IsEnding x → IsBroken g f r y → ⊥
 whole g sound f p q r [] [] x y right right_2 same may ends broken =
     right_end_not_broken g f q x may ends (subst (λ t. IsBroken g f t x) (sym right_2 ∙ right) (subst (IsBroken g f r) (sym same) broken))
 whole g sound f p q r [] (m ∷ ms) x y right right_2 same may ends broken =
@@ -109,19 +109,19 @@ whole g sound f p q r (l ∷ ls) [] x y right right_2 same may ends broken =
     right_not_broken g sound f p l (flat_map ended ls ++ x) y right.0 (sym same ∙ lines_then l ls x) (subst (λ t. IsBroken g f t y) (sym right_2) broken)
 whole g sound f p q r (l ∷ ls) (m ∷ ms) x y right right_2 same may ends broken =
     let parts = split_unique 10 l (flat_map ended ls ++ x) m (flat_map ended ms ++ y) (sound.no_end p l right.0) (sound.no_end p m right_2.0) (sym (lines_then l ls x) ∙ same ∙ lines_then m ms y) in
-    whole g sound f (g.next p l) q r ls ms x y right.1 (subst (λ t. AreRight g (g.next p t) ms r) (sym parts.0) right_2.1) parts.1 may ends broken
+    whole g sound f (g.next p l) q r ls ms x y right.1 (subst (λ t. AreRightLines g (g.next p t) ms r) (sym parts.0) right_2.1) parts.1 may ends broken
 
 -- a text of right lines and a right end has no fault
-pub no_fault : {P F : Type 0} (g : Grammar P F) → IsSound g → (p q : P) (f : F) (ls : List (List ℕ)) (x text : List ℕ) → AreRight g p ls q → g.MayEnd q → IsEnding x → text ≡ flat_map ended ls ++ x → IsFirstFault g p f text → ⊥
+pub no_fault : {P F : Type 0} (g : Grammar P F) → IsSound g → (p q : P) (f : F) (ls : List (List ℕ)) (x text : List ℕ) → AreRightLines g p ls q → g.MayEnd q → IsEnding x → text ≡ flat_map ended ls ++ x → IsFirstFault g p f text → ⊥
 no_fault g sound p q f ls x text right may ends parts wrong =
     whole g sound f p q wrong.place ls wrong.lines x wrong.rest right wrong.right (sym parts ∙ wrong.parts) may ends wrong.broken
 
-right_append : {P F : Type 0} (g : Grammar P F) (p q r : P) (ls ms : List (List ℕ)) → AreRight g p ls q → AreRight g q ms r → AreRight g p (ls ++ ms) r
-right_append g p q r [] ms one two = subst (λ t. AreRight g t ms r) (sym one) two
+right_append : {P F : Type 0} (g : Grammar P F) (p q r : P) (ls ms : List (List ℕ)) → AreRightLines g p ls q → AreRightLines g q ms r → AreRightLines g p (ls ++ ms) r
+right_append g p q r [] ms one two = subst (λ t. AreRightLines g t ms r) (sym one) two
 right_append g p q r (l ∷ ls) ms one two = (one.0, right_append g (g.next p l) q r ls ms one.1 two)
 
 -- right lines before a fault
-pub fault_behind : {P F : Type 0} (g : Grammar P F) (p q : P) (f : F) (ls : List (List ℕ)) (rest text : List ℕ) → AreRight g p ls q → text ≡ flat_map ended ls ++ rest → IsFirstFault g q f rest → IsFirstFault g p f text
+pub fault_behind : {P F : Type 0} (g : Grammar P F) (p q : P) (f : F) (ls : List (List ℕ)) (rest text : List ℕ) → AreRightLines g p ls q → text ≡ flat_map ended ls ++ rest → IsFirstFault g q f rest → IsFirstFault g p f text
 fault_behind g p q f ls rest text right parts wrong = record {
   lines = ls ++ wrong.lines;
   place = wrong.place;
@@ -132,7 +132,7 @@ fault_behind g p q f ls rest text right parts wrong = record {
   broken = wrong.broken;
 }
 
-pub right_lines : {P F : Type 0} (g : Grammar P F) (p q r : P) (ls ms : List (List ℕ)) → AreRight g p ls q → AreRight g q ms r → AreRight g p (ls ++ ms) r
+pub right_lines : {P F : Type 0} (g : Grammar P F) (p q r : P) (ls ms : List (List ℕ)) → AreRightLines g p ls q → AreRightLines g q ms r → AreRightLines g p (ls ++ ms) r
 right_lines g p q r ls ms one two = right_append g p q r ls ms one two
 
 -- the next line is the first one
@@ -170,10 +170,10 @@ pub record IsWithin {P Q F G : Type 0} (named : F → G) (into : P → Q) (g : G
   pub zero_byte : named g.zero_byte ≡ h.zero_byte
   pub form : (p : P) (line : List ℕ) → named (g.form p line) ≡ h.form (into p) line
 
-pub right_within : {P Q F G : Type 0} (named : F → G) (into : P → Q) (g : Grammar P F) (h : Grammar Q G) → IsWithin named into g h → (p q : P) (lines : List (List ℕ)) → AreRight g p lines q → AreRight h (into p) lines (into q)
+pub right_within : {P Q F G : Type 0} (named : F → G) (into : P → Q) (g : Grammar P F) (h : Grammar Q G) → IsWithin named into g h → (p q : P) (lines : List (List ℕ)) → AreRightLines g p lines q → AreRightLines h (into p) lines (into q)
 right_within named into g h within p q [] right = ap into right
 right_within named into g h within p q (l ∷ lines) right =
-    (within.right p l right.0, subst (λ t. AreRight h t lines (into q)) (within.next p l) (right_within named into g h within (g.next p l) q lines right.1))
+    (within.right p l right.0, subst (λ t. AreRightLines h t lines (into q)) (within.next p l) (right_within named into g h within (g.next p l) q lines right.1))
 
 bad_within : {P Q F G : Type 0} (named : F → G) (into : P → Q) (g : Grammar P F) (h : Grammar Q G) → IsWithin named into g h → (f : F) (p : P) (line : List ℕ) → IsBadLine g f p line → IsBadLine h (named f) (into p) line
 bad_within named into g h within f p line (HoldsZero z e) = HoldsZero z (ap named e ∙ within.zero_byte)
@@ -197,7 +197,7 @@ fault_within named into g h within p f text wrong = record {
 }
 
 -- right lines with right ends are told apart by nothing but themselves
-pub same_lines : {P F : Type 0} (g : Grammar P F) → IsSound g → (p q r : P) (ls ms : List (List ℕ)) (x y : List ℕ) → AreRight g p ls q → AreRight g p ms r → IsEnding x → IsEnding y → flat_map ended ls ++ x ≡ flat_map ended ms ++ y → (ls ≡ ms) × (x ≡ y)
+pub same_lines : {P F : Type 0} (g : Grammar P F) → IsSound g → (p q r : P) (ls ms : List (List ℕ)) (x y : List ℕ) → AreRightLines g p ls q → AreRightLines g p ms r → IsEnding x → IsEnding y → flat_map ended ls ++ x ≡ flat_map ended ms ++ y → (ls ≡ ms) × (x ≡ y)
 same_lines g sound p q r [] [] x y one two ends ends_2 same = (refl, same)
 same_lines g sound p q r [] (m ∷ ms) x y one two ends ends_2 same =
     absurd (no_line_ends m (flat_map ended ms ++ y) x (right_is_line g sound p m (flat_map ended ms ++ y) x two.0 (same ∙ lines_then m ms y)) ends)
@@ -205,5 +205,5 @@ same_lines g sound p q r (l ∷ ls) [] x y one two ends ends_2 same =
     absurd (no_line_ends l (flat_map ended ls ++ x) y (right_is_line g sound p l (flat_map ended ls ++ x) y one.0 (sym same ∙ lines_then l ls x)) ends_2)
 same_lines g sound p q r (l ∷ ls) (m ∷ ms) x y one two ends ends_2 same =
     let parts = split_unique 10 l (flat_map ended ls ++ x) m (flat_map ended ms ++ y) (sound.no_end p l one.0) (sound.no_end p m two.0) (sym (lines_then l ls x) ∙ same ∙ lines_then m ms y) in
-    let later = same_lines g sound (g.next p l) q r ls ms x y one.1 (subst (λ t. AreRight g (g.next p t) ms r) (sym parts.0) two.1) ends ends_2 parts.1 in
+    let later = same_lines g sound (g.next p l) q r ls ms x y one.1 (subst (λ t. AreRightLines g (g.next p t) ms r) (sym parts.0) two.1) ends ends_2 parts.1 in
     (ap (λ (h : List ℕ). h ∷ ls) parts.0 ∙ ap (λ (t : List (List ℕ)). m ∷ t) later.0, later.1)

@@ -6,7 +6,7 @@ use Rattle.std.proofs.lemmas.List.Elements.{recursion_from_All}
 use Rattle.std.proofs.lemmas.List.Sums.{take_while-cons}
 use Rattle.git_name.specs.Text.{ended}
 use Rattle.git_header.specs.Line.{ending}
-use Rattle.git_header.specs.Judging.{Grammar, AreRight}
+use Rattle.git_header.specs.Judging.{Grammar, AreRightLines}
 use Rattle.git_header.specs.Parting.{holds_some, header_part, behind_end, message_part}
 use Rattle.git_header.specs.Row.{lines_in}
 use Rattle.git_header.proofs.JudgingLemmas.{IsSound, lines_then}
@@ -22,11 +22,11 @@ holds : (line : List ℕ) → line ≢ [] → holds_some line ≡ true
 holds [] some = absurd (some refl)
 holds (b ∷ line) some = refl
 
-some_lines : {P F : Type 0} (g : Grammar P F) → IsSound g → (p q : P) (lines : List (List ℕ)) → AreRight g p lines q → AllByRecursion (λ line. holds_some line ≡ true) lines
+some_lines : {P F : Type 0} (g : Grammar P F) → IsSound g → (p q : P) (lines : List (List ℕ)) → AreRightLines g p lines q → AllByRecursion (λ line. holds_some line ≡ true) lines
 some_lines g sound p q [] right = tt
 some_lines g sound p q (line ∷ lines) right = (holds line (sound.some p line right.0), some_lines g sound (g.next p line) q lines right.1)
 
-lines_before : {P F : Type 0} (g : Grammar P F) → IsSound g → (p q : P) (lines : List (List ℕ)) (rest : List ℕ) → AreRight g p lines q → lines_in (flat_map ended lines ++ rest) ≡ lines ++ lines_in rest
+lines_before : {P F : Type 0} (g : Grammar P F) → IsSound g → (p q : P) (lines : List (List ℕ)) (rest : List ℕ) → AreRightLines g p lines q → lines_in (flat_map ended lines ++ rest) ≡ lines ++ lines_in rest
 lines_before g sound p q [] rest right = refl
 lines_before g sound p q (line ∷ lines) rest right =
     ap lines_in (lines_then line lines rest) ∙ line_first line (flat_map ended lines ++ rest) (recursion_from_All (λ b. b ≢ 10) line (sound.no_end p line right.0))
@@ -37,7 +37,7 @@ stops None = ap (take_while holds_some) no_lines
 stops (Some m) = ap (take_while holds_some) (line_first [] m tt)
 
 -- the lines of a text
-pub header_found : {P F : Type 0} (g : Grammar P F) → IsSound g → (p q : P) (lines : List (List ℕ)) (m : Option (List ℕ)) → AreRight g p lines q → header_part (flat_map ended lines ++ ending m) ≡ lines
+pub header_found : {P F : Type 0} (g : Grammar P F) → IsSound g → (p q : P) (lines : List (List ℕ)) (m : Option (List ℕ)) → AreRightLines g p lines q → header_part (flat_map ended lines ++ ending m) ≡ lines
 unfolding header_part
 header_found g sound p q lines m right =
     ap (take_while holds_some) (lines_before g sound p q lines (ending m) right) ∙ taken holds_some lines (lines_in (ending m)) (some_lines g sound p q lines right) (stops m)
@@ -47,7 +47,7 @@ ends None = refl
 ends (Some m) = refl
 
 -- and its message
-pub message_found : {P F : Type 0} (g : Grammar P F) → IsSound g → (p q : P) (lines : List (List ℕ)) (m : Option (List ℕ)) → AreRight g p lines q → message_part (flat_map ended lines ++ ending m) ≡ m
+pub message_found : {P F : Type 0} (g : Grammar P F) → IsSound g → (p q : P) (lines : List (List ℕ)) (m : Option (List ℕ)) → AreRightLines g p lines q → message_part (flat_map ended lines ++ ending m) ≡ m
 unfolding message_part
 message_found g sound p q lines m right =
     ap (λ (ls : List (List ℕ)). behind_end (drop (length (flat_map ended ls)) (flat_map ended lines ++ ending m))) (header_found g sound p q lines m right)

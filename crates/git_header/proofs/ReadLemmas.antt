@@ -5,7 +5,7 @@ use Rattle.git_name.specs.Text.{ended}
 use Rattle.git_header.specs.Line.{ending}
 use Rattle.git_header.specs.Ident.{IdentValue, IsIdentValue, spelled_ident}
 use Rattle.git_header.specs.Value.{ident_line}
-use Rattle.git_header.specs.Judging.{Grammar, AreRight, IsFirstFault}
+use Rattle.git_header.specs.Judging.{Grammar, AreRightLines, IsFirstFault}
 use Rattle.git_header.proofs.Splits.{same_rest}
 use Rattle.git_header.proofs.IdentLemmas.{ident_unique}
 use Rattle.git_header.proofs.JudgingLemmas.{right_lines, fault_behind}
@@ -13,10 +13,10 @@ use Rattle.git_header.proofs.FieldLemmas.{lines_push}
 
 -- what was read are right lines, which lead to a place
 pub record IsRead {P F : Type 0} (g : Grammar P F) (start : P) (bytes : List ℕ) (lines : List (List ℕ)) (place : P) (rest : List ℕ) : Type 0 where
-  pub right : AreRight g start lines place
+  pub right : AreRightLines g start lines place
   pub parts : bytes ≡ flat_map ended lines ++ rest
 
-pub go_on : {P F : Type 0} (g : Grammar P F) (start : P) (bytes : List ℕ) (lines more : List (List ℕ)) (p q : P) (rest after : List ℕ) → IsRead g start bytes lines p rest → AreRight g p more q → rest ≡ flat_map ended more ++ after → IsRead g start bytes (lines ++ more) q after
+pub go_on : {P F : Type 0} (g : Grammar P F) (start : P) (bytes : List ℕ) (lines more : List (List ℕ)) (p q : P) (rest after : List ℕ) → IsRead g start bytes lines p rest → AreRightLines g p more q → rest ≡ flat_map ended more ++ after → IsRead g start bytes (lines ++ more) q after
 go_on g start bytes lines more p q rest after read right parts = record {
   right = right_lines g start p q lines more read.right right;
   parts = lines_push lines more bytes rest after read.parts parts;

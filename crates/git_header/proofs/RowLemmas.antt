@@ -7,9 +7,9 @@ use Rattle.std.proofs.lemmas.List.Elements.{All-from_recursion, recursion_from_A
 use Rattle.hex.specs.Hex.{encode_lower, encode_with, lower_digits, IsBytes}
 use Rattle.git_name.specs.declared.kind.Kind.{Kind}
 use Rattle.git_name.specs.Name.{IsName}
-use Rattle.git_name.specs.Text.{Lacks, ended}
-use Rattle.git_header.specs.Header.{HeaderValue, IsPlain, IsHeader, continued, header_lines}
-use Rattle.git_header.specs.Row.{before_first, lines_in, more_in, IsMore, before_space, behind_space, Gathered, one_more, gather, headers_in, AreHeaders}
+use Rattle.git_name.specs.Text.{Lacks, ended, onto_first}
+use Rattle.git_header.specs.Header.{HeaderValue, IsPlain, IsHeader, continuing, header_lines}
+use Rattle.git_header.specs.Row.{lines_in, more_in, IsMore, before_space, behind_space, Gathered, one_more, gather, headers_in, AreHeaders}
 use Rattle.git_header.proofs.JudgingLemmas.{lines_then}
 
 tested_false : {A : Type 0} (b c : ℕ) (x y : A) → b ≢ c → cond (eqb b c) x y ≡ y
@@ -21,9 +21,9 @@ tested_true c x y = grind (arith, nat_tests)
 -- the first line of bytes
 pub line_first : (line rest : List ℕ) → AllByRecursion (λ b. b ≢ 10) line → lines_in (line ++ 10 ∷ rest) ≡ line ∷ lines_in rest
 unfolding lines_in
-line_first [] rest lacks = tested_true 10 ([] ∷ lines_in rest) (before_first 10 (lines_in rest))
+line_first [] rest lacks = tested_true 10 ([] ∷ lines_in rest) (onto_first 10 (lines_in rest))
 line_first (b ∷ line) rest lacks =
-    tested_false b 10 ([] ∷ lines_in (line ++ 10 ∷ rest)) (before_first b (lines_in (line ++ 10 ∷ rest))) lacks.0 ∙ ap (before_first b) (line_first line rest lacks.1)
+    tested_false b 10 ([] ∷ lines_in (line ++ 10 ∷ rest)) (onto_first b (lines_in (line ++ 10 ∷ rest))) lacks.0 ∙ ap (onto_first b) (line_first line rest lacks.1)
 
 pub no_lines : lines_in [] ≡ []
 unfolding lines_in
@@ -36,23 +36,23 @@ lines_of (line ∷ lines) lack =
     ap lines_in (sym (append-nil (flat_map ended (line ∷ lines))) ∙ lines_then line lines [] ∙ ap (λ (t : List ℕ). line ++ 10 ∷ t) (append-nil (flat_map ended lines)))
     ∙ line_first line (flat_map ended lines) (recursion_from_All (λ b. b ≢ 10) line lack.0) ∙ ap (λ (t : List (List ℕ)). line ∷ t) (lines_of lines lack.1)
 
-pub continued_lacks : (values : List (List ℕ)) → AllByRecursion IsPlain values → AllByRecursion (Lacks 10) (map continued values)
+pub continued_lacks : (values : List (List ℕ)) → AllByRecursion IsPlain values → AllByRecursion (Lacks 10) (map continuing values)
 continued_lacks [] plain = tt
 continued_lacks (v ∷ values) plain = (All-cons (λ b. b ≢ 10) 32 v (λ (e : 32 ≡ 10). absurd (omega arith)) plain.0.no_end, continued_lacks values plain.1)
 
-dropped : (values : List (List ℕ)) → map (λ line. drop 1 line) (map continued values) ≡ values
+dropped : (values : List (List ℕ)) → map (λ line. drop 1 line) (map continuing values) ≡ values
 dropped [] = refl
 dropped (v ∷ values) = ap (λ (t : List (List ℕ)). v ∷ t) (dropped values)
 
-more_are : (values : List (List ℕ)) → AllByRecursion IsPlain values → more_in (flat_map ended (map continued values)) ≡ values
+more_are : (values : List (List ℕ)) → AllByRecursion IsPlain values → more_in (flat_map ended (map continuing values)) ≡ values
 unfolding more_in
-more_are values plain = ap (map (λ line. drop 1 line)) (lines_of (map continued values) (continued_lacks values plain)) ∙ dropped values
+more_are values plain = ap (map (λ line. drop 1 line)) (lines_of (map continuing values) (continued_lacks values plain)) ∙ dropped values
 
 -- bytes of right continuation lines hold just these
-pub more_of_values : (values : List (List ℕ)) (bytes : List ℕ) → AllByRecursion IsPlain values → bytes ≡ flat_map ended (map continued values) → (more_in bytes ≡ values) × IsMore bytes
+pub more_of_values : (values : List (List ℕ)) (bytes : List ℕ) → AllByRecursion IsPlain values → bytes ≡ flat_map ended (map continuing values) → (more_in bytes ≡ values) × IsMore bytes
 more_of_values values bytes plain is =
     let are : more_in bytes ≡ values = ap more_in is ∙ more_are values plain in
-    (are, record { each = subst (AllByRecursion IsPlain) (sym are) plain; spelling = is ∙ ap (λ (v : List (List ℕ)). flat_map ended (map continued v)) (sym are) })
+    (are, record { each = subst (AllByRecursion IsPlain) (sym are) plain; spelling = is ∙ ap (λ (v : List (List ℕ)). flat_map ended (map continuing v)) (sym are) })
 
 key_line_lacks : (kind : Kind) (h : HeaderValue) → IsHeader kind h → Lacks 10 (h.key ++ 32 ∷ h.value)
 key_line_lacks kind h is =
@@ -80,11 +80,11 @@ gathered more headers = record { more = more; headers = headers }
 abbrev made : List ℕ → List ℕ → List (List ℕ) → HeaderValue
 made key value more = record { key = key; value = value; more = more }
 
-gather_continued : (values : List (List ℕ)) (lines : List (List ℕ)) → gather (map continued values ++ lines) ≡ gathered (values ++ (gather lines).more) (gather lines).headers
+gather_continued : (values : List (List ℕ)) (lines : List (List ℕ)) → gather (map continuing values ++ lines) ≡ gathered (values ++ (gather lines).more) (gather lines).headers
 unfolding gather
 gather_continued [] lines = refl
 gather_continued (v ∷ values) lines =
-    let g = gather (map continued values ++ lines) in
+    let g = gather (map continuing values ++ lines) in
     tested_true 32 (gathered (v ∷ g.more) g.headers) (gathered [] (made (before_space (32 ∷ v)) (behind_space (32 ∷ v)) g.more ∷ g.headers))
     ∙ ap (λ (g : Gathered). gathered (v ∷ g.more) g.headers) (gather_continued values lines)
 
@@ -98,7 +98,7 @@ gather_key (b ∷ key) value g some lacks =
 gather_header : (kind : Kind) (h : HeaderValue) (lines : List (List ℕ)) → IsHeader kind h → (gather lines).more ≡ [] → gather (header_lines h ++ lines) ≡ gathered [] (h ∷ (gather lines).headers)
 unfolding gather
 gather_header kind h lines is none =
-    gather_key h.key h.value (gather (map continued h.more ++ lines)) is.key.some (recursion_from_All (λ b. b ≢ 32) h.key is.key.no_space)
+    gather_key h.key h.value (gather (map continuing h.more ++ lines)) is.key.some (recursion_from_All (λ b. b ≢ 32) h.key is.key.no_space)
     ∙ ap (λ (g : Gathered). gathered [] (made h.key h.value g.more ∷ g.headers)) (gather_continued h.more lines)
     ∙ ap (λ (m : List (List ℕ)). gathered [] (made h.key h.value m ∷ (gather lines).headers)) (ap (λ (m : List (List ℕ)). h.more ++ m) none ∙ append-nil h.more)
 

@@ -9,11 +9,11 @@ use Rattle.git_header.specs.declared.fault.HeaderFault.{HeaderFault}
 use Rattle.git_header.specs.declared.fault.HeaderFault.TheVariants as fault
 use Rattle.git_header.specs.declared.ident.Sign.{Sign}
 use Rattle.git_header.specs.declared.ident.Sign.TheVariants.{Plus, Minus}
-use Rattle.git_name.specs.Text.{Lacks}
-use Rattle.git_header.specs.Line.{IsEnding, IsNoWord, IsOther, Begins}
+use Rattle.git_name.specs.Text.{Begins, Lacks}
+use Rattle.git_header.specs.Line.{IsEnding, IsNoWord, IsOther}
 use Rattle.git_header.specs.Ident.{IdentValue, IsIdentValue, spelled_ident, spelled_time, sign_byte}
 use Rattle.git_header.specs.Judging.{Grammar, Malformed, IsBroken, Bad}
-use Rattle.git_header.specs.Value.{IsNameText, IsIdentLine, Holds, IsNoValue}
+use Rattle.git_header.specs.Value.{IsNameText, IsIdentLine, HoldsValue, IsNoValue}
 use Rattle.git_header.specs.Row.{name_or_none}
 use Rattle.git_header.proofs.Splits.{same_rest, heads, tails, decimal_without}
 use Rattle.git_header.proofs.RowLemmas.{hex_lacks}
@@ -62,7 +62,7 @@ value_broken named g usual why form p word text IsValue (inl none) never other s
 value_broken named g usual why form p word text IsValue (inr (is, wrong)) never other stands right form_is =
     Bad (word ++ wrong.value) wrong.after wrong.is (Malformed wrong.plain (stands wrong.value) (λ r. wrong.wrong (right wrong.value r)) (ap named is ∙ form_is wrong.value))
 
-pub held_value : (word value : List ℕ) (IsValue : List ℕ → Type 0) → Holds word IsValue (word ++ value) → IsValue value
+pub held_value : (word value : List ℕ) (IsValue : List ℕ → Type 0) → HoldsValue word IsValue (word ++ value) → IsValue value
 held_value word value IsValue h = subst IsValue (sym (same_rest word value h.value h.spelling)) h.is
 
 -- the first line of a text begins with the word that the text begins with

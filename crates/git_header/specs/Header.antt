@@ -44,12 +44,12 @@ pub record IsHeader (kind : Kind) (header : HeaderValue) : Type 0 where
   pub more : AllByRecursion IsPlain header.more
 
 -- a continuation line is a space and its value
-abbrev pub continued : List ℕ → List ℕ
-continued value = 32 ∷ value
+abbrev pub continuing : List ℕ → List ℕ
+continuing value = 32 ∷ value
 
 -- the lines of a further header: its key, a space and its value, and its continuation lines
 abbrev pub header_lines : HeaderValue → List (List ℕ)
-header_lines header = (header.key ++ 32 ∷ header.value) ∷ map continued header.more
+header_lines header = (header.key ++ 32 ∷ header.value) ∷ map continuing header.more
 
 -- the line begins a further header
 pub record IsHeaderLine (kind : Kind) (line : List ℕ) : Type 0 where
@@ -63,7 +63,7 @@ pub record IsHeaderLine (kind : Kind) (line : List ℕ) : Type 0 where
 pub record IsContinuation (line : List ℕ) : Type 0 where
   pub value : List ℕ
   pub value_is : IsPlain value
-  pub spelling : line ≡ continued value
+  pub spelling : line ≡ continuing value
 
 -- the line begins with one of the words and a space
 pub record HasOwnWord (kind : Kind) (line : List ℕ) : Type 0 where

@@ -16,9 +16,9 @@ pub record Grammar (P F : Type 0) : Type 1 where
   pub form : P → List ℕ → F
 
 -- the lines are right from a place on, and lead to another one
-abbrev pub AreRight : {P F : Type 0} → Grammar P F → P → List (List ℕ) → P → Type 0
-AreRight g place [] last = place ≡ last
-AreRight g place (line ∷ lines) last = g.Right place line × AreRight g (g.next place line) lines last
+abbrev pub AreRightLines : {P F : Type 0} → Grammar P F → P → List (List ℕ) → P → Type 0
+AreRightLines g place [] last = place ≡ last
+AreRightLines g place (line ∷ lines) last = g.Right place line × AreRightLines g (g.next place line) lines last
 
 -- which point a whole line breaks: a zero byte, a word that may not stand there, a wrong form
 pub data IsBadLine {P F : Type 0} (g : Grammar P F) (why : F) (place : P) (line : List ℕ) : Type 0 where
@@ -37,6 +37,6 @@ pub record IsFirstFault {P F : Type 0} (g : Grammar P F) (start : P) (why : F) (
   pub lines : List (List ℕ)
   pub place : P
   pub rest : List ℕ
-  pub right : AreRight g start lines place
+  pub right : AreRightLines g start lines place
   pub parts : text ≡ flat_map ended lines ++ rest
   pub broken : IsBroken g why place rest

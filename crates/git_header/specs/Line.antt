@@ -1,6 +1,6 @@
 -- Lines of a header: bytes without a line feed, and one behind them (own: no zero byte in them).
 use Rattle.std.specs.Prelude.{◌≡◌, ◌≢◌, ◌⊎◌, ℕ, List, [], ◌∷◌, ◌++◌, Option, None, Some}
-use Rattle.git_name.specs.Text.{Lacks}
+use Rattle.git_name.specs.Text.{Begins, Lacks}
 use Rattle.git_header.specs.declared.fault.HeaderFault.{HeaderFault}
 use Rattle.git_header.specs.declared.fault.HeaderFault.TheVariants as fault
 
@@ -26,10 +26,6 @@ IsNoLine fault.HeaderLine text = (text ≢ []) × Lacks 10 text
 IsNoLine fault.ZeroByte text = (line : List ℕ) × (after : List ℕ) × IsLine line after text × (Lacks 0 line → ⊥)
 IsNoLine fault.Name text = ⊥
 IsNoLine fault.Ident text = ⊥
-
--- the line begins with the word
-abbrev pub Begins : List ℕ → List ℕ → Type 0
-Begins word line = (rest : List ℕ) × (line ≡ word ++ rest)
 
 -- a line with no zero byte that doesn't begin with the word
 pub record IsOther (word text : List ℕ) : Type 0 where

@@ -2,18 +2,13 @@
 use Rattle.std.specs.Prelude.{◌≡◌, ℕ, List, [], ◌∷◌, map, drop, Option, Some, None, ◌==◌, if◌then◌else◌}
 use Rattle.std.specs.List.{flat_map, AllByRecursion}
 use Rattle.git_name.specs.declared.kind.Kind.{Kind}
-use Rattle.git_header.specs.Header.{HeaderValue, IsHeader, IsPlain, continued, header_lines}
-use Rattle.git_name.specs.Text.{ended}
-
--- a byte put before the first line
-abbrev pub before_first : ℕ → List (List ℕ) → List (List ℕ)
-before_first byte [] = (byte ∷ []) ∷ []
-before_first byte (line ∷ lines) = (byte ∷ line) ∷ lines
+use Rattle.git_header.specs.Header.{HeaderValue, IsHeader, IsPlain, continuing, header_lines}
+use Rattle.git_name.specs.Text.{ended, onto_first}
 
 -- the bytes cut behind each line feed
 unfoldable pub lines_in : List ℕ → List (List ℕ)
 lines_in [] = []
-lines_in (byte ∷ bytes) = if byte == 10 then [] ∷ lines_in bytes else before_first byte (lines_in bytes)
+lines_in (byte ∷ bytes) = if byte == 10 then [] ∷ lines_in bytes else onto_first byte (lines_in bytes)
 
 -- the values of continuation lines
 unfoldable pub more_in : List ℕ → List (List ℕ)
@@ -22,7 +17,7 @@ more_in bytes = map (λ line. drop 1 line) (lines_in bytes)
 -- the bytes are right continuation lines
 pub record IsMore (bytes : List ℕ) : Type 0 where
   pub each : AllByRecursion IsPlain (more_in bytes)
-  pub spelling : bytes ≡ flat_map ended (map continued (more_in bytes))
+  pub spelling : bytes ≡ flat_map ended (map continuing (more_in bytes))
 
 -- the name that a text writes, or nothing
 abbrev pub name_or_none : Option (List ℕ) → List ℕ

@@ -16,7 +16,7 @@ abbrev pub IsIdentLine : List ℕ → Type 0
 IsIdentLine text = (ident : IdentValue) × IsIdent ident text
 
 -- the line is the word and a right value behind it
-pub record Holds (word : List ℕ) (IsValue : List ℕ → Type 0) (line : List ℕ) : Type 0 where
+pub record HoldsValue (word : List ℕ) (IsValue : List ℕ → Type 0) (line : List ℕ) : Type 0 where
   pub value : List ℕ
   pub spelling : line ≡ word ++ value
   pub is : IsValue value
@@ -34,8 +34,8 @@ abbrev pub IsNoValue : List ℕ → (List ℕ → Type 0) → HeaderFault → He
 IsNoValue word IsValue form why text = IsNoWord word why text ⊎ ((why ≡ form) × IsWrong word IsValue text)
 
 -- a word and a name
-abbrev pub name_line : List ℕ → List ℕ → List ℕ
-name_line word name = word ++ encode_lower name
+abbrev pub word_and_name : List ℕ → List ℕ → List ℕ
+word_and_name word name = word ++ encode_lower name
 
 -- a word and an ident
 abbrev pub ident_line : List ℕ → IdentValue → List ℕ

@@ -10,12 +10,12 @@ use Rattle.git_name.specs.declared.kind.Kind.{Kind}
 use Rattle.git_name.specs.declared.kind.Kind.TheVariants as kind
 use Rattle.git_header.specs.declared.fault.HeaderFault.{HeaderFault}
 use Rattle.git_header.specs.declared.fault.HeaderFault.TheVariants as line
-use Rattle.git_name.specs.Text.{Lacks, ended}
-use Rattle.git_header.specs.Line.{IsEnding, IsLine, IsNoWord, Begins}
+use Rattle.git_name.specs.Text.{Begins, Lacks, ended}
+use Rattle.git_header.specs.Line.{IsEnding, IsLine, IsNoWord}
 use Rattle.git_header.specs.Ident.{IdentValue, IsIdentValue, spelled_ident}
 use Rattle.git_header.specs.Header.{HeaderValue, IsHeader, IsHeaderLine, HasOwnWord, HeaderPlace, NoHeader, SomeHeader, header_grammar, header_lines}
-use Rattle.git_header.specs.Value.{ident_line, IsNameText, IsIdentLine, Holds, IsNoValue}
-use Rattle.git_header.specs.Judging.{AreRight, HoldsZero, Misplaced, Malformed, IsBroken, Early, Unended, Bad, IsFirstFault}
+use Rattle.git_header.specs.Value.{ident_line, IsNameText, IsIdentLine, HoldsValue, IsNoValue}
+use Rattle.git_header.specs.Judging.{AreRightLines, HoldsZero, Misplaced, Malformed, IsBroken, Early, Unended, Bad, IsFirstFault}
 use Rattle.git_header.proofs.Splits.{heads}
 use Rattle.git_header.proofs.JudgingLemmas.{IsUsual, IsSound, IsWithin, right_within, broken_within, fault_here}
 use Rattle.git_header.proofs.FieldLemmas.{all_right, differ, headers_right, place_behind}
@@ -51,7 +51,7 @@ tag_lacks byte low = All-from_recursion (λ b. b ≢ byte) (codes "tag ") (searc
 tagger_lacks : (byte : ℕ) → byte < 32 → Lacks byte (codes "tagger ")
 tagger_lacks byte low = All-from_recursion (λ b. b ≢ byte) (codes "tagger ") (search (rules, arith))
 
-held : (byte : ℕ) (word : List ℕ) → Lacks byte word → (IsValue : List ℕ → Type 0) (text : List ℕ) → ((value : List ℕ) → IsValue value → Lacks byte value) → Holds word IsValue text → Lacks byte text
+held : (byte : ℕ) (word : List ℕ) → Lacks byte word → (IsValue : List ℕ → Type 0) (text : List ℕ) → ((value : List ℕ) → IsValue value → Lacks byte value) → HoldsValue word IsValue text → Lacks byte text
 held byte word lacks IsValue text lack h = All-same (λ b. b ≢ byte) _ _ h.spelling (All-append (λ b. b ≢ byte) word h.value lacks (lack h.value h.is))
 
 no_zero_at : (p : TagPlace) (text : List ℕ) → tag_grammar.Right p text → Lacks 0 text
@@ -160,10 +160,10 @@ further_within = record {
 }
 
 -- right further headers where a tagger might stand
-pub right_at_tagger : (l : List ℕ) (lines : List (List ℕ)) (q : HeaderPlace) → AreRight (header_grammar kind.Tag) NoHeader (l ∷ lines) q → AreRight tag_grammar AtTagger (l ∷ lines) (Further q)
+pub right_at_tagger : (l : List ℕ) (lines : List (List ℕ)) (q : HeaderPlace) → AreRightLines (header_grammar kind.Tag) NoHeader (l ∷ lines) q → AreRightLines tag_grammar AtTagger (l ∷ lines) (Further q)
 right_at_tagger l lines q right =
     let next : place_after AtTagger l ≡ Further SomeHeader = ap (λ b. cond b (Further NoHeader) (Further SomeHeader)) (no_tagger l (header_no_tagger l right.0)) in
-    (inr right.0, subst (λ t. AreRight tag_grammar t lines (Further q)) (sym next) (right_within tag_fault Further (header_grammar kind.Tag) tag_grammar further_within SomeHeader q lines right.1))
+    (inr right.0, subst (λ t. AreRightLines tag_grammar t lines (Further q)) (sym next) (right_within tag_fault Further (header_grammar kind.Tag) tag_grammar further_within SomeHeader q lines right.1))
 
 -- a fault of further headers, where no tagger stands
 pub fault_at_tagger : (why : HeaderFault) (text : List ℕ) → ((x : List ℕ) → text ≢ codes "tagger " ++ x) → IsFirstFault (header_grammar kind.Tag) NoHeader why text → IsFirstFault tag_grammar AtTagger (tag_fault why) text
@@ -179,7 +179,7 @@ fault_at_tagger why text fresh wrong = from wrong.lines wrong.place wrong.rest w
     not_stands l a is s (inl begins) = other l a is begins
     not_stands l a is s (inr stands) = s stands
 
-    not_right : (l a : List ℕ) → IsLine l a text → (IsHeaderLine kind.Tag l → ⊥) → Holds (codes "tagger ") IsIdentLine l ⊎ IsHeaderLine kind.Tag l → ⊥
+    not_right : (l a : List ℕ) → IsLine l a text → (IsHeaderLine kind.Tag l → ⊥) → HoldsValue (codes "tagger ") IsIdentLine l ⊎ IsHeaderLine kind.Tag l → ⊥
     not_right l a is r (inl h) = other l a is (h.value, h.spelling)
     not_right l a is r (inr right) = r right
 
@@ -190,7 +190,7 @@ fault_at_tagger why text fresh wrong = from wrong.lines wrong.place wrong.rest w
     here f (Bad l a is (Misplaced plain s e)) = Bad l a is (Misplaced plain (not_stands l a is s) (ap tag_fault e))
     here f (Bad l a is (Malformed plain s r e)) = Bad l a is (Malformed plain (inr s) (not_right l a is r) (ap tag_fault e ∙ form_is l a is))
 
-    from : (ls : List (List ℕ)) (p : HeaderPlace) (rest : List ℕ) → AreRight (header_grammar kind.Tag) NoHeader ls p → text ≡ flat_map ended ls ++ rest → IsBroken (header_grammar kind.Tag) why p rest → IsFirstFault tag_grammar AtTagger (tag_fault why) text
+    from : (ls : List (List ℕ)) (p : HeaderPlace) (rest : List ℕ) → AreRightLines (header_grammar kind.Tag) NoHeader ls p → text ≡ flat_map ended ls ++ rest → IsBroken (header_grammar kind.Tag) why p rest → IsFirstFault tag_grammar AtTagger (tag_fault why) text
     from [] p rest right parts broken = fault_here tag_grammar AtTagger (tag_fault why) text (here why (subst (λ q. IsBroken (header_grammar kind.Tag) why q text) (sym right) (subst (IsBroken (header_grammar kind.Tag) why p) (sym parts) broken)))
     from (l ∷ ls) p rest right parts broken = record {
       lines = l ∷ ls;
@@ -213,17 +213,17 @@ may_end None [] = tt
 may_end None (h ∷ hs) = tt
 may_end (Some ident) hs = tt
 
-pub tagger_right : (ident : IdentValue) (lines : List (List ℕ)) (q : TagPlace) → IsIdentValue ident → AreRight tag_grammar (Further NoHeader) lines q → AreRight tag_grammar AtTagger (ident_line (codes "tagger ") ident ∷ lines) q
+pub tagger_right : (ident : IdentValue) (lines : List (List ℕ)) (q : TagPlace) → IsIdentValue ident → AreRightLines tag_grammar (Further NoHeader) lines q → AreRightLines tag_grammar AtTagger (ident_line (codes "tagger ") ident ∷ lines) q
 tagger_right ident lines q is right = (inl (record { value = spelled_ident ident; spelling = refl; is = (ident, record { right = is; spelling = refl }) }), right)
 
-rest_right : (t : Option IdentValue) (hs : List HeaderValue) → IsTagger t → AllByRecursion (IsHeader kind.Tag) hs → AreRight tag_grammar AtTagger (tagger_lines t ++ flat_map header_lines hs) (last_of t hs)
+rest_right : (t : Option IdentValue) (hs : List HeaderValue) → IsTagger t → AllByRecursion (IsHeader kind.Tag) hs → AreRightLines tag_grammar AtTagger (tagger_lines t ++ flat_map header_lines hs) (last_of t hs)
 rest_right None [] tagger are = refl
 rest_right None (h ∷ hs) tagger are = right_at_tagger (h.key ++ 32 ∷ h.value) _ SomeHeader (headers_right kind.Tag (h ∷ hs) are)
 rest_right (Some ident) hs tagger are =
     tagger_right ident (flat_map header_lines hs) (Further (place_behind hs)) tagger
     (right_within tag_fault Further (header_grammar kind.Tag) tag_grammar further_within NoHeader (place_behind hs) (flat_map header_lines hs) (headers_right kind.Tag hs are))
 
-pub tag_right : (v : TagValue) → IsTagValue v → AreRight tag_grammar AtObject (tag_lines v) (last_of v.tagger v.headers)
+pub tag_right : (v : TagValue) → IsTagValue v → AreRightLines tag_grammar AtObject (tag_lines v) (last_of v.tagger v.headers)
 tag_right v is = (
   record { value = encode_lower v.object; spelling = refl; is = (v.object, is.object, refl) },
   (

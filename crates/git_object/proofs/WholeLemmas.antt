@@ -12,7 +12,7 @@ use Rattle.git_name.specs.Text.{ended}
 use Rattle.git_header.specs.Line.{IsLine, ending}
 use Rattle.git_header.specs.Ident.{IdentValue, spelled_ident}
 use Rattle.git_header.specs.Header.{HeaderValue, NoHeader, IsHeader, header_grammar, header_lines}
-use Rattle.git_header.specs.Value.{name_line, ident_line}
+use Rattle.git_header.specs.Value.{word_and_name, ident_line}
 use Rattle.git_header.specs.Judging.{IsFirstFault}
 use Rattle.git_header.proofs.Splits.{same_rest}
 use Rattle.git_header.proofs.RowLemmas.{headers_unique}
@@ -32,7 +32,7 @@ abbrev pub Read : List ℕ → List (List ℕ) → TagPlace → List ℕ → Typ
 Read bytes lines place rest = IsRead tag_grammar AtObject bytes lines place rest
 
 abbrev object_line : List ℕ → List ℕ
-object_line name = name_line (codes "object ") name
+object_line name = word_and_name (codes "object ") name
 
 abbrev tagger_line : IdentValue → List ℕ
 tagger_line ident = ident_line (codes "tagger ") ident

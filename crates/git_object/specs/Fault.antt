@@ -4,10 +4,10 @@ use Rattle.std.specs.Str.{bytes_eq}
 use Rattle.git_name.specs.Kind.{type_word}
 use Rattle.git_name.specs.declared.kind.Kind.{Kind}
 use Rattle.git_name.specs.declared.kind.Kind.TheVariants.{Tag}
+use Rattle.git_name.specs.Text.{Begins}
 use Rattle.git_header.specs.declared.fault.HeaderFault.{HeaderFault}
 use Rattle.git_header.specs.declared.fault.HeaderFault.TheVariants as line
-use Rattle.git_header.specs.Line.{Begins}
-use Rattle.git_header.specs.Value.{IsNameText, IsIdentLine, Holds}
+use Rattle.git_header.specs.Value.{IsNameText, IsIdentLine, HoldsValue}
 use Rattle.git_header.specs.Header.{HeaderPlace, NoHeader, SomeHeader, header_grammar}
 use Rattle.git_header.specs.Judging.{Grammar, IsFirstFault}
 use Rattle.git_object.specs.declared.fault.TagFault.{TagFault}
@@ -43,12 +43,12 @@ MayStand AtTagger text = Begins (codes "tagger ") text ⊎ (header_grammar Tag).
 MayStand (Further place) text = (header_grammar Tag).Stands place text
 
 -- the lines of a right form
-abbrev pub IsRight : TagPlace → List ℕ → Type 0
-IsRight AtObject text = Holds (codes "object ") IsNameText text
-IsRight AtType text = Holds (codes "type ") IsTypeWord text
-IsRight AtName text = Holds (codes "tag ") IsTagName text
-IsRight AtTagger text = Holds (codes "tagger ") IsIdentLine text ⊎ (header_grammar Tag).Right NoHeader text
-IsRight (Further place) text = (header_grammar Tag).Right place text
+abbrev pub IsRightLine : TagPlace → List ℕ → Type 0
+IsRightLine AtObject text = HoldsValue (codes "object ") IsNameText text
+IsRightLine AtType text = HoldsValue (codes "type ") IsTypeWord text
+IsRightLine AtName text = HoldsValue (codes "tag ") IsTagName text
+IsRightLine AtTagger text = HoldsValue (codes "tagger ") IsIdentLine text ⊎ (header_grammar Tag).Right NoHeader text
+IsRightLine (Further place) text = (header_grammar Tag).Right place text
 
 -- the header may end behind the tag's name
 abbrev pub MayEndAt : TagPlace → Type 0
@@ -82,7 +82,7 @@ form_fault (Further place) text = fault.HeaderLine
 abbrev pub tag_grammar : Grammar TagPlace TagFault
 tag_grammar = record {
   Stands = MayStand;
-  Right = IsRight;
+  Right = IsRightLine;
   MayEnd = MayEndAt;
   next = place_after;
   order = fault.HeaderOrder;

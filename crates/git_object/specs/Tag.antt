@@ -5,7 +5,7 @@ use Rattle.git_name.specs.Kind.{type_word}
 use Rattle.git_name.specs.Name.{IsName}
 use Rattle.git_name.specs.declared.kind.Kind.{Kind}
 use Rattle.git_name.specs.declared.kind.Kind.TheVariants.{Tag}
-use Rattle.git_header.specs.Value.{name_line, ident_line}
+use Rattle.git_header.specs.Value.{word_and_name, ident_line}
 use Rattle.git_header.specs.Header.{HeaderValue, IsHeader, IsPlain, header_lines}
 use Rattle.git_header.specs.Ident.{IdentValue, IsIdentValue}
 use Rattle.git_name.specs.Text.{ended}
@@ -51,7 +51,7 @@ tagger_lines (Some ident) = ident_line (codes "tagger ") ident ∷ []
 
 -- the lines of the header, in order
 abbrev pub tag_lines : TagValue → List (List ℕ)
-tag_lines tag = name_line (codes "object ") tag.object ∷ type_line tag.kind ∷ tag_line tag.name ∷ (tagger_lines tag.tagger ++ flat_map header_lines tag.headers)
+tag_lines tag = word_and_name (codes "object ") tag.object ∷ type_line tag.kind ∷ tag_line tag.name ∷ (tagger_lines tag.tagger ++ flat_map header_lines tag.headers)
 
 -- each line and its line feed, and the message behind an empty line where there is one
 abbrev pub spelled_tag : TagValue → List ℕ

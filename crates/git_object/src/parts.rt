@@ -1,7 +1,7 @@
 ghost use Rattle.std.specs.Prelude.{◌≡◌, ◌≢◌, ◌++◌, List, ℕ, IfOk, IfErr, codes, None};
 ghost use Rattle.std.specs.List.{flat_map};
 ghost use Rattle.git_name.specs.Name.{IsName};
-ghost use Rattle.git_header.specs.Value.{name_line};
+ghost use Rattle.git_header.specs.Value.{word_and_name};
 ghost use Rattle.git_name.specs.Text.{ended};
 ghost use Rattle.git_header.specs.Line.{IsLine};
 ghost use Rattle.git_header.specs.Judging.{IsFirstFault};
@@ -16,7 +16,7 @@ use git_name::{Kind, Name};
 // The name of the object in the first line, and what stands behind the line.
 pub(crate) fn take_object(text: &[u8]) -> Result<(Name, &[u8]), TagFault>
     ensures name { IfOk result (λ p. IsName p.0) }
-    ensures found { IfOk result (λ p. IsLine (name_line (codes "object ") p.0) p.1.now text.now) }
+    ensures found { IfOk result (λ p. IsLine (word_and_name (codes "object ") p.0) p.1.now text.now) }
     ensures exact { IfErr result (λ why. IsFirstFault tag_grammar AtObject why text.now) }
 {
     match take_name(b"object ", text) {

@@ -9,12 +9,12 @@ use Rattle.std.specs.FinMap as map
 use Rattle.std.proofs.lemmas.Cmp.{eq_by_cmp_equiv}
 use Rattle.std.proofs.lemmas.Map.Keys.{sorted_tail}
 use Rattle.git_refname.specs.Rule.{IsRefName}
-use Rattle.git_reftx.specs.Sound.{AreNamed}
+use Rattle.git_reftx.specs.Sound.{AreRefNames}
 use Rattle.std.specs.List.{list_any}
 use Rattle.std.specs.List.Sorted.{IsStrictlySortedBy}
 use Rattle.git_name.specs.Name.{name_cmp}
 use Rattle.git_name.proofs.Names.{name_total, name_exact}
-use Rattle.git_reftx.specs.Fronts.{Before, In, Bounds, At, Tells, AreFronts, IsCommon, AreKept, IsUpper, IsLeast, IsSlash, IsFirst, IsLesser, LeastWith}
+use Rattle.git_reftx.specs.Fronts.{Before, In, Bounds, At, MarksFronts, AreFronts, IsCommon, AreKept, IsUpper, IsLeast, IsSlash, IsFirstSlash, IsLesser, LeastWith}
 use Rattle.git_reftx.specs.Transaction.{References, least_upper, stands_above}
 use Rattle.git_reftx.proofs.AboveLemmas.{above_true, above_from}
 use Rattle.git_reftx.proofs.MemberLemmas.{any_in, in_any, find_inside, find_least, first_before}
@@ -47,7 +47,7 @@ met_is_common met last name common k latest ahead before is fits inside =
 
 -- what the fronts tell of the next name
 pub tells_next : (before after : List Bool) (met : List (List ℕ)) (last name : List ℕ) (common : ℕ) → AreFronts before met last → ((p : List ℕ) → In p met → Before p name)
-    → ((p : List ℕ) → In p met → Before last name) → IsCommon common last name → AreKept common before after → Tells after met name (length name)
+    → ((p : List ℕ) → In p met → Before last name) → IsCommon common last name → AreKept common before after → MarksFronts after met name (length name)
 tells_next before after met last name common are ahead next is kept = record {
   told = λ k short inside.
       let fits = met_is_common met last name common k are.latest ahead (next (take k name) inside) is (omega arith) inside in
@@ -70,7 +70,7 @@ not_short k name short same =
     omega arith
 
 -- the fronts of the name, once it is met
-pub fronts_next : (fronts : List Bool) (met : List (List ℕ)) (name : List ℕ) → length name < length fronts → ((p : List ℕ) → In p met → Before p name) → Tells fronts met name (length name)
+pub fronts_next : (fronts : List Bool) (met : List (List ℕ)) (name : List ℕ) → length name < length fronts → ((p : List ℕ) → In p met → Before p name) → MarksFronts fronts met name (length name)
     → AreFronts (set fronts (length name) true) (name ∷ met) name
 fronts_next fronts met name room ahead tells = record {
   tells = record {
@@ -125,7 +125,7 @@ upper_still : (met : List (List ℕ)) (name u : List ℕ) → IsUpper met u → 
 upper_still met name u is = record { inside = inr is.inside; lower = is.lower; lower_inside = inr is.lower_inside; above = is.above }
 
 -- no front of the new name stands above it
-pub least_kept : (fronts : List Bool) (met : List (List ℕ)) (name : List ℕ) (least : Option (List ℕ)) → ((p : List ℕ) → In p met → Before p name) → Tells fronts met name (length name)
+pub least_kept : (fronts : List Bool) (met : List (List ℕ)) (name : List ℕ) (least : Option (List ℕ)) → ((p : List ℕ) → In p met → Before p name) → MarksFronts fronts met name (length name)
     → ((j : ℕ) → IsSlash fronts name j → ⊥) → IsLeast met least → IsLeast (name ∷ met) least
 least_kept fronts met name least ahead tells none is = record {
   found = λ u least_is. upper_still met name u (is.found u least_is);
@@ -143,7 +143,7 @@ shorter_before j k name less fits =
     subst (Before (take j name)) ((λ i. sym first i ++ sym more i) ∙ parts) (front_before (take j name) _ _)
 
 -- of the fronts that stand above the new name the first is the least
-first_bound : (fronts : List Bool) (met : List (List ℕ)) (name v : List ℕ) (k : ℕ) → IsFirst fronts name k → Tells fronts met name (length name) → StandsAt met name v → Bounds (Some (take k name)) v
+first_bound : (fronts : List Bool) (met : List (List ℕ)) (name v : List ℕ) (k : ℕ) → IsFirstSlash fronts name k → MarksFronts fronts met name (length name) → StandsAt met name v → Bounds (Some (take k name)) v
 first_bound fronts met name v k is tells stands = by_order (cases_order k stands.place)
   where
     at : At fronts stands.place
@@ -154,7 +154,7 @@ first_bound fronts met name v k is tells stands = by_order (cases_order k stands
     by_order (inr (inl less)) = inr (subst (Before (take k name)) stands.is (shorter_before k stands.place name less (let s = stands.short in omega arith)))
     by_order (inr (inr more)) = absurd (is.first stands.place more (stands.short, stands.slash, at))
 
-first_upper : (fronts : List Bool) (met : List (List ℕ)) (name : List ℕ) (k : ℕ) → IsFirst fronts name k → Tells fronts met name (length name) → IsUpper (name ∷ met) (take k name)
+first_upper : (fronts : List Bool) (met : List (List ℕ)) (name : List ℕ) (k : ℕ) → IsFirstSlash fronts name k → MarksFronts fronts met name (length name) → IsUpper (name ∷ met) (take k name)
 first_upper fronts met name k is tells =
     let whole : name ≡ take k name ++ 47 ∷ drop (k + 1) name = sym (take-append-drop k name) ∙ ap (λ r. take k name ++ r) (drop_more name k 0 is.slash.0 ∙ ap (λ b. b ∷ drop (k + 1) name) is.slash.1) in
     record { inside = inr (tells.found k is.slash.0 is.slash.2); lower = name; lower_inside = inl refl; above = above_from (take k name) name (drop (k + 1) name) whole }
@@ -165,8 +165,8 @@ bounds_through w u v (inr first) (inl same) = inr (subst (Before w) same first)
 bounds_through w u v (inr first) (inr second) = inr (name_total.trans w u v first second)
 
 -- a front of the new name stands above it
-pub least_more : (fronts : List Bool) (met : List (List ℕ)) (name : List ℕ) (least : Option (List ℕ)) (k : ℕ) (w : List ℕ) → ((p : List ℕ) → In p met → Before p name) → Tells fronts met name (length name)
-    → IsFirst fronts name k → IsLesser least (take k name) w → IsLeast met least → IsLeast (name ∷ met) (Some w)
+pub least_more : (fronts : List Bool) (met : List (List ℕ)) (name : List ℕ) (least : Option (List ℕ)) (k : ℕ) (w : List ℕ) → ((p : List ℕ) → In p met → Before p name) → MarksFronts fronts met name (length name)
+    → IsFirstSlash fronts name k → IsLesser least (take k name) w → IsLeast met least → IsLeast (name ∷ met) (Some w)
 least_more fronts met name least k w ahead tells first is_lesser is = by_least least is is_lesser
   where
     u : List ℕ
@@ -199,7 +199,7 @@ least_of_all names met least sorted into from is = find_least (λ upper. list_an
 pub least_next : (fronts : List Bool) (name : List ℕ) (least : Option (List ℕ)) → ((j : ℕ) → IsSlash fronts name j → ⊥) → LeastWith fronts name least least
 least_next fronts name least none met ahead tells is = least_kept fronts met name least ahead tells none is
 
-pub least_first : (fronts : List Bool) (name : List ℕ) (least : Option (List ℕ)) (k : ℕ) (w : List ℕ) → IsFirst fronts name k → IsLesser least (take k name) w → LeastWith fronts name least (Some w)
+pub least_first : (fronts : List Bool) (name : List ℕ) (least : Option (List ℕ)) (k : ℕ) (w : List ℕ) → IsFirstSlash fronts name k → IsLesser least (take k name) w → LeastWith fronts name least (Some w)
 least_first fronts name least k w first is_lesser met ahead tells is = least_more fronts met name least k w ahead tells first is_lesser is
 
 -- where two names part
@@ -275,7 +275,7 @@ meeting_next names left later before after last text common least now room is_le
     ahead : (p : List ℕ) → In p is.met → Before p text
     ahead p inside = is.ahead p inside text (in_left text (inl refl))
 
-    tells : Tells after is.met text (length text)
+    tells : MarksFronts after is.met text (length text)
     tells = tells_next before after is.met last text common is.are_fronts ahead (λ p inside. ahead last (is.last_met p inside)) common_is kept
 
 -- all were met
@@ -284,7 +284,7 @@ meeting_ends names left fronts last least is none sorted =
     sym (least_of_all names is.met least sorted (λ p inside. ⊎_elim (λ met. met) (λ left_one. absurd (subst (In p) none left_one)) (is.all p inside)) is.from_met is.is_least)
 
 -- what stands above another is a name of the references
-pub upper_named : (references : References) (u : List ℕ) → AreNamed references → least_upper (map.keys references) ≡ Some u → IsRefName u
+pub upper_named : (references : References) (u : List ℕ) → AreRefNames references → least_upper (map.keys references) ≡ Some u → IsRefName u
 upper_named references u named is =
     let inside = find_inside (λ upper. list_any (stands_above upper) (map.keys references)) (map.keys references) u is in
     named u (map.contains_key-keys references u ∙ in_any (eq_by_cmp name_cmp u) (map.keys references) u inside ((eq_by_cmp_equiv name_total).refl u))

@@ -7,7 +7,7 @@ use Rattle.std.specs.FinMap as map
 use Rattle.git_name.specs.Name.{name_cmp}
 use Rattle.git_name.proofs.Names.{name_total, name_exact}
 use Rattle.git_refname.specs.Rule.{IsRefName}
-use Rattle.git_reftx.specs.Sound.{AreNamed}
+use Rattle.git_reftx.specs.Sound.{AreRefNames}
 use Rattle.git_reftx.specs.Transaction.{References}
 
 -- what follows from either outcome of a call
@@ -18,22 +18,22 @@ whichever G (Err e) p q f g = g q
 pub same_name : (q k : List ℕ) → eq_by_cmp name_cmp q k ≡ true → q ≡ k
 same_name q k tie = name_exact q k ((Equal-is (name_cmp q k)).0 tie)
 
-pub named_empty : AreNamed (map.empty)
+pub named_empty : AreRefNames (map.empty)
 named_empty name has =
     let none : map.get {R = name_cmp} (map.empty {X = List ℕ} {R = name_cmp}) name ≡ None = search (rules, map.gets) in
     absurd (cc (sym (ap is_some none) ∙ has))
 
-named_at : (references : References) (k q v : List ℕ) (tie : Bool) → (tie ≡ true → q ≡ k) → AreNamed references → IsRefName k → is_some (cond tie (Some v) (map.get references q)) ≡ true → IsRefName q
+named_at : (references : References) (k q v : List ℕ) (tie : Bool) → (tie ≡ true → q ≡ k) → AreRefNames references → IsRefName k → is_some (cond tie (Some v) (map.get references q)) ≡ true → IsRefName q
 named_at references k q v true same named right has = subst IsRefName (sym (same refl)) right
 named_at references k q v false same named right has = named q has
 
-pub named_insert : (references : References) (k v : List ℕ) → AreNamed references → IsRefName k → AreNamed (map.insert references k v)
+pub named_insert : (references : References) (k v : List ℕ) → AreRefNames references → IsRefName k → AreRefNames (map.insert references k v)
 named_insert references k v named right q has =
     named_at references k q v (eq_by_cmp name_cmp q k) (same_name q k) named right (ap is_some (sym (map.get-insert name_total references k v q)) ∙ has)
 
-kept_at : (references : References) (q : List ℕ) (tie : Bool) → AreNamed references → is_some (cond tie None (map.get references q)) ≡ true → IsRefName q
+kept_at : (references : References) (q : List ℕ) (tie : Bool) → AreRefNames references → is_some (cond tie None (map.get references q)) ≡ true → IsRefName q
 kept_at references q true named has = absurd (cc)
 kept_at references q false named has = named q has
 
-pub named_remove : (references : References) (k : List ℕ) → AreNamed references → AreNamed (map.remove references k)
+pub named_remove : (references : References) (k : List ℕ) → AreRefNames references → AreRefNames (map.remove references k)
 named_remove references k named q has = kept_at references q (eq_by_cmp name_cmp q k) named (ap is_some (sym (map.get-remove name_total references k q)) ∙ has)

@@ -8,7 +8,7 @@ use Rattle.git_reftx.specs.declared.fault.CommandFault.{CommandFault}
 use Rattle.git_reftx.specs.declared.fault.CommandFault.TheVariants.{TooMany}
 use Rattle.git_reftx.specs.Command.{command_of}
 use Rattle.git_reftx.specs.Line.{LineAt, Whole, Unfinished, TooLong, line_at, line_of_parts}
-use Rattle.git_reftx.specs.Reading.{command_at, command_of_line, taken, with_command, and_others, commands_in, commands_of, past_most}
+use Rattle.git_reftx.specs.Reading.{command_at, command_of_line, command_taken, with_command, and_others, commands_in, commands_of, past_most}
 use Rattle.git_reftx.specs.declared.line.TheConstants.{LONGEST}
 use Rattle.git_reftx.specs.declared.reading.TheConstants.{MAX_COMMANDS}
 
@@ -35,7 +35,7 @@ in_line : (text : List ℕ) (o : Option (List ℕ × List ℕ)) → split_once 1
 in_line text None is = either from_line (length text) (nat_le (length text) LONGEST) Unfinished TooLong (omega arith) (omega arith)
 in_line text (Some (line, behind)) is = either from_line (length text) (nat_le (length line) LONGEST) (Whole line behind) TooLong (behind_line text line behind (split_once-whole 10 text line behind is)) (omega arith)
 
-in_taken : (n : ℕ) (o : Option Command) (behind : List ℕ) → suc (length behind) ≤ n → from_command (taken o behind) ≤ n
+in_taken : (n : ℕ) (o : Option Command) (behind : List ℕ) → suc (length behind) ≤ n → from_command (command_taken o behind) ≤ n
 in_taken n (Some command) behind fits = fits
 in_taken n None behind fits = omega arith
 

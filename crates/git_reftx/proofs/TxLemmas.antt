@@ -12,7 +12,7 @@ use Rattle.git_reftx.specs.declared.fault.TxRefusal.{TxRefusal}
 use Rattle.git_reftx.specs.declared.fault.TxRefusal.TheVariants.{TooMany}
 use Rattle.git_reftx.specs.Judging.{refused_before, refused_after, TellsRefusal, TellsTransacted}
 use Rattle.git_reftx.specs.Known.{Kinds}
-use Rattle.git_reftx.specs.Sound.{AreNamed, AreSound}
+use Rattle.git_reftx.specs.Sound.{AreRefNames, AreSound}
 use Rattle.git_reftx.specs.Transaction.{References, first_refusal, bad_ref, repeated_ref, missing_object, not_a_commit, is_branch, stale, changed, conflict, least_upper, refusal_of, unless_refused, transacted}
 use Rattle.git_reftx.proofs.MapLemmas.{named_empty}
 use Rattle.git_reftx.proofs.RefusalLemmas.{option_or_assoc}
@@ -55,7 +55,7 @@ within true is = absurd (cc)
 within false is = refl
 
 -- references that are not refused afterwards are sound
-pub sound_after : (new : References) → AreNamed new → refused_after new ≡ None → AreSound new
+pub sound_after : (new : References) → AreRefNames new → refused_after new ≡ None → AreSound new
 sound_after new named is =
     let judged = both_none (conflict (least_upper (map.keys new))) (cond (nat_lt MAX_REFERENCES (map.len new)) (Some TooMany) None) is in
     record { named = named; free = free_of (least_upper (map.keys new)) judged.0; few = ltb-false MAX_REFERENCES (map.len new) (within (nat_lt MAX_REFERENCES (map.len new)) judged.1) }

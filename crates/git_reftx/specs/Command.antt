@@ -24,14 +24,14 @@ abbrev pub command : List ℕ → Demand → Change → Command
 command reference demand change = record { reference = reference; demand = demand; change = change }
 
 -- the names that the words write, where each writes one
-abbrev pub with_name : Option (List ℕ) → Option (List (List ℕ)) → Option (List (List ℕ))
-with_name (Some name) (Some names) = Some (name ∷ names)
-with_name (Some name) None = None
-with_name None names = None
+abbrev pub and_name : Option (List ℕ) → Option (List (List ℕ)) → Option (List (List ℕ))
+and_name (Some name) (Some names) = Some (name ∷ names)
+and_name (Some name) None = None
+and_name None names = None
 
-abbrev pub names_in : List (List ℕ) → Option (List (List ℕ))
-names_in [] = Some []
-names_in (word ∷ words) = with_name (name_in word) (names_in words)
+abbrev pub names_spelled : List (List ℕ) → Option (List (List ℕ))
+names_spelled [] = Some []
+names_spelled (word ∷ words) = and_name (name_in word) (names_spelled words)
 
 -- `update REF NEW [OLD]`
 abbrev pub update : List ℕ → Option (List (List ℕ)) → Option Command
@@ -67,5 +67,5 @@ command_by verb reference names =
 
 -- the command that the words of a line are; REF isn't empty
 abbrev pub command_of : List (List ℕ) → Option Command
-command_of (verb ∷ (b ∷ bs) ∷ words) = command_by verb (b ∷ bs) (names_in words)
+command_of (verb ∷ (b ∷ bs) ∷ words) = command_by verb (b ∷ bs) (names_spelled words)
 command_of words = None

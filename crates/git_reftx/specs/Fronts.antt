@@ -23,13 +23,13 @@ abbrev pub At : List Bool → ℕ → Type 0
 At fronts k = slice_index_or fronts k false ≡ true
 
 -- the marked fronts of a name, of those shorter than `most`, are the names that were met
-pub record Tells (fronts : List Bool) (met : List (List ℕ)) (name : List ℕ) (most : ℕ) : Type 0 where
+pub record MarksFronts (fronts : List Bool) (met : List (List ℕ)) (name : List ℕ) (most : ℕ) : Type 0 where
   pub told : (k : ℕ) → k < most → In (take k name) met → At fronts k
   pub found : (k : ℕ) → k < most → At fronts k → In (take k name) met
 
 -- the same of the last name that was met, before which the others stand
 pub record AreFronts (fronts : List Bool) (met : List (List ℕ)) (last : List ℕ) : Type 0 where
-  pub tells : Tells fronts met last (length last + 1)
+  pub tells : MarksFronts fronts met last (length last + 1)
   pub latest : (p : List ℕ) → In p met → (p ≡ last) ⊎ Before p last
 
 -- how many bytes two names have in common
@@ -60,7 +60,7 @@ abbrev pub IsSlash : List Bool → List ℕ → ℕ → Type 0
 IsSlash fronts name k = (k < length name) × (slice_index_or name k 0 ≡ 47) × At fronts k
 
 -- the first of those
-pub record IsFirst (fronts : List Bool) (name : List ℕ) (k : ℕ) : Type 0 where
+pub record IsFirstSlash (fronts : List Bool) (name : List ℕ) (k : ℕ) : Type 0 where
   pub slash : IsSlash fronts name k
   pub first : (j : ℕ) → j < k → IsSlash fronts name j → ⊥
 
@@ -72,4 +72,4 @@ IsLesser (Some v) u w = ((w ≡ v) × Bounds (Some v) u) ⊎ ((w ≡ u) × Bound
 -- the least name that stands above another, once this name is met as well
 abbrev pub LeastWith : List Bool → List ℕ → Option (List ℕ) → Option (List ℕ) → Type 0
 LeastWith fronts name least now =
-    (met : List (List ℕ)) → ((p : List ℕ) → In p met → Before p name) → Tells fronts met name (length name) → IsLeast met least → IsLeast (name ∷ met) now
+    (met : List (List ℕ)) → ((p : List ℕ) → In p met → Before p name) → MarksFronts fronts met name (length name) → IsLeast met least → IsLeast (name ∷ met) now

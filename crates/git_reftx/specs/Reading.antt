@@ -9,12 +9,12 @@ use Rattle.git_reftx.specs.Line.{LineAt, Whole, Unfinished, TooLong, line_at}
 use Rattle.git_reftx.specs.declared.reading.TheConstants.{MAX_COMMANDS}
 
 -- the command at the front of a text and what stands behind its line, or what is wrong with the line
-abbrev pub taken : Option Command → List ℕ → Result (Command × List ℕ) CommandFault
-taken (Some command) behind = Ok (command, behind)
-taken None behind = Err Syntax
+abbrev pub command_taken : Option Command → List ℕ → Result (Command × List ℕ) CommandFault
+command_taken (Some command) behind = Ok (command, behind)
+command_taken None behind = Err Syntax
 
 abbrev pub command_of_line : LineAt → Result (Command × List ℕ) CommandFault
-command_of_line (Whole line behind) = taken (command_of (words_of line)) behind
+command_of_line (Whole line behind) = command_taken (command_of (words_of line)) behind
 command_of_line Unfinished = Err Truncated
 command_of_line TooLong = Err Syntax
 

@@ -6,11 +6,11 @@ use Rattle.git_reftx.specs.Transaction.{References, least_upper}
 use Rattle.git_reftx.specs.declared.transact.TheConstants.{MAX_REFERENCES}
 
 -- each has a right name
-abbrev pub AreNamed : References → Type 0
-AreNamed references = (name : List ℕ) → contains_key references name ≡ true → IsRefName name
+abbrev pub AreRefNames : References → Type 0
+AreRefNames references = (name : List ℕ) → contains_key references name ≡ true → IsRefName name
 
 -- each has a right name, none stands above another, and there are at most 4,096
 pub record AreSound (references : References) : Type 0 where
-  pub named : AreNamed references
+  pub named : AreRefNames references
   pub free : least_upper (keys references) ≡ None
   pub few : len references ≤ MAX_REFERENCES

@@ -1,6 +1,6 @@
 ghost use Rattle.std.specs.Prelude.{◌≡◌, ℕ, List, Some};
 ghost use Rattle.git_name.specs.Text.{words_of};
-ghost use Rattle.git_reftx.specs.Command.{is_zero, change_to, demand_of, names_in, update, create, delete, verify, command_by, command_of};
+ghost use Rattle.git_reftx.specs.Command.{is_zero, change_to, demand_of, names_spelled, update, create, delete, verify, command_by, command_of};
 ghost use Rattle.git_reftx.specs.Shown.{asked_of, command_of_parts, few, names_shown, parts_shown};
 
 use crate::command::{Change, Demand};
@@ -42,7 +42,7 @@ fn parts_of<'a>(
 
 // The names that the words of a text write, where there are one or two.
 fn read_names(text: &[u8]) -> Option<Names>
-    ensures { result ≡ few (names_in (words_of text.now)) }
+    ensures { result ≡ few (names_spelled (words_of text.now)) }
 {
     let Some((digits, rest)) = first_word(text) else {
         let name = Name::parse_hex(text)?;

@@ -1,7 +1,7 @@
 ghost use Rattle.std.specs.Prelude.{◌≡◌, ◌≤◌, ◌<◌, ◌↔◌, ℕ, true, IsTrue, IfSome, IfNone, length};
 ghost use Rattle.std.specs.FinMap as map;
 ghost use Rattle.std.specs.Option.{option_copied};
-ghost use Rattle.git_reftx.specs.Fronts.{AreKept, IsCommon, IsFirst, IsLesser, IsSlash, LeastWith};
+ghost use Rattle.git_reftx.specs.Fronts.{AreKept, IsCommon, IsFirstSlash, IsLesser, IsSlash, LeastWith};
 ghost use Rattle.git_reftx.specs.Transaction.{least_upper};
 ghost use Rattle.git_refname.specs.declared.name.TheConstants.{MAX_REF_NAME};
 
@@ -83,7 +83,7 @@ fn least_with<'a>(fronts: &[bool; 256], name: &'a [u8], least: Option<&'a [u8]>)
 // Where the first `/` of the name stands behind a marked front.
 fn first_front(fronts: &[bool; 256], name: &[u8]) -> Option<usize>
     requires { length name.now ≤ MAX_REF_NAME }
-    ensures found { IfSome result (IsFirst fronts.now name.now) }
+    ensures found { IfSome result (IsFirstSlash fronts.now name.now) }
     ensures none { IfNone result ((j : ℕ) → IsSlash fronts.now name.now j → ⊥) }
 {
     for (at, byte) in name.iter().enumerate() {

@@ -4,7 +4,7 @@ ghost use Rattle.std.specs.BTreeMap.{IsUnchanged, Updates};
 ghost use Rattle.std.specs.List.Sorted.{IsStrictlySortedBy};
 ghost use Rattle.git_name.specs.Name.{name_cmp};
 ghost use Rattle.git_reftx.specs.Fronts.{Before};
-ghost use Rattle.git_reftx.specs.Sound.{AreNamed};
+ghost use Rattle.git_reftx.specs.Sound.{AreRefNames};
 
 use git_name::Name;
 use git_refname::RefName;
@@ -25,7 +25,7 @@ impl Model for RefMap {
     ghost use Rattle.std.specs.FinMap as map;
     ghost use Rattle.std.specs.Coded.{coded_list, coded_ℕ};
     ghost use Rattle.git_reftx.specs.Transaction.{References};
-    ghost use Rattle.git_reftx.specs.Sound.{AreNamed};
+    ghost use Rattle.git_reftx.specs.Sound.{AreRefNames};
 
     ghost Value = { References };
 
@@ -33,7 +33,7 @@ impl Model for RefMap {
 
     ghost view = { λ a. map.from_entries a.references.entries };
 
-    ghost invariant = { λ a. AreNamed (map.from_entries a.references.entries) };
+    ghost invariant = { λ a. AreRefNames (map.from_entries a.references.entries) };
 }
 
 impl RefMap {
@@ -49,7 +49,7 @@ impl RefMap {
     // How many there are.
     pub(crate) fn len(&self) -> usize
         ensures len { result ≡ map.len self.now }
-        ensures named { AreNamed self.now }
+        ensures named { AreRefNames self.now }
     {
         self.references.len()
     }

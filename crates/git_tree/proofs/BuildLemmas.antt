@@ -8,7 +8,7 @@ use Rattle.git_tree.specs.Entry.{Entry, spelled}
 use Rattle.git_tree.specs.Tree.{AreEntries}
 use Rattle.git_tree.specs.Row.{IsRow, entries_in}
 use Rattle.git_tree.specs.Known.{Knows}
-use Rattle.git_tree.specs.Tracks.{Reached, Tracks, Steps, MayFollow}
+use Rattle.git_tree.specs.Tracks.{Reached, Tracks, FollowsLast, MayFollow}
 use Rattle.git_tree.specs.Building.{IsBuilt}
 use Rattle.git_tree.proofs.RowLemmas.{row_push}
 use Rattle.git_tree.proofs.TreeLemmas.{are_push}
@@ -34,12 +34,12 @@ name_at bytes e long start is =
     )
 
 pub built_push : (bytes seen new : List ℕ) (start len : ℕ) (t t' : Bool) (fronts fronts' : FrontLengths) (e : Entry) (s : ℕ) → IsBuilt bytes start len t fronts → seen ≡ bytes
-    → new ≡ bytes ++ spelled e → MayFollow (entries_in seen) e → Steps (record { file_name = take len (drop start seen); is_tree = t; fronts = fronts }) e s → t' ≡ is_tree e.mode
+    → new ≡ bytes ++ spelled e → MayFollow (entries_in seen) e → FollowsLast (record { file_name = take len (drop start seen); is_tree = t; fronts = fronts }) e s → t' ≡ is_tree e.mode
     → ((n : ℕ) → n ≤ s → Knows fronts n → Knows fronts' n) → (is_tree e.mode ≡ false → Knows fronts' (length e.file_name))
     → IsBuilt new (length new - 33 - length e.file_name) (length e.file_name) t' fronts' × (entries_in new ≡ entries_in bytes ++ e ∷ [])
 built_push bytes seen new start len t t' fronts fronts' e s built same parts follows steps tree kept added =
     let follows' : MayFollow (entries_in bytes) e = subst (λ (b : List ℕ). MayFollow (entries_in b) e) same follows in
-    let steps' : Steps (record { file_name = take len (drop start bytes); is_tree = t; fronts = fronts }) e s = subst (λ (b : List ℕ). Steps (record { file_name = take len (drop start b); is_tree = t; fronts = fronts }) e s) same steps in
+    let steps' : FollowsLast (record { file_name = take len (drop start bytes); is_tree = t; fronts = fronts }) e s = subst (λ (b : List ℕ). FollowsLast (record { file_name = take len (drop start b); is_tree = t; fronts = fronts }) e s) same steps in
     let old : Reached = record { file_name = take len (drop start bytes); is_tree = t; fronts = fronts } in
     let more = row_push bytes e steps'.is built.row in
     let row : entries_in new ≡ entries_in bytes ++ e ∷ [] = ap entries_in parts ∙ more.0 in

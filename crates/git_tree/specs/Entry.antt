@@ -17,8 +17,8 @@ abbrev pub entry_with : Mode → List ℕ → List ℕ → Entry
 entry_with mode file_name name = record { mode = mode; file_name = file_name; name = name }
 
 -- an entry, without where its file name lies in memory
-abbrev pub entry_of : TreeEntry → Entry
-entry_of entry = record { mode = entry.mode; file_name = entry.file_name.now; name = entry.name }
+abbrev pub plain_entry : TreeEntry → Entry
+plain_entry entry = record { mode = entry.mode; file_name = entry.file_name.now; name = entry.name }
 
 -- bytes, none of them / or zero, and not the names of the folder, the one above it and the repository
 pub record IsFileName (bytes : List ℕ) : Type 0 where

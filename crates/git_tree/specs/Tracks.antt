@@ -34,8 +34,8 @@ pub record MayFollow (front : List Entry) (entry : Entry) : Type 0 where
   pub new : AllByRecursion (λ a. Differ a entry) front
 
 -- an earlier file whose name the last file name begins with is known by its length
-abbrev pub IsKnown : Reached → Entry → Type 0
-IsKnown last a = is_tree a.mode ≡ false → (r : List ℕ) → last.file_name ≡ a.file_name ++ r → Knows last.fronts (length a.file_name)
+abbrev pub IsFrontKnown : Reached → Entry → Type 0
+IsFrontKnown last a = is_tree a.mode ≡ false → (r : List ℕ) → last.file_name ≡ a.file_name ++ r → Knows last.fronts (length a.file_name)
 
 -- the last entry's key, and none before the first entry
 abbrev pub last_key : Reached → List ℕ
@@ -46,10 +46,10 @@ pub record Tracks (front : List Entry) (last : Reached) : Type 0 where
   -- no key is above the last one, and what is above all is above it
   pub low : AllByRecursion (λ a. AtMost (entry_key a) (last_key last)) front
   pub met : (k : List ℕ) → k ≢ [] → AllByRecursion (λ a. name_cmp (entry_key a) k ≡ Less) front → name_cmp (last_key last) k ≡ Less
-  pub known : AllByRecursion (IsKnown last) front
+  pub known : AllByRecursion (IsFrontKnown last) front
 
 -- an entry in order behind the last one, and how many bytes their file names have in common
-pub record Steps (old : Reached) (e : Entry) (s : ℕ) : Type 0 where
+pub record FollowsLast (old : Reached) (e : Entry) (s : ℕ) : Type 0 where
   pub is : IsEntry e
   pub order : name_cmp (last_key old) (entry_key e) ≡ Less
   pub within : s ≤ length e.file_name

@@ -4,7 +4,7 @@ ghost use Rattle.git_tree.specs.Building.{IsBuilt};
 ghost use Rattle.git_tree.specs.Entry.{entry_with, spelled};
 ghost use Rattle.git_tree.specs.Pushing.{IsPushFault, IsCause};
 ghost use Rattle.git_tree.specs.Row.{entries_in};
-ghost use Rattle.git_tree.specs.Tracks.{MayFollow, Steps, reached_at};
+ghost use Rattle.git_tree.specs.Tracks.{MayFollow, FollowsLast, reached_at};
 ghost use Rattle.git_tree.specs.Tree.{IsTree};
 
 use crate::entry::TreeEntry;
@@ -98,7 +98,7 @@ fn judge(
     requires name { IsName name }
     ensures follows { IfOk result (λ _. MayFollow (entries_in bytes.now) (entry_with mode file_name.now name)) }
     ensures steps { IfOk result (λ shared.
-        Steps (reached_at bytes.now start len is_tree fronts.now) (entry_with mode file_name.now name) shared) }
+        FollowsLast (reached_at bytes.now start len is_tree fronts.now) (entry_with mode file_name.now name) shared) }
     ensures fault { IfErr result (λ fault. IsPushFault fault (entries_in bytes.now) (entry_with mode file_name.now name)) }
 {
     if memchr(0, file_name).is_some() || !is_file_name(file_name) {

@@ -1,8 +1,8 @@
 ghost use Rattle.std.specs.Prelude.{IfOk, IfErr};
-ghost use Rattle.git_tree.specs.Entry.{entry_of, IsEntry};
+ghost use Rattle.git_tree.specs.Entry.{plain_entry, IsEntry};
 ghost use Rattle.git_tree.specs.Fault.{IsPlaceFault};
 ghost use Rattle.git_tree.specs.Row.{entries_in, IsRow};
-ghost use Rattle.git_tree.specs.Tracks.{Tracks, Steps, MayFollow, reached_by};
+ghost use Rattle.git_tree.specs.Tracks.{Tracks, FollowsLast, MayFollow, reached_by};
 
 use crate::entry::TreeEntry;
 use crate::fault::TreeFault;
@@ -28,10 +28,10 @@ pub(crate) fn place<const DEPTH: usize>(
 ) -> Result<usize, TreeFault>
     requires tracks { Tracks (entries_in before.now) (reached_by last fronts.now) }
     requires row { IsRow before.now }
-    requires entry { IsEntry (entry_of entry) }
-    ensures follows { IfOk result (λ _. MayFollow (entries_in before.now) (entry_of entry.entry)) }
-    ensures steps { IfOk result (λ shared. Steps (reached_by last.entry fronts.now) (entry_of entry.entry) shared) }
-    ensures fault { IfErr result (λ fault. IsPlaceFault fault (entries_in before.now) (entry_of entry.entry)) }
+    requires entry { IsEntry (plain_entry entry) }
+    ensures follows { IfOk result (λ _. MayFollow (entries_in before.now) (plain_entry entry.entry)) }
+    ensures steps { IfOk result (λ shared. FollowsLast (reached_by last.entry fronts.now) (plain_entry entry.entry) shared) }
+    ensures fault { IfErr result (λ fault. IsPlaceFault fault (entries_in before.now) (plain_entry entry.entry)) }
 {
     let is_tree = entry.mode.is_tree();
     let shared = shared_len(last.file_name, entry.file_name);

@@ -1,7 +1,7 @@
 ghost use Rattle.std.specs.Prelude.{◌≡◌, ◌∷◌, ◌++◌, ◌<◌, ◌↔◌, IsTrue, length, IfSome, IfNone, IfOk, IfErr};
 ghost use Rattle.git_name.specs.Name.{IsName};
 ghost use Rattle.git_name.specs.Text.{Lacks};
-ghost use Rattle.git_tree.specs.Entry.{IsFileName, IsEntry, spelled, entry_of};
+ghost use Rattle.git_tree.specs.Entry.{IsFileName, IsEntry, spelled, plain_entry};
 ghost use Rattle.git_tree.specs.Fault.{IsFormFault};
 ghost use Rattle.git_tree.specs.declared.mode.Mode.{Mode};
 ghost use Rattle.git_tree.specs.Mode.{digits};
@@ -102,8 +102,8 @@ fn take_file_name(bytes: &[u8]) -> Result<(&[u8], &[u8]), TreeFault>
 // The entry at the front, and the bytes behind it.
 pub(crate) fn take_entry(bytes: &[u8]) -> Result<(TreeEntry<'_>, &[u8]), TreeFault>
     requires { 0 < length bytes.now }
-    ensures entry { IfOk result (λ x. IsEntry (entry_of x.0)) }
-    ensures parts { IfOk result (λ x. bytes.now ≡ spelled (entry_of x.0) ++ x.1.now) }
+    ensures entry { IfOk result (λ x. IsEntry (plain_entry x.0)) }
+    ensures parts { IfOk result (λ x. bytes.now ≡ spelled (plain_entry x.0) ++ x.1.now) }
     ensures fault { IfErr result (λ fault. IsFormFault fault bytes.now) }
 {
     let (mode, rest) = take_mode(bytes)?;

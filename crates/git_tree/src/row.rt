@@ -44,11 +44,11 @@ impl<'a> Entries<'a> {
 
 impl<'a> Iterator for Entries<'a> {
     ghost use Rattle.std.specs.Iterator.{YieldsFirstBy, item_count};
-    ghost use Rattle.git_tree.specs.Entry.{entry_of};
+    ghost use Rattle.git_tree.specs.Entry.{plain_entry};
 
     type Item = TreeEntry<'a>;
 
-    ghost next_gives = { YieldsFirstBy entry_of (λ rest. rest) };
+    ghost next_gives = { YieldsFirstBy plain_entry (λ rest. rest) };
 
     ghost remaining = { item_count (λ rest. rest) };
 

@@ -14,7 +14,7 @@ use Rattle.git_name.specs.Name.{name_cmp}
 use Rattle.git_name.proofs.Names.{name_total, name_exact}
 use Rattle.git_name.proofs.HashMaps.{distinct_by_order}
 use Rattle.git_name.proofs.TreeMaps.{get_of_entries}
-use Rattle.looks.specs.Places.{same_name}
+use Rattle.git_name.specs.Same.{same_name}
 use Rattle.catalogue.specs.Counted.{one_if}
 use Rattle.catalogue.proofs.PlaceLemmas.{one_name, own_name}
 use Rattle.ledgers.specs.declared.word.Word.{Word}

@@ -11,7 +11,7 @@ use Rattle.std.proofs.lemmas.Map.Entries.{length-values_of}
 use Rattle.git_name.specs.declared.kind.Kind.{Kind}
 use Rattle.git_name.specs.Name.{name_cmp}
 use Rattle.git_name.proofs.Names.{name_total, name_exact}
-use Rattle.looks.specs.Places.{same_name}
+use Rattle.git_name.specs.Same.{same_name}
 use Rattle.catalogue.specs.Counted.{one_if}
 use Rattle.catalogue.proofs.PlaceLemmas.{one_name, own_name}
 use Rattle.ledgers.specs.declared.word.Word.{Word}

@@ -12,7 +12,7 @@ use Rattle.git_name.specs.declared.kind.Kind.{Kind}
 use Rattle.git_name.specs.Name.{name_cmp}
 use Rattle.git_name.proofs.Names.{name_total, name_exact}
 use Rattle.git_name.proofs.TreeMaps.{get_of_entries}
-use Rattle.looks.specs.Places.{same_name}
+use Rattle.git_name.specs.Same.{is_one_of, same_name}
 use Rattle.catalogue.specs.Counted.{one_if}
 use Rattle.catalogue.proofs.PlaceLemmas.{own_name}
 use Rattle.ledgers.specs.declared.word.Standing.{Standing}
@@ -20,7 +20,7 @@ use Rattle.ledgers.specs.declared.word.Standing.TheVariants.{Visible, Staged, Bo
 use Rattle.ledgers.specs.declared.word.Word.{Word}
 use Rattle.ledgers.specs.Chosen.{chosen}
 use Rattle.ledgers.specs.Due.{due_at, leaves_discarded}
-use Rattle.ledgers.specs.Settled.{AreStaged, Settles, is_among}
+use Rattle.ledgers.specs.Settled.{AreStaged, Settles}
 use Rattle.ledgers.specs.Words.{Words, discarded_words, is_staged, is_visible, kept_as, kept_standing, kept_word, kept_words, published_words, seen_word, shows, staged_over, staged_too, staged_words, unstaged_if, unstaged_word, unstaged_words, waits, with_standing}
 use Rattle.ledgers.proofs.ChosenLemmas.{get_chosen, one_key}
 use Rattle.ledgers.proofs.HolderLemmas.{same_tests}
@@ -39,7 +39,7 @@ tied_back name q e = ap (λ k. is_at (name_cmp name) k) (one_key {R = name_cmp} 
 -- these names are left to be settled, and all others are
 pub record IsSettling (f : Word → Option Word) (names : List (List ℕ)) (old now : Words) : Type 0 where
   pub same : (q : List ℕ) → option_and_then f (get now q) ≡ option_and_then f (get old q)
-  pub done : (q : List ℕ) → is_among names q ≡ false → option_and_then f (get now q) ≡ get now q
+  pub done : (q : List ℕ) → is_one_of names q ≡ false → option_and_then f (get now q) ≡ get now q
 
 -- a function that leaves what is not staged, and what it made
 pub record IsSettler (f : Word → Option Word) : Type 0 where
@@ -78,7 +78,7 @@ settled_more f is name names old now new was step = record {
       ap (option_and_then f) stays
       ∙ was.done q (by_test _ (is_at (name_cmp q) name)
       (λ tied. other _ (sym apart ∙ tied_back name q tied))
-      (λ far. ap (λ b. b || is_among names q) far ∙ out)) ∙ sym stays);
+      (λ far. ap (λ b. b || is_one_of names q) far ∙ out)) ∙ sym stays);
 }
   where
     other : (G : Type 0) → false ≡ true → G
@@ -201,13 +201,13 @@ set_staged false word o is = refl
 
 -- one name more is staged
 pub staged_more : (before names : List (List ℕ)) (words after : Words) (name : List ℕ) (word : Word) → AreStaged before words → is_staged word ≡ true
-    → ((q : List ℕ) → is_among names q ≡ cond (is_at (name_cmp name) q) true (is_among before q)) → ((q : List ℕ) → get after q ≡ cond (is_at (name_cmp name) q) (Some word) (get words q)) → AreStaged names after
+    → ((q : List ℕ) → is_one_of names q ≡ cond (is_at (name_cmp name) q) true (is_one_of before q)) → ((q : List ℕ) → get after q ≡ cond (is_at (name_cmp name) q) (Some word) (get words q)) → AreStaged names after
 staged_more before names words after name word was is noted set q =
     noted q ∙ ap (cond (is_at (name_cmp name) q) true) (was q) ∙ set_staged (is_at (name_cmp name) q) word (get words q) is ∙ sym (ap (λ o. option_map_or is_staged o false) (set q))
 
 -- a name more at the end of a list
-pub among_last : (before : List (List ℕ)) (name q : List ℕ) → is_among (before ++ name ∷ []) q ≡ cond (is_at (name_cmp name) q) true (is_among before q)
-among_last before name q = list_any-append (is_at (name_cmp q)) before (name ∷ []) ∙ ap (λ b. is_among before q || b) (last (is_at (name_cmp q) name)) ∙ ap (λ b. is_among before q || b) ((eq_by_cmp_equiv name_total).symm q name) ∙ either (is_among before q) (is_at (name_cmp name) q)
+pub among_last : (before : List (List ℕ)) (name q : List ℕ) → is_one_of (before ++ name ∷ []) q ≡ cond (is_at (name_cmp name) q) true (is_one_of before q)
+among_last before name q = list_any-append (is_at (name_cmp q)) before (name ∷ []) ∙ ap (λ b. is_one_of before q || b) (last (is_at (name_cmp q) name)) ∙ ap (λ b. is_one_of before q || b) ((eq_by_cmp_equiv name_total).symm q name) ∙ either (is_one_of before q) (is_at (name_cmp name) q)
   where
     last : (b : Bool) → (b || false) ≡ b
     last true = refl
@@ -244,13 +244,13 @@ still_staged false None = refl
 still_staged true (Some word) = sym (none_unstaged (Some word))
 still_staged false (Some word) = refl
 
-pub unstaged_staged : (names : List ℕ → Bool) (before after : List (List ℕ)) (words : Words) → AreStaged before words → ((q : List ℕ) → is_among after q ≡ (not (names q) && is_among before q)) → AreStaged after (unstaged_words names words)
+pub unstaged_staged : (names : List ℕ → Bool) (before after : List (List ℕ)) (words : Words) → AreStaged before words → ((q : List ℕ) → is_one_of after q ≡ (not (names q) && is_one_of before q)) → AreStaged after (unstaged_words names words)
 unstaged_staged names before after words was is q =
     is q ∙ ap (λ b. not (names q) && b) (was q) ∙ still_staged (names q) (get words q)
     ∙ sym (ap (λ o. option_map_or is_staged o false) (get_chosen name_total name_exact (λ name word. unstaged_if (names name) word) words q))
 
 -- names of a set that are left
-pub left_among : (names : List ℕ → Bool) (before : List (List ℕ)) (q : List ℕ) → is_among (filter (λ name. not (names name)) before) q ≡ (not (names q) && is_among before q)
+pub left_among : (names : List ℕ → Bool) (before : List (List ℕ)) (q : List ℕ) → is_one_of (filter (λ name. not (names name)) before) q ≡ (not (names q) && is_one_of before q)
 left_among names before q =
     any-filter_same (is_at (name_cmp q)) (λ name. not (names name)) (not (names q)) (λ k tied. ap (λ name. not (names name)) (sym (one_key {R = name_cmp} name_exact q k tied))) before
 

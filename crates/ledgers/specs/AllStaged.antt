@@ -1,7 +1,8 @@
 -- Objects that a tenant's ledger stages one after another (own).
 use Rattle.std.specs.Prelude.{◌≡◌, true, List, [], ◌∷◌}
 use Rattle.std.specs.List.{All}
-use Rattle.looks.specs.Places.{Places, is_listed}
+use Rattle.git_name.specs.Same.{is_listed}
+use Rattle.looks.specs.Places.{Places}
 use Rattle.ledgers.specs.Words.{Words, staged_words}
 use Rattle.ledgers.specs.declared.entry.Entry.{Entry}
 

@@ -2,7 +2,7 @@
 use Rattle.std.specs.Prelude.{Bool, false, ◌&&◌, ◌+◌, not, ℕ, List, [], ◌∷◌}
 use Rattle.std.specs.FinMap.{get}
 use Rattle.std.specs.Option.{is_some, option_map_or}
-use Rattle.looks.specs.Places.{same_name}
+use Rattle.git_name.specs.Same.{same_name}
 use Rattle.catalogue.specs.Counted.{one_if}
 use Rattle.ledgers.specs.declared.word.Word.{Word}
 use Rattle.ledgers.specs.Words.{Words, is_visible, kept_word, unstaged_if}

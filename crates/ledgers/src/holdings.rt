@@ -1,9 +1,10 @@
 ghost use Rattle.std.specs.Prelude.{◌≡◌, ◌<◌, ◌≤◌, ◌+◌, ◌⊎◌, ◌++◌, ◌∷◌, [], ◌||◌, ◌&&◌, not, ℕ, List, Some, length, slice_get, take, OnOk, OnErr, IfOk, IfSome, IfNone, false, true, nat_le, IsPermutation};
 ghost use Rattle.std.specs.FinMap as map;
 ghost use Rattle.std.specs.Option.{option_map_or};
-ghost use Rattle.looks.specs.Growth.{GrowsBy};
-ghost use Rattle.looks.specs.Places.{at_start, is_listed, looked_at, same_name};
-ghost use Rattle.catalogue.specs.Counted.{IsNext, count_of, places_of};
+ghost use Rattle.git_name.specs.Same.{is_listed, same_name};
+ghost use Rattle.looks.specs.Growth.{GrowsAmong};
+ghost use Rattle.looks.specs.Places.{at_start, looked_at};
+ghost use Rattle.catalogue.specs.Counted.{LooksNextAt, count_of, places_of};
 ghost use Rattle.ledgers.specs.Holders.{IsCounting, holders_of, is_held_in};
 ghost use Rattle.ledgers.specs.Ledgers.{at_ledger, ledger_at, with_ledger, word_at};
 ghost use Rattle.ledgers.specs.Totals.{capped, total_of, used_by};
@@ -185,7 +186,7 @@ impl Holdings {
     /// Enters a name in the catalogue, unless it is there.
     pub fn enter(&mut self, name: Name) -> Result<(), AllocError>
         ensures listed { OnOk result ((q : List ℕ) → is_listed (places_of self.new.catalogue).names q ≡ (same_name name q || is_listed (places_of self.old.catalogue).names q)) }
-        ensures grows { GrowsBy (name ∷ []) (places_of self.old.catalogue) (places_of self.new.catalogue) }
+        ensures grows { GrowsAmong (name ∷ []) (places_of self.old.catalogue) (places_of self.new.catalogue) }
         ensures ledgers { self.new.ledgers ≡ self.old.ledgers }
         ensures err { OnErr result (places_of self.new.catalogue ≡ places_of self.old.catalogue) }
     {
@@ -201,8 +202,8 @@ impl Holdings {
 
     /// The name that the next look falls at, if nobody holds it.
     pub fn free_name(&self) -> Option<Name>
-        ensures some { IfSome result (λ name. IsNext (places_of self.now.catalogue) name × (holders_of self.now.ledgers name ≡ 0)) }
-        ensures none { IfNone result (((places_of self.now.catalogue).names ≡ []) ⊎ ((name : List ℕ) × IsNext (places_of self.now.catalogue) name × (0 < holders_of self.now.ledgers name))) }
+        ensures some { IfSome result (λ name. LooksNextAt (places_of self.now.catalogue) name × (holders_of self.now.ledgers name ≡ 0)) }
+        ensures none { IfNone result (((places_of self.now.catalogue).names ≡ []) ⊎ ((name : List ℕ) × LooksNextAt (places_of self.now.catalogue) name × (0 < holders_of self.now.ledgers name))) }
     {
         self.catalogue.free_name()
     }
@@ -235,7 +236,7 @@ impl Holdings {
 
     /// Takes the name that the next look falls at out of the catalogue. Nobody holds it.
     pub fn leave(&mut self, name: Name)
-        requires next { IsNext (places_of self.old.catalogue) name }
+        requires next { LooksNextAt (places_of self.old.catalogue) name }
         requires free { holders_of self.old.ledgers name ≡ 0 }
         ensures ledgers { self.new.ledgers ≡ self.old.ledgers }
         ensures left { (front back : List (List ℕ)) → (places_of self.old.catalogue).names ≡ front ++ name ∷ back → length front ≡ looked_at (places_of self.old.catalogue)

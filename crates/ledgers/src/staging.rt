@@ -1,8 +1,7 @@
 // Objects that are staged in one call, all or none.
 ghost use Rattle.std.specs.Prelude.{◌≡◌, true, OnErr, OnOk};
 ghost use Rattle.std.specs.HashSet.{contains};
-ghost use Rattle.git_name.specs.Same.{same_name};
-ghost use Rattle.looks.specs.Places.{is_listed};
+ghost use Rattle.git_name.specs.Same.{is_listed, same_name};
 ghost use Rattle.catalogue.specs.Counted.{places_of};
 ghost use Rattle.ledgers.specs.AllStaged.{AreListed, all_staged_words};
 ghost use Rattle.ledgers.specs.Ledgers.{at_ledger};

@@ -5,11 +5,11 @@ ghost use Rattle.std.specs.List.{IsDistinct};
 ghost use Rattle.std.specs.Map.{keys_of, values_of};
 ghost use Rattle.std.specs.Option.{option_map_or};
 ghost use Rattle.git_name.specs.Name.{name_cmp};
-ghost use Rattle.git_name.specs.Same.{Sets, same_name};
+ghost use Rattle.git_name.specs.Same.{Sets, is_one_of, same_name};
 ghost use Rattle.catalogue.specs.Counted.{count_of, places_of};
 ghost use Rattle.ledgers.specs.Chosen.{chosen_in};
 ghost use Rattle.ledgers.specs.Due.{due_at, leaves_discarded};
-ghost use Rattle.ledgers.specs.Settled.{AreStaged, Settles, is_among};
+ghost use Rattle.ledgers.specs.Settled.{AreStaged, Settles};
 ghost use Rattle.ledgers.specs.Totals.{capped, seen_use, use_of_word};
 ghost use Rattle.ledgers.specs.Words.{discarded_words, is_visible, kept_as, kept_word, published_words, seen_word, unstaged_if, unstaged_word, words_that};
 
@@ -155,7 +155,7 @@ pub(crate) fn empty(staged: &mut Vec<Name>)
 
 // These names leave a list. It takes no memory.
 pub(crate) fn leave_out<N: NameSet>(staged: &mut Vec<Name>, names: &N)
-    ensures { (q : List ℕ) → is_among staged.new.items q ≡ (not (N.names names.now q) && is_among staged.old.items q) }
+    ensures { (q : List ℕ) → is_one_of staged.new.items q ≡ (not (N.names names.now q) && is_one_of staged.old.items q) }
 {
     let nearby = Nearby::new();
     staged.retain(|name| !names.has(&nearby, *name));

@@ -3,18 +3,19 @@ use Rattle.std.proofs.Common.{◌≡◌, false, ℕ, List, [], ◌∷◌, ◌++�
 use Rattle.std.specs.Prelude.{Contains}
 use Rattle.std.specs.List.{AllByRecursion}
 use Rattle.std.proofs.lemmas.List.{append-nil}
-use Rattle.looks.specs.Growth.{AreNew, GrowsBy}
-use Rattle.looks.specs.Places.{Places, is_listed}
+use Rattle.git_name.specs.Same.{is_listed}
+use Rattle.looks.specs.Growth.{AreNew, GrowsAmong}
+use Rattle.looks.specs.Places.{Places}
 
 -- nothing came
-pub grows_none : (names : List (List ℕ)) (places : Places) → GrowsBy names places places
+pub grows_none : (names : List (List ℕ)) (places : Places) → GrowsAmong names places places
 grows_none names places = record { place = refl; added = []; parts = sym (append-nil places.names); fresh = tt; among = tt }
 
-pub grows_same : (names : List (List ℕ)) (old new : Places) → new ≡ old → GrowsBy names old new
-grows_same names old new same = subst (GrowsBy names old) (sym same) (grows_none names old)
+pub grows_same : (names : List (List ℕ)) (old new : Places) → new ≡ old → GrowsAmong names old new
+grows_same names old new same = subst (GrowsAmong names old) (sym same) (grows_none names old)
 
 -- one name came
-pub grows_one : (name : List ℕ) (old new : Places) → new.place ≡ old.place → new.names ≡ old.names ++ name ∷ [] → is_listed old.names name ≡ false → GrowsBy (name ∷ []) old new
+pub grows_one : (name : List ℕ) (old new : Places) → new.place ≡ old.place → new.names ≡ old.names ++ name ∷ [] → is_listed old.names name ≡ false → GrowsAmong (name ∷ []) old new
 grows_one name old new place parts fresh = record { place = place; added = name ∷ []; parts = parts; fresh = (fresh, tt); among = ((0, omega arith, refl), tt) }
 
 all_of : {X : Type 0} (P Q : X → Type 0) (xs : List X) → ((x : X) → P x → Q x) → AllByRecursion P xs → AllByRecursion Q xs
@@ -30,7 +31,7 @@ new_both names [] ys first then = subst (λ ns. AreNew ns ys) (append-nil names)
 new_both names (x ∷ xs) ys first then = (first.0, new_both (names ++ x ∷ []) xs ys first.1 (subst (λ ns. AreNew ns ys) (sym (append_assoc names (x ∷ []) xs)) then))
 
 -- one call after another
-pub grows_then : (names : List (List ℕ)) (a b c : Places) → GrowsBy names a b → GrowsBy names b c → GrowsBy names a c
+pub grows_then : (names : List (List ℕ)) (a b c : Places) → GrowsAmong names a b → GrowsAmong names b c → GrowsAmong names a c
 grows_then names a b c first then = record {
   place = then.place ∙ first.place;
   added = first.added ++ then.added;
@@ -40,7 +41,7 @@ grows_then names a b c first then = record {
 }
 
 -- by names among which those are
-pub grows_more : (names more : List (List ℕ)) (a b : Places) → ((name : List ℕ) → Contains names name → Contains more name) → GrowsBy names a b → GrowsBy more a b
+pub grows_more : (names more : List (List ℕ)) (a b : Places) → ((name : List ℕ) → Contains names name → Contains more name) → GrowsAmong names a b → GrowsAmong more a b
 grows_more names more a b are grows = record {
   place = grows.place;
   added = grows.added;
@@ -50,7 +51,7 @@ grows_more names more a b are grows = record {
 }
 
 -- by no name nothing came
-pub none_came : (old new : Places) → GrowsBy [] old new → new ≡ old
+pub none_came : (old new : Places) → GrowsAmong [] old new → new ≡ old
 none_came old new grows = λ i. record { names = (grows.parts ∙ ap (λ added. old.names ++ added) (none grows.added grows.among) ∙ append-nil old.names) i; place = grows.place i }
   where
     none : (added : List (List ℕ)) → AllByRecursion (Contains []) added → added ≡ []

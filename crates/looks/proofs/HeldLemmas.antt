@@ -3,7 +3,7 @@ use Rattle.std.proofs.Common.{◌≡◌, ℕ, ◌≤◌, List, [], ◌∷◌, �
 use Rattle.std.specs.List.{AllByRecursion}
 use Rattle.std.proofs.lemmas.Bool.Decides.{Decides-eqb}
 use Rattle.std.proofs.lemmas.Slice.Eq.{slice_eq-Decides}
-use Rattle.looks.specs.Places.{same_name, is_listed}
+use Rattle.git_name.specs.Same.{is_listed, same_name}
 
 -- each of these names is held
 abbrev pub Each : (List ℕ → Bool) → List (List ℕ) → Type 0

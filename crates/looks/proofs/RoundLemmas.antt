@@ -1,6 +1,7 @@
 -- A whole round: each name that it leaves is held.
 use Rattle.std.proofs.Common.{◌≡◌, ℕ, zero, suc, ◌+◌, ◌<◌, ◌≤◌, ◌⊎◌, inl, inr, List, [], ◌∷◌, ◌++◌, length, Bool, true, refl, sym, ap, subst, ◌∙◌, arith, length-append, append_assoc}
-use Rattle.looks.specs.Places.{Places, is_listed, looked_at, at_start}
+use Rattle.git_name.specs.Same.{is_listed}
+use Rattle.looks.specs.Places.{Places, looked_at, at_start}
 use Rattle.looks.specs.Looks.{Look, Walks}
 use Rattle.looks.specs.Looks.Look.{Stays, Leaves}
 use Rattle.looks.specs.Slices.{Collects}

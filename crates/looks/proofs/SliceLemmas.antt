@@ -3,7 +3,8 @@ use Rattle.std.proofs.Common.{◌≡◌, ℕ, zero, suc, ◌<◌, ◌≤◌, ◌
 use Rattle.std.specs.Prelude.{nat_lt, sum}
 use Rattle.std.proofs.lemmas.Bool.{ltb-true, ltb-false}
 use Rattle.std.proofs.lemmas.List.Sums.{sum_by-cons}
-use Rattle.looks.specs.Places.{Places, is_listed}
+use Rattle.git_name.specs.Same.{is_listed}
+use Rattle.looks.specs.Places.{Places}
 use Rattle.looks.specs.Looks.{Look, Looks}
 use Rattle.looks.specs.Looks.Look.{Stays, Leaves}
 use Rattle.looks.specs.Slices.{SweepsAll}

@@ -1,7 +1,8 @@
 -- Names that come to a catalogue (own).
 use Rattle.std.specs.Prelude.{◌≡◌, ◌∷◌, ◌++◌, [], ⊤, ℕ, List, Contains, false}
 use Rattle.std.specs.List.{AllByRecursion}
-use Rattle.looks.specs.Places.{Places, is_listed}
+use Rattle.git_name.specs.Same.{is_listed}
+use Rattle.looks.specs.Places.{Places}
 
 -- of the names that come behind these, each is new where it comes
 abbrev pub AreNew : List (List ℕ) → List (List ℕ) → Type 0
@@ -9,7 +10,7 @@ AreNew names [] = ⊤
 AreNew names (name ∷ added) = (is_listed names name ≡ false) × AreNew (names ++ name ∷ []) added
 
 -- the place stays, and behind the names that stood new ones came, each one of these
-pub record GrowsBy (names : List (List ℕ)) (old new : Places) : Type 0 where
+pub record GrowsAmong (names : List (List ℕ)) (old new : Places) : Type 0 where
   pub place : new.place ≡ old.place
   pub added : List (List ℕ)
   pub parts : new.names ≡ old.names ++ added

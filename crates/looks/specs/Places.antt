@@ -1,21 +1,11 @@
 -- Names in places, and the place of the next look (own). Nothing here knows of code or of a store.
-use Rattle.std.specs.Cmp.Lexicographic.{pointwise}
 use Rattle.std.specs.Coded.{Coded, code_by, coded×, coded_list, coded_ℕ}
-use Rattle.std.specs.List.{list_any}
-use Rattle.std.specs.Prelude.{Bool, ℕ, List, length, nat_eq, nat_lt, refl, if◌then◌else◌}
+use Rattle.std.specs.Prelude.{ℕ, List, length, nat_lt, refl, if◌then◌else◌}
 
 -- names, each at a place, and the place where the next look falls
 pub record Places : Type 0 where
   pub names : List (List ℕ)
   pub place : ℕ
-
--- byte by byte
-abbrev pub same_name : List ℕ → List ℕ → Bool
-same_name = pointwise nat_eq
-
--- whether a name stands in a list
-abbrev pub is_listed : List (List ℕ) → List ℕ → Bool
-is_listed names name = list_any (same_name name) names
 
 -- where a look falls: a place at the list's end is first set to the list's beginning
 abbrev pub looked_at : Places → ℕ

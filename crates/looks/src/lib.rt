@@ -4,7 +4,8 @@
 #![tactic(auto)]
 
 ghost use Rattle.std.specs.Prelude.{◌≡◌, ◌≤◌, ◌*◌, Bool, true, ℕ, List, length, sum};
-ghost use Rattle.looks.specs.Places.{Places, is_listed};
+ghost use Rattle.git_name.specs.Same.{is_listed};
+ghost use Rattle.looks.specs.Places.{Places};
 ghost use Rattle.looks.specs.Slices.{Collects, SweepsAll};
 
 /// After slices that add up to at least twice the number of names, each name that is left is held.

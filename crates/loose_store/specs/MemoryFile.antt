@@ -5,6 +5,6 @@ use Rattle.loose_store.specs.declared.memory_file.MemoryFile.{MemoryFile}
 use Rattle.loose_store.specs.declared.memory_file.MemoryFile.TheVariants.{Bytes, Object}
 
 -- those that were put, or those of the object's file
-abbrev pub bytes_of : MemoryFile → List ℕ
-bytes_of (Bytes bytes) = bytes.items
-bytes_of (Object kind content) = typed_bytes (record { kind = kind; bytes = content.items })
+abbrev pub file_bytes : MemoryFile → List ℕ
+file_bytes (Bytes bytes) = bytes.items
+file_bytes (Object kind content) = typed_bytes (record { kind = kind; bytes = content.items })

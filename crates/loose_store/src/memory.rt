@@ -26,14 +26,14 @@ impl Model for Memory {
     ghost use Rattle.std.specs.Coded.{coded_list, coded_ℕ};
     ghost use Rattle.std.specs.FinMap as map;
     ghost use Rattle.loose_store.specs.Files.{Files};
-    ghost use Rattle.loose_store.specs.MemoryFile.{bytes_of};
+    ghost use Rattle.loose_store.specs.MemoryFile.{file_bytes};
     ghost use Rattle.git_name.specs.Maps.{map_values};
 
     ghost Value = { Files };
 
     ghost coded = { map.code (coded_list coded_ℕ) (coded_list coded_ℕ) };
 
-    ghost view = { λ a. map_values bytes_of (map.from_entries a.files.entries) };
+    ghost view = { λ a. map_values file_bytes (map.from_entries a.files.entries) };
 }
 
 fn insert_into(
@@ -79,7 +79,7 @@ fn names_in(
 }
 
 impl Memory {
-    ghost use Rattle.loose_store.specs.MemoryFile.{bytes_of};
+    ghost use Rattle.loose_store.specs.MemoryFile.{file_bytes};
 
     /// No files.
     pub fn new(alloc: Global) -> Memory
@@ -109,7 +109,7 @@ impl Memory {
 
     // Puts a file under a name.
     fn keep(&mut self, name: Name, file: MemoryFile) -> Result<(), AllocError>
-        ensures ok { OnOk result (self.new ≡ map.insert self.old name (bytes_of file)) }
+        ensures ok { OnOk result (self.new ≡ map.insert self.old name (file_bytes file)) }
         ensures err { OnErr result (self.new ≡ self.old) }
     {
         insert_into(&mut self.files, name, file)

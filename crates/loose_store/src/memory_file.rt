@@ -13,11 +13,11 @@ pub(crate) enum MemoryFile {
 }
 
 impl MemoryFile {
-    ghost use Rattle.loose_store.specs.MemoryFile.{bytes_of};
+    ghost use Rattle.loose_store.specs.MemoryFile.{file_bytes};
 
     // A copy of its bytes.
     pub(crate) fn to_bytes(&self, alloc: Global) -> Result<Vec<u8>, AllocError>
-        ensures { IfOk result (λ bytes. bytes.items ≡ bytes_of self.now) }
+        ensures { IfOk result (λ bytes. bytes.items ≡ file_bytes self.now) }
     {
         match self {
             MemoryFile::Bytes(bytes) => bytes.to_vec(alloc),
@@ -27,7 +27,7 @@ impl MemoryFile {
 
     // The object that was put, its kind and its bytes.
     pub(crate) fn object(&self) -> Option<(Kind, &[u8])>
-        ensures { IfSome result (λ lent. bytes_of self.now ≡ typed_bytes (record { kind = lent.0; bytes = lent.1.now })) }
+        ensures { IfSome result (λ lent. file_bytes self.now ≡ typed_bytes (record { kind = lent.0; bytes = lent.1.now })) }
     {
         match self {
             MemoryFile::Bytes(_) => None,

@@ -4,7 +4,7 @@ use Rattle.std.proofs.lemmas.Bool.Decides.{nat_tests}
 use Rattle.git_reftx.specs.declared.reading.TheConstants.{MAX_COMMANDS}
 use Rattle.git_reftx.specs.Reading.{command_at}
 use Rattle.git_reftx.specs.declared.command.Command.{Command}
-use Rattle.push_stream.specs.Shown.{TellsFault}
+use Rattle.push_stream.specs.Shown.{TellsStreamFault}
 use Rattle.push_stream.specs.Stream.{Stream, Breaks, behind, records_in, after_command, header_in, stream_of}
 use Rattle.push_stream.specs.declared.fault.BodyError.{BodyError}
 use Rattle.push_stream.specs.declared.fault.StreamFault.TheVariants.{TooMany}
@@ -54,6 +54,6 @@ header_more whole (suc room) sent more rest others command some line all few so_
 
 -- a line that is no command
 pub header_fault : (whole : Stream) (room : ℕ) (sent : List Command) (rest : List ℕ) (error : BodyError) → 0 < length rest → ((records : List ℕ) → rest ≢ 10 ∷ records)
-    → whole ≡ behind sent [] (header_in room rest) → ((others : List ℕ → Stream) → TellsFault (after_command rest others (command_at rest)) error) → TellsFault whole error
+    → whole ≡ behind sent [] (header_in room rest) → ((others : List ℕ → Stream) → TellsStreamFault (after_command rest others (command_at rest)) error) → TellsStreamFault whole error
 header_fault whole room sent rest error some line so_far told =
     tells_behind whole (after_command rest (others_in room) (command_at rest)) sent [] error (so_far ∙ ap (behind sent []) (header_step room rest some line)) (told (others_in room))

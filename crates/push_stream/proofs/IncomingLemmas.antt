@@ -3,6 +3,7 @@ use Rattle.std.proofs.Common.{◌≡◌, ℕ, ◌+◌, ◌<◌, ◌≤◌, Bool,
 use Rattle.std.proofs.Math.Seq.{take-length}
 use Rattle.std.proofs.lemmas.List.{length-take-le, take-append-le}
 use Rattle.git_name.specs.Object.{Object}
+use Rattle.git_name.specs.Text.{Begins}
 use Rattle.git_reftx.specs.declared.command.Command.{Command}
 use Rattle.git_reftx.specs.declared.reading.TheConstants.{MAX_COMMANDS}
 use Rattle.push_stream.specs.declared.draft.Draft.{Draft}
@@ -15,7 +16,7 @@ use Rattle.push_stream.specs.declared.sent.Sent.{Sent}
 use Rattle.push_stream.specs.declared.upload.TheConstants.{MAX_UPLOAD}
 use Rattle.push_stream.specs.Again.{Opens}
 use Rattle.push_stream.specs.Gaining.{Awaits}
-use Rattle.push_stream.specs.Incoming.{Begins, Grows, HasKept, IsHeld, IsStanding, RollsBack, flow_from, opening_at, opening_kept, reading_at, reading_from, reading_kept, reading_with, rest_of}
+use Rattle.push_stream.specs.Incoming.{Grows, HasKept, IsHeld, IsStanding, RollsBack, flow_from, opening_at, opening_kept, reading_at, reading_from, reading_kept, reading_with, rest_of}
 use Rattle.push_stream.specs.Reading.{Flow, Going, Reading, added_in, flow_of, gained, noted, read_on}
 use Rattle.push_stream.specs.Record.{Open, record_at}
 use Rattle.push_stream.specs.Stream.{Stream, Flows, records_in, sent_in}

@@ -9,7 +9,7 @@ use Rattle.git_reftx.specs.declared.fault.CommandFault.{CommandFault}
 use Rattle.git_reftx.specs.declared.fault.CommandFault.TheVariants as command
 use Rattle.git_reftx.specs.declared.reading.TheConstants.{MAX_COMMANDS}
 use Rattle.git_reftx.specs.Line.{LineAt, Whole, Unfinished, TooLong, line_at}
-use Rattle.git_reftx.specs.Reading.{command_at, command_of_line, taken}
+use Rattle.git_reftx.specs.Reading.{command_at, command_of_line, command_taken}
 use Rattle.push_stream.specs.declared.again.TheConstants.{MAX_HEADER}
 use Rattle.push_stream.specs.declared.fault.StreamFault.TheVariants.{TooMany}
 use Rattle.push_stream.specs.Record.{RecordAt, Taken, Open, Wrong, record_at}
@@ -20,7 +20,7 @@ use Rattle.push_stream.proofs.LineLemmas.{IsLineOf, line_is}
 line_long : (text : List ℕ) (at : LineAt) (found : Command × List ℕ) → IsLineOf text at → command_of_line at ≡ Ok found → length text ≤ length found.1 + 513
 line_long text (Whole line rest) found is told = by (command_of (words_of line)) told
   where
-    by : (o : Option Command) → taken o rest ≡ Ok found → length text ≤ length found.1 + 513
+    by : (o : Option Command) → command_taken o rest ≡ Ok found → length text ≤ length found.1 + 513
     by None front = (let differs : ⊥ = cc in absurd differs)
     by (Some one) front =
         let same : (one, rest) ≡ found = cc in

@@ -9,7 +9,7 @@ use Rattle.git_reftx.specs.declared.fault.CommandFault.{CommandFault}
 use Rattle.git_reftx.specs.declared.fault.CommandFault.TheVariants as command
 use Rattle.git_reftx.specs.Command.{command_of}
 use Rattle.git_reftx.specs.Line.{LineAt, Whole, Unfinished, TooLong, line_at, line_of_parts}
-use Rattle.git_reftx.specs.Reading.{command_at, command_of_line, taken}
+use Rattle.git_reftx.specs.Reading.{command_at, command_of_line, command_taken}
 use Rattle.push_stream.proofs.LongerLemmas.{line_longer, line_grows}
 
 not_long : (n : ℕ) → n ≤ 512 → nat_le n 512 ≡ true
@@ -48,7 +48,7 @@ abbrev moved : List ℕ → Result (Command × List ℕ) CommandFault → Result
 moved more (Ok found) = Ok (found.0, found.1 ++ more)
 moved more (Err fault) = Err fault
 
-moved_by : (rest more : List ℕ) (o : Option Command) → taken o (rest ++ more) ≡ moved more (taken o rest)
+moved_by : (rest more : List ℕ) (o : Option Command) → command_taken o (rest ++ more) ≡ moved more (command_taken o rest)
 moved_by rest more None = refl
 moved_by rest more (Some found) = refl
 
@@ -83,14 +83,14 @@ pub command_is : (text : List ℕ) (found : Command × List ℕ) → command_at 
 unfolding command_at
 command_is text found is = by_line (line_at text) (line_is text) is
   where
-    by_command : (line rest : List ℕ) (o : Option Command) → command_of (words_of line) ≡ o → IsLineOf text (Whole line rest) → taken o rest ≡ Ok found
+    by_command : (line rest : List ℕ) (o : Option Command) → command_of (words_of line) ≡ o → IsLineOf text (Whole line rest) → command_taken o rest ≡ Ok found
         → (line : List ℕ) × (text ≡ line ++ 10 ∷ found.1) × ((more : List ℕ) → command_of_line (line_at (line ++ 10 ∷ more)) ≡ Ok (found.0, more))
     by_command line rest None said spelled is = absurd (cc)
     by_command line rest (Some one) said spelled is =
         let same : (one, rest) ≡ found = cc in (
           line,
           spelled.0 ∙ ap (λ (p : Command × List ℕ). line ++ 10 ∷ p.1) same,
-          λ more. ap command_of_line (line_again line more spelled.1 spelled.2) ∙ ap (λ o. taken o more) said ∙ ap (λ (p : Command × List ℕ). Ok (p.0, more)) same,
+          λ more. ap command_of_line (line_again line more spelled.1 spelled.2) ∙ ap (λ o. command_taken o more) said ∙ ap (λ (p : Command × List ℕ). Ok (p.0, more)) same,
         )
 
     by_line : (at : LineAt) → IsLineOf text at → command_of_line at ≡ Ok found

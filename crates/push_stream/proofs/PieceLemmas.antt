@@ -6,7 +6,7 @@ use Rattle.git_name.specs.Text.{words_of}
 use Rattle.git_reftx.specs.declared.reading.TheConstants.{MAX_COMMANDS}
 use Rattle.git_reftx.specs.Command.{command_of}
 use Rattle.git_reftx.specs.Line.{LineAt, Whole, Unfinished, TooLong, line_at}
-use Rattle.git_reftx.specs.Reading.{command_at, command_of_line, taken}
+use Rattle.git_reftx.specs.Reading.{command_at, command_of_line, command_taken}
 use Rattle.git_reftx.specs.declared.command.Command.{Command}
 use Rattle.push_stream.specs.Record.{RecordAt, Taken, Open, Wrong, record_at}
 use Rattle.push_stream.specs.Stream.{Stream, Flows, Breaks, behind, after_record, records_in, after_command, header_in, stream_of}
@@ -104,7 +104,7 @@ line_by : (room : ℕ) (text piece : List ℕ) (at later : LineAt) → ((command
     → continued_in room (after_command text (others_in room) (command_of_line at)) piece ≡ after_command (text ++ piece) (others_in room) (command_of_line (line_longer piece at later))
 line_by room text piece (Whole line rest) later grow whole = by_command (command_of (words_of line))
   where
-    by_command : (o : Option Command) → continued_in room (after_command text (others_in room) (taken o rest)) piece ≡ after_command (text ++ piece) (others_in room) (taken o (rest ++ piece))
+    by_command : (o : Option Command) → continued_in room (after_command text (others_in room) (command_taken o rest)) piece ≡ after_command (text ++ piece) (others_in room) (command_taken o (rest ++ piece))
     by_command (Some command) = grow command rest
     by_command None = refl
 line_by room text piece Unfinished later grow whole = nothing_before room (text ++ piece) ∙ whole

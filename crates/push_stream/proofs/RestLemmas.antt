@@ -23,7 +23,7 @@ use Rattle.git_reftx.specs.declared.fault.CommandFault.TheVariants as command
 use Rattle.git_reftx.specs.declared.reading.TheConstants.{MAX_COMMANDS}
 use Rattle.git_reftx.specs.Command.{command_of}
 use Rattle.git_reftx.specs.Line.{LineAt, Whole, Unfinished, TooLong, line_at, line_of_parts}
-use Rattle.git_reftx.specs.Reading.{command_at, command_of_line, taken}
+use Rattle.git_reftx.specs.Reading.{command_at, command_of_line, command_taken}
 use Rattle.push_stream.specs.declared.fault.StreamFault.TheVariants.{TooMany, TooLarge, WrongName, BadObject}
 use Rattle.push_stream.specs.declared.fault.StreamFault.{StreamFault}
 use Rattle.push_stream.specs.declared.record.Head.{Head}
@@ -58,7 +58,7 @@ unfinished_short text is = open_line text (split_once 10 text) is
 cut_line : (at : LineAt) → command_of_line at ≡ Err command.Truncated → at ≡ Unfinished
 cut_line (Whole line rest) is = by (command_of (words_of line)) is
   where
-    by : (o : Option Command) → taken o rest ≡ Err command.Truncated → Whole line rest ≡ Unfinished
+    by : (o : Option Command) → command_taken o rest ≡ Err command.Truncated → Whole line rest ≡ Unfinished
     by (Some one) told = (let differs : ⊥ = cc in absurd differs)
     by None told = (let differs : ⊥ = cc in absurd differs)
 cut_line Unfinished is = refl

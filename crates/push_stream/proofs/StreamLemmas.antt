@@ -4,7 +4,7 @@ use Rattle.git_name.specs.Object.{Object}
 use Rattle.git_reftx.specs.Line.{line_at}
 use Rattle.git_reftx.specs.declared.command.Command.{Command}
 use Rattle.push_stream.specs.Record.{RecordAt, Taken, Open, Wrong, record_at, parts_at}
-use Rattle.push_stream.specs.Shown.{TellsFault, TellsRecord, fault_at}
+use Rattle.push_stream.specs.Shown.{TellsStreamFault, TellsRecord, fault_at}
 use Rattle.push_stream.specs.Stream.{Stream, Flows, Breaks, behind, records_in, after_record, finished}
 use Rattle.push_stream.specs.declared.fault.BodyError.{BodyError}
 use Rattle.push_stream.specs.declared.fault.BodyError.TheVariants.{Fault, Memory}
@@ -64,7 +64,7 @@ finished-behind commands objects (Flows others more false rest) = refl
 finished-behind commands objects (Breaks fault) = refl
 
 -- what is wrong with the rest is wrong with the whole
-pub tells_behind : (whole s : Stream) (commands : List Command) (objects : List Object) (error : BodyError) → whole ≡ behind commands objects s → TellsFault s error → TellsFault whole error
+pub tells_behind : (whole s : Stream) (commands : List Command) (objects : List Object) (error : BodyError) → whole ≡ behind commands objects s → TellsStreamFault s error → TellsStreamFault whole error
 tells_behind whole s commands objects (Fault fault) is told = ap finished is ∙ finished-behind commands objects s ∙ ap (and_more commands objects) told
 tells_behind whole s commands objects Memory is told = tt
 
@@ -76,12 +76,12 @@ told_at (b ∷ bs) others Open fault some told = cc
 told_at text others (Wrong why) fault some told = cc
 
 -- the same of an error
-tells_at : (text : List ℕ) (others : List ℕ → Stream) (at : RecordAt) (error : BodyError) → 0 < length text → TellsRecord at error → TellsFault (after_record text others at) error
+tells_at : (text : List ℕ) (others : List ℕ → Stream) (at : RecordAt) (error : BodyError) → 0 < length text → TellsRecord at error → TellsStreamFault (after_record text others at) error
 tells_at text others at (Fault fault) some told = told_at text others at fault some told
 tells_at text others at Memory some told = tt
 
 -- a record that is not right
-pub tells_record : (whole : Stream) (most : ℕ) (sent : List Object) (rest : List ℕ) (error : BodyError) → 0 < length rest → length rest ≤ most → whole ≡ behind [] sent (records_in most rest) → TellsRecord (record_at rest) error → TellsFault whole error
+pub tells_record : (whole : Stream) (most : ℕ) (sent : List Object) (rest : List ℕ) (error : BodyError) → 0 < length rest → length rest ≤ most → whole ≡ behind [] sent (records_in most rest) → TellsRecord (record_at rest) error → TellsStreamFault whole error
 tells_record whole zero sent rest error some fits so_far told = absurd (omega arith)
 tells_record whole (suc most) sent rest error some fits so_far told =
     tells_behind whole (after_record rest (records_in most) (record_at rest)) [] sent error so_far (tells_at rest (records_in most) (record_at rest) error some told)

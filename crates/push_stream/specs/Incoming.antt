@@ -2,6 +2,7 @@
 use Rattle.std.specs.Prelude.{ℕ, ◌≡◌, ◌≤◌, ◌⊎◌, Bool, true, false, List, [], ◌++◌, Option, None, Some, option_map, length, map, take, refl, Err, ⊤}
 use Rattle.std.proofs.Common.{inl, inr}
 use Rattle.std.specs.Coded.{Coded, code_by, coded×, coded⊎, coded_ℕ, coded_bool, coded_list}
+use Rattle.git_name.specs.Text.{Begins}
 use Rattle.git_reftx.specs.declared.command.Command.{Command}
 use Rattle.git_reftx.specs.declared.reading.TheConstants.{MAX_COMMANDS}
 use Rattle.git_reftx.specs.contracts.command.Command as command
@@ -37,9 +38,9 @@ TellsEnd flow (Fault fault) = finished_flow flow ≡ Err fault
 TellsEnd flow Memory = ⊤
 
 -- the commands of a stream
-abbrev pub commands_in : Flow → List Command
-commands_in (Going commands sent headed rest) = commands
-commands_in (Broken fault) = []
+abbrev pub flow_commands : Flow → List Command
+flow_commands (Going commands sent headed rest) = commands
+flow_commands (Broken fault) = []
 
 -- where a stream stands, unless it is broken
 abbrev pub flow_from : List Command → List Sent → Bool → List ℕ → Option StreamFault → Flow
@@ -82,12 +83,8 @@ opening_kept kept draft = record { header = take kept.header draft.header.items;
 pub record IsStanding (reading : Reading) (wanted : ℕ) : Type 0 where
   pub few : reading.count ≤ MAX_UPLOAD
   pub short : length (rest_in reading.flow) ≤ MAX_REST
-  pub room : length (commands_in reading.flow) ≤ MAX_COMMANDS
+  pub room : length (flow_commands reading.flow) ≤ MAX_COMMANDS
   pub waits : Awaits (rest_in reading.flow) wanted
-
--- the same list, or one with more behind it
-abbrev pub Begins : {A : Type 0} → List A → List A → Type 0
-Begins {A} old new = (more : List A) × (new ≡ old ++ more)
 
 -- nothing of a draft is lost
 pub record Grows (old new : Draft) : Type 0 where
@@ -124,20 +121,20 @@ pub record IsHeld (kept : Kept) (draft : Draft) : Type 0 where
   pub reopens : Opens (opening_at draft)
 
 -- an upload has a code, so that it can be a model's value
-abbrev pub parts : Flow → ((List Command × List Sent) × (Bool × List ℕ)) ⊎ StreamFault
-parts (Going commands sent headed rest) = inl ((commands, sent), (headed, rest))
-parts (Broken fault) = inr fault
+abbrev pub flow_parts : Flow → ((List Command × List Sent) × (Bool × List ℕ)) ⊎ StreamFault
+flow_parts (Going commands sent headed rest) = inl ((commands, sent), (headed, rest))
+flow_parts (Broken fault) = inr fault
 
 abbrev pub flow : ((List Command × List Sent) × (Bool × List ℕ)) ⊎ StreamFault → Flow
 flow (inl p) = Going p.0.0 p.0.1 p.1.0 p.1.1
 flow (inr fault) = Broken fault
 
-pub flow-parts : (f : Flow) → flow (parts f) ≡ f
+pub flow-parts : (f : Flow) → flow (flow_parts f) ≡ f
 flow-parts (Going commands sent headed rest) = refl
 flow-parts (Broken fault) = refl
 
 abbrev flow_code : Coded Flow
-flow_code = code_by (((List Command × List Sent) × (Bool × List ℕ)) ⊎ StreamFault) (coded⊎ (coded× (coded× (coded_list command.the_row.coded) (coded_list sent.the_row.coded)) (coded× coded_bool (coded_list coded_ℕ))) fault.the_row.coded) parts flow flow-parts
+flow_code = code_by (((List Command × List Sent) × (Bool × List ℕ)) ⊎ StreamFault) (coded⊎ (coded× (coded× (coded_list command.the_row.coded) (coded_list sent.the_row.coded)) (coded× coded_bool (coded_list coded_ℕ))) fault.the_row.coded) flow_parts flow flow-parts
 
 abbrev pub reading_code : Coded Reading
 reading_code = code_by (ℕ × Flow) (coded× coded_ℕ flow_code) (λ r. (r.count, r.flow)) (λ p. record { count = p.0; flow = p.1 }) (λ _. refl)

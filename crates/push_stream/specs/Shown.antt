@@ -9,10 +9,10 @@ use Rattle.push_stream.specs.declared.fault.BodyError.TheVariants.{Fault, Memory
 use Rattle.push_stream.specs.Record as record_value
 use Rattle.push_stream.specs.Stream.{Stream, finished}
 
-abbrev pub parts_shown : Parts → record_value.PartsAt
-parts_shown (Whole_parts head content behind) = record_value.Parts head content.now behind.now
-parts_shown Open = record_value.Short
-parts_shown (Wrong fault) = record_value.Faulty fault
+abbrev pub record_parts_shown : Parts → record_value.PartsAt
+record_parts_shown (Whole_parts head content behind) = record_value.Parts head content.now behind.now
+record_parts_shown Open = record_value.Short
+record_parts_shown (Wrong fault) = record_value.Faulty fault
 
 -- why there is no record
 abbrev pub fault_at : record_value.RecordAt → Option StreamFault
@@ -26,6 +26,6 @@ TellsRecord found (Fault fault) = fault_at found ≡ Some fault
 TellsRecord found Memory = ⊤
 
 -- the error tells why a stream gives no commands and objects
-abbrev pub TellsFault : Stream → BodyError → Type 0
-TellsFault stream (Fault fault) = finished stream ≡ Err fault
-TellsFault stream Memory = ⊤
+abbrev pub TellsStreamFault : Stream → BodyError → Type 0
+TellsStreamFault stream (Fault fault) = finished stream ≡ Err fault
+TellsStreamFault stream Memory = ⊤

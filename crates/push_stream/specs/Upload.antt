@@ -4,6 +4,7 @@ use Rattle.std.proofs.Common.{inl, inr}
 use Rattle.std.specs.Coded.{Coded, code_by, coded×, coded⊎, coded_ℕ, coded_bool, coded_list}
 use Rattle.git_name.specs.Object.{Object}
 use Rattle.git_name.specs.contracts.sealed.Sealed as sealed
+use Rattle.git_name.specs.Text.{bytes_code}
 use Rattle.git_reftx.specs.declared.command.Command.{Command}
 use Rattle.git_reftx.specs.declared.reading.TheConstants.{MAX_COMMANDS}
 use Rattle.git_reftx.specs.contracts.command.Command as command
@@ -35,24 +36,21 @@ abbrev pub fed : UploadValue → List (List ℕ) → UploadValue
 fed upload [] = upload
 fed upload (piece ∷ pieces) = fed (continued upload piece) pieces
 
-abbrev bytes_code : Coded (List ℕ)
-bytes_code = coded_list coded_ℕ
-
 -- an upload has a code, so that it can be a model's value
-abbrev pub parts : Stream → ((List Command × List Object) × (Bool × List ℕ)) ⊎ StreamFault
-parts (Flows commands objects headed rest) = inl ((commands, objects), (headed, rest))
-parts (Breaks fault) = inr fault
+abbrev pub stream_parts : Stream → ((List Command × List Object) × (Bool × List ℕ)) ⊎ StreamFault
+stream_parts (Flows commands objects headed rest) = inl ((commands, objects), (headed, rest))
+stream_parts (Breaks fault) = inr fault
 
 abbrev pub stream : ((List Command × List Object) × (Bool × List ℕ)) ⊎ StreamFault → Stream
 stream (inl p) = Flows p.0.0 p.0.1 p.1.0 p.1.1
 stream (inr fault) = Breaks fault
 
-pub stream-parts : (s : Stream) → stream (parts s) ≡ s
+pub stream-parts : (s : Stream) → stream (stream_parts s) ≡ s
 stream-parts (Flows commands objects headed rest) = refl
 stream-parts (Breaks fault) = refl
 
 abbrev stream_code : Coded Stream
-stream_code = code_by (((List Command × List Object) × (Bool × List ℕ)) ⊎ StreamFault) (coded⊎ (coded× (coded× (coded_list command.the_row.coded) (coded_list sealed.the_row.coded)) (coded× coded_bool bytes_code)) fault.the_row.coded) parts stream stream-parts
+stream_code = code_by (((List Command × List Object) × (Bool × List ℕ)) ⊎ StreamFault) (coded⊎ (coded× (coded× (coded_list command.the_row.coded) (coded_list sealed.the_row.coded)) (coded× coded_bool bytes_code)) fault.the_row.coded) stream_parts stream stream-parts
 
 abbrev pub upload_code : Coded UploadValue
 upload_code = code_by (ℕ × Stream) (coded× coded_ℕ stream_code) (λ u. (u.count, u.stream)) (λ p. record { count = p.0; stream = p.1 }) (λ _. refl)

@@ -1,6 +1,6 @@
 ghost use Rattle.std.specs.Prelude.{◌≡◌, ◌≢◌, ◌∷◌, [], ℕ, List, Ok, Err, IfOk, IfErr, IfSome, IfNone, length};
 ghost use Rattle.git_reftx.specs.Reading.{command_at};
-ghost use Rattle.push_stream.specs.Shown.{TellsFault};
+ghost use Rattle.push_stream.specs.Shown.{TellsStreamFault};
 ghost use Rattle.push_stream.specs.Stream.{Stream, after_command, behind, finished, no_command, records_in, stream_of};
 
 use crate::fault::{BodyError, StreamFault};
@@ -20,7 +20,7 @@ pub struct Body {
 /// What the bytes of a whole stream hold.
 pub fn read_body(alloc: Global, bytes: &[u8]) -> Result<Body, BodyError>
     ensures found { IfOk result (λ body. finished (stream_of bytes.now) ≡ Ok (body.commands.items, body.objects.items)) }
-    ensures exact { IfErr result (TellsFault (stream_of bytes.now)) }
+    ensures exact { IfErr result (TellsStreamFault (stream_of bytes.now)) }
 {
     let (commands, records) = read_header(alloc, bytes)?;
     match read_records(alloc, records) {
@@ -32,7 +32,7 @@ pub fn read_body(alloc: Global, bytes: &[u8]) -> Result<Body, BodyError>
 // The commands, and what stands behind the empty line.
 fn read_header(alloc: Global, bytes: &[u8]) -> Result<(Vec<Command>, &[u8]), BodyError>
     ensures found { IfOk result (λ p. stream_of bytes.now ≡ behind p.0.items [] (records_in (length p.1.now) p.1.now)) }
-    ensures exact { IfErr result (TellsFault (stream_of bytes.now)) }
+    ensures exact { IfErr result (TellsStreamFault (stream_of bytes.now)) }
 {
     let mut commands = Vec::new(alloc);
     let mut rest = bytes;
@@ -66,7 +66,7 @@ pub(crate) fn behind_empty_line(text: &[u8]) -> Option<&[u8]>
 // Takes the command at the front of a text, and gives what stands behind its line.
 fn take_command(alloc: Global, text: &[u8]) -> Result<(Command, &[u8]), BodyError>
     ensures taken { IfOk result (λ p. command_at text.now ≡ Ok (p.0, p.1.now)) }
-    ensures exact { IfErr result (λ error. (others : List ℕ → Stream) → TellsFault (after_command text.now others (command_at text.now)) error) }
+    ensures exact { IfErr result (λ error. (others : List ℕ → Stream) → TellsStreamFault (after_command text.now others (command_at text.now)) error) }
 {
     match first_command(alloc, text) {
         Ok(taken) => Ok(taken),
@@ -89,7 +89,7 @@ fn fault_of(fault: CommandFault) -> StreamFault
 // The objects of records to the end of a text.
 fn read_records(alloc: Global, text: &[u8]) -> Result<Vec<Sealed>, BodyError>
     ensures found { IfOk result (λ sent. finished (records_in (length text.now) text.now) ≡ Ok ([], sent.items)) }
-    ensures exact { IfErr result (TellsFault (records_in (length text.now) text.now)) }
+    ensures exact { IfErr result (TellsStreamFault (records_in (length text.now) text.now)) }
 {
     let mut sent = Vec::new(alloc);
     let mut left = text;

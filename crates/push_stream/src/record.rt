@@ -5,7 +5,7 @@ ghost use Rattle.git_name.specs.Number.{number_in};
 ghost use Rattle.git_name.specs.Text.{words_of};
 ghost use Rattle.push_stream.specs.Gaining.{Awaits};
 ghost use Rattle.push_stream.specs.Record.{Taken, head_of_parts, head_of_words, content_at, parts_at, record_at};
-ghost use Rattle.push_stream.specs.Shown.{parts_shown, TellsRecord};
+ghost use Rattle.push_stream.specs.Shown.{record_parts_shown, TellsRecord};
 
 use crate::fault::{BodyError, StreamFault};
 use git_name::{Kind, Name, Sealed, decimal, first_word, seal};
@@ -67,7 +67,7 @@ pub(crate) fn take_record(alloc: Global, text: &[u8]) -> Result<(Sealed, &[u8]),
 #[tactic(auto, unfolding(crate::specs::Record::parts_at))]
 // The parts of the record at the front of a text.
 fn first_parts(text: &[u8]) -> Parts<'_>
-    ensures { parts_shown result ≡ parts_at text.now }
+    ensures { record_parts_shown result ≡ parts_at text.now }
 {
     match first_line(text) {
         Line::Whole(line, behind) => match read_head(line) {
@@ -102,7 +102,7 @@ fn head_of(digits: &[u8], word: &[u8], number: &[u8]) -> Option<Head>
 
 // The content behind a record's line, which ends in LF.
 fn take_content(head: Head, text: &[u8]) -> Parts<'_>
-    ensures { parts_shown result ≡ content_at head text.now }
+    ensures { record_parts_shown result ≡ content_at head text.now }
 {
     if head.size > MAX_CONTENT as u64 {
         return Parts::Wrong(StreamFault::TooLarge(head.name));

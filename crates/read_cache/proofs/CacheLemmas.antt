@@ -12,7 +12,7 @@ use Rattle.lru.proofs.CallerLemmas.{Contains-lookup, Contains-put_entries}
 use Rattle.std.proofs.lemmas.Bool.Decides.{Decides-eqb}
 use Rattle.std.proofs.lemmas.Slice.Eq.{slice_eq-Decides}
 use Rattle.git_name.specs.Object.{Object, object_name}
-use Rattle.looks.specs.Places.{same_name}
+use Rattle.git_name.specs.Same.{same_name}
 
 one_name : (x y : List ℕ) → same_name x y ≡ true → x ≡ y
 one_name x y e = (slice_eq-Decides Decides-eqb x y (same_name x y) refl).0 e

@@ -7,14 +7,14 @@ use Rattle.git_name.specs.Object.{Object, object_name, typed_bytes}
 use Rattle.git_name.proofs.Names.{name_total}
 use Rattle.loose_store.specs.Files.{Files}
 use Rattle.loose_store.specs.Stored.{Whole}
-use Rattle.read_cache.specs.Cached.{AllWhole, IsSure}
+use Rattle.read_cache.specs.Cached.{HasWholeFiles, IsSure}
 use Rattle.read_cache.proofs.KnownLemmas.{tied_names}
 
 -- the store is as it was
 pub sure_at : (sure h k : Bool) (fs gs : Files) → k ≡ h → (IsTrue h → gs ≡ fs) → IsSure sure h fs → IsSure sure k gs
 sure_at sure h k fs gs same files is held =
     let was = is held in
-    (same ∙ was.0, subst AllWhole (sym (files was.0)) was.1)
+    (same ∙ was.0, subst HasWholeFiles (sym (files was.0)) was.1)
 
 -- a store that is not sure
 pub sure_none : (sure h : Bool) (fs : Files) → sure ≡ false → IsSure sure h fs

@@ -24,18 +24,18 @@ abbrev pub AreWhole : Cached → Files → Type 0
 AreWhole entries files = (name : List ℕ) (object : Object) → Contains entries (name, object) → Whole files name object
 
 -- each file is whole of some object, under its name
-abbrev pub AllWhole : Files → Type 0
-AllWhole files = (name bytes : List ℕ) → get files name ≡ Some bytes → (object : Object) × Whole files name object
+abbrev pub HasWholeFiles : Files → Type 0
+HasWholeFiles files = (name bytes : List ℕ) → get files name ≡ Some bytes → (object : Object) × Whole files name object
 
 -- where a store is sure, it is honest, and each of its files is whole
 abbrev pub IsSure : Bool → Bool → Files → Type 0
-IsSure sure honest files = sure ≡ true → IsTrue honest × AllWhole files
+IsSure sure honest files = sure ≡ true → IsTrue honest × HasWholeFiles files
 
 -- a file is that of some object of this name
 abbrev pub IsFileOf : List ℕ → List ℕ → Type 0
 IsFileOf file name = (object : Object) × (file ≡ typed_bytes object) × (object_name object ≡ name)
 
 -- an object of this name is found, and the file is its own
-abbrev pub Opens : List ℕ → List ℕ → Option Object → Type 0
-Opens file name None = ⊥
-Opens file name (Some object) = (file ≡ typed_bytes object) × (object_name object ≡ name)
+abbrev pub OpensFile : List ℕ → List ℕ → Option Object → Type 0
+OpensFile file name None = ⊥
+OpensFile file name (Some object) = (file ≡ typed_bytes object) × (object_name object ≡ name)

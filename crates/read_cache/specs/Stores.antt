@@ -2,8 +2,8 @@
 use Rattle.std.specs.Prelude.{◌≡◌, ℕ, Bool, Result, Ok, Err, refl}
 use Rattle.std.specs.Coded.{Coded, code_by, coded×, coded_bool, coded_list, coded_ℕ}
 use Rattle.std.specs.FinMap as map
+use Rattle.git_name.specs.Count.{Rises}
 use Rattle.loose_store.specs.Files.{Files}
-use Rattle.loose_store.specs.Failures.{Rises}
 use Rattle.loose_store.specs.declared.checked.StoreFault.{StoreFault}
 use Rattle.loose_store.specs.declared.checked.StoreFault.TheVariants.{Device, Damaged, Memory}
 
@@ -19,8 +19,8 @@ store_code =
     (λ s. (s.contents, (s.honest, s.failures))) (λ p. record { contents = p.0; honest = p.1.0; failures = p.1.1 }) (λ _. refl)
 
 -- a fault of the device is counted, and nothing else is
-abbrev pub CountsRead : {A : Type 0} → ℕ → ℕ → Result A StoreFault → Type 0
-CountsRead before now (Ok answer) = now ≡ before
-CountsRead before now (Err Device) = Rises before now
-CountsRead before now (Err Damaged) = now ≡ before
-CountsRead before now (Err Memory) = now ≡ before
+abbrev pub CountsCachedRead : {A : Type 0} → ℕ → ℕ → Result A StoreFault → Type 0
+CountsCachedRead before now (Ok answer) = now ≡ before
+CountsCachedRead before now (Err Device) = Rises before now
+CountsCachedRead before now (Err Damaged) = now ≡ before
+CountsCachedRead before now (Err Memory) = now ≡ before

@@ -5,7 +5,7 @@ ghost use Rattle.loose_store.specs.Files.{SameBut};
 ghost use Rattle.loose_store.specs.Failures.{Counts, CountsPut};
 ghost use Rattle.loose_store.specs.Stored.{ReadsTo, Whole, CountsRead as CountsAsked};
 ghost use Rattle.read_cache.specs.Known.{AreKnown, IsKnown};
-ghost use Rattle.read_cache.specs.Stores.{CountsRead};
+ghost use Rattle.read_cache.specs.Stores.{CountsCachedRead};
 
 use crate::read_cache::ReadCache;
 use crate::survey::Survey;
@@ -86,7 +86,7 @@ impl<S: LooseFiles> CachedStore<S> {
         // Over any store.
         ensures named { IfOk result (λ found. IfSome found (λ sealed. object_name sealed ≡ name)) }
         ensures honest { self.new.honest ≡ self.old.honest }
-        ensures cause { CountsRead self.old.failures self.new.failures result }
+        ensures cause { CountsCachedRead self.old.failures self.new.failures result }
     {
         read_through(alloc, &mut self.files, &mut self.cache, self.is_sure, name)
     }
@@ -109,7 +109,7 @@ impl<S: LooseFiles> CachedStore<S> {
         // Over any store.
         ensures named { IfOk result (λ found. IfSome found (λ sealed. object_name sealed ≡ name)) }
         ensures honest { self.new.honest ≡ self.old.honest }
-        ensures cause { CountsRead self.old.failures self.new.failures result }
+        ensures cause { CountsCachedRead self.old.failures self.new.failures result }
         // It was asked: a store that failed 2^64 - 1 times answers nothing.
         ensures asked { CountsAsked self.old.failures self.new.failures result }
     {
@@ -123,7 +123,7 @@ impl<S: LooseFiles> CachedStore<S> {
         // Over any store.
         ensures named { IfOk result (λ found. IfSome found (λ sealed. object_name sealed ≡ name)) }
         ensures honest { self.new.honest ≡ self.old.honest }
-        ensures cause { CountsRead self.old.failures self.new.failures result }
+        ensures cause { CountsCachedRead self.old.failures self.new.failures result }
     {
         read_and_note(alloc, &mut self.files, &mut self.survey, name)
     }
@@ -188,7 +188,7 @@ impl<S: LooseFiles> CachedStore<S> {
     }
 }
 
-ghost use Rattle.read_cache.specs.Cached.{AllWhole, AreWhole, IsFileOf, IsSure, Opens};
+ghost use Rattle.read_cache.specs.Cached.{HasWholeFiles, AreWhole, IsFileOf, IsSure, OpensFile};
 
 // The object of a name, out of the cache or from the store. A sure store is as near as the cache, and is
 // asked at once.
@@ -206,7 +206,7 @@ fn read_through<S: LooseFiles>(
     ensures whole { IsTrue (S.honest files.old) → AreWhole cache.new (S.contents files.new) }
     ensures named { IfOk result (λ found. IfSome found (λ sealed. object_name sealed ≡ name)) }
     ensures honest { S.honest files.new ≡ S.honest files.old }
-    ensures cause { CountsRead (S.failures files.old) (S.failures files.new) result }
+    ensures cause { CountsCachedRead (S.failures files.old) (S.failures files.new) result }
 {
     if is_sure {
         return read_unhashed(alloc, files, name);
@@ -233,7 +233,7 @@ fn read_and_keep<S: LooseFiles>(
     ensures whole { IsTrue (S.honest files.old) → AreWhole cache.new (S.contents files.new) }
     ensures named { IfOk result (λ found. IfSome found (λ sealed. object_name sealed ≡ name)) }
     ensures honest { S.honest files.new ≡ S.honest files.old }
-    ensures cause { CountsRead (S.failures files.old) (S.failures files.new) result }
+    ensures cause { CountsCachedRead (S.failures files.old) (S.failures files.new) result }
 {
     match read_checked(alloc, files, name) {
         Ok(Some(sealed)) => {
@@ -248,7 +248,7 @@ fn read_and_keep<S: LooseFiles>(
 // The object of a name, lent by a store of which each file is whole.
 fn lent<S: LooseFiles>(files: &S, name: Name) -> Option<(Kind, &[u8])>
     requires honest { IsTrue (S.honest files.now) }
-    requires whole { AllWhole (S.contents files.now) }
+    requires whole { HasWholeFiles (S.contents files.now) }
     ensures { IfSome result (λ lent. Whole (S.contents files.now) name (record { kind = lent.0; bytes = lent.1.now })) }
 {
     one_object();
@@ -262,12 +262,12 @@ fn read_unhashed<S: LooseFiles>(
     name: Name,
 ) -> Result<Option<Sealed>, StoreFault>
     requires honest { IsTrue (S.honest files.old) }
-    requires whole { AllWhole (S.contents files.old) }
+    requires whole { HasWholeFiles (S.contents files.old) }
     ensures reads { ReadsTo (S.contents files.old) name result }
     ensures kept { S.contents files.new ≡ S.contents files.old }
     ensures named { IfOk result (λ found. IfSome found (λ sealed. object_name sealed ≡ name)) }
     ensures honest { S.honest files.new ≡ S.honest files.old }
-    ensures cause { CountsRead (S.failures files.old) (S.failures files.new) result }
+    ensures cause { CountsCachedRead (S.failures files.old) (S.failures files.new) result }
 {
     if let Some((kind, content)) = lent(files, name) {
         return copied(alloc, kind, content, name);
@@ -303,7 +303,7 @@ fn copied(
 // The object of this name whose file this is.
 fn opened(alloc: Global, file: &[u8], name: Name) -> Result<Option<Sealed>, StoreFault>
     requires { IsFileOf file.now name }
-    ensures opened { IfOk result (Opens file.now name) }
+    ensures opened { IfOk result (OpensFile file.now name) }
     ensures cause { IfErr result (λ fault. fault ≡ StoreFault.Memory) }
 {
     one_object();
@@ -329,7 +329,7 @@ fn read_and_note<S: LooseFiles>(
     ensures known { AreKnown (S.honest files.new) (S.contents files.new) survey.new }
     ensures named { IfOk result (λ found. IfSome found (λ sealed. object_name sealed ≡ name)) }
     ensures honest { S.honest files.new ≡ S.honest files.old }
-    ensures cause { CountsRead (S.failures files.old) (S.failures files.new) result }
+    ensures cause { CountsCachedRead (S.failures files.old) (S.failures files.new) result }
 {
     match read_checked(alloc, files, name) {
         Ok(Some(sealed)) => match survey.note(&sealed) {

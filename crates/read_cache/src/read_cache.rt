@@ -3,7 +3,7 @@ ghost use Rattle.std.specs.List.{IsDistinct};
 ghost use Rattle.std.specs.Map.{keys_of, lookup, remove_entry};
 ghost use Rattle.lru.specs.LruCache.{promoted, put_entries};
 ghost use Rattle.git_name.specs.Object.{Object, object_name};
-ghost use Rattle.looks.specs.Places.{same_name};
+ghost use Rattle.git_name.specs.Same.{same_name};
 
 use git_name::{Name, Sealed};
 use lru::LruCache;

@@ -8,7 +8,7 @@ use Rattle.git_name.specs.Text.{ended}
 use Rattle.git_reftx.specs.Repository.{main_branch}
 use Rattle.state_text.specs.declared.version.Version.{Version}
 use Rattle.state_text.specs.declared.version.Version.TheVariants.{One, Two}
-use Rattle.state_text.specs.Fault.{IsLine}
+use Rattle.state_text.specs.Fault.{IsOneLine}
 use Rattle.state_text.specs.Place.{name_at}
 use Rattle.state_text.specs.States.{States}
 use Rattle.state_text.specs.Taking.{Adds, IsTaken, Taken, open_lines, told_lines}
@@ -20,11 +20,11 @@ use Rattle.state_text.proofs.PlainLemmas.{adds_plain}
 use Rattle.state_text.proofs.SameLemmas.{adds_same, never_end}
 use Rattle.state_text.proofs.TextLemmas.{lines_behind, same_lines}
 
-pub version_plain : (version : Version) → IsLine (version_line version)
+pub version_plain : (version : Version) → IsOneLine (version_line version)
 version_plain One = All-from_recursion (λ b. b ≢ 10) (codes "forkhost state 1") (search (rules, arith))
 version_plain Two = All-from_recursion (λ b. b ≢ 10) (codes "forkhost state 2") (search (rules, arith))
 
-pub end_plain : IsLine (codes "end")
+pub end_plain : IsOneLine (codes "end")
 end_plain = All-from_recursion (λ b. b ≢ 10) (codes "end") (search (rules, arith))
 
 -- the lines begin with that of the version, and go on to those of the states
@@ -53,17 +53,17 @@ some_lines : (version : Version) (taken : Taken) → IsTaken version taken → 1
 some_lines version taken right = (let long = ap (λ (ls : List (List ℕ)). length ls) (has_first version taken right).first in omega (arith, long))
 
 -- each line of what was taken is one
-plain_by : (n : ℕ) (version : Version) (taken : Taken) → length (open_lines version taken) ≤ n → IsTaken version taken → AllByRecursion IsLine (open_lines version taken)
+plain_by : (n : ℕ) (version : Version) (taken : Taken) → length (open_lines version taken) ≤ n → IsTaken version taken → AllByRecursion IsOneLine (open_lines version taken)
 plain_by zero version taken few right = absurd (let some = some_lines version taken right in omega (arith, some, few))
 plain_by (suc n) version taken few right =
     ⊎_elim
-    (λ none. subst (λ s. AllByRecursion IsLine (open_lines version s)) (sym none) (version_plain version, tt))
+    (λ none. subst (λ s. AllByRecursion IsOneLine (open_lines version s)) (sym none) (version_plain version, tt))
     (λ has. let line_is = adds_line version has.old taken has.line has.adds in
     let long : length (open_lines version taken) ≡ length (open_lines version has.old) + 1 = ap (λ (ls : List (List ℕ)). length ls) line_is ∙ length_behind (open_lines version has.old) has.line in
-    subst (AllByRecursion IsLine) (sym line_is) (each_behind IsLine (open_lines version has.old) has.line (plain_by n version has.old (omega (arith, few, long)) has.right) (adds_plain version has.old taken has.line has.adds right.right)))
+    subst (AllByRecursion IsOneLine) (sym line_is) (each_behind IsOneLine (open_lines version has.old) has.line (plain_by n version has.old (omega (arith, few, long)) has.right) (adds_plain version has.old taken has.line has.adds right.right)))
     (back version taken right)
 
-pub plain_lines : (version : Version) (taken : Taken) → IsTaken version taken → AllByRecursion IsLine (open_lines version taken)
+pub plain_lines : (version : Version) (taken : Taken) → IsTaken version taken → AllByRecursion IsOneLine (open_lines version taken)
 plain_lines version taken right = plain_by (length (open_lines version taken)) version taken (omega arith) right
 
 -- the lines of what was taken decide it
@@ -142,11 +142,11 @@ next_of version p s line others right whole is =
 abbrev pub all_of : States → Taken
 all_of states = record { states = states; awaits = false }
 
-all_plain : (version : Version) (s : States) → IsTaken version (all_of s) → AllByRecursion IsLine (told_lines version s ++ codes "end" ∷ [])
-all_plain version s right = each_behind IsLine (told_lines version s) (codes "end") (plain_lines version (all_of s) right) end_plain
+all_plain : (version : Version) (s : States) → IsTaken version (all_of s) → AllByRecursion IsOneLine (told_lines version s ++ codes "end" ∷ [])
+all_plain version s right = each_behind IsOneLine (told_lines version s) (codes "end") (plain_lines version (all_of s) right) end_plain
 
 -- a state text that begins with the lines of what was taken, and a line, goes on with the end where no HEAD is awaited, or with what a line says
-pub continues : (version : Version) (p : Taken) (s : States) (line more : List ℕ) → IsTaken version p → IsTaken version (all_of s) → IsLine line → state_text version s ≡ flat_map ended (open_lines version p) ++ (line ++ 10 ∷ more)
+pub continues : (version : Version) (p : Taken) (s : States) (line more : List ℕ) → IsTaken version p → IsTaken version (all_of s) → IsOneLine line → state_text version s ≡ flat_map ended (open_lines version p) ++ (line ++ 10 ∷ more)
     → ((line ≡ codes "end") × (p.awaits ≡ false)) ⊎ HasNext version p line
 unfolding state_text
 continues version p s line more right whole plain is =
@@ -171,7 +171,7 @@ ended_text version p s rest right whole is =
     absurd (never_end version p next.new (codes "end") next.adds refl))
     (from_back found.0)
 
-pub nothing_plain : IsLine []
+pub nothing_plain : IsOneLine []
 nothing_plain = All-from_recursion (λ b. b ≢ 10) [] tt
 
 -- the lines of what was taken are no whole state text

@@ -20,7 +20,7 @@ use Rattle.state_text.specs.declared.place.Place.TheVariants.{Own, Offered}
 use Rattle.state_text.specs.declared.version.Version.{Version}
 use Rattle.state_text.specs.declared.version.Version.TheVariants.{One, Two}
 use Rattle.state_text.specs.Adding.{AreBefore, fresh}
-use Rattle.state_text.specs.Fault.{IsLine, IsWrongLine}
+use Rattle.state_text.specs.Fault.{IsOneLine, IsWrongLine}
 use Rattle.state_text.specs.Offer.{offer_words}
 use Rattle.state_text.specs.Place.{with_at}
 use Rattle.state_text.specs.States.{IsStates, IsTenantState, States, TenantState}
@@ -126,13 +126,13 @@ head_awaited new line (Seen rest is goes adds) = absurd (let was = goes.was in c
 head_awaited new line (Offer rest is goes adds) = absurd (let was = goes.was in cc)
 
 -- whatever stands there and tells no HEAD is the fourth line, and wrong
-fourth : (line behind : List ℕ) → IsLine line → ((new : Taken) → IsTaken Two new → SaysHead begun.states line new.states → ⊥) → IsWrongLine (codes "forkhost state 2\ntenant alice 1000\nrepo r\n" ++ (line ++ 10 ∷ behind)) 4
+fourth : (line behind : List ℕ) → IsOneLine line → ((new : Taken) → IsTaken Two new → SaysHead begun.states line new.states → ⊥) → IsWrongLine (codes "forkhost state 2\ntenant alice 1000\nrepo r\n" ++ (line ++ 10 ∷ behind)) 4
 unfolding digits
 fourth line behind plain none =
     subst (λ ls. IsWrongLine (flat_map ended ls ++ (line ++ 10 ∷ behind)) (length ls + 1)) begun_are
     (wrong_at Two line behind begun begun_right plain (λ is known. absurd (cc)) (λ new right adds. none new right (head_awaited new line adds)))
 
-seen_plain : (e : List ℕ) → IsName e → IsLine (seen_line e)
+seen_plain : (e : List ℕ) → IsName e → IsOneLine (seen_line e)
 seen_plain e named = both_plain (codes "see ") (encode_lower e) (All-from_recursion (λ b. b ≢ 10) (codes "see ") (search (rules, arith))) (encode_lower-plain 10 (omega arith) e named.bytes)
 
 pub without_a_head : (e : List ℕ) → IsName e → IsWrongLine (codes "forkhost state 2\ntenant alice 1000\nrepo r\nsee " ++ encode_lower e ++ codes "\ntenant bob 1000\nend\n") 4
@@ -166,7 +166,7 @@ says_offer version old new rest (Seen rest_too is goes adds) known = absurd (let
 says_offer version old new rest (Offer rest_too is goes adds) known = subst (λ t. AddsOffer version old.states t new.states) (sym (append_cancel_left (codes "offer ") rest rest_too is)) adds
 
 -- an offer that is refused behind what was taken
-refused_offer : (version : Version) (taken : Taken) (rest behind : List ℕ) → IsTaken version taken → taken.awaits ≡ false → IsLine (codes "offer " ++ rest) → ((new : States) → IsStates new → AddsOffer version taken.states rest new → ⊥)
+refused_offer : (version : Version) (taken : Taken) (rest behind : List ℕ) → IsTaken version taken → taken.awaits ≡ false → IsOneLine (codes "offer " ++ rest) → ((new : States) → IsStates new → AddsOffer version taken.states rest new → ⊥)
     → IsWrongLine (flat_map ended (open_lines version taken) ++ ((codes "offer " ++ rest) ++ 10 ∷ behind)) (length (open_lines version taken) + 1)
 refused_offer version taken rest behind right known plain none =
     wrong_at version (codes "offer " ++ rest) behind taken right plain (λ is _. absurd (let bad : 324 ≡ 302 = ap mark is in omega arith)) (λ new new_right adds. none new.states new_right.right (says_offer version taken new rest adds known))
@@ -211,7 +211,7 @@ offering_right = record {
 }
 
 -- an offer that does not stand behind it is the fifth line, and wrong
-fifth : (name behind : List ℕ) → IsLine (codes "offer " ++ (codes "bob " ++ name)) → (AreBefore (codes "bob r" ∷ []) (codes "bob " ++ name) → ⊥)
+fifth : (name behind : List ℕ) → IsOneLine (codes "offer " ++ (codes "bob " ++ name)) → (AreBefore (codes "bob r" ∷ []) (codes "bob " ++ name) → ⊥)
     → IsWrongLine (codes "forkhost state 2\ntenant alice 1000\noffer bob r\nhead refs/namespaces/alice/refs/namespaces/r/refs/heads/main\n" ++ ((codes "offer " ++ (codes "bob " ++ name)) ++ 10 ∷ behind)) 5
 unfolding digits
 fifth name behind plain not_behind =

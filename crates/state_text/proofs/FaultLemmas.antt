@@ -11,7 +11,7 @@ use Rattle.state_text.specs.declared.fault.StateFault.{StateFault}
 use Rattle.state_text.specs.declared.fault.StateFault.TheVariants.{Line, Memory}
 use Rattle.state_text.specs.declared.version.Version.{Version}
 use Rattle.state_text.specs.declared.version.Version.TheVariants.{Two}
-use Rattle.state_text.specs.Fault.{Begins, IsCut, IsLine, IsRefused, IsWrongLine, NoneInStateText, OneWrongLine, TellsLine}
+use Rattle.state_text.specs.Fault.{BeginsStateText, IsCut, IsOneLine, HasWrongNext, IsWrongLine, NoneInStateText, OneWrongLine, TellsLine}
 use Rattle.state_text.specs.States.{States}
 use Rattle.state_text.specs.Taking.{Adds, IsReadSoFar, IsTaken, Taken, open_lines, told_lines}
 use Rattle.state_text.specs.Text.{IsStateText, IsTextIn, state_text, version_line}
@@ -22,7 +22,7 @@ use Rattle.state_text.proofs.StateLemmas.{no_states}
 use Rattle.state_text.proofs.TextLemmas.{Stops, Refused, Cut, one_stop, same_lines}
 use Rattle.state_text.proofs.VersionLemmas.{first_is, in_version, of_version, one_value, same_version, taken_of}
 
-begins_less : (a b : List ℕ) → Begins (a ++ b) → Begins a
+begins_less : (a b : List ℕ) → BeginsStateText (a ++ b) → BeginsStateText a
 begins_less a b begins = record { states = begins.states; whole = begins.whole; rest = b ++ begins.rest; right = begins.right; parts = begins.parts ∙ append_assoc a b begins.rest }
 
 -- a line, behind what it stands
@@ -31,8 +31,8 @@ one_more front line more = append_assoc front (ended line) more ∙ ap (λ t. fr
 
 -- bytes without LF, or a line and more
 data Parts (text : List ℕ) : Type 0 where
-  Plain : IsLine text → Parts text
-  Lined : (line more : List ℕ) → IsLine line → text ≡ line ++ 10 ∷ more → Parts text
+  Plain : IsOneLine text → Parts text
+  Lined : (line more : List ℕ) → IsOneLine line → text ≡ line ++ 10 ∷ more → Parts text
 
 parts_more : (b : ℕ) (text : List ℕ) (is_lf : Bool) → eqb b 10 ≡ is_lf → Parts text → Parts (b ∷ text)
 parts_more b text true is parts = (let same : b ≡ 10 = grind (arith, nat_tests) in Lined [] text (All-nil (λ x. x ≢ 10)) (ap (λ x. x ∷ text) same))
@@ -48,7 +48,7 @@ text_in : (version : Version) (taken : Taken) → IsTaken version taken → IsSt
 text_in version taken right = of_version version taken.states (state_text version taken.states) (record { right = right.right; tells = right.tells; spelled = refl })
 
 -- a state text begins with the lines of what was taken
-begins_open : (version : Version) (taken : Taken) → IsTaken version taken → Begins (flat_map ended (open_lines version taken))
+begins_open : (version : Version) (taken : Taken) → IsTaken version taken → BeginsStateText (flat_map ended (open_lines version taken))
 begins_open version taken right =
     let first = has_first version taken right in
     record {
@@ -73,7 +73,7 @@ of_lines version taken states text rest right is parts =
     record { right = taken_of version states text here; spelled = here.spelled }
 
 -- a line that is not the end, and with which nothing right goes on
-pub wrong_at : (version : Version) (line behind : List ℕ) (taken : Taken) → IsTaken version taken → IsLine line → (line ≡ codes "end" → taken.awaits ≡ false → ⊥) → ((new : Taken) → IsTaken version new → Adds version taken line new → ⊥)
+pub wrong_at : (version : Version) (line behind : List ℕ) (taken : Taken) → IsTaken version taken → IsOneLine line → (line ≡ codes "end" → taken.awaits ≡ false → ⊥) → ((new : Taken) → IsTaken version new → Adds version taken line new → ⊥)
     → IsWrongLine (flat_map ended (open_lines version taken) ++ (line ++ 10 ∷ behind)) (length (open_lines version taken) + 1)
 wrong_at version line behind taken right plain not_end none = record {
   before = open_lines version taken;
@@ -95,7 +95,7 @@ wrong_at version line behind taken right plain not_end none = record {
   });
 }
 
-pub wrong_line : (version : Version) (text rest line behind : List ℕ) (taken : Taken) (lines : ℕ) → IsReadSoFar version text taken lines rest → rest ≡ line ++ 10 ∷ behind → IsLine line → (line ≡ codes "end" → taken.awaits ≡ false → ⊥)
+pub wrong_line : (version : Version) (text rest line behind : List ℕ) (taken : Taken) (lines : ℕ) → IsReadSoFar version text taken lines rest → rest ≡ line ++ 10 ∷ behind → IsOneLine line → (line ≡ codes "end" → taken.awaits ≡ false → ⊥)
     → ((new : Taken) → IsTaken version new → Adds version taken line new → ⊥) → IsWrongLine text (lines + 1)
 wrong_line version text rest line behind taken lines so_far is plain not_end none =
     subst (λ n. IsWrongLine text (n + 1)) (sym so_far.count)
@@ -103,7 +103,7 @@ wrong_line version text rest line behind taken lines so_far is plain not_end non
     (wrong_at version line behind taken so_far.right plain not_end none))
 
 -- no whole line stands there
-pub cut_line : (version : Version) (text rest : List ℕ) (taken : Taken) (lines : ℕ) → IsReadSoFar version text taken lines rest → IsLine rest → IsWrongLine text (lines + 1)
+pub cut_line : (version : Version) (text rest : List ℕ) (taken : Taken) (lines : ℕ) → IsReadSoFar version text taken lines rest → IsOneLine rest → IsWrongLine text (lines + 1)
 cut_line version text rest taken lines so_far plain = record {
   before = open_lines version taken;
   rest = rest;
@@ -127,7 +127,7 @@ some_bytes line more none =
     absurd (omega (arith, long, parts, first))
 
 -- bytes stand behind the end
-wrong_behind : (version : Version) (states : States) (behind : List ℕ) → IsTaken version (all_of states) → 0 < length behind → Parts behind → IsRefused (state_text version states) behind ⊎ IsCut (state_text version states) behind
+wrong_behind : (version : Version) (states : States) (behind : List ℕ) → IsTaken version (all_of states) → 0 < length behind → Parts behind → HasWrongNext (state_text version states) behind ⊎ IsCut (state_text version states) behind
 wrong_behind version states behind right some (Plain plain) = inr (record { is_line = plain; more = λ s is none. absurd (let long : length behind ≡ 0 = ap (λ (l : List ℕ). length l) none in omega (arith, long, some)) })
 wrong_behind version states behind right some (Lined line more plain parts) = inl (record {
   line = line;
@@ -148,11 +148,11 @@ behind_end version text rest line behind states lines so_far is is_end some =
     record {
       before = told ++ codes "end" ∷ [];
       rest = behind;
-      are_lines = each_behind IsLine told (codes "end") (plain_lines version (all_of states) so_far.right) end_plain;
+      are_lines = each_behind IsOneLine told (codes "end") (plain_lines version (all_of states) so_far.right) end_plain;
       parts = so_far.parts ∙ ap (λ r. flat_map ended told ++ r) (is ∙ ap (λ l. l ++ 10 ∷ behind) is_end) ∙ sym (one_more (flat_map ended told) (codes "end") behind) ∙ ap (λ t. t ++ behind) (text_ends version states ∙ sym whole);
       number_is = (let count = so_far.count in let long = length_behind told (codes "end") in omega (arith, count, long));
-      begins = subst Begins (sym whole) (record { states = states; whole = state_text version states; rest = []; right = text_in version (all_of states) so_far.right; parts = sym (append-nil (state_text version states)) });
-      wrong = subst (λ f. IsRefused f behind ⊎ IsCut f behind) (sym whole) (wrong_behind version states behind so_far.right some (parts_of behind));
+      begins = subst BeginsStateText (sym whole) (record { states = states; whole = state_text version states; rest = []; right = text_in version (all_of states) so_far.right; parts = sym (append-nil (state_text version states)) });
+      wrong = subst (λ f. HasWrongNext f behind ⊎ IsCut f behind) (sym whole) (wrong_behind version states behind so_far.right some (parts_of behind));
     }
 
 -- what was read to its end is the text of its states
@@ -164,11 +164,11 @@ ends_right version text rest line behind states lines so_far is is_end none =
       spelled = so_far.parts ∙ ap (λ r. flat_map ended (told_lines version states) ++ r) (is ∙ (λ i. is_end i ++ 10 ∷ none i)) ∙ text_ends version states;
     })
 
-begins_nothing : Begins []
+begins_nothing : BeginsStateText []
 begins_nothing = record { states = []; whole = state_text Two []; rest = state_text Two []; right = inr (record { right = no_states; tells = tt; spelled = refl }); parts = refl }
 
 -- the first line is that of no version
-pub wrong_header : (text line behind : List ℕ) → text ≡ line ++ 10 ∷ behind → IsLine line → ((version : Version) → line ≢ version_line version) → IsWrongLine text 1
+pub wrong_header : (text line behind : List ℕ) → text ≡ line ++ 10 ∷ behind → IsOneLine line → ((version : Version) → line ≢ version_line version) → IsWrongLine text 1
 wrong_header text line behind is plain other = record {
   before = [];
   rest = text;
@@ -191,7 +191,7 @@ never_nothing : (version : Version) (s : States) → [] ≡ state_text version s
 unfolding state_text
 never_nothing version s is = (let long = ap (λ (t : List ℕ). length t) (is ∙ sym (text_ends version s)) in let parts = length-append (flat_map ended (told_lines version s)) (codes "end\n") in absurd (omega (arith, long, parts)))
 
-pub no_header : (text : List ℕ) → IsLine text → IsWrongLine text 1
+pub no_header : (text : List ℕ) → IsOneLine text → IsWrongLine text 1
 no_header text plain = record {
   before = [];
   rest = text;
@@ -202,26 +202,26 @@ no_header text plain = record {
   wrong = inr (record { is_line = plain; more = λ s is none. (let here = in_version s [] is in never_nothing here.version s here.is.spelled) });
 }
 
-stops_of : (front rest : List ℕ) → IsRefused front rest ⊎ IsCut front rest → Stops Begins front rest
+stops_of : (front rest : List ℕ) → HasWrongNext front rest ⊎ IsCut front rest → Stops BeginsStateText front rest
 stops_of front rest (inl refused) = Refused refused.line refused.behind refused.is_line refused.parts refused.begins
 stops_of front rest (inr cut) = Cut cut.is_line
 
 -- a text has one first wrong line at most
 pub one_wrong_line : OneWrongLine
 one_wrong_line text m n one two =
-    let same = one_stop Begins begins_less one.before two.before one.rest two.rest one.are_lines two.are_lines (sym one.parts ∙ two.parts) one.begins two.begins
+    let same = one_stop BeginsStateText begins_less one.before two.before one.rest two.rest one.are_lines two.are_lines (sym one.parts ∙ two.parts) one.begins two.begins
     (stops_of (flat_map ended one.before) one.rest one.wrong) (stops_of (flat_map ended two.before) two.rest two.wrong) in
     let first = one.number_is in
     let second = two.number_is in
     omega (arith, same, first, second)
 
-none_at : (version : Version) (states : States) (text : List ℕ) (before : List (List ℕ)) (rest : List ℕ) → IsTextIn version states text → AllByRecursion IsLine before → text ≡ flat_map ended before ++ rest
-    → IsRefused (flat_map ended before) rest ⊎ IsCut (flat_map ended before) rest → ⊥
+none_at : (version : Version) (states : States) (text : List ℕ) (before : List (List ℕ)) (rest : List ℕ) → IsTextIn version states text → AllByRecursion IsOneLine before → text ≡ flat_map ended before ++ rest
+    → HasWrongNext (flat_map ended before) rest ⊎ IsCut (flat_map ended before) rest → ⊥
 unfolding state_text
 none_at version states text before rest is lines parts (inl refused) =
     refused.begins (record { states = states; whole = text; rest = refused.behind; right = of_version version states text is; parts = parts ∙ ap (λ r. flat_map ended before ++ r) refused.parts ∙ sym (one_more (flat_map ended before) refused.line refused.behind) })
 none_at version states text before rest is lines parts (inr cut) =
-    let all = each_behind IsLine (told_lines version states) (codes "end") (plain_lines version (all_of states) (taken_of version states text is)) end_plain in
+    let all = each_behind IsOneLine (told_lines version states) (codes "end") (plain_lines version (all_of states) (taken_of version states text is)) end_plain in
     let same = same_lines before (told_lines version states ++ codes "end" ∷ []) rest [] lines all cut.is_line (All-nil (λ x. x ≢ 10)) (sym parts ∙ is.spelled ∙ sym (append-nil (state_text version states))) in
     cut.more states (of_version version states (flat_map ended before) (record { right = is.right; tells = is.tells; spelled = ap (flat_map ended) same.0 })) same.1
 

@@ -20,7 +20,7 @@ use Rattle.fork_model.specs.View.{View}
 use Rattle.fork_model.specs.World.{World}
 use Rattle.git_name.specs.Object.{Object}
 use Rattle.fork_request.specs.Names.{IsTenantName}
-use Rattle.state_text.specs.Kept.{kept_of, states_of}
+use Rattle.state_text.specs.Kept.{state_kept, states_of}
 use Rattle.state_text.specs.States.{Ascend, IsRepository, IsStates, IsTenantState}
 use Rattle.state_text.proofs.BehindLemmas.{ascend_none}
 
@@ -61,7 +61,7 @@ map_same : {A : Type 0} (xs : List A) → map (λ x. x) xs ≡ xs
 map_same [] = refl
 map_same (x ∷ xs) = ap (λ l. x ∷ l) (map_same xs)
 
-names_made : (es : List (List ℕ × View)) → map (λ t. t.name) (map kept_of es) ≡ map (λ e. e.0) es
+names_made : (es : List (List ℕ × View)) → map (λ t. t.name) (map state_kept es) ≡ map (λ e. e.0) es
 names_made [] = refl
 names_made (e ∷ es) = ap (λ l. e.0 ∷ l) (names_made es)
 
@@ -90,7 +90,7 @@ repository_right view orderly names name repository is =
     record { named = orderly.repositories name repository is; told = record { branch = orderly.heads name repository is; references = right.0; targets = right.1 } }
 
 -- what is kept of an orderly view
-view_right : (tenant : List ℕ) (view : View) → IsOrderly view → IsTenantName tenant → AllByRecursion IsName (keys view.objects) → IsTenantState (kept_of (tenant, view))
+view_right : (tenant : List ℕ) (view : View) → IsOrderly view → IsTenantName tenant → AllByRecursion IsName (keys view.objects) → IsTenantState (state_kept (tenant, view))
 view_right tenant view orderly named names = record {
   named = named;
   limit = orderly.limit;
@@ -107,7 +107,7 @@ view_right tenant view orderly named names = record {
 -- what is kept of an orderly world, whose objects stand under names
 pub states_right : (world : World) → IsOrderlyWorld world → ((tenant : List ℕ) (view : View) → get world tenant ≡ Some view → AllByRecursion IsName (keys view.objects)) → IsStates (states_of world)
 states_right world orderly names = record {
-  few = (let count = len-entries world in let long = length-map (entries world) kept_of in let few = orderly.few in omega (arith, count, long, few));
+  few = (let count = len-entries world in let long = length-map (entries world) state_kept in let few = orderly.few in omega (arith, count, long, few));
   ordered = subst Ascend (sym (names_made (entries world))) (keys_ascend world);
-  each = each_made IsTenantState kept_of world (λ tenant view is. view_right tenant view (orderly.views tenant view is) (orderly.named tenant (ap is_some is)) (names tenant view is));
+  each = each_made IsTenantState state_kept world (λ tenant view is. view_right tenant view (orderly.views tenant view is) (orderly.named tenant (ap is_some is)) (names tenant view is));
 }

@@ -5,7 +5,7 @@ use Rattle.std.proofs.lemmas.List.{append-nil}
 use Rattle.git_name.specs.Text.{ended}
 use Rattle.state_text.specs.declared.version.Version.{Version}
 use Rattle.state_text.specs.declared.version.Version.TheVariants.{One, Two}
-use Rattle.state_text.specs.Fault.{IsLine}
+use Rattle.state_text.specs.Fault.{IsOneLine}
 use Rattle.state_text.specs.States.{States}
 use Rattle.state_text.specs.Taking.{IsTaken, Taken, open_lines}
 use Rattle.state_text.specs.Text.{IsStateText, IsTextIn, state_text, version_line}
@@ -38,7 +38,7 @@ same_line One Two is = absurd (let bad : 49 ≡ 50 = ap (λ l. slice_index l 15)
 same_line Two One is = absurd (let bad : 50 ≡ 49 = ap (λ l. slice_index l 15) is in omega arith)
 
 -- the first line of a state text is that of its version
-pub first_is : (version : Version) (states : States) (line rest : List ℕ) → IsLine line → state_text version states ≡ line ++ 10 ∷ rest → line ≡ version_line version
+pub first_is : (version : Version) (states : States) (line rest : List ℕ) → IsOneLine line → state_text version states ≡ line ++ 10 ∷ rest → line ≡ version_line version
 unfolding state_text
 first_is version states line rest plain is =
     (split_unique 10 line rest (version_line version) _ plain (version_plain version) (sym is ∙ sym (append-nil (state_text version states)) ∙ first_line (version_line version) _ [])).0

@@ -8,7 +8,7 @@ use Rattle.git_name.specs.Text.{ended}
 use Rattle.state_text.specs.Text.{IsStateText}
 
 -- some state text begins with these bytes
-pub record Begins (text : List ℕ) : Type 0 where
+pub record BeginsStateText (text : List ℕ) : Type 0 where
   pub states : States
   pub whole : List ℕ
   pub rest : List ℕ
@@ -16,31 +16,31 @@ pub record Begins (text : List ℕ) : Type 0 where
   pub parts : whole ≡ text ++ rest
 
 -- bytes without LF
-abbrev pub IsLine : List ℕ → Type 0
-IsLine line = All (λ byte. byte ≢ 10) line
+abbrev pub IsOneLine : List ℕ → Type 0
+IsOneLine line = All (λ byte. byte ≢ 10) line
 
 -- a whole line stands next, and with it the text begins no state text
-pub record IsRefused (front rest : List ℕ) : Type 0 where
+pub record HasWrongNext (front rest : List ℕ) : Type 0 where
   pub line : List ℕ
   pub behind : List ℕ
-  pub is_line : IsLine line
+  pub is_line : IsOneLine line
   pub parts : rest ≡ line ++ 10 ∷ behind
-  pub begins : ¬ Begins (front ++ ended line)
+  pub begins : ¬ BeginsStateText (front ++ ended line)
 
 -- no whole line stands next, and the text isn't at its end
 pub record IsCut (front rest : List ℕ) : Type 0 where
-  pub is_line : IsLine rest
+  pub is_line : IsOneLine rest
   pub more : (states : States) → IsStateText states front → rest ≢ []
 
 -- with the lines before this one the text begins a state text, and here it goes wrong
 pub record IsWrongLine (text : List ℕ) (number : ℕ) : Type 0 where
   pub before : List (List ℕ)
   pub rest : List ℕ
-  pub are_lines : AllByRecursion IsLine before
+  pub are_lines : AllByRecursion IsOneLine before
   pub parts : text ≡ flat_map ended before ++ rest
   pub number_is : number ≡ length before + 1
-  pub begins : Begins (flat_map ended before)
-  pub wrong : IsRefused (flat_map ended before) rest ⊎ IsCut (flat_map ended before) rest
+  pub begins : BeginsStateText (flat_map ended before)
+  pub wrong : HasWrongNext (flat_map ended before) rest ⊎ IsCut (flat_map ended before) rest
 
 -- a text has one first wrong line at most
 abbrev pub OneWrongLine : Type 0

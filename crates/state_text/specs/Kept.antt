@@ -6,9 +6,9 @@ use Rattle.fork_model.specs.World.{World}
 use Rattle.state_text.specs.States.{TenantState, States}
 
 -- of a tenant and its view, which has no offers yet
-abbrev pub kept_of : List ℕ × View → TenantState
-kept_of (name, view) = record { name = name; limit = view.limit; repositories = entries view.repositories; seen = keys view.objects; offers = [] }
+abbrev pub state_kept : List ℕ × View → TenantState
+state_kept (name, view) = record { name = name; limit = view.limit; repositories = entries view.repositories; seen = keys view.objects; offers = [] }
 
 -- of each
 abbrev pub states_of : World → States
-states_of world = map kept_of (entries world)
+states_of world = map state_kept (entries world)

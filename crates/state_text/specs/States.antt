@@ -6,6 +6,7 @@ use Rattle.std.specs.FinMap.{values}
 use Rattle.std.specs.List.{AllByRecursion}
 use Rattle.std.specs.List.Sorted.{IsStrictlySortedBy}
 use Rattle.git_name.specs.Name.{IsName, name_cmp}
+use Rattle.git_name.specs.Text.{bytes_code}
 use Rattle.git_reftx.specs.Repository.{IsBranch, Repository, repository_code}
 use Rattle.git_reftx.specs.Sound.{AreSound}
 use Rattle.fork_request.specs.Names.{IsRepositoryName, IsTenantName}
@@ -66,9 +67,6 @@ pub record IsStates (states : States) : Type 0 where
   pub few : length states ≤ MAX_TENANTS
   pub ordered : Ascend (map (λ tenant. tenant.name) states)
   pub each : AllByRecursion IsTenantState states
-
-abbrev bytes_code : Coded (List ℕ)
-bytes_code = coded_list coded_ℕ
 
 -- a tenant's state has a code, so that it can be a model's value
 abbrev pub state_code : Coded TenantState

@@ -1,7 +1,7 @@
 // What of a tenant outlives the host's process.
 ghost use Rattle.std.specs.Prelude.{◌≡◌, IfOk, is_some, option_map};
 ghost use Rattle.fork_model.specs.Sound.{IsOrderly};
-ghost use Rattle.state_text.specs.Kept.{kept_of};
+ghost use Rattle.state_text.specs.Kept.{state_kept};
 ghost use Rattle.fork_host.specs.Shown.{shown};
 
 use crate::keeping::keep_names;
@@ -22,7 +22,7 @@ impl Tenant {
         name: &TenantName,
     ) -> Result<TenantState, AllocError>
         requires { IsOrderly (shown self.now vault.now name.now) }
-        ensures { IfOk result (λ state. state ≡ kept_of (name.now, shown self.now vault.now name.now)) }
+        ensures { IfOk result (λ state. state ≡ state_kept (name.now, shown self.now vault.now name.now)) }
     {
         let names = vault.names(alloc, name)?;
         let Some(mut state) = TenantState::new(alloc, name.copy(), self.limit) else {

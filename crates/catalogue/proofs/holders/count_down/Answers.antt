@@ -2,9 +2,9 @@ use Rattle.std.proofs.Common.{◌≡◌, ◌-◌, Some, sym, ap, subst, ◌∙�
 use Rattle.std.specs.Map.{keys_of, values_of}
 use Rattle.std.specs.List.{IsDistinct, position}
 use Rattle.std.specs.Option.{option_copied_mut, unwrap_or}
+use Rattle.git_name.specs.Same.{same_name}
 use Rattle.indexmap.proofs.CallerLemmas.{keys-with_value_at}
 use Rattle.nearby.proofs.PlaceLemmas.{value_at, written_at}
-use Rattle.looks.specs.Places.{same_name}
 use Rattle.catalogue.specs.Counted.{count_in}
 use Rattle.catalogue.proofs.CountLemmas.{counted_down, none_counted}
 use Rattle.catalogue.proofs.holders.count_down.Goals as goal

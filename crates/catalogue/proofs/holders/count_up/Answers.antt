@@ -2,9 +2,9 @@ use Rattle.std.proofs.Common.{◌≡◌, ◌+◌, Some, true, false, sym, ap, su
 use Rattle.std.specs.Map.{keys_of, values_of}
 use Rattle.std.specs.List.{IsDistinct, position}
 use Rattle.std.specs.Option.{IsSome, option_copied_mut, unwrap_or}
+use Rattle.git_name.specs.Same.{same_name}
 use Rattle.indexmap.proofs.CallerLemmas.{keys-with_value_at}
 use Rattle.nearby.proofs.PlaceLemmas.{none_at, value_at, written_at}
-use Rattle.looks.specs.Places.{same_name}
 use Rattle.catalogue.specs.Counted.{count_in}
 use Rattle.catalogue.proofs.CountLemmas.{counted_up}
 use Rattle.catalogue.proofs.holders.count_up.Goals as goal

@@ -1,6 +1,6 @@
 use Rattle.std.proofs.Common.{◌∙◌}
+use Rattle.git_name.specs.Same.{same_name}
 use Rattle.indexmap.proofs.CallerLemmas.{insert_entry-new}
-use Rattle.looks.specs.Places.{same_name}
 use Rattle.catalogue.proofs.holders.insert_into.Goals as goal
 
 pub returns-clause-ok : goal.returns-clause-ok

@@ -1,7 +1,7 @@
 use Rattle.std.proofs.Common.{map, List, subst, sym}
 use Rattle.std.proofs.lemmas.Result.{err_from_is_err_and}
 use Rattle.clap.specs.Words.{Text}
-use Rattle.fork_command.specs.Command.{Asks, IsBadType, IsMet}
+use Rattle.fork_command.specs.Command.{Asks, IsBadType, IsCommandMet}
 use Rattle.fork_command.proofs.EnteredLemmas.{met_of}
 use Rattle.fork_command.proofs.TableLemmas.{free_as_table, kind_as_table, met_as_table, none_as_table, passes_as_table, refused_as_table, refused_faulty, simple_as_table}
 use Rattle.fork_command.proofs.command.command_of.Goals as goal
@@ -24,7 +24,7 @@ asked-requires c =
     let parsed = c.in-Ok-try_get_matches_from_mut.ensures in
     let none = none_as_table _ texts same (parsed.kinds (free_as_table _ same)) in
     let met = met_as_table _ texts _ same (parsed.ok.2 (simple_as_table _ same)).1 in
-    record { met = subst IsMet (sym met) (met_of texts none) }
+    record { met = subst IsCommandMet (sym met) (met_of texts none) }
 
 pub returns-in_err-command-clause-err : goal.returns-in_err-command-clause-err
 returns-in_err-command-clause-err c =

@@ -5,7 +5,7 @@ use Rattle.git_name.specs.Object.{Object}
 use Rattle.push_stream.specs.Reading.{reading_of}
 use Rattle.push_stream.specs.Spelling.{records_of}
 use Rattle.push_stream.specs.Stream.{sent_in, stream_of}
-use Rattle.fork_model.specs.Uploads.{object_at}
+use Rattle.fork_model.specs.Uploads.{object_sent}
 use Rattle.fork_host.specs.Handle.{staged_by}
 use Rattle.fork_host.proofs.OpeningLemmas.{reads_none, reads_quiet, same_upload, text_is, told_of, told_records, told_there}
 use Rattle.fork_host.proofs.opening.bytes_of.Goals as goal
@@ -30,7 +30,7 @@ returns-in-Ok-add_end-clause-opens g c = λ bytes honest came.
     let told = told_of bytes reading came.read in
     let header : c.in-Ok.bytes.items ≡ again.header.now = search rules in
     let is : text ≡ again.header.now ++ (records_of objects ++ end) =
-    text_is c.in-Ok.bytes.items again.header.now (records_of (map (object_at staged) sent)) (records_of objects) end c.add_records.new.bytes.items text
+    text_is c.in-Ok.bytes.items again.header.now (records_of (map (object_sent staged) sent)) (records_of objects) end c.add_records.new.bytes.items text
     header (told_records bytes reading staged sent came.read (came.exact honest) c.sent.ensures) (c.in_ok-add_records.ensures.added honest) c.in-Ok-add_end.ensures in
     let read : reading_of text ≡ reading = ap reading_of is ∙ c.again-again.ensures.read objects are within told in
     same_upload text bytes staged (came.exact honest) (read ∙ sym came.read) (ap (λ (l : List ℕ). sent_in (stream_of l)) is ∙ c.again-again.ensures.sent objects are within told)

@@ -3,7 +3,7 @@ use Rattle.std.specs.FinMap as map
 use Rattle.fork_reach.specs.Objects.{with_objects}
 use Rattle.fork_ledger.specs.Tenants.{shape_of}
 use Rattle.fork_host.specs.Handle.{both_by}
-use Rattle.fork_host.specs.Own.{Changes, Settles, Stages, visible_in}
+use Rattle.fork_host.specs.Own.{Changes, SeesOnly, Stages, visible_in}
 use Rattle.fork_host.specs.Read.{RecallsRead}
 use Rattle.fork_host.proofs.HandleLemmas.{same_own, same_then}
 use Rattle.fork_host.proofs.OwnLemmas.{changes_none, changes_still, here_changed, stages_none}
@@ -52,7 +52,7 @@ returns-in-Err-clause-err g c =
     let objects = with_objects (both_by first) before.so_far.came in
     let tenant = c.recall_read.ensures.same.tenant ∙ before.same.tenant in
     let still = changes_still (Stages first.tenant.now objects) first.vault.now c.loop-name.own.vault.now mid.vault.now (ap shape_of c.in-Err.ensures.err) (λ h. c.in-Err.ensures.err) c.recall_read.ensures.honest before.so_far.stages in
-    subst (λ r. Changes (Settles r.now (visible_in first.vault.now r.now)) first.vault.now c.discard.new.own.vault.now) tenant
+    subst (λ r. Changes (SeesOnly r.now (visible_in first.vault.now r.now)) first.vault.now c.discard.new.own.vault.now) tenant
     (c.discard.ensures.settles first.vault.now objects (subst (λ r. Changes (Stages r.now objects) first.vault.now mid.vault.now) (sym tenant) still))
 
 pub publish-requires : goal.publish-requires
@@ -72,7 +72,7 @@ returns-clause-ok g c =
     record {
       came = before.so_far.came;
       among = before.so_far.among;
-      changes = subst (λ r. Changes (Settles r.now objects) first.vault.now c.publish.new.own.vault.now) before.same.tenant
+      changes = subst (λ r. Changes (SeesOnly r.now objects) first.vault.now c.publish.new.own.vault.now) before.same.tenant
           (c.publish.ensures.settles first.vault.now objects (subst (λ r. Changes (Stages r.now objects) first.vault.now mid.vault.now) (sym before.same.tenant) before.so_far.stages));
       whole = before.so_far.whole;
       all = came_all first.tenant.now c.args.names.now c.loop-name.name-index (both_by first) first.vault.now mid.vault.now (omega arith) before.so_far;

@@ -8,7 +8,7 @@ use Rattle.fork_request.specs.declared.host_fault.HostFault.TheVariants.{Memory}
 use Rattle.fork_request.specs.declared.reply.Reply.TheVariants.{Failed}
 use Rattle.fork_ledger.specs.AllStaged.{with_all_staged}
 use Rattle.fork_ledger.proofs.AllStagedLemmas.{all_staged_seen}
-use Rattle.looks.specs.Growth.{GrowsBy}
+use Rattle.looks.specs.Growth.{GrowsAmong}
 use Rattle.looks.proofs.GrowthLemmas.{grows_same}
 use Rattle.fork_host.specs.Bounds.{IsBounded}
 use Rattle.fork_host.specs.Fed.{Fed, Unfed}
@@ -70,8 +70,8 @@ returns-then-step-clause-grows g c = grows_same _ c.args.own.now.vault.now.place
 
 pub returns-in-Err-clause-grows : goal.returns-in-Err-clause-grows
 returns-in-Err-clause-grows g c =
-    subst (λ objects. GrowsBy (sent_names objects) c.args.own.now.vault.now.places c.stage_all.new.own.vault.now.places) c.in-Ok.ensures.gained c.stage_all.ensures.grows
+    subst (λ objects. GrowsAmong (sent_names objects) c.args.own.now.vault.now.places c.stage_all.new.own.vault.now.places) c.in-Ok.ensures.gained c.stage_all.ensures.grows
 
 pub returns-clause-grows : goal.returns-clause-grows
 returns-clause-grows g c =
-    subst (λ objects. GrowsBy (sent_names objects) c.args.own.now.vault.now.places c.stage_all.new.own.vault.now.places) c.in-Ok.ensures.gained c.stage_all.ensures.grows
+    subst (λ objects. GrowsAmong (sent_names objects) c.args.own.now.vault.now.places c.stage_all.new.own.vault.now.places) c.in-Ok.ensures.gained c.stage_all.ensures.grows

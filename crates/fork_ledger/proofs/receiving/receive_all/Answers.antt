@@ -1,7 +1,7 @@
 use Rattle.std.proofs.Common.{rules, ◌≡◌, [], ◌∷◌, ◌++◌, ap, map, refl, subst, sym, true, ◌∙◌}
 use Rattle.std.proofs.lemmas.List.Elements.{All-nil}
 use Rattle.git_name.specs.Object.{object_name}
-use Rattle.looks.specs.Places.{is_listed}
+use Rattle.git_name.specs.Same.{is_listed}
 use Rattle.looks.proofs.GrowthLemmas.{grows_none}
 use Rattle.catalogue.specs.Counted.{places_of}
 use Rattle.ledgers.specs.AllStaged.{AreListed}

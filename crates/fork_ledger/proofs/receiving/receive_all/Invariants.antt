@@ -1,6 +1,6 @@
 use Rattle.std.proofs.Common.{◌≡◌, ◌++◌, IsTrue, List, map}
 use Rattle.git_name.specs.Object.{Object, object_name}
-use Rattle.looks.specs.Growth.{GrowsBy}
+use Rattle.looks.specs.Growth.{GrowsAmong}
 use Rattle.catalogue.specs.Counted.{places_of}
 use Rattle.ledgers.specs.AllStaged.{AreListed}
 use Rattle.ledgers.specs.Told.{entry_of}
@@ -15,7 +15,7 @@ invariant-loop-sealed g l =
       order : l.fn.objects.items ≡ front ++ l.sealed-iterator.rest.items;
       ledgers : l.holdings.ledgers ≡ l.fn.holdings.ledgers;
       listed : AreListed (places_of l.holdings.catalogue) (map entry_of front);
-      grows : GrowsBy (map object_name l.fn.objects.items) (places_of l.fn.holdings.catalogue) (places_of l.holdings.catalogue);
+      grows : GrowsAmong (map object_name l.fn.objects.items) (places_of l.fn.holdings.catalogue) (places_of l.holdings.catalogue);
       receives : IsTrue l.fn.files.honest → Receives front l.fn.files.contents l.files.contents (places_of l.fn.holdings.catalogue) (places_of l.holdings.catalogue);
       honest : l.files.honest ≡ l.fn.files.honest;
       failures : l.files.failures ≡ l.fn.files.failures;

@@ -1,6 +1,6 @@
 use Rattle.std.proofs.Common.{ap, length, sym, ◌∙◌}
 use Rattle.std.specs.List.{find, flat_map}
-use Rattle.git_tree.specs.Entry.{entry_of}
+use Rattle.git_tree.specs.Entry.{plain_entry}
 use Rattle.git_tree.specs.Row.{entries_in}
 use Rattle.git_tree.proofs.RowLemmas.{row_none}
 use Rattle.git_object.specs.Links.{entry_links}
@@ -14,7 +14,7 @@ loop-entry-preserved g c =
     record {
       row = λ right. c.in-Some.ensures.row (c.loop-entry.invariant.row right);
       wrong = λ right.
-          sym (entry_passed test (entry_of c.in-Some.entry) (entries_in c.in-Some.behind.now) c.if-not-is_entry_met.ensures)
+          sym (entry_passed test (plain_entry c.in-Some.entry) (entries_in c.in-Some.behind.now) c.if-not-is_entry_met.ensures)
           ∙ ap (λ each. find test (flat_map entry_links each)) (sym (c.in-Some.ensures.first (c.loop-entry.invariant.row right)))
           ∙ c.loop-entry.invariant.wrong right;
     }

@@ -1,7 +1,7 @@
 use Rattle.std.proofs.Common.{IsTrue, sym, ap, subst, ◌∙◌}
 use Rattle.std.specs.List.{flat_map}
 use Rattle.std.proofs.lemmas.Result.{IfOk-weaker}
-use Rattle.fork_query.specs.Fetch.{record_at}
+use Rattle.fork_query.specs.Fetch.{record_named}
 use Rattle.fork_query.proofs.fetching.read_records.Goals as goal
 
 pub returns-clause-sent : goal.returns-clause-sent
@@ -12,5 +12,5 @@ returns-clause-sent g c = λ honest.
       c.in-Ok.names.items,
       listed.order,
       (λ name. listed.same name ∙ c.in_ok-names.ensures.found honest name),
-      sent ∙ ap (λ all. flat_map (record_at all) c.in-Ok.names.items) (asked.objects honest),
+      sent ∙ ap (λ all. flat_map (record_named all) c.in-Ok.names.items) (asked.objects honest),
     )) (c.send_all.ensures.sent (subst IsTrue (sym asked.honest) honest))

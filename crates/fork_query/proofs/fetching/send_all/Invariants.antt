@@ -1,7 +1,7 @@
 use Rattle.std.proofs.Common.{◌≡◌, ◌++◌, None, IsTrue}
 use Rattle.std.specs.List.{flat_map}
 use Rattle.fork_reach.specs.Faults.{IsAsked}
-use Rattle.fork_query.specs.Fetch.{record_at}
+use Rattle.fork_query.specs.Fetch.{record_named}
 use Rattle.fork_query.specs.Objects.{AreRecords}
 use Rattle.fork_query.proofs.fetching.send_all.Given as goal
 
@@ -12,5 +12,5 @@ invariant-loop-name g l =
     record {
       asked : IsAsked old (g.S.Source.state l.source) None;
       named : AreRecords l.text.items;
-      sent : IsTrue old.honest → l.text.items ++ flat_map (record_at old.objects) l.name-iterator.rest.items ≡ flat_map (record_at old.objects) l.fn.names.items;
+      sent : IsTrue old.honest → l.text.items ++ flat_map (record_named old.objects) l.name-iterator.rest.items ≡ flat_map (record_named old.objects) l.fn.names.items;
     }

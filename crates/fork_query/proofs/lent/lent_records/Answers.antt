@@ -3,7 +3,7 @@ use Rattle.std.specs.HashSet.{contains}
 use Rattle.std.specs.List.{AllByRecursion, IsDistinct, flat_map}
 use Rattle.git_name.specs.Same.{same_name}
 use Rattle.fork_reach.specs.Hidden.{without}
-use Rattle.fork_reach.specs.Lending.{IsLent, IsNamed, lent_names}
+use Rattle.fork_reach.specs.Lending.{IsLent, HasOwnName, lent_names}
 use Rattle.fork_reach.specs.Reach.{is_among, is_reached, linked_names}
 use Rattle.fork_query.specs.Lent.{record_lent}
 use Rattle.fork_query.proofs.LentLemmas.{lent_are_records, lent_is_sent}
@@ -20,7 +20,7 @@ returns-clause-sent g c = λ honest.
     let all = subst (λ all. IfSome all (λ lent. AllByRecursion (IsLent state) lent.items)) c.in-Some.is c.in_ok-lent.ensures.lent in
     let distinct = subst (λ all. IfSome all (λ lent. IsDistinct same_name (lent_names lent.items))) c.in-Some.is c.in_ok-lent.ensures.distinct in
     let sent = lent_is_sent state (lent_names lent) lent sorted text refl distinct all c.by_name-lent.ensures.moved c.by_name-lent.ensures.sorted
-    (subst (λ all. AllByRecursion IsNamed all → text ≡ flat_map record_lent all) c.as_slice.ensures.value c.in_ok-write_all.ensures) in
+    (subst (λ all. AllByRecursion HasOwnName all → text ≡ flat_map record_lent all) c.as_slice.ensures.value c.in_ok-write_all.ensures) in
     (sent.0, sent.1, (λ name. sent.2 name ∙ found name), sent.3)
 
 pub returns-clause-named : goal.returns-clause-named
@@ -29,4 +29,4 @@ returns-clause-named g c =
     let text = c.in_ok-write_all.field-0.items in
     let lent = subst (λ all. IfSome all (λ lent. AllByRecursion (IsLent state) lent.items)) c.in-Some.is c.in_ok-lent.ensures.lent in
     lent_are_records state c.in-Some.lent.items c.by_name-lent.result.items text lent c.by_name-lent.ensures.moved
-    (subst (λ all. AllByRecursion IsNamed all → text ≡ flat_map record_lent all) c.as_slice.ensures.value c.in_ok-write_all.ensures)
+    (subst (λ all. AllByRecursion HasOwnName all → text ≡ flat_map record_lent all) c.as_slice.ensures.value c.in_ok-write_all.ensures)

@@ -10,7 +10,7 @@ use Rattle.fork_reach.proofs.AlongLemmas.{there_by_kind}
 use Rattle.fork_reach.proofs.AskedLemmas.{asked_again}
 use Rattle.fork_reach.proofs.MeasureLemmas.{measured_there, same_there}
 use Rattle.fork_reach.proofs.SeeingLemmas.{found_inserting, unseen_less}
-use Rattle.fork_query.specs.Followed.{AreEnds, Ends}
+use Rattle.fork_query.specs.Followed.{AreEnds, TagEnds}
 use Rattle.fork_query.specs.Peel.{peeled, tag_target}
 use Rattle.fork_query.proofs.PeelLemmas.{IsNearer, circle_none, nearer_on, nearer_target, no_target, peeled_here, peeled_on}
 use Rattle.fork_query.proofs.peeling.walk.Goals as goal
@@ -25,7 +25,7 @@ was_new added true is new = absurd (cc)
 was_new added false is new = refl
 
 -- what is known of the tag that was met
-known_end : (objects : Objects) (ends : Ends) (tag : List ℕ) (end : Option (List ℕ)) → AreEnds objects ends → get ends tag ≡ Some end → end ≡ peeled objects tag
+known_end : (objects : Objects) (ends : TagEnds) (tag : List ℕ) (end : Option (List ℕ)) → AreEnds objects ends → get ends tag ≡ Some end → end ≡ peeled objects tag
 known_end objects ends tag end are is = subst (λ found. IfSome found (λ e. e ≡ peeled objects tag)) is (are tag)
 
 -- what a trail leads to is what its beginning and each of its tags stand for

@@ -4,11 +4,10 @@ use Rattle.std.specs.List.{AllByRecursion}
 use Rattle.std.proofs.Math.Seq.{take-append_seam}
 use Rattle.std.proofs.lemmas.Bool.{OnTrue_from, not-true}
 use Rattle.std.proofs.lemmas.List.{map-append}
-use Rattle.git_name.specs.Same.{same_name}
+use Rattle.git_name.specs.Same.{is_listed, same_name}
 use Rattle.fork_reach.specs.Hidden.{without}
 use Rattle.fork_reach.specs.Lending.{IsLent, Lends, lent_names}
 use Rattle.fork_reach.specs.Objects.{measures_of}
-use Rattle.fork_reach.specs.Queuing.{stands_in}
 use Rattle.fork_reach.proofs.LendLemmas.{one_more}
 use Rattle.fork_reach.proofs.QueueLemmas.{joins_new, joins_old, queues_new, queues_same}
 use Rattle.fork_reach.proofs.SeeingLemmas.{inserts_hashed, was_new, was_old}
@@ -20,7 +19,7 @@ returns-then-not-is_new g c =
     let queue = c.args.names.now.keys in
     let first = c.args.name in
     let told = c.in-Ok.ensures in
-    let known = was_old (stands_in queue first) told.added c.if-not-is_new.true in
+    let known = was_old (is_listed queue first) told.added c.if-not-is_new.true in
     let same = joins_old queue first c.insert.new.self.keys told.keys known in
     record {
       queues = queues_same there first queue c.insert.new.self.keys same (inl known);
@@ -34,7 +33,7 @@ returns-in_default-lend_open g c = OnTrue_from (not c.is_there.result) (Lends (g
     let queue = c.args.names.now.keys in
     let first = c.args.name in
     let told = c.in-Ok.ensures in
-    let new = was_new (stands_in queue first) told.added c.if-not-is_new.false in
+    let new = was_new (is_listed queue first) told.added c.if-not-is_new.false in
     let joined = joins_new queue first c.insert.new.self.keys told.keys new in
     let same : c.truncate.new.self.keys ≡ queue = c.truncate.ensures.keys ∙ ap (λ n. take n c.insert.new.self.keys) c.len-before.ensures.len ∙ ap (take (length queue)) joined ∙ take-append_seam queue (first ∷ []) in
     record {
@@ -52,11 +51,11 @@ returns g c =
     let told = c.in-Ok.ensures in
     let one = c.in-Some.one in
     let before = c.args.lent.now.items in
-    let new = was_new (stands_in queue first) told.added c.if-not-is_new.false in
+    let new = was_new (is_listed queue first) told.added c.if-not-is_new.false in
     let joined = joins_new queue first c.insert.new.self.keys told.keys new in
     let pushed : c.push.new.self.items ≡ before ++ one ∷ [] = c.in-Ok-push.ensures.items in
     record {
-      queues = queues_new there first queue c.insert.new.self.keys joined new (inserts_hashed first (stands_in queue) (stands_in c.insert.new.self.keys) told.updates.0) told.updates.1 c.in-Some.ensures.there;
+      queues = queues_new there first queue c.insert.new.self.keys joined new (inserts_hashed first (is_listed queue) (is_listed c.insert.new.self.keys) told.updates.0) told.updates.1 c.in-Some.ensures.there;
       alike = λ are. ap lent_names pushed ∙ map-append (λ o. o.name) before (one ∷ []) ∙ ap (λ names. names ++ one.name ∷ []) are ∙ ap (λ n. queue ++ n ∷ []) c.in-Some.ensures.named ∙ sym joined;
       still = λ all. subst (AllByRecursion (IsLent state)) (sym pushed) (one_more state before one all c.in-Some.ensures.lent);
     }

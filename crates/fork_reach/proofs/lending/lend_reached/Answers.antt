@@ -3,11 +3,10 @@ use Rattle.std.specs.HashSet.{contains}
 use Rattle.std.specs.List.{AllByRecursion}
 use Rattle.std.proofs.lemmas.Bool.{OnTrue_at}
 use Rattle.std.proofs.lemmas.Option.{slice_get_past, slice_get_read, slice_get_within}
-use Rattle.git_name.specs.Same.{same_name}
+use Rattle.git_name.specs.Same.{is_listed, same_name}
 use Rattle.fork_reach.specs.Hidden.{without}
 use Rattle.fork_reach.specs.Lending.{IsLent, lent_names}
 use Rattle.fork_reach.specs.Objects.{measures_of}
-use Rattle.fork_reach.specs.Queuing.{stands_in}
 use Rattle.fork_reach.specs.Reach.{linked_names}
 use Rattle.fork_reach.proofs.HiddenLemmas.{measured_without}
 use Rattle.fork_reach.proofs.LendLemmas.{lent_at, lent_links, name_at, past_all}
@@ -28,8 +27,8 @@ queued-init g c =
     let came = lends.queues.came in
     let behind : queue ≡ came = lends.queues.behind ∙ ap (λ names. names ++ came) empty in
     record {
-      walks = subst (λ rest. Walks (linked_names state.objects) there c.args.roots.now state.honest (stands_in queue) rest) (sym behind)
-          (walks_begin (linked_names state.objects) there (λ _. false) c.args.roots.now state.honest (stands_in none) [] (stands_in queue) came (λ honest from is. absurd (cc)) (empty_holds_none none empty) refl lends.queues.sees);
+      walks = subst (λ rest. Walks (linked_names state.objects) there c.args.roots.now state.honest (is_listed queue) rest) (sym behind)
+          (walks_begin (linked_names state.objects) there (λ _. false) c.args.roots.now state.honest (is_listed none) [] (is_listed queue) came (λ honest from is. absurd (cc)) (empty_holds_none none empty) refl lends.queues.sees);
       within = omega arith;
       alike = lends.alike (ap lent_names c.new-lent.ensures.items ∙ sym empty);
       lent = lends.still (subst (AllByRecursion (IsLent state)) (sym c.new-lent.ensures.items) tt);
@@ -55,11 +54,11 @@ queued-preserved g c =
     let queued = lends.queues in
     let waits : drop (at + 1) now ≡ rest ++ queued.came = ap (drop (at + 1)) queued.behind ∙ rest_more queue queued.came at one.name placed in
     record {
-      walks = subst (λ left. Walks next there c.args.roots.now state.honest (stands_in now) left) (sym waits)
-          (walks_first next there (λ _. false) c.args.roots.now state.honest (stands_in queue) one.name rest c.as_slice.result.now (stands_in now) (rest ++ queued.came) (λ honest from is. absurd (cc))
-          (subst (λ left. Walks next there c.args.roots.now state.honest (stands_in queue) left) (read_at queue at one.name placed) before.walks)
+      walks = subst (λ left. Walks next there c.args.roots.now state.honest (is_listed now) left) (sym waits)
+          (walks_first next there (λ _. false) c.args.roots.now state.honest (is_listed queue) one.name rest c.as_slice.result.now (is_listed now) (rest ++ queued.came) (λ honest from is. absurd (cc))
+          (subst (λ left. Walks next there c.args.roots.now state.honest (is_listed queue) left) (read_at queue at one.name placed) before.walks)
           (λ honest. c.as_slice.ensures.value ∙ c.in_ok-links.ensures ∙ lent_links state one (lent_at state all at one before.lent found))
-          (sees_behind there (λ _. false) c.as_slice.result.now (stands_in queue) (stands_in now) rest queued.came queued.sees));
+          (sees_behind there (λ _. false) c.as_slice.result.now (is_listed queue) (is_listed now) rest queued.came queued.sees));
       within = (let grown : length now ≡ length queue + length queued.came = ap length queued.behind ∙ length-append queue queued.came in omega arith);
       alike = lends.alike before.alike;
       lent = lends.still before.lent;
@@ -77,6 +76,6 @@ returns-clause-found g c = λ honest name.
     let at = c.queued.done in
     let past : slice_get all at ≡ None = ap (λ items. slice_get items at) (sym c.deref.ensures.value) ∙ slice_get_past c.deref.result.now at c.in_default-get.ensures.lookup.3 in
     let ended = none_left queue at (ap (λ names. slice_get names at) (sym before.alike) ∙ past_all all at past) in
-    ap (λ names. stands_in names name) before.alike
-    ∙ walks_end next there c.args.roots.now state.honest (stands_in queue) (drop at queue) ended.0 before.walks honest name
+    ap (λ names. is_listed names name) before.alike
+    ∙ walks_end next there c.args.roots.now state.honest (is_listed queue) (drop at queue) ended.0 before.walks honest name
     ∙ reached_alike next there (without state.objects hides) c.args.roots.now (measured_without state.objects hides) name

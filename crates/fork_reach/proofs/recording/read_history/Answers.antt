@@ -4,11 +4,11 @@ use Rattle.std.specs.FinMap.{contains_key}
 use Rattle.std.proofs.lemmas.Bool.{and_parts}
 use Rattle.std.proofs.lemmas.List.{map-append}
 use Rattle.std.proofs.lemmas.Option.{slice_get_within}
-use Rattle.git_name.specs.Same.{same_name}
+use Rattle.git_name.specs.Same.{is_listed, same_name}
 use Rattle.fork_reach.specs.Hidden.{without}
 use Rattle.fork_reach.specs.History.{note_at}
 use Rattle.fork_reach.specs.Objects.{measures_of}
-use Rattle.fork_reach.specs.Queuing.{Queues, stands_in}
+use Rattle.fork_reach.specs.Queuing.{Queues}
 use Rattle.fork_reach.specs.Reach.{is_reached, parent_names}
 use Rattle.fork_reach.proofs.AskedLemmas.{asked_again, not_asked}
 use Rattle.fork_reach.proofs.HiddenLemmas.{measured_without, there_without}
@@ -30,8 +30,8 @@ queued-init g c =
     let waits : drop (length c.new-notes.result.items) queue ≡ came = ap (λ notes. drop (length notes) queue) empty ∙ c.in-Ok.ensures.behind ∙ ap (λ names. names ++ came) c.with_hasher-names.ensures.empty in
     record {
       asked = not_asked old;
-      walks = subst (λ rest. Walks (parent_names old.objects) there c.args.commits.now old.honest (stands_in queue) rest) (sym waits)
-          (walks_begin (parent_names old.objects) there (λ _. false) c.args.commits.now old.honest (stands_in none) [] (stands_in queue) came (λ honest from is. absurd (cc)) (empty_holds_none none c.with_hasher-names.ensures.empty) refl c.in-Ok.ensures.sees);
+      walks = subst (λ rest. Walks (parent_names old.objects) there c.args.commits.now old.honest (is_listed queue) rest) (sym waits)
+          (walks_begin (parent_names old.objects) there (λ _. false) c.args.commits.now old.honest (is_listed none) [] (is_listed queue) came (λ honest from is. absurd (cc)) (empty_holds_none none c.with_hasher-names.ensures.empty) refl c.in-Ok.ensures.sees);
       within = subst (λ notes. length notes ≤ length queue) (sym empty) (omega arith);
       noted = λ honest. subst (λ notes. notes ≡ map (note_at old.objects) (take (length notes) queue)) (sym empty) refl;
     }
@@ -64,11 +64,11 @@ queued-preserved g c =
     let right = (λ (honest : IsTrue old.honest). told.noted (subst IsTrue (sym before.asked.honest) honest) ∙ ap (λ all. note_at all name) (before.asked.objects honest)) in
     record {
       asked = asked;
-      walks = subst (λ left. Walks next there c.args.commits.now old.honest (stands_in now) left) (sym waits)
-          (walks_first next there (λ _. false) c.args.commits.now old.honest (stands_in queue) name rest names (stands_in now) (rest ++ queued.came) (λ honest from is. absurd (cc))
-          (subst (λ left. Walks next there c.args.commits.now old.honest (stands_in queue) left) (read_at queue at name found) before.walks)
+      walks = subst (λ left. Walks next there c.args.commits.now old.honest (is_listed now) left) (sym waits)
+          (walks_first next there (λ _. false) c.args.commits.now old.honest (is_listed queue) name rest names (is_listed now) (rest ++ queued.came) (λ honest from is. absurd (cc))
+          (subst (λ left. Walks next there c.args.commits.now old.honest (is_listed queue) left) (read_at queue at name found) before.walks)
           (λ honest. c.parents.ensures ∙ ap (λ n. n.parents) (right honest) ∙ note_parents old.objects name)
-          (sees_behind there (λ _. false) names (stands_in queue) (stands_in now) rest queued.came queued.sees));
+          (sees_behind there (λ _. false) names (is_listed queue) (is_listed now) rest queued.came queued.sees));
       within = (let grown : length now ≡ length queue + length queued.came = ap length queued.behind ∙ length-append queue queued.came in omega arith);
       noted = λ honest.
           c.in-Ok-push.ensures.items ∙ ap (λ ns. ns ++ note ∷ []) (before.noted honest) ∙ ap (λ n. map (note_at old.objects) (take at queue) ++ n ∷ []) (right honest)
@@ -91,7 +91,7 @@ returns-clause-found g c = λ honest.
     let ended = none_left queue at past in
     c.of.ensures
     ∙ notes_end old.objects queue notes (is_reached next (without old.objects hides) c.args.commits.now) (before.noted honest ∙ ap (map (note_at old.objects)) ended.1)
-    (λ name. walks_end next there c.args.commits.now old.honest (stands_in queue) (drop at queue) ended.0 before.walks honest name
+    (λ name. walks_end next there c.args.commits.now old.honest (is_listed queue) (drop at queue) ended.0 before.walks honest name
     ∙ reached_alike next there (without old.objects hides) c.args.commits.now (measured_without old.objects hides) name)
     (λ name is. (and_parts (contains_key old.objects name) _ (sym (there_without old.objects hides name) ∙ sym (measured_without old.objects hides name) ∙ before.walks.there name is)).0)
 

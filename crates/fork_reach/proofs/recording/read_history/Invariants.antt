@@ -1,11 +1,10 @@
 use Rattle.std.proofs.Common.{◌≡◌, ◌+◌, ◌≤◌, IsTrue, None, drop, length, map, take}
 use Rattle.std.specs.HashSet.{contains}
-use Rattle.git_name.specs.Same.{same_name}
+use Rattle.git_name.specs.Same.{is_listed, same_name}
 use Rattle.fork_reach.specs.Faults.{IsAsked}
 use Rattle.fork_reach.specs.Hidden.{without}
 use Rattle.fork_reach.specs.History.{note_at}
 use Rattle.fork_reach.specs.Objects.{measures_of}
-use Rattle.fork_reach.specs.Queuing.{stands_in}
 use Rattle.fork_reach.specs.Reach.{parent_names}
 use Rattle.fork_reach.specs.Seeing.{unseen}
 use Rattle.fork_reach.proofs.WalkLemmas.{Walks}
@@ -19,11 +18,11 @@ invariant-queued g l =
     let at = length l.notes.items in
     record {
       asked : IsAsked old (g.S.Source.state l.source) None;
-      walks : Walks (parent_names old.objects) (without (measures_of old.objects) (contains same_name l.hidden)) l.commits old.honest (stands_in queue) (drop at queue);
+      walks : Walks (parent_names old.objects) (without (measures_of old.objects) (contains same_name l.hidden)) l.commits old.honest (is_listed queue) (drop at queue);
       within : at ≤ length queue;
       noted : IsTrue old.honest → l.notes.items ≡ map (note_at old.objects) (take at queue);
     }
 
 -- the objects that are not queued, and the names that wait
 abbrev pub decreases-queued : goal.decreases-queued
-decreases-queued g l = unseen (without (measures_of (g.S.Source.state l.fn.source).objects) (contains same_name l.hidden)) (stands_in l.names.keys) + length (drop (length l.notes.items) l.names.keys)
+decreases-queued g l = unseen (without (measures_of (g.S.Source.state l.fn.source).objects) (contains same_name l.hidden)) (is_listed l.names.keys) + length (drop (length l.notes.items) l.names.keys)

@@ -1,7 +1,7 @@
 use Rattle.std.proofs.Common.{◌≡◌, None, Some, Ok, refl, sym, ap, subst, ◌∙◌, rules}
 use Rattle.std.proofs.lemmas.Result.{err_from_is_err_and}
 use Rattle.git_reftx.specs.Judging.{refused_before, refused_after}
-use Rattle.git_reftx.specs.Sound.{AreNamed}
+use Rattle.git_reftx.specs.Sound.{AreRefNames}
 use Rattle.git_reftx.specs.Transaction.{changed}
 use Rattle.git_reftx.proofs.TxLemmas.{transacted_by, tells_bad, sound_after}
 use Rattle.git_reftx.proofs.transact.transact.Goals as goal
@@ -42,4 +42,4 @@ returns-clause-found g c =
 pub returns-clause-sound : goal.returns-clause-sound
 returns-clause-sound g c =
     let none : c.refused_after.result ≡ None = search rules in
-    sound_after c.in-Ok.new (subst AreNamed c.new.view_is c.new.invariant) (sym c.refused_after.ensures ∙ none)
+    sound_after c.in-Ok.new (subst AreRefNames c.new.view_is c.new.invariant) (sym c.refused_after.ensures ∙ none)

@@ -2,10 +2,10 @@ use Rattle.std.proofs.Common.{◌≡◌, Bool, ◌∙◌, subst, sym}
 use Rattle.std.specs.List.{AllByRecursion}
 use Rattle.std.specs.declared.cmp.Ordering.TheVariants.{Less}
 use Rattle.git_name.specs.Name.{name_cmp}
-use Rattle.git_tree.specs.Entry.{entry_of, entry_key, key}
+use Rattle.git_tree.specs.Entry.{plain_entry, entry_key, key}
 use Rattle.git_tree.specs.Tree.{Differ}
 use Rattle.git_tree.specs.Row.{entries_in}
-use Rattle.git_tree.specs.Tracks.{Steps, reached_by, last_key}
+use Rattle.git_tree.specs.Tracks.{FollowsLast, reached_by, last_key}
 use Rattle.git_tree.proofs.PlaceLemmas.{past, above_all, differ_all, not_above}
 use Rattle.git_tree.proofs.ListLemmas.{none_of_any, any_not_below}
 use Rattle.git_tree.proofs.place.place.Given as given
@@ -13,7 +13,7 @@ use Rattle.git_tree.proofs.place.place.Goals as goal
 use Rattle.git_tree.proofs.place.place.Goals.{else-may_repeat-via-then-may_repeat+else-stands_among-2, else-may_repeat-via-else-may_repeat}
 
 -- in order, by as many bytes as both have in common
-steps_of : (g : given.Over) (c : goal.Joined-else-may_repeat g) → Steps (reached_by c.args.last c.args.fronts.now) (entry_of c.args.entry) c.shared_len-shared.result
+steps_of : (g : given.Over) (c : goal.Joined-else-may_repeat g) → FollowsLast (reached_by c.args.last c.args.fronts.now) (plain_entry c.args.entry) c.shared_len-shared.result
 steps_of g c = record {
   is = c.requires.entry;
   order = subst (λ (t : Bool). name_cmp (last_key (reached_by c.args.last c.args.fronts.now)) (key t c.args.entry.file_name.now) ≡ Less) c.is_tree-is_tree.ensures (c.is_below-in_order.ensures.0 c.if-not-in_order.false);
@@ -27,7 +27,7 @@ returns-clause-steps g c = steps_of g c
 
 pub returns-clause-follows : goal.returns-clause-follows
 returns-clause-follows g c =
-    let e = entry_of c.args.entry in
+    let e = plain_entry c.args.entry in
     let old = reached_by c.args.last c.args.fronts.now in
     let front = entries_in c.args.before.now in
     let steps = steps_of g c in
@@ -43,7 +43,7 @@ returns-clause-follows g c =
 
 pub returns-then-not-in_order-clause-fault : goal.returns-then-not-in_order-clause-fault
 returns-then-not-in_order-clause-fault g c =
-    let e = entry_of c.args.entry in
+    let e = plain_entry c.args.entry in
     let old = reached_by c.args.last c.args.fronts.now in
     let front = entries_in c.args.before.now in
     let apart : AllByRecursion (λ a. Differ a e) front = rw c.if-stands_among.false at c.stands_among.ensures in

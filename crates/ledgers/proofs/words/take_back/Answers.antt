@@ -1,6 +1,6 @@
 use Rattle.std.proofs.Common.{◌≡◌, ◌&&◌, Bool, true, false, ap, refl, sym, ◌∙◌, arith}
 use Rattle.std.specs.FinMap.{from_entries}
-use Rattle.looks.specs.Places.{same_name}
+use Rattle.git_name.specs.Same.{same_name}
 use Rattle.catalogue.specs.Counted.{one_if}
 use Rattle.catalogue.proofs.PlaceLemmas.{own_name}
 use Rattle.ledgers.proofs.SettleLemmas.{due_settled}

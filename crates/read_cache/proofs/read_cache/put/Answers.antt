@@ -1,7 +1,7 @@
 use Rattle.std.proofs.Common.{inl, inr, ◌∙◌, ap}
 use Rattle.lru.specs.LruCache.{put_entries}
 use Rattle.git_name.specs.Object.{object_name}
-use Rattle.looks.specs.Places.{same_name}
+use Rattle.git_name.specs.Same.{same_name}
 use Rattle.read_cache.proofs.CacheLemmas.{whichever}
 use Rattle.read_cache.proofs.read_cache.put.Goals as goal
 

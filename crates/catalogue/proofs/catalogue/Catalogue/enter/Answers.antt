@@ -2,8 +2,9 @@ use Rattle.std.proofs.Common.{◌≡◌, ◌||◌, ◌∷◌, [], ◌∙◌, sym
 use Rattle.std.specs.Map.{keys_of}
 use Rattle.std.proofs.lemmas.List.{map-append}
 use Rattle.std.proofs.lemmas.Result.{on_ok_weaker}
-use Rattle.looks.specs.Growth.{GrowsBy}
-use Rattle.looks.specs.Places.{Places, same_name, is_listed}
+use Rattle.git_name.specs.Same.{is_listed, same_name}
+use Rattle.looks.specs.Growth.{GrowsAmong}
+use Rattle.looks.specs.Places.{Places}
 use Rattle.looks.proofs.GrowthLemmas.{grows_one, grows_same}
 use Rattle.catalogue.specs.Counted.{Counted, count_of, count_in, places_of}
 use Rattle.catalogue.proofs.PlaceLemmas.{whichever, listed_lookup, listed_there, listed_last, count_last}
@@ -31,7 +32,7 @@ returns-clause-grows c =
     let old = places_of inside in
     let entries = c.insert_into.new.holders.entries in
     let new : Places = record { names = keys_of entries; place = c.self.inside.place } in
-    subst (λ (s : Counted). GrowsBy (name ∷ []) (places_of s) new) c.self.view_is
-    (whichever (GrowsBy (name ∷ []) old new) c.insert_into.result c.insert_into.ensures.ok c.insert_into.ensures.err
+    subst (λ (s : Counted). GrowsAmong (name ∷ []) (places_of s) new) c.self.view_is
+    (whichever (GrowsAmong (name ∷ []) old new) c.insert_into.result c.insert_into.ensures.ok c.insert_into.ensures.err
     (λ is. grows_one name old new refl (ap keys_of is ∙ map-append (λ p. p.0) inside.entries ((name, 0) ∷ [])) (listed_lookup inside.entries name ∙ sym c.contains_key.ensures ∙ c.if-contains_key.false))
     (λ same. grows_same (name ∷ []) old new (λ i. record { names = keys_of (same i); place = c.self.inside.place })))

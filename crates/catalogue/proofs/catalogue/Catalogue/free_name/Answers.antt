@@ -2,7 +2,7 @@ use Rattle.std.proofs.Common.{◌≡◌, ◌<◌, inl, inr, [], List, ℕ, sym, 
 use Rattle.std.specs.Prelude.{nat_lt, if◌then◌else◌}
 use Rattle.std.specs.Map.{keys_of}
 use Rattle.catalogue.proofs.PlaceLemmas.{nothing_next, next_of, count_at, looked_is}
-use Rattle.catalogue.specs.Counted.{Counted, count_of, IsNext, places_of}
+use Rattle.catalogue.specs.Counted.{Counted, count_of, LooksNextAt, places_of}
 use Rattle.catalogue.proofs.catalogue.Catalogue.free_name.Goals as goal
 
 pub returns-in_default-clause-none : goal.returns-in_default-clause-none
@@ -16,7 +16,7 @@ returns-then-entry-gt0-clause-none c =
     let inside : Counted = record { entries = c.self.inside.holders.entries; place = c.self.inside.place } in
     let at = c.looked_place-at.ensures ∙ ap (λ n. if nat_lt inside.place n then inside.place else 0) c.len.ensures.len in
     let counted = count_at inside.entries c.looked_place-at.result c.in-Some.entry c.self.invariant.distinct (sym c.in-Some.ensures) in
-    inr (subst (λ (s : Counted). (name : List ℕ) × IsNext (places_of s) name × (0 < count_of s name)) c.self.view_is
+    inr (subst (λ (s : Counted). (name : List ℕ) × LooksNextAt (places_of s) name × (0 < count_of s name)) c.self.view_is
     (c.in-Some.entry.0, next_of inside c.looked_place-at.result c.in-Some.entry (sym c.in-Some.ensures) (looked_is inside c.looked_place-at.result at), subst (λ n. 0 < n) (sym counted) c.if-entry-gt0.true))
 
 pub returns-else-entry-gt0-clause-some : goal.returns-else-entry-gt0-clause-some
@@ -24,5 +24,5 @@ returns-else-entry-gt0-clause-some c =
     let inside : Counted = record { entries = c.self.inside.holders.entries; place = c.self.inside.place } in
     let at = c.looked_place-at.ensures ∙ ap (λ n. if nat_lt inside.place n then inside.place else 0) c.len.ensures.len in
     let counted = count_at inside.entries c.looked_place-at.result c.in-Some.entry c.self.invariant.distinct (sym c.in-Some.ensures) in
-    subst (λ (s : Counted). IsNext (places_of s) c.in-Some.entry.0 × (count_of s c.in-Some.entry.0 ≡ 0)) c.self.view_is
+    subst (λ (s : Counted). LooksNextAt (places_of s) c.in-Some.entry.0 × (count_of s c.in-Some.entry.0 ≡ 0)) c.self.view_is
     (next_of inside c.looked_place-at.result c.in-Some.entry (sym c.in-Some.ensures) (looked_is inside c.looked_place-at.result at), omega (arith, counted, c.if-entry-gt0.false))

@@ -1,7 +1,7 @@
 use Rattle.std.proofs.Common.{◌≡◌, ◌<◌, ℕ, List, Some, false, slice_get, take, ap, sym, subst, ◌∙◌, arith}
 use Rattle.std.specs.Map.{keys_of}
+use Rattle.git_name.specs.Same.{is_listed}
 use Rattle.catalogue.specs.Counted.{Counted, count_in, count_of, places_of}
-use Rattle.looks.specs.Places.{is_listed}
 use Rattle.catalogue.proofs.HeldLemmas.{name_at, none_before, same_one}
 use Rattle.catalogue.proofs.PlaceLemmas.{count_at}
 use Rattle.catalogue.proofs.catalogue.Catalogue.held_name.Goals as goal

@@ -1,8 +1,9 @@
 use Rattle.std.proofs.Common.{◌&&◌, not, slice_get, ◌∙◌, sym, ap, subst}
 use Rattle.std.specs.Map.{keys_of}
 use Rattle.std.specs.Prelude.{nat_lt, if◌then◌else◌}
-use Rattle.looks.specs.Places.{is_listed, looked_at, same_name}
-use Rattle.catalogue.specs.Counted.{Counted, places_of, count_of, IsNext}
+use Rattle.git_name.specs.Same.{is_listed, same_name}
+use Rattle.looks.specs.Places.{looked_at}
+use Rattle.catalogue.specs.Counted.{Counted, places_of, count_of, LooksNextAt}
 use Rattle.catalogue.proofs.PlaceLemmas.{entry_there, leaves, stays_within, looked_is, count_left, listed_left}
 use Rattle.catalogue.proofs.catalogue.Catalogue.leave.Goals as goal
 
@@ -10,7 +11,7 @@ pub returns-clause-counts : goal.returns-clause-counts
 returns-clause-counts c = λ q.
     let inside : Counted = record { entries = c.self.inside.holders.entries; place = c.self.inside.place } in
     let at = looked_is inside c.looked_place-at.result (c.looked_place-at.ensures ∙ ap (λ n. if nat_lt inside.place n then inside.place else 0) c.len.ensures.len) in
-    let next = subst (λ (s : Counted). IsNext (places_of s) c.args.name) (sym c.self.view_is) c.requires.next in
+    let next = subst (λ (s : Counted). LooksNextAt (places_of s) c.args.name) (sym c.self.view_is) c.requires.next in
     let there = entry_there inside.entries next.front next.back c.args.name next.whole in
     let here = ap (slice_get inside.entries) (at ∙ sym next.at) ∙ there.1 in
     count_left inside.entries c.take_out.new.holders.entries c.args.name q (ap (λ (s : Counted). count_of s c.args.name) c.self.view_is ∙ c.requires.free) ((c.take_out.ensures.updates (c.args.name, there.0) here).0 q)
@@ -20,7 +21,7 @@ pub returns-clause-listed : goal.returns-clause-listed
 returns-clause-listed c = λ q.
     let inside : Counted = record { entries = c.self.inside.holders.entries; place = c.self.inside.place } in
     let at = looked_is inside c.looked_place-at.result (c.looked_place-at.ensures ∙ ap (λ n. if nat_lt inside.place n then inside.place else 0) c.len.ensures.len) in
-    let next = subst (λ (s : Counted). IsNext (places_of s) c.args.name) (sym c.self.view_is) c.requires.next in
+    let next = subst (λ (s : Counted). LooksNextAt (places_of s) c.args.name) (sym c.self.view_is) c.requires.next in
     let there = entry_there inside.entries next.front next.back c.args.name next.whole in
     let here = ap (slice_get inside.entries) (at ∙ sym next.at) ∙ there.1 in
     listed_left inside.entries c.take_out.new.holders.entries c.args.name q ((c.take_out.ensures.updates (c.args.name, there.0) here).0 q)
@@ -40,7 +41,7 @@ pub invariant_of-self : goal.invariant_of-self
 invariant_of-self c =
     let inside : Counted = record { entries = c.self.inside.holders.entries; place = c.self.inside.place } in
     let at = looked_is inside c.looked_place-at.result (c.looked_place-at.ensures ∙ ap (λ n. if nat_lt inside.place n then inside.place else 0) c.len.ensures.len) in
-    let next = subst (λ (s : Counted). IsNext (places_of s) c.args.name) (sym c.self.view_is) c.requires.next in
+    let next = subst (λ (s : Counted). LooksNextAt (places_of s) c.args.name) (sym c.self.view_is) c.requires.next in
     let there = entry_there inside.entries next.front next.back c.args.name next.whole in
     let here = ap (slice_get inside.entries) (at ∙ sym next.at) ∙ there.1 in
     record {

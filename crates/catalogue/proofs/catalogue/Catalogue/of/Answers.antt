@@ -1,6 +1,6 @@
 use Rattle.std.proofs.Common.{◌∙◌}
 use Rattle.std.specs.Map.{keys_of}
-use Rattle.looks.specs.Places.{is_listed}
+use Rattle.git_name.specs.Same.{is_listed}
 use Rattle.catalogue.proofs.PlaceLemmas.{listed_next}
 use Rattle.catalogue.proofs.catalogue.Catalogue.of.Goals as goal
 

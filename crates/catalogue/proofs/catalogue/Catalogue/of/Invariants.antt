@@ -1,5 +1,5 @@
 use Rattle.std.proofs.Common.{◌≡◌, List, ℕ, take}
-use Rattle.looks.specs.Places.{is_listed}
+use Rattle.git_name.specs.Same.{is_listed}
 use Rattle.catalogue.specs.Counted.{places_of, count_of}
 use Rattle.catalogue.proofs.catalogue.Catalogue.of.Given as goal
 

@@ -1,6 +1,6 @@
 use Rattle.std.proofs.Common.{◌∙◌, sym, ap}
 use Rattle.std.specs.Map.{keys_of}
-use Rattle.looks.specs.Places.{is_listed}
+use Rattle.git_name.specs.Same.{is_listed}
 use Rattle.catalogue.specs.Counted.{Counted}
 use Rattle.catalogue.proofs.PlaceLemmas.{listed_lookup}
 use Rattle.catalogue.proofs.catalogue.Catalogue.raise.Goals as goal

@@ -2,7 +2,7 @@ use Rattle.std.proofs.Common.{◌≡◌, ◌<◌, ◌++◌, [], ◌∷◌, ap, i
 use Rattle.std.specs.List.{AllByRecursion, list_all}
 use Rattle.std.proofs.lemmas.Result.{IfOk-weaker}
 use Rattle.std.specs.Option.{IfSome}
-use Rattle.commit_graph.specs.Graph.{Rises, name_at, shown, stands}
+use Rattle.commit_graph.specs.Graph.{ParentsStandBefore, name_at, commits_shown, stands}
 use Rattle.commit_graph.specs.Links.{places_listed}
 use Rattle.commit_graph.proofs.GraphLemmas.{both_told, length_shown, put_or_left, put_weaker, rises_last, shown_more, stands_shown}
 use Rattle.commit_graph.proofs.graph.Graph.push.Goals as goal
@@ -13,9 +13,9 @@ invariant_of-self c =
     let links = c.in-Some.links in
     let within = subst (λ found. IfSome found (λ l. AllByRecursion (λ place. place < length c.args.self.now) (places_listed l))) c.in-Some.is c.in_ok-links.ensures.within in
     let inside = subst (λ n. AllByRecursion (λ place. place < n) (places_listed links)) (ap length (sym c.self.view_is) ∙ length_shown placed placed) within in
-    put_or_left (Rises 0 c.put_last.new.placed.entries) _ _ c.put_last.result c.put_last.ensures.put c.put_last.ensures.left c.put_last.ensures.err
-    (λ put. subst (Rises 0) (sym put) (rises_last placed c.args.name links c.self.invariant inside))
-    (λ left. subst (Rises 0) (sym left) c.self.invariant)
+    put_or_left (ParentsStandBefore 0 c.put_last.new.placed.entries) _ _ c.put_last.result c.put_last.ensures.put c.put_last.ensures.left c.put_last.ensures.err
+    (λ put. subst (ParentsStandBefore 0) (sym put) (rises_last placed c.args.name links c.self.invariant inside))
+    (λ left. subst (ParentsStandBefore 0) (sym left) c.self.invariant)
 
 pub returns-clause-pushed : goal.returns-clause-pushed
 returns-clause-pushed c =
@@ -24,7 +24,7 @@ returns-clause-pushed c =
     let within = subst (λ found. IfSome found (λ l. AllByRecursion (λ place. place < length c.args.self.now) (places_listed l))) c.in-Some.is c.in_ok-links.ensures.within in
     let inside = subst (λ n. AllByRecursion (λ place. place < n) (places_listed links)) (ap length (sym c.self.view_is) ∙ length_shown placed placed) within in
     let named = subst (λ found. IfSome found (λ l. map (name_at c.args.self.now) (places_listed l) ≡ c.args.parents.now)) c.in-Some.is c.in_ok-links.ensures.names in
-    put_weaker _ _ c.put_last.result (λ put. ap shown put ∙ shown_more placed c.args.name links c.args.parents.now c.self.invariant inside (subst (λ g. map (name_at g) (places_listed links) ≡ c.args.parents.now) (sym c.self.view_is) named)
+    put_weaker _ _ c.put_last.result (λ put. ap commits_shown put ∙ shown_more placed c.args.name links c.args.parents.now c.self.invariant inside (subst (λ g. map (name_at g) (places_listed links) ≡ c.args.parents.now) (sym c.self.view_is) named)
     ∙ ap (λ g. g ++ (c.args.name, c.args.parents.now) ∷ []) c.self.view_is) c.put_last.ensures.put
 
 pub returns-clause-told : goal.returns-clause-told

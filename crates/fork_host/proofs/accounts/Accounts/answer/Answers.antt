@@ -7,7 +7,7 @@ use Rattle.fork_request.specs.declared.refusal.Refusal.TheVariants.{UnknownTenan
 use Rattle.fork_request.specs.declared.reply.Reply.TheVariants.{Refused}
 use Rattle.fork_model.specs.Runs.{Asks}
 use Rattle.fork_model.specs.World.{Steps}
-use Rattle.looks.specs.Growth.{GrowsBy}
+use Rattle.looks.specs.Growth.{GrowsAmong}
 use Rattle.looks.proofs.GrowthLemmas.{grows_none}
 use Rattle.fork_host.specs.Bounds.{IsBounded}
 use Rattle.fork_host.specs.Safe.{TellsSeen}
@@ -93,4 +93,4 @@ pub returns-clause-grows : goal.returns-clause-grows
 returns-clause-grows g c =
     let here = found_in c.args.self.now c.self.inside.tenants.entries c.args.name.now (Some c.in-Some.tenant.now) c.self.view_is c.in-Some.ensures.value in
     let old = state_of c.args.self.now c.args.vault.now in
-    subst (λ sent. GrowsBy (sent_names sent) c.args.vault.now.places c.answer_from.new.vault.places) (sym (sent_here old c.args.name.now (ask_of c.args.request) c.in-Some.tenant.now here)) c.answer_from.ensures.grows
+    subst (λ sent. GrowsAmong (sent_names sent) c.args.vault.now.places c.answer_from.new.vault.places) (sym (sent_here old c.args.name.now (ask_of c.args.request) c.in-Some.tenant.now here)) c.answer_from.ensures.grows

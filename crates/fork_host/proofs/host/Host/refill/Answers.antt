@@ -6,7 +6,7 @@ use Rattle.fork_model.specs.Sound.{IsOrderly, IsRight}
 use Rattle.std.specs.Option.{option_map}
 use Rattle.fork_model.specs.Uploads.{upload_among}
 use Rattle.fork_host.specs.Adding.{new_view}
-use Rattle.fork_host.specs.Own.{Changes, Settles, staged_in, visible_in}
+use Rattle.fork_host.specs.Own.{Changes, SeesOnly, staged_in, visible_in}
 use Rattle.fork_host.specs.Read.{AreRead}
 use Rattle.fork_host.specs.Refilled.{IsRefilled, IsRefilledIn}
 use Rattle.fork_host.specs.Pushed.{view_of}
@@ -82,7 +82,7 @@ invariant_of-self-in-Err-see_in g c =
     let new = state_of c.self.inside.accounts c.see_in.new.vault in
     let fresh = ap (λ (s : HostState). map.get (world_of s) t) c.self.view_is ∙ c.requires.fresh in
     let found = account_shown old t (new_view limit) fresh in
-    let changes = subst (λ n. Changes (Settles n map.empty) old.vault new.vault) c.name-name.ensures.name c.in-Err.ensures.err in
+    let changes = subst (λ n. Changes (SeesOnly n map.empty) old.vault new.vault) c.name-name.ensures.name c.in-Err.ensures.err in
     let seen : visible_in new.vault t ≡ map.empty = none_of (visible_in new.vault t) (seen_measures old.vault new.vault t map.empty changes) in
     let none = none_among (staged_in old.vault t) found.0.upload (ap (λ v. v.upload) found.2) in
     let told = ap (λ v. v.repositories) found.2 in

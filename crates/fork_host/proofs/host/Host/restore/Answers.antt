@@ -11,7 +11,7 @@ use Rattle.state_text.proofs.BehindLemmas.{map_behind}
 use Rattle.fork_model.specs.declared.limits.TheConstants.{MAX_TENANTS}
 use Rattle.fork_host.specs.Refilled.{IsWhy, with_judged}
 use Rattle.fork_host.specs.Restored.{IsShownAgain}
-use Rattle.fork_host.specs.Restored.IsRefused.{WantsMemory}
+use Rattle.fork_host.specs.Restored.AreRefused.{WantsMemory}
 use Rattle.fork_host.specs.Shown.{HostState, Trusted, world_of}
 use Rattle.fork_host.specs.declared.later.Later.{Later}
 use Rattle.fork_host.proofs.GatherLemmas.{next_by, parts_at, taken_more}

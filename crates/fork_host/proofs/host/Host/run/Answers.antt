@@ -3,7 +3,7 @@ use Rattle.std.proofs.lemmas.List.{take_more, take_all, map-append}
 use Rattle.fork_request.specs.declared.reply.Reply.{Reply}
 use Rattle.fork_ledger.specs.Swept.{IsAccounted}
 use Rattle.fork_host.specs.declared.step.HostStep.{HostStep}
-use Rattle.fork_host.specs.Given.{event_of, events_of}
+use Rattle.fork_host.specs.Given.{event_given, events_given}
 use Rattle.fork_host.specs.Shown.{HostState, world_of}
 use Rattle.fork_host.specs.Step.{IsRun, IsStep}
 use Rattle.fork_host.proofs.StepLemmas.{run_explained, run_honest, run_more}
@@ -11,14 +11,14 @@ use Rattle.fork_host.proofs.SweptLemmas.{are_swept}
 use Rattle.fork_host.proofs.host.Host.run.Goals as goal
 
 -- the steps up to i, and the one at i
-taken : (steps : List HostStep) (i : ℕ) (step : HostStep) → i < length steps → step ≡ get_or steps i step → events_of (take (i + 1) steps) ≡ events_of (take i steps) ++ event_of step ∷ []
+taken : (steps : List HostStep) (i : ℕ) (step : HostStep) → i < length steps → step ≡ get_or steps i step → events_given (take (i + 1) steps) ≡ events_given (take i steps) ++ event_given step ∷ []
 taken steps i step lt is =
-    ap events_of (take_more steps i step lt) ∙ (map-append event_of (take i steps) _ ∙ ap (λ (x : HostStep). events_of (take i steps) ++ event_of x ∷ []) (sym is))
+    ap events_given (take_more steps i step lt) ∙ (map-append event_given (take i steps) _ ∙ ap (λ (x : HostStep). events_given (take i steps) ++ event_given x ∷ []) (sym is))
 
 -- the run goes on by it
 turn : (old mid new : HostState) (steps : List HostStep) (i : ℕ) (step : HostStep) (replies more : List Reply) (reply : Reply) → i < length steps → step ≡ get_or steps i step → more ≡ replies ++ reply ∷ []
-    → IsRun old (events_of (take i steps)) replies mid → IsStep mid (event_of step) reply new → IsRun old (events_of (take (i + 1) steps)) more new
-turn old mid new steps i step replies more reply lt is grown ran next = rw (taken steps i step lt is, grown) (run_more old mid new (events_of (take i steps)) replies (event_of step) reply ran next)
+    → IsRun old (events_given (take i steps)) replies mid → IsStep mid (event_given step) reply new → IsRun old (events_given (take (i + 1) steps)) more new
+turn old mid new steps i step replies more reply lt is grown ran next = rw (taken steps i step lt is, grown) (run_more old mid new (events_given (take i steps)) replies (event_given step) reply ran next)
 
 pub loop-step-preserved : goal.loop-step-preserved
 loop-step-preserved g c =
@@ -26,13 +26,13 @@ loop-step-preserved g c =
     record {
       ran = turn c.args.self.now c.loop-step.self c.step-reply.new.self c.args.steps.now c.loop-step.step-index c.step-item.result c.loop-step.replies.items c.push_reserved.new.self.items c.step-reply.result c.loop-step-test.true c.step-item.is c.push_reserved.ensures.items so_far.ran c.step-reply.ensures;
       orderly = c.step-reply.ensures.whole.orderly;
-      right = λ trusted. c.step-reply.ensures.whole.right (c.step-reply.ensures.honest ∙ run_honest c.args.self.now c.loop-step.self (events_of (take c.loop-step.step-index c.args.steps.now)) c.loop-step.replies.items so_far.ran ∙ trusted);
+      right = λ trusted. c.step-reply.ensures.whole.right (c.step-reply.ensures.honest ∙ run_honest c.args.self.now c.loop-step.self (events_given (take c.loop-step.step-index c.args.steps.now)) c.loop-step.replies.items so_far.ran ∙ trusted);
       told = omega arith;
       room = omega arith;
     }
 
 -- after the loop the run has all the steps
-all : (old new : HostState) (steps : List HostStep) (i : ℕ) (replies : List Reply) → length steps ≤ i → IsRun old (events_of (take i steps)) replies new → IsRun old (events_of steps) replies new
+all : (old new : HostState) (steps : List HostStep) (i : ℕ) (replies : List Reply) → length steps ≤ i → IsRun old (events_given (take i steps)) replies new → IsRun old (events_given steps) replies new
 all old new steps i replies le ran = rw (take_all i steps le) at ran
 
 pub returns-clause-ran : goal.returns-clause-ran
@@ -43,7 +43,7 @@ returns-clause-sharp g c trusted slices are done enough =
     let old = c.args.self.now in
     let new = c.loop-step.self in
     let run = all old new c.args.steps.now c.loop-step.step-index c.loop-step.replies.items (omega arith) c.loop-step.invariant.ran in
-    let honest = run_honest old new (events_of c.args.steps.now) c.loop-step.replies.items run in
+    let honest = run_honest old new (events_given c.args.steps.now) c.loop-step.replies.items run in
     let swept = are_swept slices old new c.loop-step.replies.items trusted (subst (λ events. IsRun old events c.loop-step.replies.items new) are run) done in
     c.sharp_slices.ensures slices old.vault new.vault swept (subst (λ (s : HostState). s.vault.places.place ≤ length s.vault.places.names) c.self.view_is c.invariant-before.ensures.place) enough
     (subst (λ (s : HostState). IsAccounted s.vault) c.self-2.view_is (c.invariant-behind.ensures.accounted (ap (λ (s : HostState). s.vault.honest) c.self-2.view_is ∙ honest ∙ trusted)))
@@ -53,18 +53,18 @@ returns-clause-private_replies g c trusted tenant view first fine =
     let old = c.args.self.now in
     let new = c.loop-step.self in
     let run = all old new c.args.steps.now c.loop-step.step-index c.loop-step.replies.items (omega arith) c.loop-step.invariant.ran in
-    c.a_run_is_private.ensures.replies tenant (world_of old) (world_of new) (events_of c.args.steps.now) c.loop-step.replies.items view (run_explained old new (events_of c.args.steps.now) c.loop-step.replies.items run trusted) fine first
+    c.a_run_is_private.ensures.replies tenant (world_of old) (world_of new) (events_given c.args.steps.now) c.loop-step.replies.items view (run_explained old new (events_given c.args.steps.now) c.loop-step.replies.items run trusted) fine first
 
 pub returns-clause-private_view : goal.returns-clause-private_view
 returns-clause-private_view g c trusted tenant view first fine =
     let old = c.args.self.now in
     let new = c.loop-step.self in
     let run = all old new c.args.steps.now c.loop-step.step-index c.loop-step.replies.items (omega arith) c.loop-step.invariant.ran in
-    c.a_run_is_private.ensures.view tenant (world_of old) (world_of new) (events_of c.args.steps.now) c.loop-step.replies.items view (run_explained old new (events_of c.args.steps.now) c.loop-step.replies.items run trusted) fine first
+    c.a_run_is_private.ensures.view tenant (world_of old) (world_of new) (events_given c.args.steps.now) c.loop-step.replies.items view (run_explained old new (events_given c.args.steps.now) c.loop-step.replies.items run trusted) fine first
 
 pub returns-clause-provenance : goal.returns-clause-provenance
 returns-clause-provenance g c trusted tenant view last name object first end seen =
     let old = c.args.self.now in
     let new = c.loop-step.self in
     let run = all old new c.args.steps.now c.loop-step.step-index c.loop-step.replies.items (omega arith) c.loop-step.invariant.ran in
-    c.what_runs_show_was_seen_or_sent.ensures.run tenant (world_of old) (world_of new) (events_of c.args.steps.now) c.loop-step.replies.items view last name object (run_explained old new (events_of c.args.steps.now) c.loop-step.replies.items run trusted) first end seen
+    c.what_runs_show_was_seen_or_sent.ensures.run tenant (world_of old) (world_of new) (events_given c.args.steps.now) c.loop-step.replies.items view last name object (run_explained old new (events_given c.args.steps.now) c.loop-step.replies.items run trusted) first end seen

@@ -4,7 +4,7 @@ use Rattle.fork_request.specs.declared.reply.Reply.{Reply}
 use Rattle.fork_model.specs.Answer.{merge_base_answer}
 use Rattle.fork_query.specs.MergeBase.{bases_told}
 use Rattle.fork_model.specs.View.{View}
-use Rattle.fork_query.specs.Told.{fault_told}
+use Rattle.fork_query.specs.Told.{query_fault}
 use Rattle.fork_host.specs.Handle.{shown_by, visible_by}
 use Rattle.fork_host.specs.Rows.{Yields}
 use Rattle.fork_host.specs.Shown.{Account, shown}
@@ -29,4 +29,4 @@ pub returns-clause-safe : goal.returns-clause-safe
 returns-clause-safe g c = query_safe (λ text. text.items) c.args.self.now c.args.own.now c.merge_base.new.source c.merge_base.result c.told.result c.merge_base.ensures.asked c.told.ensures
 
 pub returns-clause-own : goal.returns-clause-own
-returns-clause-own g c = asked_uses c.args.own.now c.merge_base.new.source (fault_told c.merge_base.result) c.merge_base.ensures.asked
+returns-clause-own g c = asked_uses c.args.own.now c.merge_base.new.source (query_fault c.merge_base.result) c.merge_base.ensures.asked

@@ -4,7 +4,7 @@ use Rattle.push_stream.specs.Reading.{Reading}
 use Rattle.push_stream.specs.Stream.{sent_in, stream_of}
 use Rattle.push_stream.specs.Upload.{continued}
 use Rattle.fork_model.specs.Answer.{open_upload, part_answer}
-use Rattle.looks.specs.Growth.{GrowsBy}
+use Rattle.looks.specs.Growth.{GrowsAmong}
 use Rattle.fork_host.specs.Bounds.{IsBounded}
 use Rattle.fork_host.specs.Handle.{staged_by}
 use Rattle.fork_host.specs.Rows.{Yields}
@@ -164,7 +164,7 @@ returns-in-Some-clause-own g c =
     record {
       same = c.feed.ensures.same;
       own = c.feed.ensures.own;
-      grows = subst (λ (a : Account). GrowsBy (sent_names (sent_in (continued (open_upload (shown a own.vault.now own.tenant.now).upload) c.args.body.now).stream)) own.vault.now.places new.places) c.self.view_is
+      grows = subst (λ (a : Account). GrowsAmong (sent_names (sent_in (continued (open_upload (shown a own.vault.now own.tenant.now).upload) c.args.body.now).stream)) own.vault.now.places new.places) c.self.view_is
           (part_grows (staged_by own) waits c.in-Some.upload.brief c.args.body.now own.vault.now.places new.places (ap (option_map (λ upload. upload.brief)) c.in-Some.is) c.feed.ensures.grows);
     }
 
@@ -176,7 +176,7 @@ returns-then-not-is_done-clause-own g c =
     record {
       same = c.feed-reply.ensures.same;
       own = c.feed-reply.ensures.own;
-      grows = subst (λ (a : Account). GrowsBy (sent_names (sent_in (continued (open_upload (shown a own.vault.now own.tenant.now).upload) c.args.body.now).stream)) own.vault.now.places new.places) c.self.view_is
+      grows = subst (λ (a : Account). GrowsAmong (sent_names (sent_in (continued (open_upload (shown a own.vault.now own.tenant.now).upload) c.args.body.now).stream)) own.vault.now.places new.places) c.self.view_is
           (begun_grows (staged_by own) waits c.new-upload.result.brief c.args.body.now own.vault.now.places new.places (ap (option_map (λ upload. upload.brief)) c.in_default.is) c.new-upload.ensures.brief c.feed-reply.ensures.grows);
     }
 
@@ -188,6 +188,6 @@ returns-clause-own g c =
     record {
       same = c.feed-reply.ensures.same;
       own = c.feed-reply.ensures.own;
-      grows = subst (λ (a : Account). GrowsBy (sent_names (sent_in (continued (open_upload (shown a own.vault.now own.tenant.now).upload) c.args.body.now).stream)) own.vault.now.places new.places) c.self.view_is
+      grows = subst (λ (a : Account). GrowsAmong (sent_names (sent_in (continued (open_upload (shown a own.vault.now own.tenant.now).upload) c.args.body.now).stream)) own.vault.now.places new.places) c.self.view_is
           (begun_grows (staged_by own) waits c.new-upload.result.brief c.args.body.now own.vault.now.places new.places (ap (option_map (λ upload. upload.brief)) c.in_default.is) c.new-upload.ensures.brief c.feed-reply.ensures.grows);
     }

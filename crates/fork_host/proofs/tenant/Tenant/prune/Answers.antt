@@ -9,7 +9,7 @@ use Rattle.fork_host.specs.Bounds.{IsBounded}
 use Rattle.fork_host.specs.Handle.{shown_by, staged_by, visible_by}
 use Rattle.fork_host.specs.Own.{staged_in, visible_in}
 use Rattle.fork_host.specs.Pushed.{view_of}
-use Rattle.fork_host.specs.Rows.{IsKept, IsPruned, Yields}
+use Rattle.fork_host.specs.Rows.{KeepsObjects, IsPruned, Yields}
 use Rattle.fork_host.specs.Shown.{Account, shown}
 use Rattle.fork_host.proofs.RowLemmas.{yields_kept}
 use Rattle.fork_host.proofs.SafeLemmas.{safe_pruned, same_count}
@@ -38,5 +38,5 @@ returns-clause-row g c honest =
     λ i. view_of account.repositories objects (option_map (upload_among (sym (c.keep_reached.ensures.own.staged.exact honest) i)) account.upload) account.limit in
     subst (λ (v : View). Yields (prune_answer view) view c.keep_reached.result v) stays
     (yields_kept account.repositories seen (retain_keys seen (is_reached (linked_names seen) seen (targets_of account.repositories))) objects view.upload account.limit c.keep_reached.result
-    (subst (λ roots. IsKept (retain_keys seen (is_reached (linked_names seen) seen roots)) seen c.keep_reached.result objects)
+    (subst (λ roots. KeepsObjects (retain_keys seen (is_reached (linked_names seen) seen roots)) seen c.keep_reached.result objects)
     (c.as_slice.ensures.value ∙ c.in-Ok.ensures ∙ ap (λ (a : Account). targets_of a.repositories) c.self.view_is) (c.keep_reached.ensures.kept honest)))

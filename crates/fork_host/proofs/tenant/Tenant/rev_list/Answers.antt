@@ -5,7 +5,7 @@ use Rattle.fork_request.specs.declared.reply.Reply.{Reply}
 use Rattle.fork_model.specs.Answer.{rev_list_answer}
 use Rattle.fork_query.specs.RevList.{revisions_told}
 use Rattle.fork_model.specs.View.{View}
-use Rattle.fork_query.specs.Told.{fault_told}
+use Rattle.fork_query.specs.Told.{query_fault}
 use Rattle.fork_host.specs.Handle.{shown_by, visible_by}
 use Rattle.fork_host.specs.Rows.{Yields}
 use Rattle.fork_host.specs.Shown.{Account, shown}
@@ -30,4 +30,4 @@ pub returns-clause-safe : goal.returns-clause-safe
 returns-clause-safe g c = query_safe (λ text. text.items) c.args.self.now c.args.own.now c.rev_list.new.source c.rev_list.result c.told.result c.rev_list.ensures.asked c.told.ensures
 
 pub returns-clause-own : goal.returns-clause-own
-returns-clause-own g c = asked_uses c.args.own.now c.rev_list.new.source (fault_told c.rev_list.result) c.rev_list.ensures.asked
+returns-clause-own g c = asked_uses c.args.own.now c.rev_list.new.source (query_fault c.rev_list.result) c.rev_list.ensures.asked

@@ -1,7 +1,8 @@
 use Rattle.std.proofs.Common.{ap, is_some, sym, subst, ◌∙◌}
 use Rattle.std.specs.FinMap as map
 use Rattle.std.proofs.lemmas.Result.{IfOk-weaker}
-use Rattle.fork_ledger.specs.Store.{CountsFault, fault_in}
+use Rattle.git_name.specs.Count.{fault_in}
+use Rattle.fork_ledger.specs.Store.{CountsFault}
 use Rattle.fork_ledger.specs.Tenants.{private_of, shape_of}
 use Rattle.fork_ledger.proofs.ShownShapes.{shape_any}
 use Rattle.fork_ledger.proofs.StoreLemmas.{undamaged_in}

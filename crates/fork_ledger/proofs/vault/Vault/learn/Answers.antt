@@ -1,5 +1,6 @@
 use Rattle.std.proofs.Common.{ap, subst, ◌∙◌}
-use Rattle.fork_ledger.specs.Store.{CountsFault, fault_in}
+use Rattle.git_name.specs.Count.{fault_in}
+use Rattle.fork_ledger.specs.Store.{CountsFault}
 use Rattle.fork_ledger.specs.Tenants.{shape_of}
 use Rattle.fork_ledger.proofs.ShownShapes.{shape_any}
 use Rattle.fork_ledger.proofs.StoreLemmas.{undamaged_in}

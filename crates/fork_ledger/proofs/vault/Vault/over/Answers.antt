@@ -2,7 +2,7 @@ use Rattle.std.proofs.Common.{ap, sym, subst, ◌∙◌}
 use Rattle.std.specs.FinMap as map
 use Rattle.git_name.proofs.MapLemmas.{map_values_empty}
 use Rattle.git_name.proofs.Names.{name_total, name_exact}
-use Rattle.looks.specs.Places.{is_listed}
+use Rattle.git_name.specs.Same.{is_listed}
 use Rattle.catalogue.specs.Counted.{Counted, places_of}
 use Rattle.fork_ledger.specs.Shown.{own_of, tenants_of}
 use Rattle.fork_ledger.specs.Store.{IsStored}

@@ -1,6 +1,6 @@
 use Rattle.std.proofs.Common.{◌∷◌, [], subst}
 use Rattle.std.proofs.lemmas.Result.{on_ok_weaker}
-use Rattle.looks.specs.Growth.{GrowsBy}
+use Rattle.looks.specs.Growth.{GrowsAmong}
 use Rattle.catalogue.specs.Counted.{places_of}
 use Rattle.fork_ledger.specs.Shown.{tenants_of}
 use Rattle.fork_ledger.specs.Store.{Recalls}
@@ -31,4 +31,4 @@ returns-clause-recalls g c =
     (recalled_tenants t c.args.name files old new honest c.args.kind c.args.length told.0 told.1)) c.recall_known.ensures.ok
 
 pub returns-clause-grows : goal.returns-clause-grows
-returns-clause-grows g c = subst (λ (s : VaultState). GrowsBy (c.args.name ∷ []) s.places (places_of c.recall_known.new.holdings.catalogue)) c.self.view_is c.recall_known.ensures.grows
+returns-clause-grows g c = subst (λ (s : VaultState). GrowsAmong (c.args.name ∷ []) s.places (places_of c.recall_known.new.holdings.catalogue)) c.self.view_is c.recall_known.ensures.grows

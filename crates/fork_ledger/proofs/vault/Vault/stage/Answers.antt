@@ -1,12 +1,13 @@
 use Rattle.std.proofs.Common.{◌∷◌, [], ap, sym, subst, ◌∙◌}
 use Rattle.std.proofs.lemmas.Result.{on_err_weaker, on_ok_weaker}
 use Rattle.git_name.specs.Object.{object_name}
-use Rattle.looks.specs.Growth.{GrowsBy}
+use Rattle.git_name.specs.Count.{fault_in}
+use Rattle.looks.specs.Growth.{GrowsAmong}
 use Rattle.catalogue.specs.Counted.{places_of}
 use Rattle.fork_ledger.specs.Kept.{IsExact}
 use Rattle.fork_ledger.specs.Private.{with_staged}
 use Rattle.fork_ledger.specs.Shown.{tenants_of}
-use Rattle.fork_ledger.specs.Store.{CountsFault, IsStored, fault_in}
+use Rattle.fork_ledger.specs.Store.{CountsFault, IsStored}
 use Rattle.fork_ledger.specs.Tenants.{VaultState, at_tenant, shape_of}
 use Rattle.fork_ledger.proofs.KeepingLemmas.{stored_keeps, tenants_keep}
 use Rattle.fork_ledger.proofs.LinkLemmas.{linked_still}
@@ -81,4 +82,4 @@ returns-clause-store g c = record {
 }
 
 pub returns-clause-grows : goal.returns-clause-grows
-returns-clause-grows g c = subst (λ (s : VaultState). GrowsBy (object_name c.args.sealed ∷ []) s.places (places_of c.stage_whole.new.holdings.catalogue)) c.self.view_is c.stage_whole.ensures.grows
+returns-clause-grows g c = subst (λ (s : VaultState). GrowsAmong (object_name c.args.sealed ∷ []) s.places (places_of c.stage_whole.new.holdings.catalogue)) c.self.view_is c.stage_whole.ensures.grows

@@ -2,7 +2,8 @@ use Rattle.std.proofs.Common.{ap, map, sym, subst, ◌∙◌}
 use Rattle.std.specs.FinMap.{contains_key}
 use Rattle.std.proofs.lemmas.Result.{on_err_weaker, on_ok_weaker}
 use Rattle.git_name.specs.Object.{object_name}
-use Rattle.looks.specs.Growth.{GrowsBy}
+use Rattle.git_name.specs.Count.{fault_in}
+use Rattle.looks.specs.Growth.{GrowsAmong}
 use Rattle.catalogue.specs.Counted.{places_of}
 use Rattle.ledgers.specs.AllStaged.{all_staged_words}
 use Rattle.ledgers.specs.Ledgers.{at_ledger}
@@ -10,7 +11,7 @@ use Rattle.ledgers.specs.Told.{entry_of}
 use Rattle.fork_ledger.specs.AllStaged.{with_all_staged}
 use Rattle.fork_ledger.specs.Kept.{IsExact}
 use Rattle.fork_ledger.specs.Shown.{tenants_of}
-use Rattle.fork_ledger.specs.Store.{CountsFault, IsStored, fault_in}
+use Rattle.fork_ledger.specs.Store.{CountsFault, IsStored}
 use Rattle.fork_ledger.specs.Tenants.{VaultState, at_tenant, shape_of}
 use Rattle.fork_ledger.proofs.AllStagedLemmas.{all_staged_shape, all_staged_stored, all_staged_tenants, keeps_whole, none_damaged}
 use Rattle.fork_ledger.proofs.CameLemmas.{all_came}
@@ -112,4 +113,4 @@ returns-clause-store g c = record {
 }
 
 pub returns-clause-grows : goal.returns-clause-grows
-returns-clause-grows g c = subst (λ (s : VaultState). GrowsBy (map object_name c.args.objects.items) s.places (places_of c.stage_all_whole.new.holdings.catalogue)) c.self.view_is c.stage_all_whole.ensures.grows
+returns-clause-grows g c = subst (λ (s : VaultState). GrowsAmong (map object_name c.args.objects.items) s.places (places_of c.stage_all_whole.new.holdings.catalogue)) c.self.view_is c.stage_all_whole.ensures.grows

@@ -1,7 +1,7 @@
 use Rattle.std.proofs.Common.{◌≡◌, ◌+◌, ◌-◌, ◌<◌, ◌≤◌, ◌++◌, [], ◌∷◌, true, false, append-nil, drop, length, length-append, map, refl, replicate, rules, subst, sym, take, ◌∙◌, ap, arith}
 use Rattle.std.proofs.lemmas.List.{length-map, map-append}
 use Rattle.fork_reach.specs.History.{noted_parents, notes_under}
-use Rattle.fork_reach.specs.Marks.{Fits, SeesPlaces, is_marked, name_at}
+use Rattle.fork_reach.specs.Marks.{Fits, SeesPlaces, is_marked, listed_name}
 use Rattle.fork_reach.specs.Seeing.{unseen}
 use Rattle.fork_reach.proofs.MarkLemmas.{front_fits, last_fits, lent_back, none_marked, parents_here}
 use Rattle.fork_reach.proofs.WalkLemmas.{Walks, walks_begin, walks_end, walks_on}
@@ -19,9 +19,9 @@ waiting-init c =
     let fits = c.in-Ok.ensures.fits in
     let back : take first.len (now ++ drop (length now) first.items) ≡ now = lent_back now _ first.len (search rules) in
     record {
-      walks = subst (λ ms. Walks (noted_parents notes) notes (c.args.commit ∷ []) true (is_marked names ms) (map (name_at names) waits)) (sym back)
-          (walks_begin (noted_parents notes) notes (λ _. false) (c.args.commit ∷ []) true (is_marked names c.deref_mut.result.now) (map (name_at names) c.new-waiting.result.items) (is_marked names now) (map (name_at names) waits)
-          (λ honest from is. absurd (cc)) (λ name is. (let no : false ≡ true = sym (none_marked names name) ∙ ap (λ ms. is_marked names ms name) (sym unset) ∙ is in cc)) (ap (map (name_at names)) c.new-waiting.ensures.items) c.in-Ok.ensures.sees);
+      walks = subst (λ ms. Walks (noted_parents notes) notes (c.args.commit ∷ []) true (is_marked names ms) (map (listed_name names) waits)) (sym back)
+          (walks_begin (noted_parents notes) notes (λ _. false) (c.args.commit ∷ []) true (is_marked names c.deref_mut.result.now) (map (listed_name names) c.new-waiting.result.items) (is_marked names now) (map (listed_name names) waits)
+          (λ honest from is. absurd (cc)) (λ name is. (let no : false ≡ true = sym (none_marked names name) ∙ ap (λ ms. is_marked names ms name) (sym unset) ∙ is in cc)) (ap (map (listed_name names)) c.new-waiting.ensures.items) c.in-Ok.ensures.sees);
       fits = subst (λ ms. Fits names noted ms waits) (sym back) fits;
     }
 
@@ -43,10 +43,10 @@ waiting-smaller c =
     let now_waits = c.mark_all.new.waiting.items in
     let fits = c.in-Ok-mark_all.ensures.fits in
     let back : take first.len (now ++ drop (length now) first.items) ≡ now = lent_back now _ first.len (search rules) in
-    let less = subst (λ ms. unseen notes (is_marked names now) + length (map (name_at names) now_waits) ≤ unseen notes (is_marked names ms) + length (map (name_at names) rest)) c.deref_mut-in-Some.ensures.value c.in-Ok-mark_all.ensures.sees.less in
+    let less = subst (λ ms. unseen notes (is_marked names now) + length (map (listed_name names) now_waits) ≤ unseen notes (is_marked names ms) + length (map (listed_name names) rest)) c.deref_mut-in-Some.ensures.value c.in-Ok-mark_all.ensures.sees.less in
     let longer : length waits ≡ length rest + 1 = ap length c.in-Some.ensures.items ∙ length-append rest (c.in-Some.at ∷ []) in
     subst (λ ms. unseen notes (is_marked names ms) + length now_waits < unseen notes (is_marked names first.items) + length waits) (sym back)
-    (omega (arith, length-map now_waits (name_at names), length-map rest (name_at names)))
+    (omega (arith, length-map now_waits (listed_name names), length-map rest (listed_name names)))
 
 pub waiting-preserved : goal.waiting-preserved
 waiting-preserved c =
@@ -64,9 +64,9 @@ waiting-preserved c =
     let fits = told.fits in
     let back : take first.len (now ++ drop (length now) first.items) ≡ now = lent_back now _ first.len (search rules) in
     record {
-      walks = subst (λ ms. Walks (noted_parents notes) notes (c.args.commit ∷ []) true (is_marked names ms) (map (name_at names) now_waits)) (sym back)
-          (walks_on (noted_parents notes) notes (λ _. false) (c.args.commit ∷ []) true (is_marked names first.items) (map (name_at names) c.waiting.waiting.items) (map (name_at names) rest) (name_at names at) c.parents.result.now (is_marked names now) (map (name_at names) now_waits)
-          (λ honest from is. absurd (cc)) (ap (map (name_at names)) c.in-Some.ensures.items ∙ map-append (name_at names) rest (at ∷ [])) before.walks
+      walks = subst (λ ms. Walks (noted_parents notes) notes (c.args.commit ∷ []) true (is_marked names ms) (map (listed_name names) now_waits)) (sym back)
+          (walks_on (noted_parents notes) notes (λ _. false) (c.args.commit ∷ []) true (is_marked names first.items) (map (listed_name names) c.waiting.waiting.items) (map (listed_name names) rest) (listed_name names at) c.parents.result.now (is_marked names now) (map (listed_name names) now_waits)
+          (λ honest from is. absurd (cc)) (ap (map (listed_name names)) c.in-Some.ensures.items ∙ map-append (listed_name names) rest (at ∷ [])) before.walks
           (λ honest. c.parents.ensures ∙ sym (parents_here names noted at c.len.ensures.unique c.requires inside)) told.sees);
       fits = subst (λ ms. Fits names noted ms now_waits) (sym back) fits;
     }
@@ -78,4 +78,4 @@ returns-clause-marked c = λ name.
     let waits = c.waiting.waiting.items in
     let told = c.in_default-pop.ensures in
     let none : waits ≡ [] = told.items ∙ append-nil c.pop.new.self.items ∙ told.rest ∙ ap (λ n. take (n - 1) waits) told.cases.0 in
-    walks_end (noted_parents notes) notes (c.args.commit ∷ []) true (is_marked names c.waiting.marks.items) (map (name_at names) waits) (ap (map (name_at names)) none) c.waiting.invariant.walks refl name
+    walks_end (noted_parents notes) notes (c.args.commit ∷ []) true (is_marked names c.waiting.marks.items) (map (listed_name names) waits) (ap (map (listed_name names)) none) c.waiting.invariant.walks refl name

@@ -1,6 +1,6 @@
 use Rattle.std.proofs.Common.{◌+◌, length, map, true}
 use Rattle.fork_reach.specs.History.{noted_parents, notes_under}
-use Rattle.fork_reach.specs.Marks.{Fits, is_marked, name_at}
+use Rattle.fork_reach.specs.Marks.{Fits, is_marked, listed_name}
 use Rattle.fork_reach.specs.Seeing.{unseen}
 use Rattle.fork_reach.proofs.WalkLemmas.{Walks}
 use Rattle.std.proofs.Common.{[], ◌∷◌}
@@ -12,7 +12,7 @@ invariant-waiting l =
     let names = l.self.names.now.keys in
     let notes = notes_under names l.self.notes.now in
     record {
-      walks : Walks (noted_parents notes) notes (l.fn.commit ∷ []) true (is_marked names l.marks.items) (map (name_at names) l.waiting.items);
+      walks : Walks (noted_parents notes) notes (l.fn.commit ∷ []) true (is_marked names l.marks.items) (map (listed_name names) l.waiting.items);
       fits : Fits names l.self.notes.now l.marks.items l.waiting.items;
     }
 

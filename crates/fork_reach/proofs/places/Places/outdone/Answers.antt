@@ -2,7 +2,7 @@ use Rattle.std.proofs.Common.{◌≡◌, ◌<◌, ◌&&◌, ◌||◌, ◌++◌, 
 use Rattle.std.specs.List.{list_any}
 use Rattle.std.proofs.lemmas.List.Folds.{list_any_more}
 use Rattle.fork_reach.specs.History.{notes_under}
-use Rattle.fork_reach.specs.Marks.{is_marked, name_at}
+use Rattle.fork_reach.specs.Marks.{is_marked, listed_name}
 use Rattle.fork_reach.specs.NotedBases.{is_other_parent}
 use Rattle.fork_reach.proofs.MarkLemmas.{lent_back, marked_here}
 use Rattle.fork_reach.proofs.places.Places.outdone.Goals as goal
@@ -22,7 +22,7 @@ loop-at-preserved-then-not-marks-at c =
     record {
       marked = λ name among.
           (let front = list_any (λ other. is_marked names marks other && is_other_parent notes name other) (take at names) in
-          c.loop-at.invariant.marked name among ∙ or_none front ∙ ap (λ b. front || (b && is_other_parent notes name (name_at names at))) (sym here)
+          c.loop-at.invariant.marked name among ∙ or_none front ∙ ap (λ b. front || (b && is_other_parent notes name (listed_name names at))) (sym here)
           ∙ sym (list_any_more (λ other. is_marked names marks other && is_other_parent notes name other) names at [] inside));
       len = c.loop-at.invariant.len;
     }
@@ -42,7 +42,7 @@ loop-at-preserved c =
     record {
       marked = λ name among.
           (let front = list_any (λ other. is_marked names marks other && is_other_parent notes name other) (take at names) in
-          let parent = is_other_parent notes name (name_at names at) in
+          let parent = is_other_parent notes name (listed_name names at) in
           ap (λ ms. is_marked names ms name) back ∙ told.marked name among ∙ ap (λ ms. is_marked names ms name || parent) c.deref_mut.ensures.value
           ∙ ap (λ b. b || parent) (c.loop-at.invariant.marked name among) ∙ ap (λ b. front || (b && parent)) (sym here)
           ∙ sym (list_any_more (λ other. is_marked names marks other && is_other_parent notes name other) names at [] inside));

@@ -4,7 +4,7 @@ use Rattle.std.specs.Str.{bytes_eq}
 use Rattle.std.proofs.lemmas.List.{take_all, take_more}
 use Rattle.std.proofs.lemmas.Slice.Eq.{bytes_eq-Decides}
 use Rattle.fork_reach.specs.History.{noted_parents, notes_under}
-use Rattle.fork_reach.specs.Marks.{is_marked, name_at}
+use Rattle.fork_reach.specs.Marks.{is_marked, listed_name}
 use Rattle.fork_reach.specs.Reach.{is_among}
 use Rattle.fork_reach.proofs.MarkLemmas.{parents_here, read_here}
 use Rattle.fork_reach.proofs.ParentLemmas.{parents_put, parents_skip}
@@ -54,4 +54,4 @@ returns-clause-marked c = λ name among.
     let past : length parents ≤ c.loop-parent.parent-index = search rules in
     let all = take_all c.loop-parent.parent-index parents past ∙ c.parents-parent-items.ensures ∙ sym (parents_here names notes c.args.at c.as_slice.ensures.unique c.requires.notes c.requires.place) in
     c.loop-parent.invariant.marked name among ∙ ap (λ ps. old || (not (bytes_eq c.index-as_slice-at.result name) && is_among ps name)) all
-    ∙ ap (λ n. old || (not (bytes_eq n name) && is_among (noted_parents (notes_under names notes) (name_at names c.args.at)) name)) commit
+    ∙ ap (λ n. old || (not (bytes_eq n name) && is_among (noted_parents (notes_under names notes) (listed_name names c.args.at)) name)) commit

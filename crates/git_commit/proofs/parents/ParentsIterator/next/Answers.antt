@@ -1,6 +1,6 @@
 use Rattle.std.proofs.Common.{◌≡◌, length, ap, arith, suc, rules}
 use Rattle.std.proofs.lemmas.Grind.{common_steps}
-use Rattle.git_commit.specs.Parents.{parents_in}
+use Rattle.git_commit.specs.Parents.{parents_spelled}
 use Rattle.git_commit.proofs.CommitLemmas.{parents_step, row_no_fault, row_none}
 use Rattle.git_commit.proofs.parents.ParentsIterator.next.Goals as goal
 
@@ -21,5 +21,5 @@ returns-clause-steps c = (parents_step c.in-Ok.taken.0 c.args.self.now.rest.now 
 pub returns-clause-goes : goal.returns-clause-goes
 returns-clause-goes c =
     let h = (parents_step c.in-Ok.taken.0 c.args.self.now.rest.now c.in-Ok.taken.1.now c.args.self.now.row c.in-Ok.ensures.name c.in-Ok.ensures.found).0 in
-    let l : length (parents_in c.args.self.now.rest.now) ≡ suc (length (parents_in c.in-Ok.taken.1.now)) = ap length h in
+    let l : length (parents_spelled c.args.self.now.rest.now) ≡ suc (length (parents_spelled c.in-Ok.taken.1.now)) = ap length h in
     search (rules, l)

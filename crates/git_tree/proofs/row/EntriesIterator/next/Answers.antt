@@ -1,6 +1,6 @@
 use Rattle.std.proofs.Common.{◌≡◌, length, ap, arith, suc, rules, sym, ◌∙◌}
 use Rattle.git_tree.specs.Row.{entries_in}
-use Rattle.git_tree.specs.Entry.{entry_of}
+use Rattle.git_tree.specs.Entry.{plain_entry}
 use Rattle.git_tree.proofs.RowLemmas.{row_none, row_step}
 use Rattle.git_tree.proofs.FormLemmas.{row_no_fault}
 use Rattle.std.proofs.lemmas.Grind.{common_steps}
@@ -18,14 +18,14 @@ unreachable-requires c =
 
 pub invariant_of-self : goal.invariant_of-self
 invariant_of-self c =
-    (row_step c.self.inside.rest.now (entry_of c.in-Ok.entry) c.in-Ok.after.now c.in-Ok.ensures.entry c.in-Ok.ensures.parts c.self.invariant).1
+    (row_step c.self.inside.rest.now (plain_entry c.in-Ok.entry) c.in-Ok.after.now c.in-Ok.ensures.entry c.in-Ok.ensures.parts c.self.invariant).1
 
 pub returns-clause-steps : goal.returns-clause-steps
 returns-clause-steps c =
-    sym c.self.view_is ∙ (row_step c.self.inside.rest.now (entry_of c.in-Ok.entry) c.in-Ok.after.now c.in-Ok.ensures.entry c.in-Ok.ensures.parts c.self.invariant).0
+    sym c.self.view_is ∙ (row_step c.self.inside.rest.now (plain_entry c.in-Ok.entry) c.in-Ok.after.now c.in-Ok.ensures.entry c.in-Ok.ensures.parts c.self.invariant).0
 
 pub returns-clause-goes : goal.returns-clause-goes
 returns-clause-goes c =
-    let step = sym c.self.view_is ∙ (row_step c.self.inside.rest.now (entry_of c.in-Ok.entry) c.in-Ok.after.now c.in-Ok.ensures.entry c.in-Ok.ensures.parts c.self.invariant).0 in
+    let step = sym c.self.view_is ∙ (row_step c.self.inside.rest.now (plain_entry c.in-Ok.entry) c.in-Ok.after.now c.in-Ok.ensures.entry c.in-Ok.ensures.parts c.self.invariant).0 in
     let fewer : length c.args.self.now ≡ suc (length (entries_in c.in-Ok.after.now)) = ap length step in
     search (rules, fewer)

@@ -1,8 +1,8 @@
 use Rattle.std.proofs.Common.{◌≡◌, ◌<◌, true, List, ℕ, sym, subst}
 use Rattle.std.proofs.lemmas.Bool.{ltb-true}
+use Rattle.git_name.specs.Same.{is_listed}
 use Rattle.catalogue.specs.Counted.{places_of}
 use Rattle.catalogue.proofs.HeldLemmas.{counted_listed}
-use Rattle.looks.specs.Places.{is_listed}
 use Rattle.ledgers.specs.Holders.{HoldingsState, holders_of, is_held_in}
 use Rattle.ledgers.proofs.holdings.Holdings.held_names_are_catalogued.Goals as goal
 

@@ -3,7 +3,7 @@ use Rattle.std.specs.Prelude.{IfSome}
 use Rattle.std.proofs.lemmas.Result.{IfOk-weaker}
 use Rattle.lru.proofs.CallerLemmas.{Contains-promoted}
 use Rattle.git_name.specs.Object.{object_name}
-use Rattle.looks.specs.Places.{same_name}
+use Rattle.git_name.specs.Same.{same_name}
 use Rattle.read_cache.specs.Cached.{Cached}
 use Rattle.read_cache.proofs.CacheLemmas.{found_there, some_more}
 use Rattle.read_cache.proofs.read_cache.ReadCache.find.Goals as goal

@@ -1,6 +1,6 @@
 use Rattle.std.proofs.Common.{Contains, subst}
+use Rattle.git_name.specs.Same.{same_name}
 use Rattle.lru.proofs.CallerLemmas.{Contains-remove_entry}
-use Rattle.looks.specs.Places.{same_name}
 use Rattle.read_cache.specs.Cached.{Cached}
 use Rattle.read_cache.proofs.CacheLemmas.{removed_apart}
 use Rattle.read_cache.proofs.read_cache.ReadCache.forget.Goals as goal

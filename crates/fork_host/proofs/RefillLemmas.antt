@@ -23,7 +23,7 @@ use Rattle.fork_model.specs.Sound.{AreReferences, IsOrderly, IsRight, IsRightWor
 use Rattle.fork_model.specs.View.{View, Repositories}
 use Rattle.fork_model.specs.World.{World}
 use Rattle.fork_model.proofs.ClosedLemmas.{each_of}
-use Rattle.state_text.specs.States.{IsRepository, TenantState}
+use Rattle.state_text.specs.States.{IsNamedRepository, TenantState}
 use Rattle.fork_host.specs.Own.{IsOwn, staged_in, visible_in}
 use Rattle.fork_host.specs.Pushed.{view_of}
 use Rattle.fork_host.specs.Refilled.{IsRefilled, IsRefilledIn}
@@ -98,10 +98,10 @@ commit_of_branch true false is on = absurd (cc)
 commit_of_branch false commit is on = absurd (cc)
 
 -- references that were judged are such as a repository may have
-references_restored : (objects : Objects) (list : List (List ℕ × Repository)) (name : List ℕ) (repository : Repository) → AllByRecursion IsRepository list → find (is_bad_target (kind_in objects)) (flat_map references_in list) ≡ None
+references_restored : (objects : Objects) (list : List (List ℕ × Repository)) (name : List ℕ) (repository : Repository) → AllByRecursion IsNamedRepository list → find (is_bad_target (kind_in objects)) (flat_map references_in list) ≡ None
     → Contains list (name, repository) → AreReferences objects repository.references
 references_restored objects list name repository right none among =
-    let told = (each_of IsRepository list (name, repository) right among).told in
+    let told = (each_of IsNamedRepository list (name, repository) right among).told in
     record {
       each = λ reference target points.
           let parts = either_false (is_none (kind_in objects target)) (is_branch reference && not (is_commit (kind_in objects target))) (good_reference (is_bad_target (kind_in objects)) list name repository reference target none among points) in
@@ -127,15 +127,15 @@ gathered_among repositories list name repository are here =
     subst (λ es. Contains es (name, repository)) are
     (Contains-from_lookup {eq = eq_by_cmp name_cmp} tied_names name repository (entries repositories) (sym (get-entries repositories name ∙ find_is_lookup name_cmp (entries repositories) name) ∙ here))
 
-pub orderly_refilled : (own : List ℕ) (names : List (List ℕ)) (list : List (List ℕ × Repository)) (repositories : Repositories) (limit : ℕ) (old new : VaultState) → limit ≤ 1099511627776 → length list ≤ 256 → AllByRecursion IsRepository list
+pub orderly_refilled : (own : List ℕ) (names : List (List ℕ)) (list : List (List ℕ × Repository)) (repositories : Repositories) (limit : ℕ) (old new : VaultState) → limit ≤ 1099511627776 → length list ≤ 256 → AllByRecursion IsNamedRepository list
     → entries repositories ≡ list → IsRefilled own names list limit old new → IsOrderly (shown (refilled repositories limit) new own)
 orderly_refilled own names list repositories limit old new low few right are restored = record {
   upload = λ upload is. none_open upload _ is;
   within_limit = restored.within;
   limit = low;
   few_repositories = (let counted = len-entries repositories in let same = ap (λ (es : List (List ℕ × Repository)). length es) are in omega (arith, counted, same, few));
-  repositories = λ name repository here. (each_of IsRepository list (name, repository) right (gathered_among repositories list name repository are here)).named;
-  heads = λ name repository here. (each_of IsRepository list (name, repository) right (gathered_among repositories list name repository are here)).told.branch;
+  repositories = λ name repository here. (each_of IsNamedRepository list (name, repository) right (gathered_among repositories list name repository are here)).named;
+  heads = λ name repository here. (each_of IsNamedRepository list (name, repository) right (gathered_among repositories list name repository are here)).told.branch;
   references = λ name repository here. references_restored (visible_in new own) list name repository right restored.targets (gathered_among repositories list name repository are here);
 }
 

@@ -18,7 +18,7 @@ use Rattle.fork_request.specs.Names.{is_plain_name}
 use Rattle.fork_request.specs.declared.refusal.Refusal.TheVariants.{BadName, BadRef, NoRef, NoRepository}
 use Rattle.fork_request.specs.declared.reply.Reply.{Reply}
 use Rattle.fork_request.specs.declared.reply.Reply.TheVariants.{Done, Refused}
-use Rattle.fork_model.specs.Answer.{answer, added, copied, few_items, head_answer, named_repository, rev_list_answer, set_head_answer, set_head_in, reply_of, told_over}
+use Rattle.fork_model.specs.Answer.{answer, repository_added, copied, few_items, head_answer, named_repository, rev_list_answer, set_head_answer, set_head_in, reply_of, told_over}
 use Rattle.fork_model.specs.View.{View}
 
 -- a view without objects, and with this repository `r`
@@ -110,5 +110,5 @@ no_repository_is_told_before_a_bad_branch =
     ∙ ap (set_head_in (having new_repository) (codes "s") (codes "refs/tags/v")) (absent new_repository)
 
 -- a fork has the HEAD of its source
-a_fork_is_the_whole_repository : (view : View) (repository : Repository) → copied view (codes "r") (codes "s") (Some repository) ≡ added view (codes "s") repository
+a_fork_is_the_whole_repository : (view : View) (repository : Repository) → copied view (codes "r") (codes "s") (Some repository) ≡ repository_added view (codes "s") repository
 a_fork_is_the_whole_repository view repository = refl

@@ -23,7 +23,7 @@ use Rattle.fork_request.specs.Told.{is_host_fault}
 use Rattle.fork_request.specs.declared.refusal.Refusal.TheVariants.{BadName, BadRef, NoRepository, NoUpload, RepositoryExists, StagedTooLong, TooMany, UploadOpen}
 use Rattle.fork_request.specs.declared.reply.Reply.{Reply}
 use Rattle.fork_request.specs.declared.reply.Reply.TheVariants.{Done, Refused}
-use Rattle.fork_model.specs.Answer.{answer, both, without_upload, init_answer, drop_answer, fork_answer, push_answer, part_answer, part_end_answer, part_drop_answer, update_answer, set_head_answer, cat_file_answer, ls_tree_answer, rev_list_answer, merge_base_answer, fetch_answer, references_answer, head_answer, quota_answer, prune_answer, targets_of, named_repository, added, dropped, copied, push_into, pushed, taken, open_upload, upload_into, end_in, upload_ended, update_in, carried_out, with_references, with_head, set_head_in, transaction_refusal, command_refusal, push_refusal}
+use Rattle.fork_model.specs.Answer.{answer, both, without_upload, init_answer, drop_answer, fork_answer, push_answer, part_answer, part_end_answer, part_drop_answer, update_answer, set_head_answer, cat_file_answer, ls_tree_answer, rev_list_answer, merge_base_answer, fetch_answer, references_answer, head_answer, quota_answer, prune_answer, targets_of, named_repository, repository_added, dropped, copied, push_into, pushed, taken, open_upload, upload_into, end_in, upload_ended, update_in, carried_out, with_references, with_head, set_head_in, transaction_refusal, command_refusal, push_refusal}
 use Rattle.fork_model.specs.Provenance.{IsAmong, IsFrom, Seen, Pushed, Uploaded, IsUploadFrom, Stays, Ends, GoesOn, part_in, ends_upload}
 use Rattle.fork_model.specs.View.{View}
 use Rattle.fork_model.proofs.ClosedLemmas.{of_one}
@@ -87,7 +87,7 @@ either P false x y left right = right
 named_row : (P : Reply × View → Type 0) (view : View) (word : List ℕ) (row : Reply × View) → P (Refused (BadName word), view) → P row → P (named_repository view word row)
 named_row P view word row refused done = either P (is_plain_name 64 word) row (Refused (BadName word), view) done refused
 
-added_row : (view : View) (word : List ℕ) (repository : Repository) → IsQuiet view (added view word repository)
+added_row : (view : View) (word : List ℕ) (repository : Repository) → IsQuiet view (repository_added view word repository)
 added_row view word repository =
     either (IsQuiet view) (contains_key view.repositories word) (Refused (RepositoryExists word), view) _ (quiet view (Refused (RepositoryExists word)))
     (either (IsQuiet view) (nat_le 256 (len view.repositories)) (Refused TooMany, view) (Done [], record view { repositories = insert view.repositories word repository }) (quiet view (Refused TooMany)) (record { objects = refl; upload = refl }))

@@ -40,7 +40,7 @@ use Rattle.fork_request.specs.declared.refusal.Refusal.{Refusal}
 use Rattle.fork_request.specs.declared.refusal.Refusal.TheVariants.{BadName, BadRef, BadRequest, NoRepository, NoUpload, RepositoryExists, StagedTooLong, TooMany, UploadOpen}
 use Rattle.fork_request.specs.declared.reply.Reply.{Reply}
 use Rattle.fork_request.specs.declared.reply.Reply.TheVariants.{Done, Refused}
-use Rattle.fork_model.specs.Answer.{Finished, answer, left_by, without_upload, init_answer, drop_answer, fork_answer, push_answer, part_answer, part_end_answer, part_drop_answer, update_answer, set_head_answer, cat_file_answer, ls_tree_answer, rev_list_answer, merge_base_answer, fetch_answer, references_answer, head_answer, quota_answer, prune_answer, pruned, targets_of, named_repository, added, dropped, copied, push_into, pushed, taken, open_upload, upload_into, end_in, upload_ended, update_in, carried_out, with_references, with_head, set_head_in, reply_of, told_over, told_references, transaction_refusal, command_refusal, push_refusal}
+use Rattle.fork_model.specs.Answer.{Finished, answer, left_by, without_upload, init_answer, drop_answer, fork_answer, push_answer, part_answer, part_end_answer, part_drop_answer, update_answer, set_head_answer, cat_file_answer, ls_tree_answer, rev_list_answer, merge_base_answer, fetch_answer, references_answer, head_answer, quota_answer, prune_answer, pruned, targets_of, named_repository, repository_added, dropped, copied, push_into, pushed, taken, open_upload, upload_into, end_in, upload_ended, update_in, carried_out, with_references, with_head, set_head_in, reply_of, told_over, told_references, transaction_refusal, command_refusal, push_refusal}
 use Rattle.fork_model.specs.Sound.{AreReferences, IsOrderly, IsRight}
 use Rattle.fork_model.specs.View.{View, Repositories}
 use Rattle.fork_reach.proofs.KeptObjects.{at_key, kept_all, named_all, tied_names}
@@ -121,7 +121,7 @@ few_more : (here : Bool) (n : ℕ) → nat_le 256 n ≡ false → n ≤ 256 → 
 few_more true n room few = few
 few_more false n room few = grind (arith, nat_tests)
 
-added_row : (view : View) (word : List ℕ) (repository : Repository) → (IsOrderly view → MayStand view.objects word repository) → IsRow view (added view word repository)
+added_row : (view : View) (word : List ℕ) (repository : Repository) → (IsOrderly view → MayStand view.objects word repository) → IsRow view (repository_added view word repository)
 added_row view word repository right =
     either view (contains_key view.repositories word) (Refused (RepositoryExists word), view) _ (λ _. refuses view (RepositoryExists word)) (λ _.
     either view (nat_le 256 (len view.repositories)) (Refused TooMany, view) (Done [], record view { repositories = insert view.repositories word repository }) (λ _. refuses view TooMany) (λ room.
@@ -399,7 +399,7 @@ right_pruned view right =
 -- each answer is such a row
 pub answer_row : (view : View) (ask : Ask) → GoesTo view (left_by view ask) (answer view ask)
 unfolding answer init_answer drop_answer fork_answer push_answer part_end_answer update_answer set_head_answer cat_file_answer ls_tree_answer rev_list_answer merge_base_answer fetch_answer references_answer head_answer quota_answer prune_answer
-answer_row view (Inits word) = named_row view word (added view word new_repository) (λ right. added_row view word new_repository (λ _. new_stands view.objects word right))
+answer_row view (Inits word) = named_row view word (repository_added view word new_repository) (λ right. added_row view word new_repository (λ _. new_stands view.objects word right))
 answer_row view (Drops word) = named_row view word (dropped view word) (λ _. dropped_row view word)
 answer_row view (Forks source copy) =
     named_row view source (named_repository view copy (copied view source copy (get view.repositories source))) (λ _.

@@ -17,7 +17,7 @@ use Rattle.fork_request.specs.Names.{is_plain_name}
 use Rattle.fork_request.specs.declared.refusal.Refusal.TheVariants.{BadName, Missing, NoRepository, NoUpload, RepositoryExists, StagedTooLong, TooMany}
 use Rattle.fork_request.specs.declared.reply.Reply.{Reply}
 use Rattle.fork_request.specs.declared.reply.Reply.TheVariants.{Done, Refused}
-use Rattle.fork_model.specs.Answer.{answer, init_answer, drop_answer, fork_answer, push_answer, part_answer, part_end_answer, part_drop_answer, update_answer, set_head_answer, cat_file_answer, ls_tree_answer, rev_list_answer, merge_base_answer, fetch_answer, references_answer, head_answer, quota_answer, prune_answer, copied, end_in, few_items, named_repository, added, open_upload, push_into, told_over, told_references, update_in, without_upload, set_head_in, with_head}
+use Rattle.fork_model.specs.Answer.{answer, init_answer, drop_answer, fork_answer, push_answer, part_answer, part_end_answer, part_drop_answer, update_answer, set_head_answer, cat_file_answer, ls_tree_answer, rev_list_answer, merge_base_answer, fetch_answer, references_answer, head_answer, quota_answer, prune_answer, copied, end_in, few_items, named_repository, repository_added, open_upload, push_into, told_over, told_references, update_in, without_upload, set_head_in, with_head}
 use Rattle.fork_model.specs.Missing.{IsMissing}
 use Rattle.fork_model.specs.Runs.{Asks, Answered, Unknown, Faulted}
 use Rattle.fork_model.specs.View.{View}
@@ -34,7 +34,7 @@ either : (name : List ℕ) (b : Bool) (x y : Reply × View) → Never name x →
 either name true x y left right = left
 either name false x y left right = right
 
-added_row : (view : View) (name word : List ℕ) (repository : Repository) → Never name (added view word repository)
+added_row : (view : View) (name word : List ℕ) (repository : Repository) → Never name (repository_added view word repository)
 added_row view name word repository =
     either name (contains_key view.repositories word) (Refused (RepositoryExists word), view) _ (λ is. cc)
     (either name (nat_le 256 (len view.repositories)) (Refused TooMany, view) (Done [], record view { repositories = insert view.repositories word repository }) (λ is. cc) (λ is. cc))

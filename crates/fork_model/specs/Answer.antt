@@ -45,15 +45,15 @@ abbrev pub named_repository : View → List ℕ → Reply × View → Reply × V
 named_repository view word row = if is_plain_name MAX_REPOSITORY_NAME word then row else (Refused (BadName word), view)
 
 -- one more repository, where none has this name and there is room for it
-abbrev pub added : View → List ℕ → Repository → Reply × View
-added view word repository =
+abbrev pub repository_added : View → List ℕ → Repository → Reply × View
+repository_added view word repository =
     if contains_key view.repositories word then (Refused (RepositoryExists word), view)
     else if nat_le MAX_REPOSITORIES (len view.repositories) then (Refused TooMany, view)
     else (Done [], record view { repositories = insert view.repositories word repository })
 
 -- `init REPO`: a new repository, whose HEAD names `refs/heads/main`, without references
 unfoldable pub init_answer : View → List ℕ → Reply × View
-init_answer view word = named_repository view word (added view word new_repository)
+init_answer view word = named_repository view word (repository_added view word new_repository)
 
 -- `drop REPO`: the repository goes, and its references with it; objects stay
 abbrev pub dropped : View → List ℕ → Reply × View
@@ -67,7 +67,7 @@ drop_answer view word = named_repository view word (dropped view word)
 -- `fork SRC DST`: a new repository of the same tenant, with the same HEAD and references
 abbrev pub copied : View → List ℕ → List ℕ → Option Repository → Reply × View
 copied view source copy None = (Refused (NoRepository source), view)
-copied view source copy (Some repository) = added view copy repository
+copied view source copy (Some repository) = repository_added view copy repository
 
 unfoldable pub fork_answer : View → List ℕ → List ℕ → Reply × View
 fork_answer view source copy = named_repository view source (named_repository view copy (copied view source copy (get view.repositories source)))

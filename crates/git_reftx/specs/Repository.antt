@@ -1,7 +1,8 @@
 -- A repository: the branch that its HEAD names, which need not be there, and its references (gitglossary(7), HEAD; that it names a branch at all times is own).
 use Rattle.std.specs.Prelude.{◌≡◌, ℕ, Bool, true, ◌&&◌, List, Option, Some, None, is_none, codes, refl, if◌then◌else◌}
-use Rattle.std.specs.Coded.{Coded, code_by, coded×, coded_ℕ, coded_list}
+use Rattle.std.specs.Coded.{Coded, code_by, coded×}
 use Rattle.std.specs.FinMap.{code, empty}
+use Rattle.git_name.specs.Text.{bytes_code}
 use Rattle.git_refname.specs.Rule.{IsRefName, least_broken_rule}
 use Rattle.git_reftx.specs.Sound.{AreSound}
 use Rattle.git_reftx.specs.Transaction.{References, is_branch}
@@ -36,10 +37,6 @@ new_repository = record { head = main_branch; references = empty }
 pub record IsRepository (repository : Repository) : Type 0 where
   pub branch : IsBranch repository.head
   pub sound : AreSound repository.references
-
--- a repository has a code, so that it can be a model's value
-abbrev bytes_code : Coded (List ℕ)
-bytes_code = coded_list coded_ℕ
 
 abbrev pub repository_code : Coded Repository
 repository_code =

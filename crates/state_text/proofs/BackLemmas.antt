@@ -12,10 +12,10 @@ use Rattle.state_text.specs.declared.place.Place.{Place}
 use Rattle.state_text.specs.declared.place.Place.TheVariants.{Own, Offered}
 use Rattle.state_text.specs.declared.version.Version.{Version}
 use Rattle.state_text.specs.declared.version.Version.TheVariants.{One, Two}
-use Rattle.state_text.specs.Place.{IsLast, name_at, with_at}
-use Rattle.state_text.specs.States.{Ascend, IsStates, IsTenantState, IsTold, States, TenantState}
-use Rattle.state_text.specs.Taking.{Adds, HasReferenceMore, IsTaken, Taken, Head, Tenant, Repository, Reference, Seen, Offer, awaits_head}
-use Rattle.state_text.specs.Text.{Tells}
+use Rattle.state_text.specs.Place.{IsLast, place_name, with_at}
+use Rattle.state_text.specs.States.{Ascend, IsStates, IsTenantState, MayBeTold, States, TenantState}
+use Rattle.state_text.specs.Taking.{Adds, HasReferenceMore, IsRightSoFar, Taken, Head, Tenant, Repository, Reference, Seen, Offer, awaits_head}
+use Rattle.state_text.specs.Text.{VersionTells}
 use Rattle.state_text.proofs.BehindLemmas.{ascend_front, each_front, from_back}
 use Rattle.state_text.proofs.LastLemmas.{fewer_entries, less_told}
 use Rattle.state_text.proofs.LineLemmas.{no_entries}
@@ -33,7 +33,7 @@ nothing_taken = record { states = []; awaits = false }
 pub record HasBefore (version : Version) (taken : Taken) : Type 0 where
   pub old : Taken
   pub line : List ℕ
-  pub right : IsTaken version old
+  pub right : IsRightSoFar version old
   pub adds : Adds version old line taken
 
 -- a HEAD that is awaited comes in the second version alone
@@ -48,7 +48,7 @@ new_place Two old new before tenant (Offered receiver name) last was is old_is n
       (record { receiver = receiver; name = name; told = refl; spelled = refl; begins = record { before = before; tenant = tenant; last = last; was = was; added = is } }),
 )
 
-module _ (version : Version) (taken : Taken) (before : States) (tenant : TenantState) (right : IsTaken version taken) (is : taken.states ≡ before ++ tenant ∷ []) where
+module _ (version : Version) (taken : Taken) (before : States) (tenant : TenantState) (right : IsRightSoFar version taken) (is : taken.states ≡ before ++ tenant ∷ []) where
   whole : IsStates (before ++ tenant ∷ [])
   whole = subst IsStates is right.right
 
@@ -56,13 +56,13 @@ module _ (version : Version) (taken : Taken) (before : States) (tenant : TenantS
   tenant_right = last_right before tenant whole
 
   told_of : TellsOne version tenant
-  told_of = tells_last version before tenant (subst (Tells version) is right.tells)
+  told_of = tells_last version before tenant (subst (VersionTells version) is right.tells)
 
-  told_before : Tells version before
-  told_before = tells_less version before tenant (subst (Tells version) is right.tells)
+  told_before : VersionTells version before
+  told_before = tells_less version before tenant (subst (VersionTells version) is right.tells)
 
   -- the same tenants with another last one
-  old_taken : (old : TenantState) → IsTenantState old → old.name ≡ tenant.name → TellsOne version old → IsTaken version (record { states = before ++ old ∷ []; awaits = false })
+  old_taken : (old : TenantState) → IsTenantState old → old.name ≡ tenant.name → TellsOne version old → IsRightSoFar version (record { states = before ++ old ∷ []; awaits = false })
   old_taken old old_right same tells = record { right = tenant_changed before tenant old whole old_right (sym same); tells = tells_behind version before old told_before tells; begun = λ is. absurd (cc) }
 
   -- something has just begun
@@ -119,9 +119,9 @@ module _ (version : Version) (taken : Taken) (before : States) (tenant : TenantS
         let fewer : git.Repository = record { head = repository.head; references = from_sorted es } in
         let here : IsTenantState (with_at less place repository) = subst IsTenantState at tenant_right in
         let pushed : HasReferenceMore fewer name target repository = record { head = refl; pushed = more ∙ ap (λ l. l ++ (name, target) ∷ []) (sym (fewer_entries repository.references es (name, target) more)) } in
-        let told : IsTold fewer = less_told fewer repository name target pushed (told_at less place repository here) in
+        let told : MayBeTold fewer = less_told fewer repository name target pushed (told_at less place repository here) in
         let same : (with_at less place fewer).name ≡ tenant.name = same_name_at less place fewer ∙ sym (ap (λ t. t.name) at ∙ same_name_at less place repository) in
-        let words = encode_lower target ++ codes " " ++ expanded (less.name ∷ name_at place ∷ []) ++ name in
+        let words = encode_lower target ++ codes " " ++ expanded (less.name ∷ place_name place ∷ []) ++ name in
         record {
           old = record { states = before ++ with_at less place fewer ∷ []; awaits = false };
           line = codes "ref " ++ words;
@@ -136,7 +136,7 @@ module _ (version : Version) (taken : Taken) (before : States) (tenant : TenantS
         let here : IsTenantState (with_at less place repository) = subst IsTenantState at tenant_right in
         let same : (with_at less place new_repository).name ≡ tenant.name = same_name_at less place new_repository ∙ sym (ap (λ t. t.name) at ∙ same_name_at less place repository) in
         let states : IsStates (before ++ with_at less place new_repository ∷ []) = tenant_changed before tenant (with_at less place new_repository) whole (place_changed less place repository new_repository here new_told) (sym same) in
-        let words = expanded (less.name ∷ name_at place ∷ []) ++ repository.head in
+        let words = expanded (less.name ∷ place_name place ∷ []) ++ repository.head in
         record {
           old = record { states = before ++ with_at less place new_repository ∷ []; awaits = true };
           line = codes "head " ++ words;
@@ -210,17 +210,17 @@ module _ (version : Version) (taken : Taken) (before : States) (tenant : TenantS
         (from_back tenant.offers)
 
 -- where a HEAD is awaited, something has just begun
-back_awaited : (version : Version) (taken : Taken) → IsTaken version taken → taken.awaits ≡ true → HasBefore version taken
+back_awaited : (version : Version) (taken : Taken) → IsRightSoFar version taken → taken.awaits ≡ true → HasBefore version taken
 back_awaited version taken right is =
     let begun = right.begun is in
     back_begun version taken begun.1.before (with_at begun.1.tenant begun.1.place new_repository) right begun.1.is begun.1.place begun.1.tenant begun.1.last refl (is ∙ sym begun.0)
 
-back_told : (version : Version) (taken : Taken) → IsTaken version taken → taken.awaits ≡ false → (taken ≡ nothing_taken) ⊎ HasBefore version taken
+back_told : (version : Version) (taken : Taken) → IsRightSoFar version taken → taken.awaits ≡ false → (taken ≡ nothing_taken) ⊎ HasBefore version taken
 back_told version taken right is =
     ⊎_elim (λ none. inl (λ i. record { states = none i; awaits = is i })) (λ last. inr (back_last version taken last.front last.last right last.is is)) (from_back taken.states)
 
 -- nothing was taken, or it was other before its last line
-pub back : (version : Version) (taken : Taken) → IsTaken version taken → (taken ≡ nothing_taken) ⊎ HasBefore version taken
+pub back : (version : Version) (taken : Taken) → IsRightSoFar version taken → (taken ≡ nothing_taken) ⊎ HasBefore version taken
 back version taken right = by taken.awaits refl
   where
     by : (b : Bool) → taken.awaits ≡ b → (taken ≡ nothing_taken) ⊎ HasBefore version taken

@@ -9,10 +9,10 @@ use Rattle.git_reftx.specs.Repository.{main_branch}
 use Rattle.state_text.specs.declared.version.Version.{Version}
 use Rattle.state_text.specs.declared.version.Version.TheVariants.{One, Two}
 use Rattle.state_text.specs.Fault.{IsOneLine}
-use Rattle.state_text.specs.Place.{name_at}
+use Rattle.state_text.specs.Place.{place_name}
 use Rattle.state_text.specs.States.{States}
-use Rattle.state_text.specs.Taking.{Adds, IsTaken, Taken, open_lines, told_lines}
-use Rattle.state_text.specs.Text.{head_line, state_text, version_line}
+use Rattle.state_text.specs.Taking.{Adds, IsRightSoFar, Taken, open_lines, told_lines}
+use Rattle.state_text.specs.Text.{line_of_head, state_text, version_line}
 use Rattle.state_text.proofs.BackLemmas.{back, nothing_taken}
 use Rattle.state_text.proofs.BehindLemmas.{each_behind, from_back, length_behind, same_behind}
 use Rattle.state_text.proofs.LineLemmas.{adds_line, begun_lines, headed_lines, open_told}
@@ -34,7 +34,7 @@ pub record HasFirst (version : Version) (taken : Taken) : Type 0 where
   pub more : List (List ℕ)
   pub told : told_lines version taken.states ≡ open_lines version taken ++ more
 
-pub has_first : (version : Version) (taken : Taken) → IsTaken version taken → HasFirst version taken
+pub has_first : (version : Version) (taken : Taken) → IsRightSoFar version taken → HasFirst version taken
 has_first version taken right = by taken.awaits refl
   where
     by : (b : Bool) → taken.awaits ≡ b → HasFirst version taken
@@ -46,14 +46,14 @@ has_first version taken right = by taken.awaits refl
           others = _;
           first = lines;
           more = _;
-          told = ap (told_lines version) begun.1.is ∙ headed_lines version begun.1.before begun.1.tenant begun.1.place main_branch begun.0 begun.1.last ∙ ap (λ ls. ls ++ head_line begun.1.tenant.name (name_at begun.1.place) main_branch ∷ []) (sym lines);
+          told = ap (told_lines version) begun.1.is ∙ headed_lines version begun.1.before begun.1.tenant begun.1.place main_branch begun.0 begun.1.last ∙ ap (λ ls. ls ++ line_of_head begun.1.tenant.name (place_name begun.1.place) main_branch ∷ []) (sym lines);
         }
 
-some_lines : (version : Version) (taken : Taken) → IsTaken version taken → 1 ≤ length (open_lines version taken)
+some_lines : (version : Version) (taken : Taken) → IsRightSoFar version taken → 1 ≤ length (open_lines version taken)
 some_lines version taken right = (let long = ap (λ (ls : List (List ℕ)). length ls) (has_first version taken right).first in omega (arith, long))
 
 -- each line of what was taken is one
-plain_by : (n : ℕ) (version : Version) (taken : Taken) → length (open_lines version taken) ≤ n → IsTaken version taken → AllByRecursion IsOneLine (open_lines version taken)
+plain_by : (n : ℕ) (version : Version) (taken : Taken) → length (open_lines version taken) ≤ n → IsRightSoFar version taken → AllByRecursion IsOneLine (open_lines version taken)
 plain_by zero version taken few right = absurd (let some = some_lines version taken right in omega (arith, some, few))
 plain_by (suc n) version taken few right =
     ⊎_elim
@@ -63,18 +63,18 @@ plain_by (suc n) version taken few right =
     subst (AllByRecursion IsOneLine) (sym line_is) (each_behind IsOneLine (open_lines version has.old) has.line (plain_by n version has.old (omega (arith, few, long)) has.right) (adds_plain version has.old taken has.line has.adds right.right)))
     (back version taken right)
 
-pub plain_lines : (version : Version) (taken : Taken) → IsTaken version taken → AllByRecursion IsOneLine (open_lines version taken)
+pub plain_lines : (version : Version) (taken : Taken) → IsRightSoFar version taken → AllByRecursion IsOneLine (open_lines version taken)
 plain_lines version taken right = plain_by (length (open_lines version taken)) version taken (omega arith) right
 
 -- the lines of what was taken decide it
 module _ (version : Version) where
-  longer : (p : Taken) (line : List ℕ) → IsTaken version p → open_lines version nothing_taken ≡ open_lines version p ++ line ∷ [] → ⊥
+  longer : (p : Taken) (line : List ℕ) → IsRightSoFar version p → open_lines version nothing_taken ≡ open_lines version p ++ line ∷ [] → ⊥
   longer p line right is =
       let long : 1 ≡ length (open_lines version p) + 1 = ap (λ (ls : List (List ℕ)). length ls) is ∙ length_behind (open_lines version p) line in
       let some = some_lines version p right in
       absurd (omega (arith, long, some))
 
-  same_by : (n : ℕ) (s t : Taken) → length (open_lines version s) ≤ n → IsTaken version s → IsTaken version t → open_lines version s ≡ open_lines version t → s ≡ t
+  same_by : (n : ℕ) (s t : Taken) → length (open_lines version s) ≤ n → IsRightSoFar version s → IsRightSoFar version t → open_lines version s ≡ open_lines version t → s ≡ t
   same_by zero s t few right other is = absurd (let some = some_lines version s right in omega (arith, some, few))
   same_by (suc n) s t few right other is =
       ⊎_elim
@@ -93,17 +93,17 @@ module _ (version : Version) where
       (back version t other))
       (back version s right)
 
-  pub lines_same : (s t : Taken) → IsTaken version s → IsTaken version t → open_lines version s ≡ open_lines version t → s ≡ t
+  pub lines_same : (s t : Taken) → IsRightSoFar version s → IsRightSoFar version t → open_lines version s ≡ open_lines version t → s ≡ t
   lines_same s t right other is = same_by (length (open_lines version s)) s t (omega arith) right other is
 
 -- what was taken, of which these are the lines
 pub record HasLines (version : Version) (lines : List (List ℕ)) : Type 0 where
   pub taken : Taken
-  pub right : IsTaken version taken
+  pub right : IsRightSoFar version taken
   pub are : open_lines version taken ≡ lines
 
 -- the first lines of what was taken are lines of what was taken
-front_by : (n : ℕ) (version : Version) (s : Taken) (first : List ℕ) (front more : List (List ℕ)) → length more ≤ n → IsTaken version s → open_lines version s ≡ (first ∷ front) ++ more → HasLines version (first ∷ front)
+front_by : (n : ℕ) (version : Version) (s : Taken) (first : List ℕ) (front more : List (List ℕ)) → length more ≤ n → IsRightSoFar version s → open_lines version s ≡ (first ∷ front) ++ more → HasLines version (first ∷ front)
 front_by n version s first front [] few right is = record { taken = s; right = right; are = is ∙ append-nil (first ∷ front) }
 front_by zero version s first front (x ∷ more) few right is = absurd (omega (arith, few))
 front_by (suc n) version s first front (x ∷ more) few right is =
@@ -122,10 +122,10 @@ front_by (suc n) version s first front (x ∷ more) few right is =
 -- what was taken with a line more
 pub record HasNext (version : Version) (old : Taken) (line : List ℕ) : Type 0 where
   pub new : Taken
-  pub right : IsTaken version new
+  pub right : IsRightSoFar version new
   pub adds : Adds version old line new
 
-next_of : (version : Version) (p s : Taken) (line : List ℕ) (others : List (List ℕ)) → IsTaken version p → IsTaken version s → open_lines version s ≡ open_lines version p ++ line ∷ others → HasNext version p line
+next_of : (version : Version) (p s : Taken) (line : List ℕ) (others : List (List ℕ)) → IsRightSoFar version p → IsRightSoFar version s → open_lines version s ≡ open_lines version p ++ line ∷ others → HasNext version p line
 next_of version p s line others right whole is =
     let first = has_first version p right in
     let parts : open_lines version s ≡ (version_line version ∷ (first.others ++ line ∷ [])) ++ others = is ∙ sym (append_assoc (open_lines version p) (line ∷ []) others) ∙ ap (λ ls. (ls ++ line ∷ []) ++ others) first.first in
@@ -142,11 +142,11 @@ next_of version p s line others right whole is =
 abbrev pub all_of : States → Taken
 all_of states = record { states = states; awaits = false }
 
-all_plain : (version : Version) (s : States) → IsTaken version (all_of s) → AllByRecursion IsOneLine (told_lines version s ++ codes "end" ∷ [])
+all_plain : (version : Version) (s : States) → IsRightSoFar version (all_of s) → AllByRecursion IsOneLine (told_lines version s ++ codes "end" ∷ [])
 all_plain version s right = each_behind IsOneLine (told_lines version s) (codes "end") (plain_lines version (all_of s) right) end_plain
 
 -- a state text that begins with the lines of what was taken, and a line, goes on with the end where no HEAD is awaited, or with what a line says
-pub continues : (version : Version) (p : Taken) (s : States) (line more : List ℕ) → IsTaken version p → IsTaken version (all_of s) → IsOneLine line → state_text version s ≡ flat_map ended (open_lines version p) ++ (line ++ 10 ∷ more)
+pub continues : (version : Version) (p : Taken) (s : States) (line more : List ℕ) → IsRightSoFar version p → IsRightSoFar version (all_of s) → IsOneLine line → state_text version s ≡ flat_map ended (open_lines version p) ++ (line ++ 10 ∷ more)
     → ((line ≡ codes "end") × (p.awaits ≡ false)) ⊎ HasNext version p line
 unfolding state_text
 continues version p s line more right whole plain is =
@@ -159,7 +159,7 @@ continues version p s line more right whole plain is =
     (from_back found.0)
 
 -- behind its end a state text has nothing
-pub ended_text : (version : Version) (p : Taken) (s : States) (rest : List ℕ) → IsTaken version p → IsTaken version (all_of s) → state_text version s ≡ flat_map ended (open_lines version p) ++ (codes "end" ++ 10 ∷ rest) → rest ≡ []
+pub ended_text : (version : Version) (p : Taken) (s : States) (rest : List ℕ) → IsRightSoFar version p → IsRightSoFar version (all_of s) → state_text version s ≡ flat_map ended (open_lines version p) ++ (codes "end" ++ 10 ∷ rest) → rest ≡ []
 unfolding state_text
 ended_text version p s rest right whole is =
     let found = lines_behind (told_lines version s ++ codes "end" ∷ []) (open_lines version p) (codes "end") rest (all_plain version s whole) (plain_lines version p right) end_plain is in
@@ -175,7 +175,7 @@ pub nothing_plain : IsOneLine []
 nothing_plain = All-from_recursion (λ b. b ≢ 10) [] tt
 
 -- the lines of what was taken are no whole state text
-pub not_whole : (version : Version) (p : Taken) (s : States) → IsTaken version p → IsTaken version (all_of s) → state_text version s ≡ flat_map ended (open_lines version p) → ⊥
+pub not_whole : (version : Version) (p : Taken) (s : States) → IsRightSoFar version p → IsRightSoFar version (all_of s) → state_text version s ≡ flat_map ended (open_lines version p) → ⊥
 unfolding state_text
 not_whole version p s right whole is =
     let lines = (same_lines (told_lines version s ++ codes "end" ∷ []) (open_lines version p) [] [] (all_plain version s whole) (plain_lines version p right) nothing_plain nothing_plain (append-nil (state_text version s) ∙ is ∙ sym (append-nil (flat_map ended (open_lines version p))))).0 in
@@ -185,7 +185,7 @@ not_whole version p s right whole is =
     (back version p right)
 
 -- a text of one version is of one value
-pub text_same : (version : Version) (s t : States) → IsTaken version (all_of s) → IsTaken version (all_of t) → state_text version s ≡ state_text version t → s ≡ t
+pub text_same : (version : Version) (s t : States) → IsRightSoFar version (all_of s) → IsRightSoFar version (all_of t) → state_text version s ≡ state_text version t → s ≡ t
 unfolding state_text
 text_same version s t right other is =
     let lines = same_lines (told_lines version s ++ codes "end" ∷ []) (told_lines version t ++ codes "end" ∷ []) [] [] (all_plain version s right) (all_plain version t other) nothing_plain nothing_plain

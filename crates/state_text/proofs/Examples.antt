@@ -24,7 +24,7 @@ use Rattle.state_text.specs.Fault.{IsOneLine, IsWrongLine}
 use Rattle.state_text.specs.Offer.{offer_words}
 use Rattle.state_text.specs.Place.{with_at}
 use Rattle.state_text.specs.States.{IsStates, IsTenantState, States, TenantState}
-use Rattle.state_text.specs.Taking.{Adds, AddsOffer, IsTaken, SaysHead, Taken, Head, Tenant, Repository, Reference, Seen, Offer, open_lines, told_lines}
+use Rattle.state_text.specs.Taking.{Adds, AddsOffer, IsRightSoFar, SaysHead, Taken, Head, Tenant, Repository, Reference, Seen, Offer, open_lines, told_lines}
 use Rattle.state_text.specs.Text.{IsStateText1, IsStateText2, inner_lines, repository_line, seen_line, state_text, tenant_line, version_line}
 use Rattle.state_text.proofs.FaultLemmas.{wrong_at, wrong_header}
 use Rattle.state_text.proofs.LineLemmas.{begun_lines, headed_lines, new_lines}
@@ -106,7 +106,7 @@ both_texts_tell_them e named = (
 abbrev begun : Taken
 begun = record { states = alice_with_r ∷ []; awaits = true }
 
-begun_right : IsTaken Two begun
+begun_right : IsRightSoFar Two begun
 unfolding IsStrictlySortedBy
 begun_right = record {
   right = record { few = omega arith; ordered = (tt, tt); each = (with_r_right, tt) };
@@ -126,7 +126,7 @@ head_awaited new line (Seen rest is goes adds) = absurd (let was = goes.was in c
 head_awaited new line (Offer rest is goes adds) = absurd (let was = goes.was in cc)
 
 -- whatever stands there and tells no HEAD is the fourth line, and wrong
-fourth : (line behind : List ℕ) → IsOneLine line → ((new : Taken) → IsTaken Two new → SaysHead begun.states line new.states → ⊥) → IsWrongLine (codes "forkhost state 2\ntenant alice 1000\nrepo r\n" ++ (line ++ 10 ∷ behind)) 4
+fourth : (line behind : List ℕ) → IsOneLine line → ((new : Taken) → IsRightSoFar Two new → SaysHead begun.states line new.states → ⊥) → IsWrongLine (codes "forkhost state 2\ntenant alice 1000\nrepo r\n" ++ (line ++ 10 ∷ behind)) 4
 unfolding digits
 fourth line behind plain none =
     subst (λ ls. IsWrongLine (flat_map ended ls ++ (line ++ 10 ∷ behind)) (length ls + 1)) begun_are
@@ -166,7 +166,7 @@ says_offer version old new rest (Seen rest_too is goes adds) known = absurd (let
 says_offer version old new rest (Offer rest_too is goes adds) known = subst (λ t. AddsOffer version old.states t new.states) (sym (append_cancel_left (codes "offer ") rest rest_too is)) adds
 
 -- an offer that is refused behind what was taken
-refused_offer : (version : Version) (taken : Taken) (rest behind : List ℕ) → IsTaken version taken → taken.awaits ≡ false → IsOneLine (codes "offer " ++ rest) → ((new : States) → IsStates new → AddsOffer version taken.states rest new → ⊥)
+refused_offer : (version : Version) (taken : Taken) (rest behind : List ℕ) → IsRightSoFar version taken → taken.awaits ≡ false → IsOneLine (codes "offer " ++ rest) → ((new : States) → IsStates new → AddsOffer version taken.states rest new → ⊥)
     → IsWrongLine (flat_map ended (open_lines version taken) ++ ((codes "offer " ++ rest) ++ 10 ∷ behind)) (length (open_lines version taken) + 1)
 refused_offer version taken rest behind right known plain none =
     wrong_at version (codes "offer " ++ rest) behind taken right plain (λ is _. absurd (let bad : 324 ≡ 302 = ap mark is in omega arith)) (λ new new_right adds. none new.states new_right.right (says_offer version taken new rest adds known))
@@ -175,7 +175,7 @@ refused_offer version taken rest behind right known plain none =
 abbrev alice_alone : Taken
 alice_alone = record { states = alice ∷ []; awaits = false }
 
-alone_right : (version : Version) → IsTaken version alice_alone
+alone_right : (version : Version) → IsRightSoFar version alice_alone
 unfolding IsStrictlySortedBy
 alone_right version = record { right = record { few = omega arith; ordered = (tt, tt); each = (alice_right, tt) }; tells = tells_behind version [] alice (tells_nothing version) (tells_fresh version (codes "alice") 1000); begun = λ is. absurd (cc) }
 
@@ -198,7 +198,7 @@ offering_r = record { states = with_at alice (Offered (codes "bob") (codes "r"))
 apart : codes "bob" ≢ codes "alice"
 apart is = absurd (let bad : 98 ≡ 97 = ap (λ l. slice_index l 0) is in omega (arith, bad))
 
-offering_right : IsTaken Two offering_r
+offering_right : IsRightSoFar Two offering_r
 unfolding IsStrictlySortedBy
 offering_right = record {
   right = record {

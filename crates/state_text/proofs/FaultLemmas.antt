@@ -13,7 +13,7 @@ use Rattle.state_text.specs.declared.version.Version.{Version}
 use Rattle.state_text.specs.declared.version.Version.TheVariants.{Two}
 use Rattle.state_text.specs.Fault.{BeginsStateText, IsCut, IsOneLine, HasWrongNext, IsWrongLine, NoneInStateText, OneWrongLine, TellsLine}
 use Rattle.state_text.specs.States.{States}
-use Rattle.state_text.specs.Taking.{Adds, IsReadSoFar, IsTaken, Taken, open_lines, told_lines}
+use Rattle.state_text.specs.Taking.{Adds, IsReadSoFar, IsRightSoFar, Taken, open_lines, told_lines}
 use Rattle.state_text.specs.Text.{IsStateText, IsTextIn, state_text, version_line}
 use Rattle.state_text.proofs.BehindLemmas.{each_behind, length_behind}
 use Rattle.state_text.proofs.ContinuingLemmas.{all_of, continues, end_plain, ended_text, has_first, not_whole, plain_lines}
@@ -44,11 +44,11 @@ parts_of [] = Plain (All-nil (λ x. x ≢ 10))
 parts_of (b ∷ text) = parts_more b text (eqb b 10) refl (parts_of text)
 
 -- a text of a version, as one of either
-text_in : (version : Version) (taken : Taken) → IsTaken version taken → IsStateText taken.states (state_text version taken.states)
+text_in : (version : Version) (taken : Taken) → IsRightSoFar version taken → IsStateText taken.states (state_text version taken.states)
 text_in version taken right = of_version version taken.states (state_text version taken.states) (record { right = right.right; tells = right.tells; spelled = refl })
 
 -- a state text begins with the lines of what was taken
-begins_open : (version : Version) (taken : Taken) → IsTaken version taken → BeginsStateText (flat_map ended (open_lines version taken))
+begins_open : (version : Version) (taken : Taken) → IsRightSoFar version taken → BeginsStateText (flat_map ended (open_lines version taken))
 begins_open version taken right =
     let first = has_first version taken right in
     record {
@@ -62,10 +62,10 @@ begins_open version taken right =
 
 -- a state text that begins with the lines of what was taken is of the same version
 record IsOfVersion (version : Version) (states : States) (text : List ℕ) : Type 0 where
-  right : IsTaken version (all_of states)
+  right : IsRightSoFar version (all_of states)
   spelled : text ≡ state_text version states
 
-of_lines : (version : Version) (taken : Taken) (states : States) (text rest : List ℕ) → IsTaken version taken → IsStateText states text → text ≡ flat_map ended (open_lines version taken) ++ rest → IsOfVersion version states text
+of_lines : (version : Version) (taken : Taken) (states : States) (text rest : List ℕ) → IsRightSoFar version taken → IsStateText states text → text ≡ flat_map ended (open_lines version taken) ++ rest → IsOfVersion version states text
 of_lines version taken states text rest right is parts =
     let other = in_version states text is in
     let same = same_version version other.version taken states rest right (sym other.is.spelled ∙ parts) in
@@ -73,7 +73,7 @@ of_lines version taken states text rest right is parts =
     record { right = taken_of version states text here; spelled = here.spelled }
 
 -- a line that is not the end, and with which nothing right goes on
-pub wrong_at : (version : Version) (line behind : List ℕ) (taken : Taken) → IsTaken version taken → IsOneLine line → (line ≡ codes "end" → taken.awaits ≡ false → ⊥) → ((new : Taken) → IsTaken version new → Adds version taken line new → ⊥)
+pub wrong_at : (version : Version) (line behind : List ℕ) (taken : Taken) → IsRightSoFar version taken → IsOneLine line → (line ≡ codes "end" → taken.awaits ≡ false → ⊥) → ((new : Taken) → IsRightSoFar version new → Adds version taken line new → ⊥)
     → IsWrongLine (flat_map ended (open_lines version taken) ++ (line ++ 10 ∷ behind)) (length (open_lines version taken) + 1)
 wrong_at version line behind taken right plain not_end none = record {
   before = open_lines version taken;
@@ -96,7 +96,7 @@ wrong_at version line behind taken right plain not_end none = record {
 }
 
 pub wrong_line : (version : Version) (text rest line behind : List ℕ) (taken : Taken) (lines : ℕ) → IsReadSoFar version text taken lines rest → rest ≡ line ++ 10 ∷ behind → IsOneLine line → (line ≡ codes "end" → taken.awaits ≡ false → ⊥)
-    → ((new : Taken) → IsTaken version new → Adds version taken line new → ⊥) → IsWrongLine text (lines + 1)
+    → ((new : Taken) → IsRightSoFar version new → Adds version taken line new → ⊥) → IsWrongLine text (lines + 1)
 wrong_line version text rest line behind taken lines so_far is plain not_end none =
     subst (λ n. IsWrongLine text (n + 1)) (sym so_far.count)
     (subst (λ t. IsWrongLine t (length (open_lines version taken) + 1)) (sym (so_far.parts ∙ ap (λ r. flat_map ended (open_lines version taken) ++ r) is))
@@ -127,7 +127,7 @@ some_bytes line more none =
     absurd (omega (arith, long, parts, first))
 
 -- bytes stand behind the end
-wrong_behind : (version : Version) (states : States) (behind : List ℕ) → IsTaken version (all_of states) → 0 < length behind → Parts behind → HasWrongNext (state_text version states) behind ⊎ IsCut (state_text version states) behind
+wrong_behind : (version : Version) (states : States) (behind : List ℕ) → IsRightSoFar version (all_of states) → 0 < length behind → Parts behind → HasWrongNext (state_text version states) behind ⊎ IsCut (state_text version states) behind
 wrong_behind version states behind right some (Plain plain) = inr (record { is_line = plain; more = λ s is none. absurd (let long : length behind ≡ 0 = ap (λ (l : List ℕ). length l) none in omega (arith, long, some)) })
 wrong_behind version states behind right some (Lined line more plain parts) = inl (record {
   line = line;

@@ -21,7 +21,7 @@ use Rattle.fork_model.specs.World.{World}
 use Rattle.git_name.specs.Object.{Object}
 use Rattle.fork_request.specs.Names.{IsTenantName}
 use Rattle.state_text.specs.Kept.{state_kept, states_of}
-use Rattle.state_text.specs.States.{Ascend, IsRepository, IsStates, IsTenantState}
+use Rattle.state_text.specs.States.{Ascend, IsNamedRepository, IsStates, IsTenantState}
 use Rattle.state_text.proofs.BehindLemmas.{ascend_none}
 
 not_less : (name : List ℕ) → name_cmp name name ≡ Less → ⊥
@@ -84,7 +84,7 @@ references_right objects references are named = (
 )
 
 -- a repository of a view
-repository_right : (view : View) → IsOrderly view → AllByRecursion IsName (keys view.objects) → (name : List ℕ) (repository : Repository) → get view.repositories name ≡ Some repository → IsRepository (name, repository)
+repository_right : (view : View) → IsOrderly view → AllByRecursion IsName (keys view.objects) → (name : List ℕ) (repository : Repository) → get view.repositories name ≡ Some repository → IsNamedRepository (name, repository)
 repository_right view orderly names name repository is =
     let right = references_right view.objects repository.references (orderly.references name repository is) names in
     record { named = orderly.repositories name repository is; told = record { branch = orderly.heads name repository is; references = right.0; targets = right.1 } }
@@ -96,7 +96,7 @@ view_right tenant view orderly named names = record {
   limit = orderly.limit;
   few = (let count = len-entries view.repositories in let few = orderly.few_repositories in omega (arith, count, few));
   ordered = keys_ascend view.repositories;
-  repositories = subst (AllByRecursion IsRepository) (map_same (entries view.repositories)) (each_made IsRepository (λ e. e) view.repositories (repository_right view orderly names));
+  repositories = subst (AllByRecursion IsNamedRepository) (map_same (entries view.repositories)) (each_made IsNamedRepository (λ e. e) view.repositories (repository_right view orderly names));
   seen_ordered = keys_ascend view.objects;
   seen = names;
   few_offers = omega arith;

@@ -14,7 +14,7 @@ use Rattle.git_reftx.specs.Repository.{IsBranch}
 use Rattle.git_reftx.specs.Sound.{AreSound}
 use Rattle.git_reftx.specs.Transaction.{References}
 use Rattle.git_reftx.proofs.PushLemmas.{apart, free_from, has_key, key_has, keys_behind, len_behind}
-use Rattle.state_text.specs.States.{IsTold}
+use Rattle.state_text.specs.States.{MayBeTold}
 use Rattle.state_text.specs.Taking.{HasReferenceMore}
 use Rattle.state_text.proofs.BehindLemmas.{each_front, each_last, map_behind}
 use Rattle.state_text.proofs.StateLemmas.{targets_more}
@@ -69,7 +69,7 @@ pub record IsLastReference (name target : List ℕ) : Type 0 where
   pub named : IsRefName name
   pub target_named : IsName target
 
-pub last_reference : (old new : git.Repository) (name target : List ℕ) → HasReferenceMore old name target new → IsTold new → IsLastReference name target
+pub last_reference : (old new : git.Repository) (name target : List ℕ) → HasReferenceMore old name target new → MayBeTold new → IsLastReference name target
 last_reference old new name target more told =
     let all = keys_behind old.references new.references name target more.pushed in
     record {
@@ -78,7 +78,7 @@ last_reference old new name target more told =
     }
 
 -- a repository without the reference that came last
-pub less_told : (old new : git.Repository) (name target : List ℕ) → HasReferenceMore old name target new → IsTold new → IsTold old
+pub less_told : (old new : git.Repository) (name target : List ℕ) → HasReferenceMore old name target new → MayBeTold new → MayBeTold old
 less_told old new name target more told = record {
   branch = subst IsBranch more.head told.branch;
   references = sound_less old.references new.references name target more.pushed told.references;
@@ -86,6 +86,6 @@ less_told old new name target more told = record {
 }
 
 -- a repository with one reference more
-pub more_told : (old new : git.Repository) (name target : List ℕ) → HasReferenceMore old name target new → AreSound new.references → IsName target → IsTold old → IsTold new
+pub more_told : (old new : git.Repository) (name target : List ℕ) → HasReferenceMore old name target new → AreSound new.references → IsName target → MayBeTold old → MayBeTold new
 more_told old new name target more sound named told =
     record { branch = subst IsBranch (sym more.head) told.branch; references = sound; targets = targets_more old.references new.references name target more.pushed told.targets named }

@@ -15,10 +15,10 @@ use Rattle.state_text.specs.declared.version.Version.{Version}
 use Rattle.state_text.specs.declared.version.Version.TheVariants.{One, Two}
 use Rattle.state_text.specs.Adding.{fresh, with_seen}
 use Rattle.state_text.specs.Offer as value
-use Rattle.state_text.specs.Place.{IsLast, line_at, name_at, with_at}
+use Rattle.state_text.specs.Place.{IsLast, first_line, place_name, with_at}
 use Rattle.state_text.specs.States.{IsStates, States, TenantState}
 use Rattle.state_text.specs.Taking.{Adds, AddsPlace, HasReferenceMore, IsReadSoFar, Taken, Head, Tenant, Repository, Reference, Seen, Offer, awaits_head, but_last, open_lines, told_lines}
-use Rattle.state_text.specs.Text.{head_line, head_lines, inner_lines, offer_lines, reference_line, repository_lines, seen_line, state_text, tenant_line, tenant_lines, version_line}
+use Rattle.state_text.specs.Text.{line_of_head, head_lines, inner_lines, offer_lines, reference_line, repository_lines, seen_line, state_text, tenant_line, tenant_lines, version_line}
 use Rattle.state_text.proofs.BehindLemmas.{length_behind, map_behind, nothing_in}
 use Rattle.state_text.proofs.TellingLemmas.{taken_more}
 
@@ -63,9 +63,9 @@ three a b c d = sym (append_assoc a (b ++ c) d ∙ ap (λ l. a ++ l) (append_ass
 
 -- the lines of what stands last are the last ones
 pub at_lines : (version : Version) (tenant : TenantState) (place : Place) (repository : git.Repository) → IsLast tenant place
-    → tenant_lines version (with_at tenant place repository) ≡ tenant_lines version tenant ++ line_at place ∷ inner_lines version tenant.name (name_at place) repository
+    → tenant_lines version (with_at tenant place repository) ≡ tenant_lines version tenant ++ first_line place ∷ inner_lines version tenant.name (place_name place) repository
 at_lines version tenant (Own name) repository last =
-    let lines = line_at (Own name) ∷ inner_lines version tenant.name name repository in
+    let lines = first_line (Own name) ∷ inner_lines version tenant.name name repository in
     let front = flat_map (repository_lines version tenant.name) tenant.repositories in
     ap (λ ls. tenant_line tenant.name tenant.limit ∷ ls)
     (own_more version tenant.name front (flat_map (repository_lines version tenant.name) (tenant.repositories ++ (name, repository) ∷ [])) lines tenant.seen tenant.offers last.0 last.1
@@ -84,23 +84,23 @@ new_lines version tenant name head = ap (λ es. head_lines version tenant name h
 
 -- the lines once a HEAD was told
 pub headed_lines : (version : Version) (before : States) (tenant : TenantState) (place : Place) (head : List ℕ) → awaits_head version ≡ true → IsLast tenant place
-    → told_lines version (before ++ with_at tenant place (record { head = head; references = finite.empty }) ∷ []) ≡ (told_lines version (before ++ tenant ∷ []) ++ line_at place ∷ []) ++ head_line tenant.name (name_at place) head ∷ []
+    → told_lines version (before ++ with_at tenant place (record { head = head; references = finite.empty }) ∷ []) ≡ (told_lines version (before ++ tenant ∷ []) ++ first_line place ∷ []) ++ line_of_head tenant.name (place_name place) head ∷ []
 headed_lines One before tenant place head is last = absurd (cc)
 headed_lines Two before tenant place head is last =
     let new : git.Repository = record { head = head; references = finite.empty } in
-    lines_more Two before tenant (with_at tenant place new) (line_at place ∷ inner_lines Two tenant.name (name_at place) new) (at_lines Two tenant place new last)
-    ∙ ap (λ ls. told_lines Two (before ++ tenant ∷ []) ++ line_at place ∷ ls) (new_lines Two tenant.name (name_at place) head)
-    ∙ sym (append_assoc (told_lines Two (before ++ tenant ∷ [])) (line_at place ∷ []) (head_line tenant.name (name_at place) head ∷ []))
+    lines_more Two before tenant (with_at tenant place new) (first_line place ∷ inner_lines Two tenant.name (place_name place) new) (at_lines Two tenant place new last)
+    ∙ ap (λ ls. told_lines Two (before ++ tenant ∷ []) ++ first_line place ∷ ls) (new_lines Two tenant.name (place_name place) head)
+    ∙ sym (append_assoc (told_lines Two (before ++ tenant ∷ [])) (first_line place ∷ []) (line_of_head tenant.name (place_name place) head ∷ []))
 
 -- the lines where something has just begun
 pub begun_lines : (version : Version) (before : States) (tenant : TenantState) (place : Place) (taken : Taken) → IsLast tenant place → taken.awaits ≡ awaits_head version → taken.states ≡ before ++ with_at tenant place new_repository ∷ []
-    → open_lines version taken ≡ told_lines version (before ++ tenant ∷ []) ++ line_at place ∷ []
+    → open_lines version taken ≡ told_lines version (before ++ tenant ∷ []) ++ first_line place ∷ []
 begun_lines One before tenant place taken last awaits is =
     open_told One taken awaits ∙ ap (told_lines One) is
-    ∙ lines_more One before tenant (with_at tenant place new_repository) (line_at place ∷ inner_lines One tenant.name (name_at place) new_repository) (at_lines One tenant place new_repository last)
-    ∙ ap (λ ls. told_lines One (before ++ tenant ∷ []) ++ line_at place ∷ ls) (new_lines One tenant.name (name_at place) main_branch)
+    ∙ lines_more One before tenant (with_at tenant place new_repository) (first_line place ∷ inner_lines One tenant.name (place_name place) new_repository) (at_lines One tenant place new_repository last)
+    ∙ ap (λ ls. told_lines One (before ++ tenant ∷ []) ++ first_line place ∷ ls) (new_lines One tenant.name (place_name place) main_branch)
 begun_lines Two before tenant place taken last awaits is =
-    open_awaited Two taken (told_lines Two (before ++ tenant ∷ []) ++ line_at place ∷ []) (head_line tenant.name (name_at place) main_branch) awaits
+    open_awaited Two taken (told_lines Two (before ++ tenant ∷ []) ++ first_line place ∷ []) (line_of_head tenant.name (place_name place) main_branch) awaits
     (ap (told_lines Two) is ∙ headed_lines Two before tenant place main_branch refl last)
 
 -- a repository's lines with a reference more
@@ -112,11 +112,11 @@ reference_more version tenant name old new reference target more =
     ∙ sym (append_assoc (head_lines version tenant name old.head) (map (reference_line tenant name) (entries old.references)) (reference_line tenant name (reference, target) ∷ []))
 
 referenced_lines : (version : Version) (tenant : TenantState) (place : Place) (old new : git.Repository) (name target : List ℕ) → IsLast tenant place → HasReferenceMore old name target new
-    → tenant_lines version (with_at tenant place new) ≡ tenant_lines version (with_at tenant place old) ++ reference_line tenant.name (name_at place) (name, target) ∷ []
+    → tenant_lines version (with_at tenant place new) ≡ tenant_lines version (with_at tenant place old) ++ reference_line tenant.name (place_name place) (name, target) ∷ []
 referenced_lines version tenant place old new name target last more =
-    at_lines version tenant place new last ∙ ap (λ ls. tenant_lines version tenant ++ line_at place ∷ ls) (reference_more version tenant.name (name_at place) old new name target more)
-    ∙ sym (append_assoc (tenant_lines version tenant) (line_at place ∷ inner_lines version tenant.name (name_at place) old) (reference_line tenant.name (name_at place) (name, target) ∷ []))
-    ∙ ap (λ ls. ls ++ reference_line tenant.name (name_at place) (name, target) ∷ []) (sym (at_lines version tenant place old last))
+    at_lines version tenant place new last ∙ ap (λ ls. tenant_lines version tenant ++ first_line place ∷ ls) (reference_more version tenant.name (place_name place) old new name target more)
+    ∙ sym (append_assoc (tenant_lines version tenant) (first_line place ∷ inner_lines version tenant.name (place_name place) old) (reference_line tenant.name (place_name place) (name, target) ∷ []))
+    ∙ ap (λ ls. ls ++ reference_line tenant.name (place_name place) (name, target) ∷ []) (sym (at_lines version tenant place old last))
 
 seen_more : (version : Version) (tenant : TenantState) (name : List ℕ) → tenant.offers ≡ [] → tenant_lines version (with_seen tenant name) ≡ tenant_lines version tenant ++ seen_line name ∷ []
 seen_more version tenant name none =
@@ -135,9 +135,9 @@ plain_more version old new before tenant next line was is old_is new_is lines =
     open_told version new is ∙ ap (told_lines version) new_is ∙ lines_more version before tenant next (line ∷ []) lines
     ∙ ap (λ ls. ls ++ line ∷ []) (ap (told_lines version) (sym old_is) ∙ sym (open_told version old was))
 
-place_line : (version : Version) (old new : Taken) (place : Place) → old.awaits ≡ false → new.awaits ≡ awaits_head version → AddsPlace old.states place new.states → open_lines version new ≡ open_lines version old ++ line_at place ∷ []
+place_line : (version : Version) (old new : Taken) (place : Place) → old.awaits ≡ false → new.awaits ≡ awaits_head version → AddsPlace old.states place new.states → open_lines version new ≡ open_lines version old ++ first_line place ∷ []
 place_line version old new place was is adds =
-    begun_lines version adds.before adds.tenant place new adds.last is adds.added ∙ ap (λ ls. ls ++ line_at place ∷ []) (ap (told_lines version) (sym adds.was) ∙ sym (open_told version old was))
+    begun_lines version adds.before adds.tenant place new adds.last is adds.added ∙ ap (λ ls. ls ++ first_line place ∷ []) (ap (told_lines version) (sym adds.was) ∙ sym (open_told version old was))
 
 -- a line that was taken stands behind the others
 pub adds_line : (version : Version) (old new : Taken) (line : List ℕ) → Adds version old line new → open_lines version new ≡ open_lines version old ++ line ∷ []
@@ -150,7 +150,7 @@ adds_line version old new line (Tenant rest is goes adds) =
     ∙ (λ i. sym (open_told version old goes.was) i ++ sym (is ∙ ap (λ r. codes "tenant " ++ r) adds.spelled) i ∷ [])
 adds_line version old new line (Repository rest is goes adds) = place_line version old new (Own rest) goes.was goes.is adds ∙ ap (λ l. open_lines version old ++ l ∷ []) (sym is)
 adds_line version old new line (Reference rest is goes adds) =
-    plain_more version old new adds.before (with_at adds.tenant adds.place adds.repository) (with_at adds.tenant adds.place adds.next) (reference_line adds.tenant.name (name_at adds.place) (adds.name, adds.target)) goes.was goes.is adds.was adds.added
+    plain_more version old new adds.before (with_at adds.tenant adds.place adds.repository) (with_at adds.tenant adds.place adds.next) (reference_line adds.tenant.name (place_name adds.place) (adds.name, adds.target)) goes.was goes.is adds.was adds.added
     (referenced_lines version adds.tenant adds.place adds.repository adds.next adds.name adds.target adds.last adds.more)
     ∙ ap (λ l. open_lines version old ++ l ∷ []) (sym (is ∙ ap (λ r. codes "ref " ++ r) adds.spelled))
 adds_line version old new line (Seen rest is goes adds) =

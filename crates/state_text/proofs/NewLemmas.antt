@@ -7,10 +7,10 @@ use Rattle.git_name.specs.Name.{IsName}
 use Rattle.git_reftx.specs.Repository.{IsBranch, branch_in, main_branch, new_repository}
 use Rattle.git_reftx.proofs.BranchLemmas.{main_right}
 use Rattle.git_reftx.proofs.TxLemmas.{sound_empty}
-use Rattle.state_text.specs.States.{IsTold}
+use Rattle.state_text.specs.States.{MayBeTold}
 use Rattle.state_text.proofs.LineLemmas.{no_entries}
 
-pub new_told : IsTold new_repository
+pub new_told : MayBeTold new_repository
 new_told = record { branch = main_right; references = sound_empty; targets = subst (AllByRecursion IsName) (sym (ap (map (λ e. e.1)) no_entries)) tt }
 
 -- where no branch was read, none stands there

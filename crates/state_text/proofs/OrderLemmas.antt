@@ -10,7 +10,7 @@ use Rattle.std.proofs.lemmas.Bool.Decides.{nat_tests}
 use Rattle.std.proofs.lemmas.List.Elements.{All-head, All-tail}
 use Rattle.git_name.specs.Name.{name_cmp}
 use Rattle.fork_request.specs.Names.{IsPlainName, IsTenantName, stands_in_a_name}
-use Rattle.state_text.specs.Offer.{Offer, offer_words, words_of}
+use Rattle.state_text.specs.Offer.{Offer, offer_words, words_of_offer}
 
 then_assoc : (o p q : Ordering) → ordering_then o (ordering_then p q) ≡ ordering_then (ordering_then o p) q
 then_assoc Less p q = refl
@@ -46,6 +46,6 @@ words_cmp most most_too a b x y named named_too =
 
 -- and so are offers
 pub offers_cmp : (a b : Offer) (one two : List ℕ) (order : Ordering) → IsTenantName a.receiver → IsTenantName b.receiver → one ≡ a.receiver → two ≡ b.receiver → order ≡ name_cmp one two
-    → name_cmp (words_of a) (words_of b) ≡ ordering_then order (name_cmp a.name b.name)
+    → name_cmp (words_of_offer a) (words_of_offer b) ≡ ordering_then order (name_cmp a.name b.name)
 offers_cmp a b one two order named named_too is is_too compared =
     words_cmp _ _ a.receiver b.receiver a.name b.name named named_too ∙ ap (λ o. ordering_then o (name_cmp a.name b.name)) ((λ i. name_cmp (sym is i) (sym is_too i)) ∙ sym compared)

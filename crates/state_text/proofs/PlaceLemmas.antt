@@ -6,9 +6,9 @@ use Rattle.fork_model.specs.declared.limits.TheConstants.{MAX_REPOSITORIES}
 use Rattle.state_text.specs.declared.offer.TheConstants.{MAX_OFFERS}
 use Rattle.state_text.specs.declared.place.Place.{Place}
 use Rattle.state_text.specs.declared.place.Place.TheVariants.{Own, Offered}
-use Rattle.state_text.specs.Offer.{Offer, offer_words, words_of}
-use Rattle.state_text.specs.Place.{IsLast, name_at, with_at}
-use Rattle.state_text.specs.States.{Ascend, IsOffer, IsRepository, IsStates, IsTenantState, IsTold, States, TenantState}
+use Rattle.state_text.specs.Offer.{Offer, offer_words, words_of_offer}
+use Rattle.state_text.specs.Place.{IsLast, place_name, with_at}
+use Rattle.state_text.specs.States.{Ascend, IsOffer, IsNamedRepository, IsStates, IsTenantState, MayBeTold, States, TenantState}
 use Rattle.state_text.proofs.BehindLemmas.{ascend_front, before_last, each_front, each_last, length_behind, map_behind, same_behind}
 use Rattle.state_text.proofs.StateLemmas.{offer_more, repository_more, tenant_changed}
 
@@ -26,7 +26,7 @@ place_less tenant (Own name) repository right = record {
   limit = right.limit;
   few = (let long = length_behind tenant.repositories (name, repository) in let few = right.few in omega (arith, long, few));
   ordered = ascend_front (map (λ r. r.0) tenant.repositories) name (subst Ascend (map_behind (λ r. r.0) tenant.repositories (name, repository)) right.ordered);
-  repositories = each_front IsRepository tenant.repositories (name, repository) right.repositories;
+  repositories = each_front IsNamedRepository tenant.repositories (name, repository) right.repositories;
   seen_ordered = right.seen_ordered;
   seen = right.seen;
   few_offers = right.few_offers;
@@ -42,17 +42,17 @@ place_less tenant (Offered receiver name) repository right = record {
   seen_ordered = right.seen_ordered;
   seen = right.seen;
   few_offers = (let long = length_behind tenant.offers (offer_at receiver name repository) in let few = right.few_offers in omega (arith, long, few));
-  offers_ordered = ascend_front (map words_of tenant.offers) (offer_words receiver name) (subst Ascend (map_behind words_of tenant.offers (offer_at receiver name repository)) right.offers_ordered);
+  offers_ordered = ascend_front (map words_of_offer tenant.offers) (offer_words receiver name) (subst Ascend (map_behind words_of_offer tenant.offers (offer_at receiver name repository)) right.offers_ordered);
   offers = each_front (IsOffer tenant.name) tenant.offers (offer_at receiver name repository) right.offers;
 }
 
 -- what is known of it
-pub told_at : (tenant : TenantState) (place : Place) (repository : git.Repository) → IsTenantState (with_at tenant place repository) → IsTold repository
-told_at tenant (Own name) repository right = (each_last IsRepository tenant.repositories (name, repository) right.repositories).told
+pub told_at : (tenant : TenantState) (place : Place) (repository : git.Repository) → IsTenantState (with_at tenant place repository) → MayBeTold repository
+told_at tenant (Own name) repository right = (each_last IsNamedRepository tenant.repositories (name, repository) right.repositories).told
 told_at tenant (Offered receiver name) repository right = (each_last (IsOffer tenant.name) tenant.offers (offer_at receiver name repository) right.offers).told
 
-pub named_at : (tenant : TenantState) (place : Place) (repository : git.Repository) → IsTenantState (with_at tenant place repository) → IsRepositoryName (name_at place)
-named_at tenant (Own name) repository right = (each_last IsRepository tenant.repositories (name, repository) right.repositories).named
+pub named_at : (tenant : TenantState) (place : Place) (repository : git.Repository) → IsTenantState (with_at tenant place repository) → IsRepositoryName (place_name place)
+named_at tenant (Own name) repository right = (each_last IsNamedRepository tenant.repositories (name, repository) right.repositories).named
 named_at tenant (Offered receiver name) repository right = (each_last (IsOffer tenant.name) tenant.offers (offer_at receiver name repository) right.offers).named
 
 -- what is known of an offer that stands last
@@ -60,9 +60,9 @@ pub receiver_at : (tenant : TenantState) (receiver name : List ℕ) (repository 
 receiver_at tenant receiver name repository right = each_last (IsOffer tenant.name) tenant.offers (offer_at receiver name repository) right.offers
 
 -- the tenant with another one in its place
-pub place_changed : (tenant : TenantState) (place : Place) (old new : git.Repository) → IsTenantState (with_at tenant place old) → IsTold new → IsTenantState (with_at tenant place new)
+pub place_changed : (tenant : TenantState) (place : Place) (old new : git.Repository) → IsTenantState (with_at tenant place old) → MayBeTold new → IsTenantState (with_at tenant place new)
 place_changed tenant (Own name) old new right told =
-    let was : IsRepository (name, old) = each_last IsRepository tenant.repositories (name, old) right.repositories in
+    let was : IsNamedRepository (name, old) = each_last IsNamedRepository tenant.repositories (name, old) right.repositories in
     let room : length tenant.repositories < MAX_REPOSITORIES = (let long = length_behind tenant.repositories (name, old) in let few = right.few in omega (arith, long, few)) in
     repository_more tenant name new (place_less tenant (Own name) old right) (record { named = was.named; told = told })
     (before_last (map (λ r. r.0) tenant.repositories) name (subst Ascend (map_behind (λ r. r.0) tenant.repositories (name, old)) right.ordered)) room
@@ -71,10 +71,10 @@ place_changed tenant (Offered receiver name) old new right told =
     let room : length tenant.offers < MAX_OFFERS = (let long = length_behind tenant.offers (offer_at receiver name old) in let few = right.few_offers in omega (arith, long, few)) in
     offer_more tenant (offer_at receiver name new) (place_less tenant (Offered receiver name) old right)
     (record { receiver_named = was.receiver_named; to_another = was.to_another; named = was.named; told = told })
-    (before_last (map words_of tenant.offers) (offer_words receiver name) (subst Ascend (map_behind words_of tenant.offers (offer_at receiver name old)) right.offers_ordered)) room
+    (before_last (map words_of_offer tenant.offers) (offer_words receiver name) (subst Ascend (map_behind words_of_offer tenant.offers (offer_at receiver name old)) right.offers_ordered)) room
 
 -- states whose last tenant has another one in its place
-pub states_changed : (before : States) (tenant : TenantState) (place : Place) (old new : git.Repository) → IsStates (before ++ with_at tenant place old ∷ []) → IsTenantState (with_at tenant place old) → IsTold new
+pub states_changed : (before : States) (tenant : TenantState) (place : Place) (old new : git.Repository) → IsStates (before ++ with_at tenant place old ∷ []) → IsTenantState (with_at tenant place old) → MayBeTold new
     → IsStates (before ++ with_at tenant place new ∷ [])
 states_changed before tenant place old new right tenant_right told =
     tenant_changed before (with_at tenant place old) (with_at tenant place new) right (place_changed tenant place old new tenant_right told) (same_name_at tenant place old ∙ sym (same_name_at tenant place new))

@@ -17,7 +17,7 @@ use Rattle.state_text.specs.declared.place.Place.TheVariants.{Own, Offered}
 use Rattle.state_text.specs.declared.version.Version.{Version}
 use Rattle.state_text.specs.Adding.{fresh, with_seen}
 use Rattle.state_text.specs.Fault.{IsOneLine}
-use Rattle.state_text.specs.Place.{name_at, with_at}
+use Rattle.state_text.specs.Place.{place_name, with_at}
 use Rattle.state_text.specs.States.{IsStates, IsTenantState, States}
 use Rattle.state_text.specs.Taking.{Adds, AddsHead, AddsOffer, AddsReference, AddsRepository, AddsSeen, AddsTenant, Taken, Head, Tenant, Repository, Reference, Seen, Offer}
 use Rattle.state_text.proofs.BehindLemmas.{each_last}
@@ -89,18 +89,18 @@ head_plain old rest new adds right =
     let named = named_at adds.tenant adds.place next tenant in
     let tenant_named = (place_less adds.tenant adds.place next tenant).named in
     All-same (λ b. b ≢ 10) _ _ adds.spelled
-    (both_plain (expanded (adds.tenant.name ∷ name_at adds.place ∷ [])) adds.head (prefix_at _ _ adds.tenant.name (name_at adds.place) tenant_named named) (reference_plain adds.head (told_at adds.tenant adds.place next tenant).branch.name))
+    (both_plain (expanded (adds.tenant.name ∷ place_name adds.place ∷ [])) adds.head (prefix_at _ _ adds.tenant.name (place_name adds.place) tenant_named named) (reference_plain adds.head (told_at adds.tenant adds.place next tenant).branch.name))
 
 -- a reference's line
 line_of_reference : (old : States) (rest : List ℕ) (new : States) → AddsReference old rest new → IsStates new → IsOneLine rest
 line_of_reference old rest new adds right =
     let tenant = last_right adds.before (with_at adds.tenant adds.place adds.next) (subst IsStates adds.added right) in
     let last : IsLastReference adds.name adds.target = last_reference adds.repository adds.next adds.name adds.target adds.more (told_at adds.tenant adds.place adds.next tenant) in
-    let prefix = prefix_at _ _ adds.tenant.name (name_at adds.place) (place_less adds.tenant adds.place adds.next tenant).named (named_at adds.tenant adds.place adds.next tenant) in
+    let prefix = prefix_at _ _ adds.tenant.name (place_name adds.place) (place_less adds.tenant adds.place adds.next tenant).named (named_at adds.tenant adds.place adds.next tenant) in
     let space = both_plain (encode_lower adds.target) (codes " ") (encode_lower-plain 10 (omega arith) adds.target last.target_named.bytes) space_plain in
     All-same (λ b. b ≢ 10) _ _ adds.spelled
-    (both_plain (encode_lower adds.target ++ codes " " ++ expanded (adds.tenant.name ∷ name_at adds.place ∷ [])) adds.name
-    (both_plain (encode_lower adds.target ++ codes " ") (expanded (adds.tenant.name ∷ name_at adds.place ∷ [])) space prefix) (reference_plain adds.name last.named))
+    (both_plain (encode_lower adds.target ++ codes " " ++ expanded (adds.tenant.name ∷ place_name adds.place ∷ [])) adds.name
+    (both_plain (encode_lower adds.target ++ codes " ") (expanded (adds.tenant.name ∷ place_name adds.place ∷ [])) space prefix) (reference_plain adds.name last.named))
 
 tenant_plain : (old : States) (rest : List ℕ) (new : States) → AddsTenant old rest new → IsStates new → IsOneLine rest
 tenant_plain old rest new adds right =

@@ -12,7 +12,7 @@ use Rattle.state_text.specs.declared.place.Place.{Place}
 use Rattle.state_text.specs.declared.place.Place.TheVariants.{Own, Offered}
 use Rattle.state_text.specs.declared.version.Version.{Version}
 use Rattle.state_text.specs.Adding.{fresh, with_seen}
-use Rattle.state_text.specs.Place.{name_at, with_at}
+use Rattle.state_text.specs.Place.{place_name, with_at}
 use Rattle.state_text.specs.States.{IsOffer, IsStates, IsTenantState, States, TenantState}
 use Rattle.state_text.specs.Taking.{Adds, AddsHead, AddsOffer, AddsPlace, AddsReference, AddsSeen, AddsTenant, HasReferenceMore, Taken, Head, Tenant, Repository, Reference, Seen, Offer}
 use Rattle.state_text.proofs.BehindLemmas.{each_last, same_behind}
@@ -54,7 +54,7 @@ head_same : (old q r : States) (rest : List ℕ) → AddsHead old rest q → Add
 head_same old q r rest a b =
     let parts = same_behind a.before b.before (with_at a.tenant a.place new_repository) (with_at b.tenant b.place new_repository) (sym a.was ∙ b.was) in
     let same = same_place a.tenant b.tenant a.place b.place new_repository new_repository a.last b.last parts.1 in
-    let prefix = λ (t : TenantState) (p : Place). expanded (t.name ∷ name_at p ∷ []) in
+    let prefix = λ (t : TenantState) (p : Place). expanded (t.name ∷ place_name p ∷ []) in
     let heads : a.head ≡ b.head = append_cancel_left (prefix b.tenant b.place) a.head b.head ((λ i. prefix (sym same.tenants i) (sym same.places i) ++ a.head) ∙ sym a.spelled ∙ b.spelled) in
     a.added ∙ (λ i. parts.0 i ++ with_at (same.tenants i) (same.places i) (record { head = heads i; references = finite.empty }) ∷ []) ∙ sym b.added
 
@@ -74,7 +74,7 @@ reference_same old q r rest a b right other =
     let two = known_reference old r rest b other in
     let parts = same_behind a.before b.before (with_at a.tenant a.place a.repository) (with_at b.tenant b.place b.repository) (sym a.was ∙ b.was) in
     let same = same_place a.tenant b.tenant a.place b.place a.repository b.repository a.last b.last parts.1 in
-    let prefix = λ (t : TenantState) (p : Place). expanded (t.name ∷ name_at p ∷ []) in
+    let prefix = λ (t : TenantState) (p : Place). expanded (t.name ∷ place_name p ∷ []) in
     let spelled = a.spelled ∙ append_assoc (encode_lower a.target ++ codes " ") (prefix a.tenant a.place) a.name ∙ append_assoc (encode_lower a.target) (codes " ") (prefix a.tenant a.place ++ a.name) in
     let words = reference_parts rest (encode_lower a.target) (prefix a.tenant a.place ++ a.name) b.target (prefix b.tenant b.place) b.name spelled (digits_without a.target one.target_named) two.target_named b.spelled in
     let targets : a.target ≡ b.target = digits_unique a.target b.target one.target_named two.target_named words.0 in

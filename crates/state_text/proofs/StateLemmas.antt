@@ -10,8 +10,8 @@ use Rattle.fork_request.specs.declared.limit.TheConstants.{MAX_LIMIT}
 use Rattle.fork_model.specs.declared.limits.TheConstants.{MAX_REPOSITORIES, MAX_TENANTS}
 use Rattle.state_text.specs.declared.offer.TheConstants.{MAX_OFFERS}
 use Rattle.state_text.specs.Adding.{AreBefore, fresh, with_offer, with_repository, with_seen}
-use Rattle.state_text.specs.Offer.{Offer, words_of}
-use Rattle.state_text.specs.States.{Ascend, IsOffer, IsRepository, IsStates, IsTenantState, States, TenantState}
+use Rattle.state_text.specs.Offer.{Offer, words_of_offer}
+use Rattle.state_text.specs.States.{Ascend, IsOffer, IsNamedRepository, IsStates, IsTenantState, States, TenantState}
 use Rattle.state_text.proofs.BehindLemmas.{ascend_behind, ascend_front, ascend_none, before_last, each_behind, each_front, each_last, length_behind, map_behind}
 
 pub no_states : IsStates []
@@ -32,14 +32,14 @@ fresh_right name limit named within = record {
 }
 
 -- a tenant with a repository more
-pub repository_more : (tenant : TenantState) (name : List ℕ) (repository : git.Repository) → IsTenantState tenant → IsRepository (name, repository) → AreBefore (map (λ r. r.0) tenant.repositories) name
+pub repository_more : (tenant : TenantState) (name : List ℕ) (repository : git.Repository) → IsTenantState tenant → IsNamedRepository (name, repository) → AreBefore (map (λ r. r.0) tenant.repositories) name
     → length tenant.repositories < MAX_REPOSITORIES → IsTenantState (with_repository tenant name repository)
 repository_more tenant name repository right new before room = record {
   named = right.named;
   limit = right.limit;
   few = (let long = length_behind tenant.repositories (name, repository) in omega (arith, long));
   ordered = subst Ascend (sym (map_behind (λ r. r.0) tenant.repositories (name, repository))) (ascend_behind (map (λ r. r.0) tenant.repositories) name right.ordered before);
-  repositories = each_behind IsRepository tenant.repositories (name, repository) right.repositories new;
+  repositories = each_behind IsNamedRepository tenant.repositories (name, repository) right.repositories new;
   seen_ordered = right.seen_ordered;
   seen = right.seen;
   few_offers = right.few_offers;
@@ -63,7 +63,7 @@ seen_more tenant name right named before = record {
 }
 
 -- a tenant with an offer more
-pub offer_more : (tenant : TenantState) (offer : Offer) → IsTenantState tenant → IsOffer tenant.name offer → AreBefore (map words_of tenant.offers) (words_of offer) → length tenant.offers < MAX_OFFERS → IsTenantState (with_offer tenant offer)
+pub offer_more : (tenant : TenantState) (offer : Offer) → IsTenantState tenant → IsOffer tenant.name offer → AreBefore (map words_of_offer tenant.offers) (words_of_offer offer) → length tenant.offers < MAX_OFFERS → IsTenantState (with_offer tenant offer)
 offer_more tenant offer right new before room = record {
   named = right.named;
   limit = right.limit;
@@ -73,7 +73,7 @@ offer_more tenant offer right new before room = record {
   seen_ordered = right.seen_ordered;
   seen = right.seen;
   few_offers = (let long = length_behind tenant.offers offer in omega (arith, long));
-  offers_ordered = subst Ascend (sym (map_behind words_of tenant.offers offer)) (ascend_behind (map words_of tenant.offers) (words_of offer) right.offers_ordered before);
+  offers_ordered = subst Ascend (sym (map_behind words_of_offer tenant.offers offer)) (ascend_behind (map words_of_offer tenant.offers) (words_of_offer offer) right.offers_ordered before);
   offers = each_behind (IsOffer tenant.name) tenant.offers offer right.offers new;
 }
 

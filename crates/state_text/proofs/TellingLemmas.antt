@@ -10,30 +10,30 @@ use Rattle.state_text.specs.declared.version.Version.TheVariants.{One, Two}
 use Rattle.state_text.specs.Adding.{fresh, with_seen}
 use Rattle.state_text.specs.Place.{with_at}
 use Rattle.state_text.specs.States.{States, TenantState}
-use Rattle.state_text.specs.Taking.{Adds, AddsPlace, Goes, IsBegun, IsTaken, Taken, Tenant, Repository, Head, Reference, Seen, Offer, awaits_head}
+use Rattle.state_text.specs.Taking.{Adds, AddsPlace, Goes, HasJustBegun, IsRightSoFar, Taken, Tenant, Repository, Head, Reference, Seen, Offer, awaits_head}
 use Rattle.state_text.specs.States.{IsStates}
-use Rattle.state_text.specs.Text.{IsPlain, Tells}
+use Rattle.state_text.specs.Text.{FitsVersionOne, VersionTells}
 use Rattle.state_text.proofs.BehindLemmas.{each_behind, each_front, each_last}
 use Rattle.state_text.proofs.PlaceLemmas.{never_nothing}
 
 -- what a version can tell of one tenant
 abbrev pub TellsOne : Version → TenantState → Type 0
-TellsOne One tenant = IsPlain tenant
+TellsOne One tenant = FitsVersionOne tenant
 TellsOne Two tenant = ⊤
 
-pub tells_less : (version : Version) (before : States) (tenant : TenantState) → Tells version (before ++ tenant ∷ []) → Tells version before
-tells_less One before tenant tells = each_front IsPlain before tenant tells
+pub tells_less : (version : Version) (before : States) (tenant : TenantState) → VersionTells version (before ++ tenant ∷ []) → VersionTells version before
+tells_less One before tenant tells = each_front FitsVersionOne before tenant tells
 tells_less Two before tenant tells = tt
 
-pub tells_last : (version : Version) (before : States) (tenant : TenantState) → Tells version (before ++ tenant ∷ []) → TellsOne version tenant
-tells_last One before tenant tells = each_last IsPlain before tenant tells
+pub tells_last : (version : Version) (before : States) (tenant : TenantState) → VersionTells version (before ++ tenant ∷ []) → TellsOne version tenant
+tells_last One before tenant tells = each_last FitsVersionOne before tenant tells
 tells_last Two before tenant tells = tt
 
-pub tells_behind : (version : Version) (before : States) (tenant : TenantState) → Tells version before → TellsOne version tenant → Tells version (before ++ tenant ∷ [])
-tells_behind One before tenant tells one = each_behind IsPlain before tenant tells one
+pub tells_behind : (version : Version) (before : States) (tenant : TenantState) → VersionTells version before → TellsOne version tenant → VersionTells version (before ++ tenant ∷ [])
+tells_behind One before tenant tells one = each_behind FitsVersionOne before tenant tells one
 tells_behind Two before tenant tells one = tt
 
-pub tells_nothing : (version : Version) → Tells version []
+pub tells_nothing : (version : Version) → VersionTells version []
 tells_nothing One = tt
 tells_nothing Two = tt
 
@@ -62,7 +62,7 @@ tells_changed One tenant (Offered receiver name) old new same tells = absurd (ne
 tells_changed Two tenant place old new same tells = tt
 
 -- a repository has HEAD main in the first version
-pub tells_main : (tenant : TenantState) (place : Place) (repository : git.Repository) → IsPlain (with_at tenant place repository) → repository.head ≡ main_branch
+pub tells_main : (tenant : TenantState) (place : Place) (repository : git.Repository) → FitsVersionOne (with_at tenant place repository) → repository.head ≡ main_branch
 tells_main tenant (Own name) repository tells = each_last (λ r. r.1.head ≡ main_branch) tenant.repositories (name, repository) tells.heads
 tells_main tenant (Offered receiver name) repository tells = absurd (never_nothing tenant.offers _ tells.no_offers)
 
@@ -72,19 +72,19 @@ tells_new One tenant name tells = record { heads = each_behind (λ r. r.1.head �
 tells_new Two tenant name tells = tt
 
 -- where HEAD is told, all is
-pub tells_all : (version : Version) (states : States) → awaits_head version ≡ true → Tells version states
+pub tells_all : (version : Version) (states : States) → awaits_head version ≡ true → VersionTells version states
 tells_all One states is = absurd (cc)
 tells_all Two states is = tt
 
 -- what a version tells of the old tenant tells it of the new one
-tells_last_changed : (version : Version) (before old new : States) (tenant next : TenantState) → old ≡ before ++ tenant ∷ [] → new ≡ before ++ next ∷ [] → (TellsOne version tenant → TellsOne version next) → Tells version old → Tells version new
+tells_last_changed : (version : Version) (before old new : States) (tenant next : TenantState) → old ≡ before ++ tenant ∷ [] → new ≡ before ++ next ∷ [] → (TellsOne version tenant → TellsOne version next) → VersionTells version old → VersionTells version new
 tells_last_changed version before old new tenant next was is goes tells =
-    let here = subst (Tells version) was tells in
-    subst (Tells version) (sym is) (tells_behind version before next (tells_less version before tenant here) (goes (tells_last version before tenant here)))
+    let here = subst (VersionTells version) was tells in
+    subst (VersionTells version) (sym is) (tells_behind version before next (tells_less version before tenant here) (goes (tells_last version before tenant here)))
 
-tells_more : (version : Version) (old new : Taken) (line : List ℕ) → Adds version old line new → Tells version old.states → Tells version new.states
+tells_more : (version : Version) (old new : Taken) (line : List ℕ) → Adds version old line new → VersionTells version old.states → VersionTells version new.states
 tells_more version old new line (Head told goes says) tells = tells_all version new.states told
-tells_more version old new line (Tenant rest is goes adds) tells = subst (Tells version) (sym adds.added) (tells_behind version old.states (fresh adds.name adds.limit) tells (tells_fresh version adds.name adds.limit))
+tells_more version old new line (Tenant rest is goes adds) tells = subst (VersionTells version) (sym adds.added) (tells_behind version old.states (fresh adds.name adds.limit) tells (tells_fresh version adds.name adds.limit))
 tells_more version old new line (Repository rest is goes adds) tells =
     tells_last_changed version adds.before old.states new.states adds.tenant (with_at adds.tenant (Own rest) new_repository) adds.was adds.added (tells_new version adds.tenant rest) tells
 tells_more version old new line (Reference rest is goes adds) tells =
@@ -94,13 +94,13 @@ tells_more version old new line (Seen rest is goes adds) tells =
     tells_last_changed version adds.before old.states new.states adds.tenant (with_seen adds.tenant adds.name) adds.was adds.added (tells_seen version adds.tenant adds.name) tells
 tells_more version old new line (Offer rest is goes adds) tells = tells_all version new.states adds.told
 
-begun_not : (version : Version) (old new : Taken) → Goes false old false new → new.awaits ≡ true → (awaits_head version ≡ true) × IsBegun new.states
+begun_not : (version : Version) (old new : Taken) → Goes false old false new → new.awaits ≡ true → (awaits_head version ≡ true) × HasJustBegun new.states
 begun_not version old new goes is = absurd (let bad : true ≡ false = sym is ∙ goes.is in cc)
 
-begun_at : (old new : States) (place : Place) → AddsPlace old place new → IsBegun new
+begun_at : (old new : States) (place : Place) → AddsPlace old place new → HasJustBegun new
 begun_at old new place adds = record { before = adds.before; tenant = adds.tenant; place = place; last = adds.last; is = adds.added }
 
-begun_more : (version : Version) (old new : Taken) (line : List ℕ) → Adds version old line new → new.awaits ≡ true → (awaits_head version ≡ true) × IsBegun new.states
+begun_more : (version : Version) (old new : Taken) (line : List ℕ) → Adds version old line new → new.awaits ≡ true → (awaits_head version ≡ true) × HasJustBegun new.states
 begun_more version old new line (Head told goes says) is = absurd (let bad : true ≡ false = sym is ∙ goes.is in cc)
 begun_more version old new line (Tenant rest line_is goes adds) is = begun_not version old new goes is
 begun_more version old new line (Repository rest line_is goes adds) is = (sym goes.is ∙ is, begun_at old.states new.states (Own rest) adds)
@@ -109,15 +109,15 @@ begun_more version old new line (Seen rest line_is goes adds) is = begun_not ver
 begun_more version old new line (Offer rest line_is goes adds) is = (adds.told, begun_at old.states new.states (Offered adds.receiver adds.name) adds.begins)
 
 -- with a line more all is as it has to be
-pub taken_more : (version : Version) (old new : Taken) (line : List ℕ) → Adds version old line new → IsTaken version old → IsStates new.states → IsTaken version new
+pub taken_more : (version : Version) (old new : Taken) (line : List ℕ) → Adds version old line new → IsRightSoFar version old → IsStates new.states → IsRightSoFar version new
 taken_more version old new line adds was right = record { right = right; tells = tells_more version old new line adds was.tells; begun = begun_more version old new line adds }
 
 -- states that are told of to their end
-pub all_taken : (version : Version) (states : States) → IsStates states → Tells version states → IsTaken version (record { states = states; awaits = false })
+pub all_taken : (version : Version) (states : States) → IsStates states → VersionTells version states → IsRightSoFar version (record { states = states; awaits = false })
 all_taken version states right tells = record { right = right; tells = tells; begun = λ is. absurd (cc) }
 
 -- no offer is told of in the first version
-pub offered_plain : (tenant : TenantState) (receiver name : List ℕ) (repository : git.Repository) → IsPlain (with_at tenant (Offered receiver name) repository) → ⊥
+pub offered_plain : (tenant : TenantState) (receiver name : List ℕ) (repository : git.Repository) → FitsVersionOne (with_at tenant (Offered receiver name) repository) → ⊥
 offered_plain tenant receiver name repository plain = never_nothing tenant.offers _ plain.no_offers
 
 -- a tenant is told of whatever it sees

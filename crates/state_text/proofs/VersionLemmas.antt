@@ -7,7 +7,7 @@ use Rattle.state_text.specs.declared.version.Version.{Version}
 use Rattle.state_text.specs.declared.version.Version.TheVariants.{One, Two}
 use Rattle.state_text.specs.Fault.{IsOneLine}
 use Rattle.state_text.specs.States.{States}
-use Rattle.state_text.specs.Taking.{IsTaken, Taken, open_lines}
+use Rattle.state_text.specs.Taking.{IsRightSoFar, Taken, open_lines}
 use Rattle.state_text.specs.Text.{IsStateText, IsTextIn, state_text, version_line}
 use Rattle.state_text.proofs.ContinuingLemmas.{all_of, has_first, text_same, version_plain}
 use Rattle.state_text.proofs.LineLemmas.{text_ends}
@@ -28,7 +28,7 @@ pub of_version : (version : Version) (states : States) (text : List ℕ) → IsT
 of_version One states text is = inl is
 of_version Two states text is = inr is
 
-pub taken_of : (version : Version) (states : States) (text : List ℕ) → IsTextIn version states text → IsTaken version (all_of states)
+pub taken_of : (version : Version) (states : States) (text : List ℕ) → IsTextIn version states text → IsRightSoFar version (all_of states)
 taken_of version states text is = all_taken version states is.right is.tells
 
 same_line : (v w : Version) → version_line v ≡ version_line w → v ≡ w
@@ -44,7 +44,7 @@ first_is version states line rest plain is =
     (split_unique 10 line rest (version_line version) _ plain (version_plain version) (sym is ∙ sym (append-nil (state_text version states)) ∙ first_line (version_line version) _ [])).0
 
 -- a state text that begins with lines of a version is of that one
-pub same_version : (v w : Version) (taken : Taken) (states : States) (rest : List ℕ) → IsTaken v taken → state_text w states ≡ flat_map ended (open_lines v taken) ++ rest → w ≡ v
+pub same_version : (v w : Version) (taken : Taken) (states : States) (rest : List ℕ) → IsRightSoFar v taken → state_text w states ≡ flat_map ended (open_lines v taken) ++ rest → w ≡ v
 same_version v w taken states rest right is =
     let first = has_first v taken right in
     same_line w v (sym (first_is w states (version_line v) (flat_map ended first.others ++ rest) (version_plain v) (is ∙ ap (λ ls. flat_map ended ls ++ rest) first.first ∙ first_line (version_line v) first.others rest)))

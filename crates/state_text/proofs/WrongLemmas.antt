@@ -23,8 +23,8 @@ use Rattle.state_text.specs.declared.place.Place.{Place}
 use Rattle.state_text.specs.declared.place.Place.TheVariants.{Own, Offered}
 use Rattle.state_text.specs.declared.version.Version.{Version}
 use Rattle.state_text.specs.Adding.{AreBefore, TellsAdd, TellsOffer, fresh, with_seen}
-use Rattle.state_text.specs.Offer.{offer_words, words_of}
-use Rattle.state_text.specs.Place.{IsLast, name_at, with_at}
+use Rattle.state_text.specs.Offer.{offer_words, words_of_offer}
+use Rattle.state_text.specs.Place.{IsLast, place_name, with_at}
 use Rattle.state_text.specs.States.{Ascend, IsOffer, IsStates, IsTenantState, States, TenantState}
 use Rattle.state_text.specs.Taking.{AddsHead, AddsOffer, AddsReference, AddsRepository, AddsSeen, AddsTenant, HasReferenceMore, Refuses, fault_of, fault_of_offer, fault_of_push}
 use Rattle.state_text.proofs.BehindLemmas.{before_last, each_last, length_behind, map_behind, same_behind}
@@ -91,10 +91,10 @@ module _ (version : Version) (old before new : States) (tenant : TenantState) (r
   to_another_one : receiver ≢ tenant.name
   to_another_one same = offer_right.to_another (sym words_same.0 ∙ same ∙ sym (ap (λ t. t.name) giver_same))
 
-  stands_behind : AreBefore (map words_of tenant.offers) (offer_words receiver name)
+  stands_behind : AreBefore (map words_of_offer tenant.offers) (offer_words receiver name)
   stands_behind =
-      let ahead = before_last (map words_of adds.begins.tenant.offers) (offer_words adds.receiver adds.name) (subst Ascend (map_behind words_of adds.begins.tenant.offers (offer_at adds.receiver adds.name new_repository)) offered_right.offers_ordered) in
-      subst (λ t. AreBefore (map words_of t.offers) (offer_words receiver name)) giver_same (subst (AreBefore (map words_of adds.begins.tenant.offers)) (λ i. offer_words (sym words_same.0 i) (sym words_same.1 i)) ahead)
+      let ahead = before_last (map words_of_offer adds.begins.tenant.offers) (offer_words adds.receiver adds.name) (subst Ascend (map_behind words_of_offer adds.begins.tenant.offers (offer_at adds.receiver adds.name new_repository)) offered_right.offers_ordered) in
+      subst (λ t. AreBefore (map words_of_offer t.offers) (offer_words receiver name)) giver_same (subst (AreBefore (map words_of_offer adds.begins.tenant.offers)) (λ i. offer_words (sym words_same.0 i) (sym words_same.1 i)) ahead)
 
   has_room : length tenant.offers < MAX_OFFERS
   has_room =
@@ -116,7 +116,7 @@ never_more old new name target error told fault sound more = never_pushed old.re
 
 -- what is known where a line says more of what stands last
 module _ (old before new : States) (tenant : TenantState) (place : Place) (repository : git.Repository) (rest prefix : List ℕ) (was : old ≡ before ++ with_at tenant place repository ∷ []) (last : IsLast tenant place)
-    (prefix_is : prefix ≡ expanded (tenant.name ∷ name_at place ∷ [])) (right : IsStates new) where
+    (prefix_is : prefix ≡ expanded (tenant.name ∷ place_name place ∷ [])) (right : IsStates new) where
   module _ (adds : AddsReference old rest new) where
     place_same : IsSamePlace adds.tenant tenant adds.place place adds.repository repository
     place_same = same_place adds.tenant tenant adds.place place adds.repository repository adds.last last (same_behind adds.before before (with_at adds.tenant adds.place adds.repository) (with_at tenant place repository) (sym adds.was ∙ was)).1
@@ -129,7 +129,7 @@ module _ (old before new : States) (tenant : TenantState) (place : Place) (repos
 
     pub reference_spelled_so : rest ≡ encode_lower adds.target ++ codes " " ++ prefix ++ adds.name
     reference_spelled_so =
-        adds.spelled ∙ ap (λ p. encode_lower adds.target ++ codes " " ++ p ++ adds.name) ((λ i. expanded ((place_same.tenants i).name ∷ name_at (place_same.places i) ∷ [])) ∙ sym prefix_is)
+        adds.spelled ∙ ap (λ p. encode_lower adds.target ++ codes " " ++ p ++ adds.name) ((λ i. expanded ((place_same.tenants i).name ∷ place_name (place_same.places i) ∷ [])) ∙ sym prefix_is)
 
     pub reference_wrong : (name target : List ℕ) (error : PushRefError) → IsName target → rest ≡ encode_lower target ++ codes " " ++ prefix ++ name → TellsPush repository.references name error → error ≢ push.Memory → ⊥
     reference_wrong name target error named is told fault =
@@ -147,9 +147,9 @@ module _ (old before new : States) (tenant : TenantState) (place : Place) (repos
     head_right = (told_at adds.tenant adds.place (record { head = adds.head; references = finite.empty }) (last_right adds.before (with_at adds.tenant adds.place (record { head = adds.head; references = finite.empty })) (subst IsStates adds.added right))).branch
 
     pub head_spelled_so : rest ≡ prefix ++ adds.head
-    head_spelled_so = adds.spelled ∙ ap (λ p. p ++ adds.head) ((λ i. expanded ((head_place.tenants i).name ∷ name_at (head_place.places i) ∷ [])) ∙ sym prefix_is)
+    head_spelled_so = adds.spelled ∙ ap (λ p. p ++ adds.head) ((λ i. expanded ((head_place.tenants i).name ∷ place_name (head_place.places i) ∷ [])) ∙ sym prefix_is)
 
-pub reference_refused : (old before : States) (tenant : TenantState) (place : Place) (repository : git.Repository) (rest prefix : List ℕ) → old ≡ before ++ with_at tenant place repository ∷ [] → IsLast tenant place → prefix ≡ expanded (tenant.name ∷ name_at place ∷ [])
+pub reference_refused : (old before : States) (tenant : TenantState) (place : Place) (repository : git.Repository) (rest prefix : List ℕ) → old ≡ before ++ with_at tenant place repository ∷ [] → IsLast tenant place → prefix ≡ expanded (tenant.name ∷ place_name place ∷ [])
     → (name target : List ℕ) (error : PushRefError) → IsName target → rest ≡ encode_lower target ++ codes " " ++ prefix ++ name → TellsPush repository.references name error → Refuses AddsReference old rest (fault_of_push error)
 reference_refused old before tenant place repository rest prefix was last prefix_is name target push.OutOfOrder named is told = λ new right adds.
     reference_wrong old before new tenant place repository rest prefix was last prefix_is right adds name target push.OutOfOrder named is told (λ is. cc)

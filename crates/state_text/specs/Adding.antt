@@ -8,7 +8,7 @@ use Rattle.state_text.specs.declared.fault.AddError.TheVariants as add
 use Rattle.state_text.specs.declared.fault.OfferError.{OfferError}
 use Rattle.state_text.specs.declared.fault.OfferError.TheVariants as offering
 use Rattle.state_text.specs.declared.offer.TheConstants.{MAX_OFFERS}
-use Rattle.state_text.specs.Offer.{Offer, words_of}
+use Rattle.state_text.specs.Offer.{Offer, words_of_offer}
 use Rattle.state_text.specs.States.{TenantState}
 
 -- a tenant that has nothing yet
@@ -40,6 +40,6 @@ TellsAdd full names name add.Memory = ⊤
 -- the error tells why: the receiver is the giver, some offer isn't before this one, or there are 256; want of memory tells nothing
 abbrev pub TellsOffer : TenantState → Offer → OfferError → Type 0
 TellsOffer giver offer offering.ToGiver = offer.receiver ≡ giver.name
-TellsOffer giver offer offering.OutOfOrder = ¬ AreBefore (map words_of giver.offers) (words_of offer)
+TellsOffer giver offer offering.OutOfOrder = ¬ AreBefore (map words_of_offer giver.offers) (words_of_offer offer)
 TellsOffer giver offer offering.TooMany = MAX_OFFERS ≤ length giver.offers
 TellsOffer giver offer offering.Memory = ⊤

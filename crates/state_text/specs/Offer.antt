@@ -1,6 +1,7 @@
 -- An offer that a tenant has made (own): to whom, of which of its repositories, and that repository as it was then.
 use Rattle.std.specs.Prelude.{ℕ, List, ◌++◌, codes, refl}
-use Rattle.std.specs.Coded.{Coded, code_by, coded×, coded_ℕ, coded_list}
+use Rattle.std.specs.Coded.{Coded, code_by, coded×}
+use Rattle.git_name.specs.Text.{bytes_code}
 use Rattle.git_reftx.specs.Repository.{Repository, repository_code}
 
 -- to the receiver, of the repository of this name
@@ -13,12 +14,8 @@ pub record Offer : Type 0 where
 abbrev pub offer_words : List ℕ → List ℕ → List ℕ
 offer_words receiver name = receiver ++ codes " " ++ name
 
-abbrev pub words_of : Offer → List ℕ
-words_of offer = offer_words offer.receiver offer.name
-
--- an offer has a code, so that it can be a model's value
-abbrev bytes_code : Coded (List ℕ)
-bytes_code = coded_list coded_ℕ
+abbrev pub words_of_offer : Offer → List ℕ
+words_of_offer offer = offer_words offer.receiver offer.name
 
 abbrev pub offer_code : Coded Offer
 offer_code =

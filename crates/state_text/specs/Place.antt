@@ -8,14 +8,14 @@ use Rattle.state_text.specs.States.{TenantState}
 use Rattle.state_text.specs.Text.{offer_line, repository_line}
 
 -- the name of the repository, by which the names in it are expanded
-abbrev pub name_at : Place → List ℕ
-name_at (Own name) = name
-name_at (Offered receiver name) = name
+abbrev pub place_name : Place → List ℕ
+place_name (Own name) = name
+place_name (Offered receiver name) = name
 
 -- the line by which it begins
-abbrev pub line_at : Place → List ℕ
-line_at (Own name) = repository_line name
-line_at (Offered receiver name) = offer_line receiver name
+abbrev pub first_line : Place → List ℕ
+first_line (Own name) = repository_line name
+first_line (Offered receiver name) = offer_line receiver name
 
 -- the tenant with this there, behind all that it has
 abbrev pub with_at : TenantState → Place → Repository → TenantState

@@ -13,7 +13,7 @@ use Rattle.fork_request.specs.Names.{IsRepositoryName, IsTenantName}
 use Rattle.fork_request.specs.declared.limit.TheConstants.{MAX_LIMIT}
 use Rattle.fork_model.specs.declared.limits.TheConstants.{MAX_REPOSITORIES, MAX_TENANTS}
 use Rattle.state_text.specs.declared.offer.TheConstants.{MAX_OFFERS}
-use Rattle.state_text.specs.Offer.{Offer, offer_code, words_of}
+use Rattle.state_text.specs.Offer.{Offer, offer_code, words_of_offer}
 
 -- of one tenant; a repository stands behind its name
 pub record TenantState : Type 0 where
@@ -32,22 +32,22 @@ abbrev pub Ascend : List (List ℕ) → Type 0
 Ascend = IsStrictlySortedBy name_cmp
 
 -- HEAD names a branch; references of right names, none above another, 4,096 at the most, each at a name of an object
-pub record IsTold (repository : Repository) : Type 0 where
+pub record MayBeTold (repository : Repository) : Type 0 where
   pub branch : IsBranch repository.head
   pub references : AreSound repository.references
   pub targets : AllByRecursion IsName (values repository.references)
 
 -- a right name, and what may be told of it
-pub record IsRepository (repository : List ℕ × Repository) : Type 0 where
+pub record IsNamedRepository (repository : List ℕ × Repository) : Type 0 where
   pub named : IsRepositoryName repository.0
-  pub told : IsTold repository.1
+  pub told : MayBeTold repository.1
 
 -- to another tenant than the giver, of a right name, and what may be told of it
 pub record IsOffer (giver : List ℕ) (offer : Offer) : Type 0 where
   pub receiver_named : IsTenantName offer.receiver
   pub to_another : offer.receiver ≢ giver
   pub named : IsRepositoryName offer.name
-  pub told : IsTold offer.repository
+  pub told : MayBeTold offer.repository
 
 -- a right name and limit; repositories, the names of objects and offers in their order
 pub record IsTenantState (tenant : TenantState) : Type 0 where
@@ -55,11 +55,11 @@ pub record IsTenantState (tenant : TenantState) : Type 0 where
   pub limit : tenant.limit ≤ MAX_LIMIT
   pub few : length tenant.repositories ≤ MAX_REPOSITORIES
   pub ordered : Ascend (map (λ repository. repository.0) tenant.repositories)
-  pub repositories : AllByRecursion IsRepository tenant.repositories
+  pub repositories : AllByRecursion IsNamedRepository tenant.repositories
   pub seen_ordered : Ascend tenant.seen
   pub seen : AllByRecursion IsName tenant.seen
   pub few_offers : length tenant.offers ≤ MAX_OFFERS
-  pub offers_ordered : Ascend (map words_of tenant.offers)
+  pub offers_ordered : Ascend (map words_of_offer tenant.offers)
   pub offers : AllByRecursion (IsOffer tenant.name) tenant.offers
 
 -- no more tenants than a host may have, in their order

@@ -21,9 +21,9 @@ use Rattle.state_text.specs.declared.version.Version.{Version}
 use Rattle.state_text.specs.declared.version.Version.TheVariants.{One, Two}
 use Rattle.state_text.specs.Adding.{fresh, with_seen}
 use Rattle.state_text.specs.Offer.{offer_words}
-use Rattle.state_text.specs.Place.{IsLast, name_at, with_at}
+use Rattle.state_text.specs.Place.{IsLast, place_name, with_at}
 use Rattle.state_text.specs.States.{IsStates, States, TenantState}
-use Rattle.state_text.specs.Text.{Tells, tenant_lines, version_line}
+use Rattle.state_text.specs.Text.{VersionTells, tenant_lines, version_line}
 
 -- what was read: states, of which the HEAD that was told of last may be awaited still
 pub record Taken : Type 0 where
@@ -50,7 +50,7 @@ abbrev pub open_lines : Version → Taken → List (List ℕ)
 open_lines version taken = cond taken.awaits (but_last (told_lines version taken.states)) (told_lines version taken.states)
 
 -- a repository or an offer has just begun, and stands as a new repository so far
-pub record IsBegun (states : States) : Type 0 where
+pub record HasJustBegun (states : States) : Type 0 where
   pub before : States
   pub tenant : TenantState
   pub place : Place
@@ -58,14 +58,14 @@ pub record IsBegun (states : States) : Type 0 where
   pub is : states ≡ before ++ with_at tenant place new_repository ∷ []
 
 -- where a HEAD is awaited, something has just begun, in version 2
-abbrev pub Awaits : Version → Taken → Type 0
-Awaits version taken = (taken.awaits ≡ true) → (awaits_head version ≡ true) × IsBegun taken.states
+abbrev pub AwaitsHead : Version → Taken → Type 0
+AwaitsHead version taken = (taken.awaits ≡ true) → (awaits_head version ≡ true) × HasJustBegun taken.states
 
 -- right states that the version can tell
-pub record IsTaken (version : Version) (taken : Taken) : Type 0 where
+pub record IsRightSoFar (version : Version) (taken : Taken) : Type 0 where
   pub right : IsStates taken.states
-  pub tells : Tells version taken.states
-  pub begun : Awaits version taken
+  pub tells : VersionTells version taken.states
+  pub begun : AwaitsHead version taken
 
 -- a tenant begins
 pub record AddsTenant (old : States) (rest : List ℕ) (new : States) : Type 0 where
@@ -102,7 +102,7 @@ pub record AddsHead (old : States) (rest : List ℕ) (new : States) : Type 0 whe
   pub head : List ℕ
   pub last : IsLast tenant place
   pub was : old ≡ before ++ with_at tenant place new_repository ∷ []
-  pub spelled : rest ≡ expanded (tenant.name ∷ name_at place ∷ []) ++ head
+  pub spelled : rest ≡ expanded (tenant.name ∷ place_name place ∷ []) ++ head
   pub added : new ≡ before ++ with_at tenant place (record { head = head; references = empty }) ∷ []
 
 pub record SaysHead (old : States) (line : List ℕ) (new : States) : Type 0 where
@@ -127,7 +127,7 @@ pub record AddsReference (old : States) (rest : List ℕ) (new : States) : Type 
   pub last : IsLast tenant place
   pub was : old ≡ before ++ with_at tenant place repository ∷ []
   pub more : HasReferenceMore repository name target next
-  pub spelled : rest ≡ encode_lower target ++ codes " " ++ expanded (tenant.name ∷ name_at place ∷ []) ++ name
+  pub spelled : rest ≡ encode_lower target ++ codes " " ++ expanded (tenant.name ∷ place_name place ∷ []) ++ name
   pub added : new ≡ before ++ with_at tenant place next ∷ []
 
 -- the last tenant sees an object more
@@ -165,7 +165,7 @@ Refuses Says old line fault = WhenWrong fault ((new : States) → IsStates new �
 
 -- nothing right that was taken is the old with this line
 abbrev pub RefusesLine : Version → Taken → List ℕ → LineFault → Type 0
-RefusesLine version old line fault = WhenWrong fault ((new : Taken) → IsTaken version new → Adds version old line new → ⊥)
+RefusesLine version old line fault = WhenWrong fault ((new : Taken) → IsRightSoFar version new → Adds version old line new → ⊥)
 
 -- what is not put behind the others makes a wrong line
 abbrev pub fault_of : AddError → LineFault
@@ -190,4 +190,4 @@ pub record IsReadSoFar (version : Version) (text : List ℕ) (taken : Taken) (li
   pub parts : text ≡ flat_map ended (open_lines version taken) ++ rest
   pub count : lines ≡ length (open_lines version taken)
   pub few : lines + length rest ≤ length text
-  pub right : IsTaken version taken
+  pub right : IsRightSoFar version taken

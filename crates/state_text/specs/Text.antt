@@ -25,8 +25,8 @@ repository_line name = codes "repo " ++ name
 abbrev pub offer_line : List ℕ → List ℕ → List ℕ
 offer_line receiver name = codes "offer " ++ offer_words receiver name
 
-abbrev pub head_line : List ℕ → List ℕ → List ℕ → List ℕ
-head_line tenant repository head = codes "head " ++ expanded (tenant ∷ repository ∷ []) ++ head
+abbrev pub line_of_head : List ℕ → List ℕ → List ℕ → List ℕ
+line_of_head tenant repository head = codes "head " ++ expanded (tenant ∷ repository ∷ []) ++ head
 
 abbrev pub reference_line : List ℕ → List ℕ → List ℕ × List ℕ → List ℕ
 reference_line tenant repository (name, target) = codes "ref " ++ encode_lower target ++ codes " " ++ expanded (tenant ∷ repository ∷ []) ++ name
@@ -37,7 +37,7 @@ seen_line name = codes "see " ++ encode_lower name
 -- HEAD is told from version 2 on
 abbrev pub head_lines : Version → List ℕ → List ℕ → List ℕ → List (List ℕ)
 head_lines One tenant repository head = []
-head_lines Two tenant repository head = head_line tenant repository head ∷ []
+head_lines Two tenant repository head = line_of_head tenant repository head ∷ []
 
 -- HEAD, and the references by name
 abbrev pub inner_lines : Version → List ℕ → List ℕ → Repository → List (List ℕ)
@@ -67,19 +67,19 @@ unfoldable pub state_text : Version → States → List ℕ
 state_text version states = flat_map ended (state_lines version states)
 
 -- each HEAD names `refs/heads/main`, and no offer was made
-pub record IsPlain (tenant : TenantState) : Type 0 where
+pub record FitsVersionOne (tenant : TenantState) : Type 0 where
   pub heads : AllByRecursion (λ repository. repository.1.head ≡ main_branch) tenant.repositories
   pub no_offers : tenant.offers ≡ []
 
 -- what a version can tell: the first one no other HEAD and no offers, the second one all
-abbrev pub Tells : Version → States → Type 0
-Tells One states = AllByRecursion IsPlain states
-Tells Two states = ⊤
+abbrev pub VersionTells : Version → States → Type 0
+VersionTells One states = AllByRecursion FitsVersionOne states
+VersionTells Two states = ⊤
 
 -- the text is that of these states, in this version
 pub record IsTextIn (version : Version) (states : States) (text : List ℕ) : Type 0 where
   pub right : IsStates states
-  pub tells : Tells version states
+  pub tells : VersionTells version states
   pub spelled : text ≡ state_text version states
 
 -- version 1, as it was written before HEAD and offers

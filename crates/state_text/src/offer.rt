@@ -2,7 +2,7 @@ ghost use Rattle.std.specs.Prelude.{◌≡◌, ◌↔◌, IsTrue};
 ghost use Rattle.std.specs.declared.cmp.Ordering.TheVariants.{Less};
 ghost use Rattle.git_name.specs.Name.{name_cmp};
 ghost use Rattle.fork_request.specs.Names.{IsRepositoryName, IsTenantName};
-ghost use Rattle.state_text.specs.Offer.{words_of};
+ghost use Rattle.state_text.specs.Offer.{words_of_offer};
 
 use fork_request::{RepositoryName, TenantName};
 use git_reftx::Repository;
@@ -79,7 +79,7 @@ impl Offer {
 
     // Whether the offer stands before another one of its giver.
     pub(crate) fn is_before(&self, other: &Offer) -> bool
-        ensures { IsTrue result ↔ name_cmp (words_of self.now) (words_of other.now) ≡ Less }
+        ensures { IsTrue result ↔ name_cmp (words_of_offer self.now) (words_of_offer other.now) ≡ Less }
     {
         match self.receiver().cmp(other.receiver()) {
             Ordering::Less => true,

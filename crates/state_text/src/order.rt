@@ -1,7 +1,7 @@
 // Whether something stands behind others, which are in their order: the last one decides.
 ghost use Rattle.std.specs.Prelude.{◌↔◌, IsTrue, map};
 ghost use Rattle.state_text.specs.Adding.{AreBefore};
-ghost use Rattle.state_text.specs.Offer.{words_of};
+ghost use Rattle.state_text.specs.Offer.{words_of_offer};
 ghost use Rattle.state_text.specs.States.{Ascend};
 
 use crate::offer::Offer;
@@ -43,8 +43,8 @@ pub(crate) fn name_follows(names: &[Name], name: &Name) -> bool
 
 // Whether the offer stands behind the others.
 pub(crate) fn offer_follows(offers: &[Offer], offer: &Offer) -> bool
-    requires { Ascend (map words_of offers.now) }
-    ensures { IsTrue result ↔ AreBefore (map words_of offers.now) (words_of offer.now) }
+    requires { Ascend (map words_of_offer offers.now) }
+    ensures { IsTrue result ↔ AreBefore (map words_of_offer offers.now) (words_of_offer offer.now) }
 {
     let Some(last) = offers.last() else {
         return true;

@@ -1,5 +1,5 @@
 ghost use Rattle.std.specs.Prelude.{◌≡◌};
-ghost use Rattle.state_text.specs.Place.{name_at};
+ghost use Rattle.state_text.specs.Place.{place_name};
 
 use fork_request::{RepositoryName, TenantName};
 
@@ -14,7 +14,7 @@ pub(crate) enum Place {
 impl Place {
     // The repository's name.
     pub(crate) fn name(&self) -> &RepositoryName
-        ensures { result.now ≡ name_at self.now }
+        ensures { result.now ≡ place_name self.now }
     {
         match self {
             Place::Own(name) => name,

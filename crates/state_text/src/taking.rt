@@ -1,6 +1,6 @@
 ghost use Rattle.std.specs.Prelude.{◌≡◌, false, true, IfOk, IfErr};
 ghost use Rattle.state_text.specs.States.{IsStates};
-ghost use Rattle.state_text.specs.Taking.{Adds, Awaits, AddsHead, AddsOffer, AddsReference, AddsRepository, AddsSeen, AddsTenant, IsBegun, Refuses, RefusesLine, SaysHead, awaits_head};
+ghost use Rattle.state_text.specs.Taking.{Adds, AwaitsHead, AddsHead, AddsOffer, AddsReference, AddsRepository, AddsSeen, AddsTenant, HasJustBegun, Refuses, RefusesLine, SaysHead, awaits_head};
 
 use crate::last::{close_last, open_last, put_back};
 use crate::line_fault::LineFault;
@@ -22,7 +22,7 @@ pub(crate) fn take_line(
     awaits: bool,
     line: &[u8],
 ) -> Result<bool, LineFault>
-    requires { Awaits version (record { states = states.old; awaits = awaits }) }
+    requires { AwaitsHead version (record { states = states.old; awaits = awaits }) }
     ensures ok { IfOk result (λ more. Adds version (record { states = states.old; awaits = awaits }) line.now (record { states = states.new; awaits = more })) }
     ensures sound { IfOk result (λ more. IsStates states.new) }
     ensures wrong { IfErr result (RefusesLine version (record { states = states.old; awaits = awaits }) line.now) }
@@ -50,7 +50,7 @@ pub(crate) fn take_line(
 
 // Takes the line that has to tell a HEAD.
 fn take_awaited(alloc: Global, states: &mut States, line: &[u8]) -> Result<bool, LineFault>
-    requires { IsBegun states.old }
+    requires { HasJustBegun states.old }
     ensures ok { IfOk result (λ more. (more ≡ false) × SaysHead states.old line.now states.new) }
     ensures sound { IfOk result (λ more. IsStates states.new) }
     ensures wrong { IfErr result (Refuses SaysHead states.old line.now) }
@@ -105,7 +105,7 @@ fn take_repository(
 
 // Takes the rest of the line of a HEAD.
 fn take_head(alloc: Global, states: &mut States, rest: &[u8]) -> Result<bool, LineFault>
-    requires { IsBegun states.old }
+    requires { HasJustBegun states.old }
     ensures ok { IfOk result (λ more. (more ≡ false) × AddsHead states.old rest.now states.new) }
     ensures sound { IfOk result (λ more. IsStates states.new) }
     ensures wrong { IfErr result (Refuses AddsHead states.old rest.now) }

@@ -5,7 +5,7 @@ ghost use Rattle.fork_model.specs.declared.limits.TheConstants.{MAX_REPOSITORIES
 ghost use Rattle.state_text.specs.Adding.{TellsAdd, TellsOffer, fresh, with_offer, with_repository, with_seen};
 ghost use Rattle.state_text.specs.Place.{IsLast, with_at};
 ghost use Rattle.state_text.specs.States as value;
-ghost use Rattle.state_text.specs.States.{IsTenantState, IsTold};
+ghost use Rattle.state_text.specs.States.{IsTenantState, MayBeTold};
 ghost use Rattle.state_text.specs.declared.place.Place as place;
 
 use crate::fault::{AddError, OfferError};
@@ -228,7 +228,7 @@ impl TenantState {
 
 // What is known of a repository.
 fn tell(repository: &Repository)
-    ensures { IsTold repository.now }
+    ensures { MayBeTold repository.now }
 {
     for (_, target) in repository.references().iter() {
         let _target = target.as_bytes();

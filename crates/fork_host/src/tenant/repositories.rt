@@ -2,7 +2,7 @@
 ghost use Rattle.std.specs.Prelude.{◌≡◌};
 ghost use Rattle.std.specs.FinMap as map;
 ghost use Rattle.fork_ledger.specs.Private.{Private};
-ghost use Rattle.fork_model.specs.Answer.{added, copied, drop_answer, fork_answer, init_answer};
+ghost use Rattle.fork_model.specs.Answer.{repository_added, copied, drop_answer, fork_answer, init_answer};
 ghost use Rattle.fork_host.specs.Rows.{Gives};
 ghost use Rattle.fork_host.specs.Shown.{seen_by};
 
@@ -33,7 +33,7 @@ impl Tenant {
         name: RepositoryName,
         repository: Repository,
     ) -> Reply
-        ensures row { (own : Private) → Gives (added (seen_by self.old own) name repository) (seen_by self.old own) result (seen_by self.new own) }
+        ensures row { (own : Private) → Gives (repository_added (seen_by self.old own) name repository) (seen_by self.old own) result (seen_by self.new own) }
         ensures upload { self.new.upload ≡ self.old.upload }
     {
         if self.repositories.contains(&name) {

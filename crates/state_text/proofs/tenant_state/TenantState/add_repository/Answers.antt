@@ -1,7 +1,7 @@
 use Rattle.std.proofs.Common.{◌≡◌, ◌<◌, true, false, length, map, sym, ap, subst, ◌∙◌, arith}
 use Rattle.fork_model.specs.declared.limits.TheConstants.{MAX_REPOSITORIES}
 use Rattle.state_text.specs.Adding.{AreBefore}
-use Rattle.state_text.specs.States.{Ascend, IsRepository, IsTenantState, TenantState}
+use Rattle.state_text.specs.States.{Ascend, IsNamedRepository, IsTenantState, TenantState}
 use Rattle.state_text.proofs.StateLemmas.{repository_more}
 use Rattle.state_text.proofs.tenant_state.TenantState.add_repository.Goals as goal
 
@@ -17,7 +17,7 @@ right c =
     let tenant : TenantState = record { name = c.self.inside.name; limit = c.self.inside.limit; repositories = c.self.inside.repositories.items; seen = c.self.inside.seen.items; offers = c.self.inside.offers.items } in
     let room : length c.self.inside.repositories.items < MAX_REPOSITORIES = (let past = c.if-len-ge-MAX_REPOSITORIES.false in let count = c.len.ensures in omega (arith, past, count)) in
     let before = subst (λ rs. AreBefore (map (λ r. r.0) rs) c.args.name) c.as_slice.ensures.value (c.repository_follows.ensures.0 c.if-not-repository_follows.false) in
-    let new : IsRepository (c.args.name, c.args.repository) = record { named = c.as_bytes-name.ensures.name; told = c.tell.ensures } in
+    let new : IsNamedRepository (c.args.name, c.args.repository) = record { named = c.as_bytes-name.ensures.name; told = c.tell.ensures } in
     subst (λ rs. IsTenantState (record { name = c.self.inside.name; limit = c.self.inside.limit; repositories = rs; seen = c.self.inside.seen.items; offers = c.self.inside.offers.items })) (sym c.in-Ok.ensures.items)
     (repository_more tenant c.args.name c.args.repository c.self.invariant new before room)
 

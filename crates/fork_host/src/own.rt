@@ -243,6 +243,10 @@ impl<S: LooseFiles> Ancestry for Own<'_, S> {
         self.vault.commit_count()
     }
 
+    fn invariant(&self) {
+        self.vault.invariant();
+    }
+
     fn place_of(&self, name: Name) -> Option<usize> {
         self.vault.commit_place(self.tenant, name)
     }

@@ -213,11 +213,8 @@ impl<S: LooseFiles> Vault<S> {
 
     /// How many commits there are whose parents are known without reading them.
     pub fn commit_count(&self) -> usize
-        ensures count { result ≡ length self.now.commits }
-        ensures graph { IsGraph self.now.commits }
-        ensures parents { IsTrue self.now.honest → (tenant : List ℕ) → AreParents (private_of self.now.tenants tenant).visible self.now.commits }
+        ensures { result ≡ length self.now.commits }
     {
-        let _holdings = &self.holdings;
         self.graph.len()
     }
 
@@ -495,7 +492,10 @@ impl<S: LooseFiles> Vault<S> {
     pub fn invariant(&self)
         ensures place { self.now.places.place ≤ length self.now.places.names }
         ensures accounted { IsTrue self.now.honest → IsAccounted self.now }
+        ensures graph { IsGraph self.now.commits }
+        ensures parents { IsTrue self.now.honest → (tenant : List ℕ) → AreParents (private_of self.now.tenants tenant).visible self.now.commits }
     {
         let _place = self.holdings.place();
+        let _count = self.graph.len();
     }
 }

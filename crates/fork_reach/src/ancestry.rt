@@ -21,7 +21,10 @@ pub trait Ancestry: Source {
 
     /// How many commits have a place.
     fn commit_count(&self) -> usize
-        ensures count { result ≡ length (commits self.now) }
+        ensures { result ≡ length (commits self.now) };
+
+    /// What holds between calls, for who is to go over the commits: nothing is done.
+    fn invariant(&self)
         ensures graph { IsGraph (commits self.now) }
         ensures parents { IsTrue (Self.state self.now).honest → AreParents (Self.state self.now).objects (commits self.now) };
 

@@ -98,7 +98,7 @@ fn settle<S: Ancestry>(
     requires seen { is_seen_at (S.commits source.now) (S.state source.now).objects at ≡ true }
     ensures { OnOk result (SettlesPlace (IsParent (S.commits source.now) (S.state source.now).objects) at gives (has places.old) (has places.new)) }
 {
-    let _count = source.commit_count();
+    source.invariant();
     places.remove(&at);
     if !gives {
         return Ok(());
@@ -172,6 +172,7 @@ fn bases<S: Ancestry>(
 {
     let mut waiting = begin(alloc, source, a, b)?;
     let mut best = IndexSet::with_hasher(alloc, source.hashing());
+    source.invariant();
     // All places from this one on are done, so each turn nears the end.
     let mut below = source.commit_count();
     'waiting: while let Some(last) = last_of_both(&waiting.of_a, &waiting.of_b) {
@@ -197,7 +198,7 @@ pub fn known_bases<S: Ancestry>(
     // Over any store.
     ensures seen { IfOk result (λ found. IfSome found (λ best. (name : List ℕ) → contains same_name best name ≡ true → contains_key (S.state source.now).objects name ≡ true)) }
 {
-    let _count = source.commit_count();
+    source.invariant();
     let Some(a) = source.place_of(a) else {
         return Ok(None);
     };

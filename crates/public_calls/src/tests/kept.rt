@@ -100,6 +100,8 @@ impl Ancestry for Kept {
         0
     }
 
+    fn invariant(&self) {}
+
     fn place_of(&self, _name: Name) -> Option<usize> {
         None
     }

@@ -12,8 +12,8 @@ waiting-init g c =
     let graph = g.S.Ancestry.commits c.args.source.now in
     let objects = (g.S.Source.state c.args.source.now).objects in
     let first = c.in_ok-waiting.waiting in
-    subst (λ n. IsDescent graph objects c.args.a c.args.b n (has first.of_a) (has first.of_b) (has first.outdone) (contains same_name c.with_hasher-best.result)) (sym c.commit_count-below.ensures.count)
-    (descent_begins graph c.commit_count-below.ensures.graph objects c.args.a c.args.b c.requires.a c.requires.b (has first.of_a) (has first.of_b) (has first.outdone) (contains same_name c.with_hasher-best.result) c.in_ok-waiting.ensures.of_a c.in_ok-waiting.ensures.of_b c.in_ok-waiting.ensures.outdone
+    subst (λ n. IsDescent graph objects c.args.a c.args.b n (has first.of_a) (has first.of_b) (has first.outdone) (contains same_name c.with_hasher-best.result)) (sym c.commit_count-below.ensures)
+    (descent_begins graph c.invariant.ensures.graph objects c.args.a c.args.b c.requires.a c.requires.b (has first.of_a) (has first.of_b) (has first.outdone) (contains same_name c.with_hasher-best.result) c.in_ok-waiting.ensures.of_a c.in_ok-waiting.ensures.of_b c.in_ok-waiting.ensures.outdone
     (empty_holds_none c.with_hasher-best.result.keys c.with_hasher-best.ensures.empty))
 
 pub waiting-preserved-in_ok-note : goal.waiting-preserved-in_ok-note
@@ -27,7 +27,7 @@ waiting-preserved-in_ok-note g c =
     let from_b = has c.waiting.waiting.of_b in
     let outdone = has c.waiting.waiting.outdone in
     let best = contains same_name c.waiting.best in
-    descends graph c.commit_count-below.ensures.graph objects c.args.a c.args.b c.requires.a c.requires.b c.waiting.below at from_a from_b outdone best before
+    descends graph c.invariant.ensures.graph objects c.args.a c.args.b c.requires.a c.requires.b c.waiting.below at from_a from_b outdone best before
     (latest_under c.waiting.below last at from_a from_b outdone before.within_a before.within_b before.within c.in-Some.ensures.among c.last_of-at.ensures.among)
     (no_later last at from_a c.last_of-at.ensures.least c.in-Some.ensures.most_of_a) (no_later last at from_b c.last_of-at.ensures.least c.in-Some.ensures.most_of_b) c.last_of-at.ensures.most
     (has c.go_on.new.waiting.of_a) (has c.go_on.new.waiting.of_b) (has c.go_on.new.waiting.outdone) (contains same_name c.note.new.names) c.in_ok-go_on.ensures.on
@@ -46,7 +46,7 @@ waiting-preserved g c =
     let from_b = has c.waiting.waiting.of_b in
     let outdone = has c.waiting.waiting.outdone in
     let best = contains same_name c.waiting.best in
-    descends graph c.commit_count-below.ensures.graph objects c.args.a c.args.b c.requires.a c.requires.b c.waiting.below at from_a from_b outdone best before
+    descends graph c.invariant.ensures.graph objects c.args.a c.args.b c.requires.a c.requires.b c.waiting.below at from_a from_b outdone best before
     (latest_under c.waiting.below last at from_a from_b outdone before.within_a before.within_b before.within c.in-Some.ensures.among c.last_of-at.ensures.among)
     (no_later last at from_a c.last_of-at.ensures.least c.in-Some.ensures.most_of_a) (no_later last at from_b c.last_of-at.ensures.least c.in-Some.ensures.most_of_b) c.last_of-at.ensures.most
     (has c.go_on.new.waiting.of_a) (has c.go_on.new.waiting.of_b) (has c.go_on.new.waiting.outdone) (contains same_name c.waiting.best) c.in_ok-go_on.ensures.on
@@ -56,7 +56,7 @@ pub returns-clause-best : goal.returns-clause-best
 returns-clause-best g c = λ known.
     let graph = g.S.Ancestry.commits c.args.source.now in
     let objects = (g.S.Source.state c.args.source.now).objects in
-    best_told graph c.commit_count-below.ensures.graph objects c.args.a c.args.b c.requires.a c.requires.b c.waiting.below (has c.waiting.waiting.of_a) (has c.waiting.waiting.of_b) (has c.waiting.waiting.outdone) (contains same_name c.waiting.best) c.waiting.invariant c.in_default.ensures.none_of_a known
+    best_told graph c.invariant.ensures.graph objects c.args.a c.args.b c.requires.a c.requires.b c.waiting.below (has c.waiting.waiting.of_a) (has c.waiting.waiting.of_b) (has c.waiting.waiting.outdone) (contains same_name c.waiting.best) c.waiting.invariant c.in_default.ensures.none_of_a known
 
 pub returns-clause-seen : goal.returns-clause-seen
 returns-clause-seen g c = c.waiting.invariant.found

@@ -17,4 +17,4 @@ returns-in-Ok-clause-best g c = λ h.
     let first = (stands_there (keys_of graph) c.args.a a (placed_name graph objects c.args.a a (sym c.place_of.ensures ∙ c.in-Some.is))).1 in
     let second = (stands_there (keys_of graph) c.args.b b (placed_name graph objects c.args.b b (sym c.place_of-2.ensures ∙ c.in-Some-place_of.is))).1 in
     subst (λ n. (name : List ℕ) → contains same_name c.in-Ok.best name ≡ is_best_of objects n c.args.b name) first
-    (subst (λ n. (name : List ℕ) → contains same_name c.in-Ok.best name ≡ is_best_of objects (name_at graph a) n name) second (c.in-Ok.ensures.best (c.commit_count-count.ensures.parents h)))
+    (subst (λ n. (name : List ℕ) → contains same_name c.in-Ok.best name ≡ is_best_of objects (name_at graph a) n name) second (c.in-Ok.ensures.best (c.invariant.ensures.parents h)))

@@ -83,7 +83,7 @@ restore_tenant-judged-requires-clause-read g c =
     let before = c.loop-state.invariant in
     let host = c.loop-state.host in
     let store = c.in-Ok.ensures in
-    read_at c.in-Ok.files.honest host.vault.honest c.in-Ok.files.contents host.vault.files tenant.seen c.in_ok-readings.readings (before.honest ∙ sym store.honest) (λ h. (before.going (sym store.honest ∙ h)).same ∙ sym store.contents)
+    read_at c.in-Ok.survey.honest host.vault.honest c.in-Ok.survey.contents host.vault.files tenant.seen c.in_ok-readings.readings (before.honest ∙ sym store.honest) (λ h. (before.going (sym store.honest ∙ h)).same ∙ sym store.contents)
     (c.in_ok-readings.ensures.read tenant (subst (λ (ts : States). Contains ts tenant) (sym c.as_slice.ensures.tenants)
     (i, inside c.as_slice-state-items.result.now states i same c.loop-state-test.true, sym (next c.as_slice-state-items.result.now states i tenant same c.state-item.is))))
 

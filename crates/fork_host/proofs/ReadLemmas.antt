@@ -1,6 +1,7 @@
 -- What a source tells of what a read of the vault gave.
 use Rattle.std.proofs.Common.{◌≡◌, ◌≢◌, ℕ, Option, Some, Result, Ok, Err, refl, sym, subst, ap, ◌∙◌}
 use Rattle.std.specs.Prelude.{IfErr, IfOk}
+use Rattle.std.specs.Result.{IsOk, is_ok}
 use Rattle.git_name.specs.Object.{Object}
 use Rattle.git_name.specs.Count.{fault_in}
 use Rattle.fork_reach.specs.declared.source.SourceFault.{SourceFault}
@@ -37,3 +38,8 @@ undamaged (Err vault.Collision) apart whole damaged = apart refl
 -- what is whole is told as no damage
 pub told_undamaged : {A : Type 0} (r : Result A VaultFault) (t : Result A SourceFault) → t ≡ read_told r → IfErr r (λ fault. fault ≢ vault.Collision) → fault_in r ≢ Some vault.Damaged → fault_in t ≢ Some Damaged
 told_undamaged {A = A} r t is apart whole damaged = undamaged r apart whole (ap (λ (t' : Result A SourceFault). fault_in t') (sym is) ∙ damaged)
+
+-- what was done is told so
+pub ok_told : {A : Type 0} (r : Result A VaultFault) (t : Result A SourceFault) → t ≡ read_told r → IsOk r → IsOk t
+ok_told (Ok found) t is ok = ap is_ok is
+ok_told (Err fault) t is ok = absurd (cc)

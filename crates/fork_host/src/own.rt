@@ -255,8 +255,8 @@ impl<S: LooseFiles> Ancestry for Own<'_, S> {
         self.vault.commit_at(self.tenant, place)
     }
 
-    fn parents_at(&self, place: usize) -> &[usize] {
-        self.vault.parents_at(self.tenant, place)
+    fn parent_places(&self, place: usize) -> &[usize] {
+        self.vault.parent_places(self.tenant, place)
     }
 }
 

@@ -1,6 +1,7 @@
 ghost use Rattle.std.specs.Prelude.{◌≡◌, ◌≢◌, ◌⊎◌, ◌≤◌, ◌<◌, ◌+◌, ◌∷◌, ℕ, List, [], false, true, length, map as map_list, IsTrue, OnOk, OnErr, IfOk, IfErr, IfSome, Some, is_some, nat_le};
 ghost use Rattle.std.specs.FinMap as map;
 ghost use Rattle.std.specs.List.{AllByRecursion};
+ghost use Rattle.std.specs.Result.{IsOk};
 ghost use Rattle.git_name.specs.Object.{object_name};
 ghost use Rattle.git_name.specs.Same.{is_listed};
 ghost use Rattle.git_name.specs.Count.{fault_in};
@@ -242,7 +243,7 @@ impl<S: LooseFiles> Vault<S> {
     }
 
     /// The places of the parents of the commit at a place, in their order, if a tenant sees the commit.
-    pub fn parents_at(&self, tenant: &TenantName, place: usize) -> &[usize]
+    pub fn parent_places(&self, tenant: &TenantName, place: usize) -> &[usize]
         ensures names { is_some (seen_name (private_of self.now.tenants tenant.now).visible self.now.commits place) ≡ true → map_list (name_at self.now.commits) result.now ≡ parents_at self.now.commits place }
         ensures before { AllByRecursion (λ parent. parent < place) result.now }
         ensures hidden { is_some (seen_name (private_of self.now.tenants tenant.now).visible self.now.commits place) ≡ false → result.now ≡ [] }
@@ -265,6 +266,8 @@ impl<S: LooseFiles> Vault<S> {
         ensures files { IsTrue self.old.honest → self.new.files ≡ self.old.files }
 
         // Over any store.
+        ensures hidden { map.contains_key (private_of self.old.tenants tenant.now).visible commit ≡ false → self.new ≡ self.old }
+        ensures silent { map.contains_key (private_of self.old.tenants tenant.now).visible commit ≡ false → IsOk result }
         ensures shape { shape_of self.new.tenants ≡ shape_of self.old.tenants }
         ensures store { AsksStore self.old self.new (fault_in result) }
         ensures places { self.new.places ≡ self.old.places }

@@ -1,8 +1,10 @@
 -- `merge-base A B`: the best common ancestors of two commits (git-merge-base(1), `--all`; the order by name is own).
 use Rattle.std.specs.Prelude.{◌≡◌, ℕ, ◌&&◌, not, Bool, true, List, Result, Ok, Err}
 use Rattle.std.specs.List.{list_any}
+use Rattle.std.specs.List.Sorted.{IsStrictlySortedBy}
 use Rattle.std.specs.Str.{bytes_eq}
 use Rattle.std.specs.FinMap.{contains_key, keys, retain_keys}
+use Rattle.git_name.specs.Name.{name_cmp}
 use Rattle.git_reftx.specs.Repository.{Repository}
 use Rattle.fork_reach.specs.Reach.{is_among}
 use Rattle.fork_reach.specs.Source.{Objects}
@@ -34,8 +36,9 @@ bases_of objects (Err refusal) b = Err refusal
 unfoldable pub bases_told : Objects → Repository → List ℕ → List ℕ → Result (List ℕ) Refusal
 bases_told objects repository a b = bases_of objects (commit_of_item objects repository a) (commit_of_item objects repository b)
 
--- a line for each of some names, which are names of these objects
+-- a line for each of some names, which ascend and are names of these objects
 pub record ListsSeen (objects : Objects) (text : List ℕ) : Type 0 where
   pub names : List (List ℕ)
   pub lines : text ≡ name_lines names
+  pub ordered : IsStrictlySortedBy name_cmp names
   pub seen : (name : List ℕ) → is_among names name ≡ true → contains_key objects name ≡ true

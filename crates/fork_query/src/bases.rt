@@ -62,7 +62,12 @@ fn best<S: Ancestry>(
 
 #[tactic(auto, unfolding(crate::specs::MergeBase::merge_bases))]
 // The best common ancestors, one a line.
-fn bases<S: Ancestry>(alloc: Global, source: &mut S, a: Name, b: Name) -> Result<Vec<u8>, SourceFault>
+fn bases<S: Ancestry>(
+    alloc: Global,
+    source: &mut S,
+    a: Name,
+    b: Name,
+) -> Result<Vec<u8>, SourceFault>
     ensures listed { IsTrue (S.state source.old).honest → IfOk result (λ text. text.items ≡ name_lines (merge_bases (S.state source.old).objects a b)) }
     // Over any source.
     ensures seen { IfOk result (λ text. ListsSeen (S.state source.old).objects text.items) }

@@ -1,5 +1,7 @@
 ghost use Rattle.std.specs.Prelude.{◌≡◌, ◌<◌, IsTrue, length, is_some, map as mapped, false, true, []};
+ghost use Rattle.std.specs.FinMap.{contains_key};
 ghost use Rattle.std.specs.List.{AllByRecursion};
+ghost use Rattle.std.specs.Result.{IsOk};
 ghost use Rattle.git_name.specs.Count.{fault_in};
 ghost use Rattle.commit_graph.specs.Graph.{Commits, IsGraph, name_at, parents_at};
 ghost use Rattle.fork_reach.specs.Faults.{IsAsked};
@@ -10,16 +12,20 @@ use git_name::Name;
 use std::alloc::Global;
 
 /// Tells the parents of commits without reading them. Each commit has a place, behind those of its
-/// parents. It answers for commits that the source finds, and for no others, over any store.
+/// parents. Over any store it tells names and parents of commits that the source finds, and of no others:
+/// of these it tells how many there are, and at which places the parents of others stand.
 pub trait Ancestry: Source {
     /// The commits that have a place, with their parents.
     ghost commits: { Self → Commits };
 
-    /// Comes to know the parents of this commit, and of those that they lead to, as far as it can.
+    /// Comes to know the parents of this commit, if it is found, and of those that they lead to, as far as
+    /// it can.
     fn learn(&mut self, alloc: Global, commit: Name) -> Result<(), SourceFault>
-        ensures { IsAsked (Self.state self.old) (Self.state self.new) (fault_in result) };
+        ensures asked { IsAsked (Self.state self.old) (Self.state self.new) (fault_in result) }
+        ensures hidden { contains_key (Self.state self.old).objects commit ≡ false → commits self.new ≡ commits self.old }
+        ensures silent { contains_key (Self.state self.old).objects commit ≡ false → IsOk result };
 
-    /// How many commits have a place.
+    /// How many commits have a place, found or not.
     fn commit_count(&self) -> usize
         ensures { result ≡ length (commits self.now) };
 
@@ -37,7 +43,7 @@ pub trait Ancestry: Source {
         ensures { result ≡ seen_name (Self.state self.now).objects (commits self.now) place };
 
     /// The places of the parents of the commit at this place, in their order.
-    fn parents_at(&self, place: usize) -> &[usize]
+    fn parent_places(&self, place: usize) -> &[usize]
         ensures names { is_some (seen_name (Self.state self.now).objects (commits self.now) place) ≡ true → mapped (name_at (commits self.now)) result.now ≡ parents_at (commits self.now) place }
         ensures before { AllByRecursion (λ parent. parent < place) result.now }
         ensures hidden { is_some (seen_name (Self.state self.now).objects (commits self.now) place) ≡ false → result.now ≡ [] };

@@ -103,7 +103,7 @@ fn settle<S: Ancestry>(
     if !gives {
         return Ok(());
     }
-    put_all(source, source.parents_at(at), places)
+    put_all(source, source.parent_places(at), places)
 }
 
 // Goes on from the last place that waits. Answers whether its commit is common and not outdone.

@@ -110,7 +110,7 @@ impl Ancestry for Kept {
         None
     }
 
-    fn parents_at(&self, _place: usize) -> &[usize] {
+    fn parent_places(&self, _place: usize) -> &[usize] {
         &[]
     }
 }

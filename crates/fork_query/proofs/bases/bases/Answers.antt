@@ -14,5 +14,6 @@ pub returns-in-Ok-write_names-clause-seen : goal.returns-in-Ok-write_names-claus
 returns-in-Ok-write_names-clause-seen g c = record {
   names = c.in-Ok.listed.items;
   lines = c.in-Ok-write_names.ensures ∙ ap name_lines c.as_slice.ensures.value;
+  ordered = c.in-Ok.ensures.order;
   seen = λ name among. c.in_ok-best.ensures.seen name (sym (c.in-Ok.ensures.same name) ∙ among);
 }

@@ -15,7 +15,7 @@ returns-in-Ok-Some-clause-best g c = λ honest name.
     let old = g.S.Source.state c.args.source.now in
     let mid = g.S.Source.state c.learn.new.self in
     let last = g.S.Source.state c.learn-2.new.self in
-    let asked = asked_again old mid last None c.in_ok-learn.ensures c.in_ok-learn-2.ensures in
+    let asked = asked_again old mid last None c.in_ok-learn.ensures.asked c.in_ok-learn-2.ensures.asked in
     let told = subst (λ found. IfSome found (λ best. (n : List ℕ) → contains same_name best n ≡ is_best_of last.objects c.args.a c.args.b n)) c.in-Ok-Some.field-0-is (c.in-Ok-Some.ensures.best (subst IsTrue (sym asked.honest) honest)) in
     told name ∙ ap (λ objects. is_best_of objects c.args.a c.args.b name) (asked.objects honest)
     ∙ best_of old.objects c.args.a c.args.b name
@@ -25,7 +25,7 @@ returns-in-Ok-Some-clause-seen g c = λ name is.
     let old = g.S.Source.state c.args.source.now in
     let mid = g.S.Source.state c.learn.new.self in
     let last = g.S.Source.state c.learn-2.new.self in
-    let asked = asked_again old mid last None c.in_ok-learn.ensures c.in_ok-learn-2.ensures in
+    let asked = asked_again old mid last None c.in_ok-learn.ensures.asked c.in_ok-learn-2.ensures.asked in
     let told = subst (λ found. IfSome found (λ best. (n : List ℕ) → contains same_name best n ≡ true → contains_key last.objects n ≡ true)) c.in-Ok-Some.field-0-is c.in-Ok-Some.ensures.seen in
     sym (same_there last.objects old.objects name asked.measures) ∙ told name is
 
@@ -34,5 +34,5 @@ returns-in-Ok-None-clause-seen g c =
     let old = g.S.Source.state c.args.source.now in
     let mid = g.S.Source.state c.learn.new.self in
     let last = g.S.Source.state c.learn-2.new.self in
-    let asked = asked_again old mid last None c.in_ok-learn.ensures c.in_ok-learn-2.ensures in
+    let asked = asked_again old mid last None c.in_ok-learn.ensures.asked c.in_ok-learn-2.ensures.asked in
     IfOk-weaker c.read_bases.result _ _ (λ best there name is. sym (same_there last.objects old.objects name asked.measures) ∙ there name is) c.read_bases.ensures.seen

@@ -13,5 +13,6 @@ returns-clause-seen g c =
     record {
       names = told.names;
       lines = told.lines;
+      ordered = told.ordered;
       seen = λ name among. sym (same_there last.objects old.objects name asked.measures) ∙ told.seen name among;
     }

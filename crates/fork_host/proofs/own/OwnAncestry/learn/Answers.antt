@@ -1,11 +1,11 @@
 use Rattle.std.proofs.Common.{ap}
 use Rattle.fork_ledger.specs.Tenants.{private_of}
 use Rattle.fork_ledger.proofs.BothLemmas.{same_measures}
-use Rattle.fork_host.proofs.ReadLemmas.{told_counts, told_undamaged}
+use Rattle.fork_host.proofs.ReadLemmas.{ok_told, told_counts, told_undamaged}
 use Rattle.fork_host.proofs.own.OwnAncestry.learn.Goals as goal
 
-pub returns : goal.returns
-returns g c =
+pub returns-clause-asked : goal.returns-clause-asked
+returns-clause-asked g c =
     let old = c.args.self.now in
     let new = c.learn.new.self in
     let told = c.learn.ensures in
@@ -18,3 +18,9 @@ returns g c =
       rest = λ honest i. (told.kept honest i, told.files honest i);
       undamaged = λ honest. told_undamaged c.learn.result c.told.result c.told.ensures told.apart (told.store.undamaged honest);
     }
+
+pub returns-clause-hidden : goal.returns-clause-hidden
+returns-clause-hidden g c = λ hidden. ap (λ v. v.commits) (c.learn.ensures.hidden hidden)
+
+pub returns-clause-silent : goal.returns-clause-silent
+returns-clause-silent g c = λ hidden. ok_told c.learn.result c.told.result c.told.ensures (c.learn.ensures.silent hidden)

@@ -95,7 +95,7 @@ pub data AreRefused (files : Files) (states : States) : RestoreError → Type 0 
   WantsMemory : AreRefused files states Memory
   WantsStore : AreRefused files states Store
 
--- a tenant's state but for its offers, which no host makes or keeps yet
+-- a tenant's state but for its offers, which no host makes or keeps
 abbrev pub without_offers : TenantState → TenantState
 without_offers tenant = record tenant { offers = [] }
 

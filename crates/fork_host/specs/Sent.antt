@@ -1,4 +1,4 @@
--- The objects that a request brings with it, those of the upload that is open among them.
+-- The objects that a request brings with it, those of the upload that is open among them; and what a tenant of a world sees.
 use Rattle.std.specs.Prelude.{ℕ, List, [], Option, None, Some, map}
 use Rattle.std.specs.FinMap.{empty, get}
 use Rattle.git_name.specs.Object.{Object, object_name}

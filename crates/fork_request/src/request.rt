@@ -19,7 +19,7 @@ pub enum Request<'a> {
     Init(&'a [u8]),
     /// `drop REPO`: a repository goes, with its references.
     Drop(&'a [u8]),
-    /// `fork SRC DST`: a new repository with the references of another.
+    /// `fork SRC DST`: a new repository with the references and the HEAD of another.
     Fork(&'a [u8], &'a [u8]),
     /// `push REPO` and a body: a transaction of references, and objects that come.
     Push(&'a [u8], &'a [u8]),

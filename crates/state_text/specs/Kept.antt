@@ -5,7 +5,7 @@ use Rattle.fork_model.specs.View.{View}
 use Rattle.fork_model.specs.World.{World}
 use Rattle.state_text.specs.States.{TenantState, States}
 
--- of a tenant and its view, which has no offers yet
+-- of a tenant and its view, which has no offers
 abbrev pub state_kept : List ℕ × View → TenantState
 state_kept (name, view) = record { name = name; limit = view.limit; repositories = entries view.repositories; seen = keys view.objects; offers = [] }
 

@@ -82,7 +82,7 @@ pub record IsTextIn (version : Version) (states : States) (text : List ℕ) : Ty
   pub tells : VersionTells version states
   pub spelled : text ≡ state_text version states
 
--- version 1, as it was written before HEAD and offers
+-- version 1, in which each HEAD names `refs/heads/main` and there are no offers
 abbrev pub IsStateText1 : States → List ℕ → Type 0
 IsStateText1 = IsTextIn One
 

@@ -1,7 +1,7 @@
 ghost use Rattle.state_text.specs.Fault.{NoneInStateText, OneWrongLine};
 ghost use Rattle.state_text.specs.Text.{OneValue};
 
-/// A text is of one value. That a value has one text is told by `state_text`, a function.
+/// A text is of one value. That a value has one text in each version is told by `state_text`, a function.
 pub fn one_value()
     ensures { OneValue }
 {}

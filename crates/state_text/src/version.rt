@@ -5,7 +5,7 @@ ghost use Rattle.state_text.specs.Text.{version_line};
 /// The version of a state text (own).
 #[derive(Clone, Copy, Debug, PartialEq, Eq)]
 pub enum Version {
-    /// As it was written before HEAD and offers: all repositories have HEAD `refs/heads/main`.
+    /// Without HEAD and offers: each repository's HEAD names `refs/heads/main`.
     One,
     /// With each repository's HEAD, and with offers.
     Two,

@@ -220,11 +220,11 @@ impl<S: LooseFiles> Vault<S> {
     }
 
     /// The place among them of a commit that a tenant sees.
-    pub fn commit_place(&self, tenant: &TenantName, name: Name) -> Option<usize>
-        ensures { result ≡ seen_place (private_of self.now.tenants tenant.now).visible self.now.commits name }
+    pub fn commit_place(&self, tenant: &TenantName, commit: Name) -> Option<usize>
+        ensures { result ≡ seen_place (private_of self.now.tenants tenant.now).visible self.now.commits commit }
     {
-        if self.holdings.sees(tenant, name) {
-            return self.graph.place(name);
+        if self.holdings.sees(tenant, commit) {
+            return self.graph.place(commit);
         }
         None
     }
@@ -233,11 +233,11 @@ impl<S: LooseFiles> Vault<S> {
     pub fn commit_at(&self, tenant: &TenantName, place: usize) -> Option<Name>
         ensures { result ≡ seen_name (private_of self.now.tenants tenant.now).visible self.now.commits place }
     {
-        let Some(name) = self.graph.name(place) else {
+        let Some(commit) = self.graph.name(place) else {
             return None;
         };
-        if self.holdings.sees(tenant, name) {
-            return Some(name);
+        if self.holdings.sees(tenant, commit) {
+            return Some(commit);
         }
         None
     }

@@ -11,12 +11,12 @@ pub returns-then-sees : goal.returns-then-sees
 returns-then-sees g c =
     let files = c.self.inside.files.contents in
     let tenants = tenants_of files c.self.inside.holdings.ledgers in
-    subst (λ (s : VaultState). Some c.in-Some.name ≡ seen_name (private_of s.tenants c.args.tenant.now).visible s.commits c.args.place) c.self.view_is
-    (told_name (private_of tenants c.args.tenant.now).visible c.in-Some.name (slice_get (keys_of c.self.inside.graph) c.args.place) (sym c.name.ensures ∙ c.in-Some.is) (seen_there files c.self.inside.holdings.ledgers c.args.tenant.now c.in-Some.name ∙ sym c.sees.ensures ∙ c.if-sees.true))
+    subst (λ (s : VaultState). Some c.in-Some.commit ≡ seen_name (private_of s.tenants c.args.tenant.now).visible s.commits c.args.place) c.self.view_is
+    (told_name (private_of tenants c.args.tenant.now).visible c.in-Some.commit (slice_get (keys_of c.self.inside.graph) c.args.place) (sym c.name.ensures ∙ c.in-Some.is) (seen_there files c.self.inside.holdings.ledgers c.args.tenant.now c.in-Some.commit ∙ sym c.sees.ensures ∙ c.if-sees.true))
 
 pub returns : goal.returns
 returns g c =
     let files = c.self.inside.files.contents in
     let tenants = tenants_of files c.self.inside.holdings.ledgers in
     subst (λ (s : VaultState). None ≡ seen_name (private_of s.tenants c.args.tenant.now).visible s.commits c.args.place) c.self.view_is
-    (hidden_name (private_of tenants c.args.tenant.now).visible c.in-Some.name (slice_get (keys_of c.self.inside.graph) c.args.place) (sym c.name.ensures ∙ c.in-Some.is) (seen_there files c.self.inside.holdings.ledgers c.args.tenant.now c.in-Some.name ∙ sym c.sees.ensures ∙ c.if-sees.false))
+    (hidden_name (private_of tenants c.args.tenant.now).visible c.in-Some.commit (slice_get (keys_of c.self.inside.graph) c.args.place) (sym c.name.ensures ∙ c.in-Some.is) (seen_there files c.self.inside.holdings.ledgers c.args.tenant.now c.in-Some.commit ∙ sym c.sees.ensures ∙ c.if-sees.false))

@@ -10,12 +10,12 @@ pub returns-then-sees : goal.returns-then-sees
 returns-then-sees g c =
     let files = c.self.inside.files.contents in
     let tenants = tenants_of files c.self.inside.holdings.ledgers in
-    subst (λ (s : VaultState). c.place.result ≡ seen_place (private_of s.tenants c.args.tenant.now).visible s.commits c.args.name) c.self.view_is
-    (told_place (private_of tenants c.args.tenant.now).visible c.self.inside.graph c.args.name c.place.result c.place.ensures (seen_there files c.self.inside.holdings.ledgers c.args.tenant.now c.args.name ∙ sym c.sees.ensures ∙ c.if-sees.true))
+    subst (λ (s : VaultState). c.place.result ≡ seen_place (private_of s.tenants c.args.tenant.now).visible s.commits c.args.commit) c.self.view_is
+    (told_place (private_of tenants c.args.tenant.now).visible c.self.inside.graph c.args.commit c.place.result c.place.ensures (seen_there files c.self.inside.holdings.ledgers c.args.tenant.now c.args.commit ∙ sym c.sees.ensures ∙ c.if-sees.true))
 
 pub returns : goal.returns
 returns g c =
     let files = c.self.inside.files.contents in
     let tenants = tenants_of files c.self.inside.holdings.ledgers in
-    subst (λ (s : VaultState). None ≡ seen_place (private_of s.tenants c.args.tenant.now).visible s.commits c.args.name) c.self.view_is
-    (hidden_place (private_of tenants c.args.tenant.now).visible c.self.inside.graph c.args.name (seen_there files c.self.inside.holdings.ledgers c.args.tenant.now c.args.name ∙ sym c.sees.ensures ∙ c.if-sees.false))
+    subst (λ (s : VaultState). None ≡ seen_place (private_of s.tenants c.args.tenant.now).visible s.commits c.args.commit) c.self.view_is
+    (hidden_place (private_of tenants c.args.tenant.now).visible c.self.inside.graph c.args.commit (seen_there files c.self.inside.holdings.ledgers c.args.tenant.now c.args.commit ∙ sym c.sees.ensures ∙ c.if-sees.false))

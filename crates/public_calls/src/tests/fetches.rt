@@ -2,7 +2,7 @@ use super::kept::Kept;
 use super::objects::{Names, all_named, filled, items};
 use fork_query::{QueryError, cat_file, fetch};
 use fork_reach::SourceFault;
-use git_reftx::Refs;
+use git_reftx::Repository;
 use std::alloc::{AllocError, Global};
 use std::test::Fail;
 
@@ -27,7 +27,7 @@ fn fetches(
 ) -> Result<(bool, u64), Fail> {
     let names = filled(alloc, kept)?;
     let text = items(alloc, &names, text)?;
-    let told = fetch(alloc, kept, &Refs::new(alloc), text.as_slice()).or(Err("fetch"))?;
+    let told = fetch(alloc, kept, &Repository::new(alloc), text.as_slice()).or(Err("fetch"))?;
     let count = kept.reads;
     let wanted = records(alloc, kept, &names, letters)?;
     Ok((told.as_slice() == wanted.as_slice(), count))
@@ -37,7 +37,7 @@ fn fetches(
 fn fails(alloc: Global, kept: &mut Kept) -> Result<bool, AllocError> {
     let names = filled(alloc, kept)?;
     let text = items(alloc, &names, b"l ^f")?;
-    let answer = fetch(alloc, kept, &Refs::new(alloc), text.as_slice());
+    let answer = fetch(alloc, kept, &Repository::new(alloc), text.as_slice());
     Ok(has_failed(&answer))
 }
 

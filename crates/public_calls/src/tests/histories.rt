@@ -3,7 +3,7 @@ use super::objects::{Names, absent, all_named, filled, items, named, put_line};
 use fork_query::{QueryError, merge_base, rev_list};
 use fork_reach::{History, read_history};
 use git_name::{Hashing, Name};
-use git_reftx::Refs;
+use git_reftx::Repository;
 use indexmap::IndexSet;
 use std::alloc::{AllocError, Global};
 use std::test::Fail;
@@ -91,7 +91,7 @@ fn lists(
     let names = filled(alloc, kept)?;
     let text = items(alloc, &names, text)?;
     let wanted = lines(alloc, &names, letters, by_name)?;
-    let answer = rev_list(alloc, kept, &Refs::new(alloc), text.as_slice());
+    let answer = rev_list(alloc, kept, &Repository::new(alloc), text.as_slice());
     Ok(is_told(&answer, wanted.as_slice()))
 }
 
@@ -107,8 +107,8 @@ fn has_bases(
     let a = items(alloc, &names, &[a])?;
     let b = items(alloc, &names, &[b])?;
     let wanted = lines(alloc, &names, letters, true)?;
-    let references = Refs::new(alloc);
-    let answer = merge_base(alloc, kept, &references, a.as_slice(), b.as_slice());
+    let repository = Repository::new(alloc);
+    let answer = merge_base(alloc, kept, &repository, a.as_slice(), b.as_slice());
     Ok(is_told(&answer, wanted.as_slice()))
 }
 

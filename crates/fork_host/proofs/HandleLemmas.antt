@@ -12,8 +12,8 @@ use Rattle.fork_ledger.proofs.BothLemmas.{both_quiet}
 use Rattle.looks.proofs.GrowthLemmas.{grows_none, grows_same, none_came}
 use Rattle.fork_host.specs.declared.own.Own.{Own}
 use Rattle.fork_host.specs.Handle.{IsSame, Ready, Touches, Uses, both_by, staged_by, visible_by}
-use Rattle.fork_host.specs.Own.{IsOwn, IsReady, KeepsSeen, Turns, both_in, visible_in}
-use Rattle.fork_host.proofs.OwnLemmas.{own_same}
+use Rattle.fork_host.specs.Own.{ChangesTenant, IsOwn, IsReady, KeepsSeen, MadeBy, both_in, visible_in}
+use Rattle.fork_host.proofs.OwnLemmas.{own_made, own_same}
 
 pub same_own : {S : Type 0} (own : Own S) → IsSame own own
 same_own own = record { vault = refl; tenant = refl }
@@ -45,11 +45,11 @@ ready_still first now limit same own seen ready = subst (λ r. IsReady now.vault
 })
 
 -- what was sent is staged beside what is seen, where nothing was staged
-pub sent_beside : {S : Type 0} (first staged : Own S) (sent : List Object) → IsSame first staged → IsTrue first.vault.now.honest → staged_by first ≡ empty → Turns first.tenant.now (with_all_staged sent) first.vault.now staged.vault.now
+pub sent_beside : {S : Type 0} (first staged : Own S) (sent : List Object) → IsSame first staged → IsTrue first.vault.now.honest → staged_by first ≡ empty → ChangesTenant first.tenant.now (MadeBy (with_all_staged sent)) first.vault.now staged.vault.now
     → both_by staged ≡ with_objects (visible_by staged) sent
-sent_beside first staged sent same honest quiet turns =
+sent_beside first staged sent same honest quiet changes =
     let own = private_of first.vault.now.tenants first.tenant.now in
-    let is = turns.becomes.exact honest in
+    let is = (own_made first.vault.now staged.vault.now first.tenant.now (with_all_staged sent) changes).exact honest in
     let seen : visible_in staged.vault.now first.tenant.now ≡ visible_by first = ap (λ (p : Private). p.visible) is ∙ all_staged_seen sent own in
     ap (λ r. both_in staged.vault.now r.now) same.tenant ∙ ap both_of is ∙ both_all sent own
     ∙ ap (λ objects. with_objects objects sent) (both_quiet own quiet ∙ sym seen ∙ sym (ap (λ r. visible_in staged.vault.now r.now) same.tenant))

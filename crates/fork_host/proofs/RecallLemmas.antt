@@ -15,9 +15,9 @@ use Rattle.fork_reach.specs.Source.{Objects}
 use Rattle.fork_ledger.specs.Store.{Becomes, Recalls}
 use Rattle.fork_ledger.specs.Tenants.{VaultState, shape_of}
 use Rattle.fork_sound.specs.Reading.{ReadingMap, ReadingValue}
-use Rattle.fork_host.specs.Own.{Changes, Stages}
+use Rattle.fork_host.specs.Own.{ChangesTenant, Stages}
 use Rattle.fork_host.specs.Read.{AreRead, RecallsRead}
-use Rattle.fork_host.proofs.OwnLemmas.{changes_more, changes_still}
+use Rattle.fork_host.proofs.OwnLemmas.{changes_still, here_changed, stages_more}
 
 -- one whole object at most stands under a name
 pub one_whole : (files : Files) (name : List ℕ) (object other : Object) → Whole files name object → Whole files name other → object ≡ other
@@ -31,7 +31,7 @@ with_one_more objects (first ∷ came) object = with_one_more (with_object objec
 pub record Came (own : List ℕ) (names : List (List ℕ)) (at : ℕ) (both : Objects) (first now : VaultState) : Type 0 where
   pub came : List Object
   pub among : (object : Object) → Contains came object → Contains names (object_name object)
-  pub stages : Changes (Stages own (with_objects both came)) first now
+  pub stages : ChangesTenant own (Stages (with_objects both came)) first now
   pub whole : IsTrue first.honest → (object : Object) → Contains came object → Whole first.files (object_name object) object
   pub all : IsTrue first.honest → (i : ℕ) (object : Object) → i < at → Whole first.files (get_or names i []) object → Contains came object
   pub files : now.files ≡ first.files
@@ -39,7 +39,7 @@ pub record Came (own : List ℕ) (names : List (List ℕ)) (at : ℕ) (both : Ob
 nothing_came : (object : Object) (G : Type 0) → Contains [] object → G
 nothing_came object G is = absurd (omega (arith, is.1))
 
-pub came_none : (own : List ℕ) (names : List (List ℕ)) (both : Objects) (first : VaultState) → Changes (Stages own both) first first → Came own names 0 both first first
+pub came_none : (own : List ℕ) (names : List (List ℕ)) (both : Objects) (first : VaultState) → ChangesTenant own (Stages both) first first → Came own names 0 both first first
 came_none own names both first changes = record {
   came = [];
   among = λ object is. nothing_came object _ is;
@@ -55,7 +55,7 @@ came_still : (own : List ℕ) (names : List (List ℕ)) (at : ℕ) (both : Objec
 came_still own names at both first old new honest files stays never so_far = record {
   came = so_far.came;
   among = so_far.among;
-  stages = changes_still (Stages own (with_objects both so_far.came)) first old new stays.shape stays.exact honest so_far.stages;
+  stages = changes_still first old new own stays honest so_far.stages;
   whole = so_far.whole;
   all = λ h i object before is. by h i object before is (cases_eq i at);
   files = files ∙ so_far.files;
@@ -71,7 +71,8 @@ came_whole : (own name : List ℕ) (names : List (List ℕ)) (at : ℕ) (both : 
 came_whole own name names at both first old new there inside is honest files recalls so_far = record {
   came = so_far.came ++ recalls.object ∷ [];
   among = λ other among. asked other (Contains-push_cases so_far.came recalls.object other among);
-  stages = subst (λ objects. Changes (Stages own objects) first new) (sym (with_one_more both so_far.came recalls.object)) (changes_more first old new own (with_objects both so_far.came) recalls.object there recalls.becomes.shape recalls.becomes.exact honest so_far.stages);
+  stages = subst (λ objects. ChangesTenant own (Stages objects) first new) (sym (with_one_more both so_far.came recalls.object))
+      (stages_more first old new own (with_objects both so_far.came) recalls.object (here_changed first old own there so_far.stages) recalls.becomes honest so_far.stages);
   whole = λ h other among. stands h other (Contains-push_cases so_far.came recalls.object other among);
   all = λ h i other before stored. comes h i other before stored (cases_eq i at);
   files = files ∙ so_far.files;

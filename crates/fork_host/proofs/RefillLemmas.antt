@@ -152,7 +152,7 @@ right_refilled own names list repositories limit old new honest restored =
 pub refilled_in : (old new : HostState) (tenant : TenantState) (repositories : Repositories) → new.accounts ≡ insert old.accounts tenant.name (refilled repositories tenant.limit) → entries repositories ≡ tenant.repositories → IsTrue old.vault.honest
     → IsRefilled tenant.name tenant.seen tenant.repositories tenant.limit old.vault new.vault → IsRefilledIn old.vault.files tenant (world_of old) (world_of new)
 refilled_in old new tenant repositories set are honest restored =
-    let own = own_of old.vault new.vault tenant.name restored.objects restored.changes in
+    let own = own_of old.vault new.vault tenant.name restored.changes in
     let stored = restored.stored honest in
     record {
       view = shown (refilled repositories tenant.limit) new.vault tenant.name;

@@ -32,8 +32,9 @@ use Rattle.fork_model.proofs.ClosedLemmas.{each_of, each_weaker, joined as each_
 use Rattle.fork_model.proofs.KeptLemmas.{there as found_behind}
 use Rattle.fork_model.proofs.TransferLemmas.{none_there}
 use Rattle.fork_model.proofs.UploadLemmas.{beside_sent, upload_again}
-use Rattle.fork_host.specs.Own.{KeepsStaged, Turns, staged_in}
+use Rattle.fork_host.specs.Own.{ChangesTenant, KeepsStaged, MadeBy, staged_in}
 use Rattle.fork_host.specs.Staged.{Came, IsSentName, IsStaged}
+use Rattle.fork_host.proofs.OwnLemmas.{own_made}
 
 -- ---- objects that are staged, name by name
 -- what was there under a name still is
@@ -207,13 +208,13 @@ came_broken honest bytes piece reading new staged now is broken none came =
 
 -- the piece is staged
 pub came_more : (own : List ℕ) (bytes piece : List ℕ) (reading new : Reading) (objects : List Object) (a b : VaultState) → new ≡ read_on reading piece → is_broken new.flow ≡ false → objects ≡ gained reading.flow piece
-    → Turns own (with_all_staged objects) a b → (IsTrue a.honest → AllByRecursion (λ object. get (staged_in b own) (object_name object) ≡ Some object) objects) → Came a.honest bytes reading (staged_in a own)
+    → ChangesTenant own (MadeBy (with_all_staged objects)) a b → (IsTrue a.honest → AllByRecursion (λ object. get (staged_in b own) (object_name object) ≡ Some object) objects) → Came a.honest bytes reading (staged_in a own)
     → Came a.honest (bytes ++ piece) new (staged_in b own)
-came_more own bytes piece reading new objects a b is whole brings turns each came = record {
+came_more own bytes piece reading new objects a b is whole brings changes each came = record {
   read = read;
   there = subst (AllByRecursion (λ object. contains_key (staged_in b own) (object_name object) ≡ true)) (sym all) (names_more sent objects before (staged_in b own) measured came.there);
   alone = subst (λ objects. (name : List ℕ) → contains_key (staged_in b own) name ≡ true → IsSentName objects name) (sym all) (alone_more sent objects before (staged_in b own) measured came.alone);
-  exact = λ honest. subst (AreSent (staged_in b own)) (sym all) (exact_at (came.exact honest) (each honest) (ap (λ (p : Private). p.staged) (turns.becomes.exact honest)));
+  exact = λ honest. subst (AreSent (staged_in b own)) (sym all) (exact_at (came.exact honest) (each honest) (ap (λ (p : Private). p.staged) ((own_made a b own (with_all_staged objects) changes).exact honest)));
 }
   where
     before : Private
@@ -229,7 +230,7 @@ came_more own bytes piece reading new objects a b is whole brings turns each cam
     all = sent_more bytes piece (ap (λ (r : Reading). is_broken r.flow) read ∙ whole) ∙ ap (λ (r : Reading). sent ++ gained r.flow piece) came.read ∙ ap (λ more. sent ++ more) (sym brings)
 
     measured : measures_of (staged_in b own) ≡ measures_of (with_all_staged objects before).staged
-    measured = ap (λ (p : Measures × Measures). p.1) turns.becomes.shape
+    measured = ap (λ (p : Measures × Measures). p.1) (own_made a b own (with_all_staged objects) changes).shape
 
     exact_at : AreSent before.staged sent → AllByRecursion (λ object. get (staged_in b own) (object_name object) ≡ Some object) objects → staged_in b own ≡ (with_all_staged objects before).staged → AreSent (staged_in b own) (sent ++ objects)
     exact_at are found same =

@@ -37,37 +37,34 @@ KeepsStaged tenant old new = Becomes measures_of old.honest (staged_in old tenan
 abbrev pub KeepsSeen : List ℕ → VaultState → VaultState → Type 0
 KeepsSeen tenant old new = Becomes measures_of old.honest (visible_in old tenant) (visible_in new tenant)
 
--- the tenant's private maps alone were changed so: over an honest store they are what the change makes of them, and over any they
--- have its names, kinds and lengths
-pub record Turns (tenant : List ℕ) (change : Private → Private) (old new : VaultState) : Type 0 where
-  pub own : IsOwn tenant old new
-  pub becomes : Becomes private_measures old.honest (change (private_of old.tenants tenant)) (private_of new.tenants tenant)
-
--- a vault's private maps change in this way, and it shows them: over an honest store themselves, and over any what no store can
--- change of them
-pub record Changes (Way : Tenants → Tenants → Type 0) (old new : VaultState) : Type 0 where
-  pub tenants : Tenants
-  pub way : Way old.tenants tenants
-  pub shown : Becomes shape_of new.honest tenants new.tenants
-  pub honest : new.honest ≡ old.honest
-
 -- each other tenant has what it had
 pub record LeavesOthers (tenant : List ℕ) (old new : Tenants) : Type 0 where
   pub there : (other : List ℕ) → contains_key new other ≡ contains_key old other
   pub others : (other : List ℕ) → other ≢ tenant → private_of new other ≡ private_of old other
 
--- these objects are staged beside what a tenant sees, and it sees what it saw
-pub record Stages (tenant : List ℕ) (both : Objects) (old new : Tenants) : Type 0 where
-  pub leaves : LeavesOthers tenant old new
-  pub sees : (private_of new tenant).visible ≡ (private_of old tenant).visible
-  pub staged : both_of (private_of new tenant) ≡ both
+-- a tenant's private maps alone changed in this way, and the vault shows them: over an honest store themselves, and over any what
+-- no store can change of them
+pub record ChangesTenant (tenant : List ℕ) (Way : Private → Private → Type 0) (old new : VaultState) : Type 0 where
+  pub tenants : Tenants
+  pub leaves : LeavesOthers tenant old.tenants tenants
+  pub way : Way (private_of old.tenants tenant) (private_of tenants tenant)
+  pub shown : Becomes shape_of new.honest tenants new.tenants
+  pub honest : new.honest ≡ old.honest
+
+-- they are what a function makes of those before
+abbrev pub MadeBy : (Private → Private) → Private → Private → Type 0
+MadeBy change before after = after ≡ change before
+
+-- these objects are staged beside what the tenant sees, and it sees what it saw
+pub record Stages (both : Objects) (before after : Private) : Type 0 where
+  pub sees : after.visible ≡ before.visible
+  pub staged : both_of after ≡ both
 
 -- it sees these objects, and these are staged
-pub record Has (tenant : List ℕ) (seen staged : Objects) (old new : Tenants) : Type 0 where
-  pub leaves : LeavesOthers tenant old new
-  pub sees : (private_of new tenant).visible ≡ seen
-  pub stages : (private_of new tenant).staged ≡ staged
+pub record Has (seen staged : Objects) (before after : Private) : Type 0 where
+  pub sees : after.visible ≡ seen
+  pub stages : after.staged ≡ staged
 
 -- it sees these, and nothing is staged
-abbrev pub SeesOnly : List ℕ → Objects → Tenants → Tenants → Type 0
-SeesOnly tenant objects = Has tenant objects empty
+abbrev pub SeesOnly : Objects → Private → Private → Type 0
+SeesOnly objects = Has objects empty

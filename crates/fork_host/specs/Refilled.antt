@@ -16,7 +16,7 @@ use Rattle.fork_model.specs.Sound.{AreRight, IsClosed}
 use Rattle.fork_model.specs.View.{View}
 use Rattle.fork_model.specs.World.{World}
 use Rattle.state_text.specs.States.{TenantState}
-use Rattle.fork_host.specs.Own.{Changes, SeesOnly, both_in, visible_in}
+use Rattle.fork_host.specs.Own.{ChangesTenant, SeesOnly, both_in, visible_in}
 use Rattle.fork_host.specs.Restored.{OnStore, TellsBad, first_astray, first_bad}
 use Rattle.fork_host.specs.declared.later.Bad.{Bad}
 use Rattle.fork_host.specs.declared.later.Bad.TheVariants.{Memory as BadMemory, Object as Object_of}
@@ -32,7 +32,7 @@ use Rattle.fork_host.specs.declared.seeing.Against.TheVariants.{Memory as NoMemo
 pub record SeesAgain (tenant : List ℕ) (names : List (List ℕ)) (old new : VaultState) : Type 0 where
   pub came : List Object
   pub among : (object : Object) → Contains came object → Contains names (object_name object)
-  pub changes : Changes (SeesOnly tenant (with_objects (both_in old tenant) came)) old new
+  pub changes : ChangesTenant tenant (SeesOnly (with_objects (both_in old tenant) came)) old new
   pub whole : IsTrue old.honest → (object : Object) → Contains came object → Whole old.files (object_name object) object
   pub all : IsTrue old.honest → (name : List ℕ) (object : Object) → Contains names name → Whole old.files name object → Contains came object
 
@@ -44,7 +44,7 @@ bad_in names objects = find (is_bad objects (contains name_cmp names)) names.key
 -- over any store each reference at an object that is seen, a branch at a commit, and no more use than the limit
 pub record IsRefilled (tenant : List ℕ) (names : List (List ℕ)) (repositories : List (List ℕ × Repository)) (limit : ℕ) (old new : VaultState) : Type 0 where
   pub objects : Objects
-  pub changes : Changes (SeesOnly tenant objects) old new
+  pub changes : ChangesTenant tenant (SeesOnly objects) old new
   pub named : IsTrue old.honest → IsNamed objects
   pub right : IsTrue old.honest → AreRight objects
   pub closed : IsTrue old.honest → IsClosed objects

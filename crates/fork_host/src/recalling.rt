@@ -2,7 +2,7 @@
 ghost use Rattle.std.specs.Prelude.{◌≡◌, OnErr, OnOk, true};
 ghost use Rattle.std.specs.FinMap as map;
 ghost use Rattle.fork_host.specs.Handle.{IsSame, visible_by};
-ghost use Rattle.fork_host.specs.Own.{Changes, SeesOnly};
+ghost use Rattle.fork_host.specs.Own.{ChangesTenant, SeesOnly};
 ghost use Rattle.fork_host.specs.Read.{AreRead, EachRead, RecallsRead};
 ghost use Rattle.fork_host.specs.Refilled.{SeesAgain};
 
@@ -23,7 +23,7 @@ pub(crate) fn recall_all<S: LooseFiles>(
     requires there { map.contains_key own.old.vault.now.tenants own.old.tenant.now ≡ true }
     requires read { AreRead own.old.vault.now.honest own.old.vault.now.files names.now readings.now }
     ensures ok { OnOk result (SeesAgain own.old.tenant.now names.now own.old.vault.now own.new.vault.now) }
-    ensures err { OnErr result (Changes (SeesOnly own.old.tenant.now (visible_by own.old)) own.old.vault.now own.new.vault.now) }
+    ensures err { OnErr result (ChangesTenant own.old.tenant.now (SeesOnly (visible_by own.old)) own.old.vault.now own.new.vault.now) }
     ensures files { own.new.vault.now.files ≡ own.old.vault.now.files }
     ensures honest { own.new.vault.now.honest ≡ own.old.vault.now.honest }
     ensures failures { own.new.vault.now.failures ≡ own.old.vault.now.failures }

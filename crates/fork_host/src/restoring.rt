@@ -5,7 +5,7 @@ ghost use Rattle.fork_ledger.specs.Private.{nothing};
 ghost use Rattle.fork_ledger.specs.Store.{IsOver, LeavesStore};
 ghost use Rattle.fork_ledger.specs.Tenants.{private_of};
 ghost use Rattle.fork_model.specs.declared.limits.TheConstants.{MAX_TENANTS};
-ghost use Rattle.fork_host.specs.Own.{Changes, SeesOnly};
+ghost use Rattle.fork_host.specs.Own.{ChangesTenant, SeesOnly};
 ghost use Rattle.fork_host.specs.Read.{AreRead};
 ghost use Rattle.fork_host.specs.Adding.{new_view, refusal_to_add};
 ghost use Rattle.fork_host.specs.Refilled.{IsBehind, IsJudged, IsRefilled, IsWhy, StandsAgainst};
@@ -163,7 +163,7 @@ pub(crate) fn see_in<S: LooseFiles>(
     requires ascend { Ascend seen.now }
     requires read { AreRead vault.old.honest vault.old.files seen.now readings.now }
     ensures ok { OnOk result (IsRefilled name.now seen.now repositories.now limit vault.old vault.new) }
-    ensures err { OnErr result (Changes (SeesOnly name.now map.empty) vault.old vault.new) }
+    ensures err { OnErr result (ChangesTenant name.now (SeesOnly map.empty) vault.old vault.new) }
     ensures against { IsTrue vault.old.honest → IfErr result (StandsAgainst vault.old.files seen.now repositories.now limit) }
     ensures files { vault.new.files ≡ vault.old.files }
     ensures honest { vault.new.honest ≡ vault.old.honest }

@@ -8,7 +8,7 @@ ghost use Rattle.fork_ledger.specs.Private.{nothing};
 ghost use Rattle.fork_ledger.specs.Tenants.{private_of};
 ghost use Rattle.fork_sound.specs.Reading.{AreReadings};
 ghost use Rattle.fork_host.specs.Handle.{IsSame, both_by, visible_by};
-ghost use Rattle.fork_host.specs.Own.{Changes, SeesOnly};
+ghost use Rattle.fork_host.specs.Own.{ChangesTenant, SeesOnly};
 ghost use Rattle.fork_host.specs.Read.{AreRead};
 ghost use Rattle.fork_host.specs.Refilled.{IsAgainst, IsRefilled, StandsAgainst, bad_in};
 ghost use Rattle.fork_host.specs.Restored.{first_astray};
@@ -54,7 +54,7 @@ pub(crate) fn see_again<S: LooseFiles>(
     requires ascend { Ascend seen.now }
     requires read { AreRead own.old.vault.now.honest own.old.vault.now.files seen.now readings.now }
     ensures ok { OnOk result (IsRefilled own.old.tenant.now seen.now repositories.now limit own.old.vault.now own.new.vault.now) }
-    ensures err { OnErr result (Changes (SeesOnly own.old.tenant.now map.empty) own.old.vault.now own.new.vault.now) }
+    ensures err { OnErr result (ChangesTenant own.old.tenant.now (SeesOnly map.empty) own.old.vault.now own.new.vault.now) }
     ensures against { IsTrue own.old.vault.now.honest → IfErr result (StandsAgainst own.old.vault.now.files seen.now repositories.now limit) }
     ensures files { own.new.vault.now.files ≡ own.old.vault.now.files }
     ensures honest { own.new.vault.now.honest ≡ own.old.vault.now.honest }

@@ -4,15 +4,13 @@ ghost use Rattle.std.specs.FinMap as map;
 ghost use Rattle.std.specs.List.{AllByRecursion};
 ghost use Rattle.git_name.specs.Object.{object_name};
 ghost use Rattle.looks.specs.Growth.{GrowsAmong};
-ghost use Rattle.fork_reach.specs.Source.{Objects};
 ghost use Rattle.fork_request.specs.declared.reply.Reply.TheVariants.{Failed};
 ghost use Rattle.fork_ledger.specs.AllStaged.{with_all_staged};
 ghost use Rattle.fork_ledger.specs.Private.{with_discarded, with_published};
 ghost use Rattle.fork_ledger.specs.Store.{LeavesStore};
-ghost use Rattle.fork_ledger.specs.Tenants.{VaultState};
 ghost use Rattle.fork_host.specs.Bounds.{Gains, IsBounded};
 ghost use Rattle.fork_host.specs.Handle.{IsSame};
-ghost use Rattle.fork_host.specs.Own.{Changes, SeesOnly, Stages, Turns, both_in, staged_in, visible_in};
+ghost use Rattle.fork_host.specs.Own.{ChangesTenant, IsOwn, MadeBy, both_in, staged_in, visible_in};
 ghost use Rattle.fork_host.specs.Rows.{vault_told};
 ghost use Rattle.fork_host.specs.Sent.{sent_names};
 
@@ -29,8 +27,9 @@ pub(crate) fn stage_all<S: LooseFiles>(
     sent: Vec<Sealed>,
 ) -> Result<(), VaultFault>
     requires there { map.contains_key own.old.vault.now.tenants own.old.tenant.now ≡ true }
-    ensures ok { OnOk result (Turns own.old.tenant.now (with_all_staged sent.items) own.old.vault.now own.new.vault.now) }
-    ensures err { OnErr result (Turns own.old.tenant.now (λ private. private) own.old.vault.now own.new.vault.now) }
+    ensures ok { OnOk result (ChangesTenant own.old.tenant.now (MadeBy (with_all_staged sent.items)) own.old.vault.now own.new.vault.now) }
+    ensures err { OnErr result (ChangesTenant own.old.tenant.now (MadeBy (λ private. private)) own.old.vault.now own.new.vault.now) }
+    ensures own { IsOwn own.old.tenant.now own.old.vault.now own.new.vault.now }
     ensures came { IsTrue own.old.vault.now.honest → OnOk result (AllByRecursion (λ object. map.get (staged_in own.new.vault.now own.old.tenant.now) (object_name object) ≡ Some object) sent.items) }
     ensures gains { OnOk result (Gains sent.items own.old.vault.now own.new.vault.now) }
     ensures bounds { IfErr result (λ fault. IsBounded sent.items own.old.vault.now own.new.vault.now (Failed (vault_told fault))) }
@@ -43,8 +42,8 @@ pub(crate) fn stage_all<S: LooseFiles>(
 // What is staged goes.
 pub(crate) fn discard<S: LooseFiles>(own: &mut Own<'_, S>)
     requires there { map.contains_key own.old.vault.now.tenants own.old.tenant.now ≡ true }
-    ensures settles { (before : VaultState) (both : Objects) → Changes (Stages own.old.tenant.now both) before own.old.vault.now → Changes (SeesOnly own.old.tenant.now (visible_in before own.old.tenant.now)) before own.new.vault.now }
-    ensures turns { Turns own.old.tenant.now with_discarded own.old.vault.now own.new.vault.now }
+    ensures changes { ChangesTenant own.old.tenant.now (MadeBy with_discarded) own.old.vault.now own.new.vault.now }
+    ensures own { IsOwn own.old.tenant.now own.old.vault.now own.new.vault.now }
     ensures none { staged_in own.new.vault.now own.old.tenant.now ≡ map.empty }
     ensures still { visible_in own.new.vault.now own.old.tenant.now ≡ visible_in own.old.vault.now own.old.tenant.now }
     ensures store { LeavesStore own.old.vault.now own.new.vault.now }
@@ -56,8 +55,8 @@ pub(crate) fn discard<S: LooseFiles>(own: &mut Own<'_, S>)
 // What is staged is seen.
 pub(crate) fn publish<S: LooseFiles>(own: &mut Own<'_, S>)
     requires there { map.contains_key own.old.vault.now.tenants own.old.tenant.now ≡ true }
-    ensures settles { (before : VaultState) (both : Objects) → Changes (Stages own.old.tenant.now both) before own.old.vault.now → Changes (SeesOnly own.old.tenant.now both) before own.new.vault.now }
-    ensures turns { Turns own.old.tenant.now with_published own.old.vault.now own.new.vault.now }
+    ensures changes { ChangesTenant own.old.tenant.now (MadeBy with_published) own.old.vault.now own.new.vault.now }
+    ensures own { IsOwn own.old.tenant.now own.old.vault.now own.new.vault.now }
     ensures none { staged_in own.new.vault.now own.old.tenant.now ≡ map.empty }
     ensures seen { visible_in own.new.vault.now own.old.tenant.now ≡ both_in own.old.vault.now own.old.tenant.now }
     ensures store { LeavesStore own.old.vault.now own.new.vault.now }

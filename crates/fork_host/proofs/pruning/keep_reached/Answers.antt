@@ -52,9 +52,9 @@ returns-in-Ok-clause-own g c =
     let changes = kept first.vault.now mid.vault.now new.vault.now first.tenant.now names c.requires.there told.shape told.kept told.read.honest set c.keep_only.ensures.store.honest in
     record {
       same = same_then first mid new told.same c.keep_only.ensures.same;
-      own = own_of first.vault.now new.vault.now first.tenant.now (retain_keys (visible_by first) names) changes;
+      own = own_of first.vault.now new.vault.now first.tenant.now changes;
       grows = grows_same [] first.vault.now.places new.vault.now.places (c.keep_only.ensures.store.places ∙ told.read.places);
-      staged = staged_kept first.vault.now new.vault.now first.tenant.now (retain_keys (visible_by first) names) changes;
+      staged = staged_kept first.vault.now new.vault.now first.tenant.now changes (λ p has. has.stages);
     }
 
 pub returns-in-Err-clause-pruned : goal.returns-in-Err-clause-pruned

@@ -10,23 +10,23 @@ use Rattle.fork_ledger.specs.Private.{both_of, nothing, with_kept}
 use Rattle.fork_ledger.specs.Tenants.{at_tenant, private_of}
 use Rattle.fork_ledger.proofs.BothLemmas.{both_quiet}
 use Rattle.fork_host.specs.Handle.{both_by, visible_by}
-use Rattle.fork_host.specs.Own.{Changes, SeesOnly, both_in, visible_in}
+use Rattle.fork_host.specs.Own.{ChangesTenant, SeesOnly, both_in, visible_in}
 use Rattle.fork_sound.specs.Reading.{AreReadings, ReadingMap}
 use Rattle.fork_host.specs.Read.{AreRead}
 use Rattle.fork_host.specs.Refilled.{SeesAgain, bad_in}
 use Rattle.fork_host.specs.Restored.{AreOnStore, first_astray}
 use Rattle.fork_host.specs.declared.own.Own.{Own}
-use Rattle.fork_host.proofs.OwnLemmas.{changes_none, emptied, leaves_all, none_staged, seen_itself}
+use Rattle.fork_host.proofs.OwnLemmas.{changes_none, emptied, none_staged, seen_itself}
 use Rattle.fork_host.proofs.ReadingLemmas.{are_readings}
 use Rattle.fork_host.proofs.RestoreLemmas.{bad_by, closed_seen, named_came, on_store, right_seen, stands_against}
 use Rattle.fork_host.proofs.seeing.see_again.Goals as goal
 
 -- what came to a tenant that had nothing
 came_of : {S : Type 0} (first mid : Own S) (names : List (List ℕ)) → private_of first.vault.now.tenants first.tenant.now ≡ nothing → (told : SeesAgain first.tenant.now names first.vault.now mid.vault.now)
-    → Changes (SeesOnly first.tenant.now (with_objects map.empty told.came)) first.vault.now mid.vault.now
+    → ChangesTenant first.tenant.now (SeesOnly (with_objects map.empty told.came)) first.vault.now mid.vault.now
 came_of first mid names none told =
     let base : both_in first.vault.now first.tenant.now ≡ map.empty = ap both_of none ∙ both_quiet nothing refl in
-    subst (λ b. Changes (SeesOnly first.tenant.now (with_objects b told.came)) first.vault.now mid.vault.now) base told.changes
+    subst (λ b. ChangesTenant first.tenant.now (SeesOnly (with_objects b told.came)) first.vault.now mid.vault.now) base told.changes
 
 -- is what it sees, over an honest store
 seen_of : {S : Type 0} (first mid : Own S) (names : List (List ℕ)) → private_of first.vault.now.tenants first.tenant.now ≡ nothing → mid.tenant ≡ first.tenant → (told : SeesAgain first.tenant.now names first.vault.now mid.vault.now)
@@ -48,8 +48,7 @@ read_of first mid names set readings none tenant told are read h =
 pub returns-in_default-clause-err : goal.returns-in_default-clause-err
 returns-in_default-clause-err g c =
     let first = c.args.own.now in
-    changes_none (SeesOnly first.tenant.now map.empty) first.vault.now
-    (record { leaves = leaves_all first.vault.now.tenants first.tenant.now; sees = ap (λ p. p.visible) c.requires.nothing; stages = ap (λ p. p.staged) c.requires.nothing })
+    changes_none (SeesOnly map.empty) first.vault.now first.tenant.now (record { sees = ap (λ p. p.visible) c.requires.nothing; stages = ap (λ p. p.staged) c.requires.nothing })
 
 pub returns-in-Ok-judge_seen-clause-ok : goal.returns-in-Ok-judge_seen-clause-ok
 returns-in-Ok-judge_seen-clause-ok g c =

@@ -7,6 +7,7 @@ use Rattle.fork_request.specs.Told.{is_host_fault}
 use Rattle.fork_request.specs.declared.host_fault.HostFault.TheVariants.{Memory}
 use Rattle.fork_request.specs.declared.reply.Reply.TheVariants.{Failed}
 use Rattle.fork_ledger.specs.AllStaged.{with_all_staged}
+use Rattle.fork_ledger.specs.Private.{Private}
 use Rattle.fork_ledger.proofs.AllStagedLemmas.{all_staged_seen}
 use Rattle.looks.specs.Growth.{GrowsAmong}
 use Rattle.looks.proofs.GrowthLemmas.{grows_same}
@@ -17,7 +18,7 @@ use Rattle.fork_host.specs.Own.{staged_in}
 use Rattle.fork_host.specs.Rows.{vault_told}
 use Rattle.fork_host.specs.Sent.{sent_names}
 use Rattle.fork_host.proofs.BoundLemmas.{bounded_gains, bounded_more, gains_more}
-use Rattle.fork_host.proofs.OwnLemmas.{seen_turned, staged_same, staged_turned}
+use Rattle.fork_host.proofs.OwnLemmas.{seen_kept, staged_kept, staged_same}
 use Rattle.fork_host.proofs.StagedLemmas.{came_broken, came_more, gained_among}
 use Rattle.fork_host.proofs.uploading.feed.Goals as goal
 
@@ -33,7 +34,7 @@ returns-then-step-clause-fed g c =
 pub returns-in-Err-clause-fed : goal.returns-in-Err-clause-fed
 returns-in-Err-clause-fed g c =
     Unfed (vault_told c.in-Err.fault) (ap (λ f. Failed f) c.vault_fault.ensures) (c.leave.ensures.brief ∙ c.in-Ok.ensures.brief)
-    (staged_turned c.args.own.now.tenant.now c.args.own.now.vault.now c.stage_all.new.own.vault.now c.in-Err.ensures.err)
+    (staged_kept c.args.own.now.vault.now c.stage_all.new.own.vault.now c.args.own.now.tenant.now c.in-Err.ensures.err (λ p is. ap (λ (p : Private). p.staged) is))
 
 pub returns-in-Err-clause-bounds : goal.returns-in-Err-clause-bounds
 returns-in-Err-clause-bounds g c bytes came =
@@ -61,9 +62,12 @@ returns-clause-bounds g c bytes came =
     (gains_more c.in-Ok.step.objects.items sent old new (gained_among bytes c.args.piece.now c.args.upload.now.brief c.in-Ok.step.objects.items came.read c.in-Ok.ensures.gained) c.in_default-stage_all.ensures.gains)
     (inl (ap is_host_fault c.done-2.ensures))
 
+pub returns-in-Err-clause-seen : goal.returns-in-Err-clause-seen
+returns-in-Err-clause-seen g c = seen_kept c.args.own.now.vault.now c.stage_all.new.own.vault.now c.args.own.now.tenant.now (λ p. p) (λ p. refl) c.in-Err.ensures.err
+
 pub returns-clause-seen : goal.returns-clause-seen
 returns-clause-seen g c =
-    seen_turned c.args.own.now.tenant.now (with_all_staged c.in-Ok.step.objects.items) c.args.own.now.vault.now c.stage_all.new.own.vault.now (all_staged_seen c.in-Ok.step.objects.items) c.in_default-stage_all.ensures.ok
+    seen_kept c.args.own.now.vault.now c.stage_all.new.own.vault.now c.args.own.now.tenant.now (with_all_staged c.in-Ok.step.objects.items) (all_staged_seen c.in-Ok.step.objects.items) c.in_default-stage_all.ensures.ok
 
 pub returns-then-step-clause-grows : goal.returns-then-step-clause-grows
 returns-then-step-clause-grows g c = grows_same _ c.args.own.now.vault.now.places c.discard.new.own.vault.now.places c.discard.ensures.store.places

@@ -6,7 +6,7 @@ use Rattle.fork_model.specs.Sound.{IsOrderly, IsRight}
 use Rattle.std.specs.Option.{option_map}
 use Rattle.fork_model.specs.Uploads.{upload_among}
 use Rattle.fork_host.specs.Adding.{new_view}
-use Rattle.fork_host.specs.Own.{Changes, SeesOnly, staged_in, visible_in}
+use Rattle.fork_host.specs.Own.{ChangesTenant, SeesOnly, staged_in, visible_in}
 use Rattle.fork_host.specs.Read.{AreRead}
 use Rattle.fork_host.specs.Refilled.{IsRefilled, IsRefilledIn}
 use Rattle.fork_host.specs.Pushed.{view_of}
@@ -69,7 +69,7 @@ invariant_of-self g c =
     let found = account_of g c in
     let restored = restored_to g c in
     let gathered = c.in-Ok.ensures ∙ c.repositories.ensures in
-    whole_set old new tenant.name found.0 (refilled c.in-Ok.gathered tenant.limit) c.self.invariant found.1 (set_to g c) (own_of old.vault new.vault tenant.name restored.objects restored.changes)
+    whole_set old new tenant.name found.0 (refilled c.in-Ok.gathered tenant.limit) c.self.invariant found.1 (set_to g c) (own_of old.vault new.vault tenant.name restored.changes)
     (none_staged old.vault new.vault tenant.name restored.objects restored.changes) refl
     (orderly_refilled tenant.name tenant.seen tenant.repositories c.in-Ok.gathered tenant.limit old.vault new.vault sound.limit sound.few sound.repositories gathered restored)
     (λ honest. right_refilled tenant.name tenant.seen tenant.repositories c.in-Ok.gathered tenant.limit old.vault new.vault (sym restored.changes.honest ∙ honest) restored)
@@ -82,13 +82,13 @@ invariant_of-self-in-Err-see_in g c =
     let new = state_of c.self.inside.accounts c.see_in.new.vault in
     let fresh = ap (λ (s : HostState). map.get (world_of s) t) c.self.view_is ∙ c.requires.fresh in
     let found = account_shown old t (new_view limit) fresh in
-    let changes = subst (λ n. Changes (SeesOnly n map.empty) old.vault new.vault) c.name-name.ensures.name c.in-Err.ensures.err in
+    let changes = subst (λ n. ChangesTenant n (SeesOnly map.empty) old.vault new.vault) c.name-name.ensures.name c.in-Err.ensures.err in
     let seen : visible_in new.vault t ≡ map.empty = none_of (visible_in new.vault t) (seen_measures old.vault new.vault t map.empty changes) in
     let none = none_among (staged_in old.vault t) found.0.upload (ap (λ v. v.upload) found.2) in
     let told = ap (λ v. v.repositories) found.2 in
     let low = ap (λ v. v.limit) found.2 in
     let view : shown found.0 new.vault t ≡ new_view limit = λ i. view_of (told i) (seen i) (option_map (upload_among (staged_in new.vault t)) (none i)) (low i) in
-    whole_set old new t found.0 found.0 c.self.invariant found.1 (sym (insert_same c.self.inside.accounts t found.0 found.1)) (own_of old.vault new.vault t map.empty changes)
+    whole_set old new t found.0 found.0 c.self.invariant found.1 (sym (insert_same c.self.inside.accounts t found.0 found.1)) (own_of old.vault new.vault t changes)
     (none_staged old.vault new.vault t map.empty changes) none
     (subst IsOrderly (sym view) (orderly_new_view limit (c.self.invariant.orderly.views t (new_view limit) fresh).limit))
     (λ honest. subst IsRight (sym view) (right_new_view limit))

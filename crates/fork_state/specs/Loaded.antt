@@ -6,7 +6,7 @@ use Rattle.fork_model.specs.World.{World}
 use Rattle.state_text.specs.Fault.{IsWrongLine}
 use Rattle.state_text.specs.Kept.{states_of}
 use Rattle.state_text.specs.States.{States}
-use Rattle.state_text.specs.Text.{IsStateText}
+use Rattle.state_text.specs.Text.{IsStateText, IsStateText2}
 use Rattle.fork_host.specs.Restored.{IsStoreOrMemory, AreRefused, IsShownAgain, HasWorld}
 use Rattle.fork_host.specs.Uploads.{without_uploads}
 use Rattle.fork_host.specs.declared.restore_error.RestoreError.{RestoreError}
@@ -23,7 +23,7 @@ restore_fault (restore.OverLimit tenant) = OverLimit tenant
 restore_fault restore.Store = Store
 restore_fault restore.Memory = Memory
 
--- the text is a state text
+-- the text is a state text, of either version
 abbrev pub IsText : List ℕ → Type 0
 IsText text = (states : States) × IsStateText states text
 
@@ -62,3 +62,7 @@ AcceptsItsWorld = (world : World) (files : Files) (error : RestoreError) → IsS
 -- and what is shown again is that world, uploads aside
 abbrev pub ShowsItsWorld : Type 0
 ShowsItsWorld = (world new : World) (files : Files) → IsSoundWorld world → HasWorld files world → IsShownAgain files (states_of world) new → new ≡ without_uploads world
+
+-- and so is what is loaded of the text that is saved of it
+abbrev pub LoadsItsWorld : Type 0
+LoadsItsWorld = (world new : World) (files : Files) (text : List ℕ) → IsSoundWorld world → HasWorld files world → IsStateText2 (states_of world) text → IsLoaded files text new → new ≡ without_uploads world

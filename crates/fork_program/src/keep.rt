@@ -130,21 +130,19 @@ fn put<H: Files<File = File> + AllocGlobal>(
     })
 }
 
-/// Saves the host's state in its folder, in the place of the one that stands there, with a journal of
-/// nothing behind it, so that no open upload outlives it. After an `Err` the folder has what it had, or this
-/// state.
-pub fn save_closed<H: Files<File = File> + AllocGlobal, S: LooseFiles>(
+/// Saves the host's state in its folder, in the place of the one that stands there, with a journal of its
+/// open uploads behind it. After an `Err` the folder has its old state or this one, and what belongs to it.
+pub fn save<H: Files<File = File> + AllocGlobal, S: LooseFiles>(
     rt: &H,
     alloc: Global,
     dir: &str,
-    standing: Option<Name>,
-    host: &Host<S>,
+    host: &mut Host<S>,
 ) -> Result<(), Fault>
     ensures cause { IfErr result (λ fault. fault ≡ Fault.NotSaved) }
-    ensures text { OnOk result ((text : List ℕ) × IsTextOf host.now text) }
+    ensures text { OnOk result ((text : List ℕ) × IsTextOf host.old text) }
 {
-    let draft = closed(rt, alloc, dir, host)?;
-    match put(rt, alloc, dir, standing, draft) {
+    let draft = drafted(rt, alloc, dir, host)?;
+    match put(rt, alloc, dir, None, draft) {
         Ok(_settled) => Ok(()),
         Err(fault) => Err(fault),
     }
@@ -217,7 +215,11 @@ impl<'a, H: Files<File = File> + AllocGlobal> Keep<'a, H> {
             let _emptied = empty_swept(&self.rt, alloc, self.dir);
             return Ok(());
         }
-        save_closed(self.rt, alloc, self.dir, Some(self.name), host)
+        let draft = closed(self.rt, alloc, self.dir, host)?;
+        match put(self.rt, alloc, self.dir, Some(self.name), draft) {
+            Ok(_settled) => Ok(()),
+            Err(fault) => Err(fault),
+        }
     }
 
     /// Saves the host's state, where the journal has grown longer than it and than a MiB, or where

@@ -2,7 +2,7 @@ ghost use Rattle.std.specs.Prelude.{IfErr, OnOk};
 ghost use Rattle.fork_program.specs.Keeping.{IsNotUpgraded, IsRenewed, IsUnrenewed, IsUpgraded};
 
 use crate::fault::Fault;
-use crate::keep::save_closed;
+use crate::keep::save;
 use crate::keeping::standing_host;
 use crate::send::send;
 use std::alloc::Global;
@@ -19,8 +19,8 @@ fn renew<'x, H: Files<File = File> + AllocGlobal + RandomSource>(
     ensures ok { OnOk result IsRenewed }
     ensures err { IfErr result IsUnrenewed }
 {
-    let (host, _count) = standing_host(rt, alloc, dir)?;
-    let saved = save_closed(rt, alloc, dir, None, &host);
+    let (mut host, _count) = standing_host(rt, alloc, dir)?;
+    let saved = save(rt, alloc, dir, &mut host);
     drop(host);
     match saved {
         Ok(()) => Ok(()),
@@ -28,8 +28,8 @@ fn renew<'x, H: Files<File = File> + AllocGlobal + RandomSource>(
     }
 }
 
-/// Saves what a folder keeps in the newest form, with all that its journal has but for open uploads, and
-/// prints that form's version. A folder without a state is left as it is, or left out where it is not
+/// Saves what a folder keeps in the newest form, with all that its journal has, and prints that form's
+/// version. A folder without a state is left as it is, or left out where it is not
 /// there. After any other `Err`, and where it is killed, the folder keeps what it kept, as it was or as it
 /// is saved.
 pub fn upgrade<H: Files<File = File> + AllocGlobal + RandomSource, W: Write>(

@@ -5,13 +5,14 @@ import shutil
 import subprocess
 import time
 
-from before import NEW, OLD, copy, show_all
-from folder import requests_in
+from before import LEFT, NEW, OLD, copy, show_all
 from kills import CALLS, some_of
 from program import PATIENCE, Ran, failed, sound
 from upgrades import STATE_2, upgraded
 
 KILLS = 60
+# Those of the fixture's journal.
+REQUESTS = 11
 
 
 class Upgrades:
@@ -25,14 +26,14 @@ class Upgrades:
         return copy(self.work, str(self.number))
 
     def judge(self, label, folder):
-        """The old state or the new one stands, and a start shows all that was acknowledged."""
+        """The old state stands with its journal, or the new one; and a start shows all that was acknowledged."""
         state = folder.state()
         self.checks.same(f"{label}: the state", True, state in (OLD, NEW))
-        lost = len(requests_in(folder.journal())) if state == OLD else 11
-        self.checks.same(f"{label}: requests", 11, lost)
-        self.checks.same(f"{label}: check", sound(folder.again()), self.program.checked(folder.path))
+        left = REQUESTS if state == OLD else LEFT
+        self.checks.same(f"{label}: requests", left, folder.again())
+        self.checks.same(f"{label}: check", sound(left), self.program.checked(folder.path))
         self.checks.same(f"{label}: what was being written", [], folder.parts())
-        show_all(self.checks, self.program, label, folder)
+        show_all(self.checks, self.program, label, folder, left > 0)
         shutil.rmtree(folder.path)
 
     def kill_within(self, label, wait):

@@ -3,7 +3,7 @@ import os
 import shutil
 import subprocess
 
-from before import ALICE, FIRST, NEW, OLD, TIP, copy, new_text, show_all
+from before import ALICE, FIRST, LEFT, NEW, OLD, TIP, copy, new_text, show_all
 from folder import Folder, content, write
 from forkhost_client.frames import framed, frames
 from killing import limited
@@ -42,9 +42,9 @@ def show_upgrades(checks, program, work):
         checks.same(f"{label}: the state", NEW, folder.state())
         checks.same(f"{label}: its first line", b"forkhost state 2", folder.state().partition(b"\n")[0])
         checks.same(f"{label}: its journal", [os.path.basename(folder.journal_path())], folder.journals())
-        checks.same(f"{label}: check", sound(folder.again()), program.checked(folder.path))
+        checks.same(f"{label}: check", sound(LEFT), program.checked(folder.path))
         checks.same(f"{label}: what was being written", [], folder.parts())
-    show_all(checks, program, "behind upgrades", folder)
+    show_all(checks, program, "behind upgrades", folder, LEFT > 0)
     bare = copy(work, "bare")
     shutil.rmtree(bare.inside("journal"))
     checks.same("an upgrade of the state alone", STATE_2, upgraded(program, bare))

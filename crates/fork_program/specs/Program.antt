@@ -6,12 +6,12 @@ use Rattle.clap.specs.declared.error.kind.ErrorKind.TheVariants.{DisplayHelp}
 use Rattle.fork_command.specs.Command.{Asks, IsRefused}
 use Rattle.fork_command.specs.Table.{table_app}
 use Rattle.fork_command.specs.declared.command.Command.{Command}
-use Rattle.fork_command.specs.declared.command.Command.TheVariants.{HashObject, Run, Serve, Check}
+use Rattle.fork_command.specs.declared.command.Command.TheVariants.{HashObject, Run, Serve, Check, Upgrade}
 use Rattle.fork_command.specs.declared.error.CommandError.TheVariants as refusal
 use Rattle.fork_frame.specs.declared.ended.Ended.TheVariants.{Clean}
 use Rattle.fork_program.specs.Fault.{fault_line}
 use Rattle.fork_program.specs.Hashing.{IsNamed, IsUnnamed}
-use Rattle.fork_program.specs.Keeping.{IsUnchecked, IsUntouched, again_line, sound_line}
+use Rattle.fork_program.specs.Keeping.{IsNotUpgraded, IsUnchecked, IsUntouched, IsUpgraded, again_line, sound_line}
 use Rattle.fork_program.specs.Running.{IsRun, IsUnserved}
 use Rattle.fork_program.specs.Serving.{IsListened, IsUnlistened}
 use Rattle.fork_program.specs.declared.ending.Ending.{Ending}
@@ -49,6 +49,7 @@ IsDone (HashObject kind) input before after = IsNamed kind input before after
 IsDone (Run hosting) input before after = IsRun hosting input before after Clean
 IsDone (Serve socket connections hosting) input before after = IsListened hosting connections × Keeps before after
 IsDone (Check dir) input before after = ⊥
+IsDone (Upgrade dir) input before after = IsUpgraded before after
 
 -- a check found the folder sound
 abbrev pub IsSound : Command → Option (List ℕ) → Option (List ℕ) → Option (List ℕ) → Option (List ℕ) → Type 0
@@ -61,6 +62,7 @@ IsUndone (HashObject kind) input left before after fault = IsUnnamed kind input 
 IsUndone (Run hosting) input left before after fault = IsUnserved hosting input left before after fault
 IsUndone (Serve socket connections hosting) input left before after fault = IsUnlistened hosting connections fault × IsUntouched input left before after
 IsUndone (Check dir) input left before after fault = IsUnchecked before after fault × Keeps input left
+IsUndone (Upgrade dir) input left before after fault = IsNotUpgraded before after fault × Keeps input left
 
 -- a command was done, or a fault came
 abbrev pub ending_of : Result (Unit {0}) Fault → Ending

@@ -1,12 +1,10 @@
 ghost use Rattle.std.specs.Prelude.{◌≡◌, IfErr, IfOk};
 ghost use Rattle.std.specs.Io.KnownBytes.{Appends};
-ghost use Rattle.fork_program.specs.Keeping.{IsUnchecked, IsUnkept, sound_line};
+ghost use Rattle.fork_program.specs.Keeping.{IsUnchecked, IsUnopened, sound_line};
 
 use crate::fault::Fault;
-use crate::keeping::restored_host;
+use crate::keeping::standing_host;
 use crate::send::send;
-use crate::telling::{of_state, of_store};
-use loose_store::{Folder, read_state};
 use std::alloc::Global;
 use std::fs::{File, Files};
 use std::io::Write;
@@ -18,13 +16,9 @@ fn replayable<'x, H: Files<File = File> + AllocGlobal + RandomSource>(
     alloc: Global,
     dir: &str,
 ) -> Result<u64, Fault>
-    ensures { IfErr result IsUnkept }
+    ensures { IfErr result IsUnopened }
 {
-    let files = match Folder::open(rt, alloc, dir) {
-        Ok(files) => files,
-        Err(fault) => return Err(of_store(fault)),
-    };
-    match restored_host(rt, alloc, dir, files) {
+    match standing_host(rt, alloc, dir) {
         Ok((_host, count)) => Ok(count),
         Err(fault) => Err(fault),
     }
@@ -41,11 +35,6 @@ pub fn check<H: Files<File = File> + AllocGlobal + RandomSource, W: Write>(
     ensures ok { IfOk result (λ _. Appends (W.contents writer.old) (W.contents writer.new) sound_line) }
     ensures err { IfErr result (IsUnchecked (W.contents writer.old) (W.contents writer.new)) }
 {
-    match read_state(rt, alloc, dir) {
-        Ok(Some(_)) => {}
-        Ok(None) => return Err(Fault::NoState),
-        Err(fault) => return Err(of_state(fault)),
-    }
     let count = replayable(rt, alloc, dir)?;
     match send(b"sound\n", writer) {
         Ok(()) => Ok(count),

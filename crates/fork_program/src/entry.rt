@@ -9,6 +9,7 @@ use crate::hash_object::hash_object;
 use crate::run::run;
 use crate::send::send;
 use crate::serve::serve;
+use crate::upgrade::upgrade;
 use clap::Error;
 use fork_command::{Command, CommandError, command_of};
 use std::alloc::Global;
@@ -56,6 +57,7 @@ fn carried_out<'a, H: Files<File = File> + Net + AllocGlobal + RandomSource, R: 
             Ok(count) => Ending::Sound(count),
             Err(fault) => Ending::Failed(fault),
         },
+        Command::Upgrade { dir } => done(upgrade(rt, alloc, dir, writer)),
     }
 }
 

@@ -1,4 +1,4 @@
-ghost use Rattle.std.specs.Prelude.{◌≡◌, IfErr, IfOk, IsTrue, OnOk};
+ghost use Rattle.std.specs.Prelude.{◌≡◌, ℕ, List, IfErr, IfOk, IsTrue, OnOk};
 ghost use Rattle.fork_program.specs.Keeping.{IsSaved, IsTextOf};
 
 use crate::fault::Fault;
@@ -130,6 +130,26 @@ fn put<H: Files<File = File> + AllocGlobal>(
     })
 }
 
+/// Saves the host's state in its folder, in the place of the one that stands there, with a journal of
+/// nothing behind it, so that no open upload outlives it. After an `Err` the folder has what it had, or this
+/// state.
+pub fn save_closed<H: Files<File = File> + AllocGlobal, S: LooseFiles>(
+    rt: &H,
+    alloc: Global,
+    dir: &str,
+    standing: Option<Name>,
+    host: &Host<S>,
+) -> Result<(), Fault>
+    ensures cause { IfErr result (λ fault. fault ≡ Fault.NotSaved) }
+    ensures text { OnOk result ((text : List ℕ) × IsTextOf host.now text) }
+{
+    let draft = closed(rt, alloc, dir, host)?;
+    match put(rt, alloc, dir, standing, draft) {
+        Ok(_settled) => Ok(()),
+        Err(fault) => Err(fault),
+    }
+}
+
 // A tenant has an upload open, or there is no memory to tell.
 fn is_uploading<S: LooseFiles>(alloc: Global, host: &Host<S>) -> bool {
     match host.uploading(alloc) {
@@ -197,11 +217,7 @@ impl<'a, H: Files<File = File> + AllocGlobal> Keep<'a, H> {
             let _emptied = empty_swept(&self.rt, alloc, self.dir);
             return Ok(());
         }
-        let draft = closed(self.rt, alloc, self.dir, host)?;
-        match put(self.rt, alloc, self.dir, Some(self.name), draft) {
-            Ok(_settled) => Ok(()),
-            Err(fault) => Err(fault),
-        }
+        save_closed(self.rt, alloc, self.dir, Some(self.name), host)
     }
 
     /// Saves the host's state, where the journal has grown longer than it and than a MiB, or where

@@ -1,5 +1,5 @@
 ghost use Rattle.std.specs.Prelude.{IfErr};
-ghost use Rattle.fork_program.specs.Keeping.{IsUnkept};
+ghost use Rattle.fork_program.specs.Keeping.{IsUnkept, IsUnopened};
 
 use crate::fault::Fault;
 use crate::replaying::replay;
@@ -42,9 +42,9 @@ fn saved_host<S: LooseFiles + Drop>(
     }
 }
 
-/// The host that a folder keeps, over this store of its objects, and one without tenants where the
-/// folder keeps none; and how many requests of its journal were done again.
-pub fn restored_host<H: Files<File = File> + AllocGlobal, S: LooseFiles + Drop>(
+// The host that a folder keeps, over this store of its objects, and one without tenants where the
+// folder keeps none; and how many requests of its journal were done again.
+fn restored_host<H: Files<File = File> + AllocGlobal, S: LooseFiles + Drop>(
     rt: &H,
     alloc: Global,
     dir: &str,
@@ -63,6 +63,25 @@ pub fn restored_host<H: Files<File = File> + AllocGlobal, S: LooseFiles + Drop>(
     }
 }
 
+// The same, over the folder itself. The folder is made where it is not there, and while the host lives no
+// other process can open it.
+fn opened_host<'a, H: Files<File = File> + AllocGlobal + RandomSource>(
+    rt: &'a H,
+    alloc: Global,
+    dir: &str,
+) -> Result<(Host<Folder<&'a H>>, u64), Fault>
+    ensures { IfErr result IsUnkept }
+{
+    let files = match Folder::open(rt, alloc, dir) {
+        Ok(files) => files,
+        Err(fault) => return Err(of_store(fault)),
+    };
+    match restored_host(rt, alloc, dir, files) {
+        Ok(restored) => Ok(restored),
+        Err(fault) => Err(fault),
+    }
+}
+
 /// The host that a folder keeps, and one without tenants where the folder keeps none. The folder is
 /// made where it is not there, and while the host lives no other process can open it.
 pub fn kept_host<'a, H: Files<File = File> + AllocGlobal + RandomSource>(
@@ -72,12 +91,29 @@ pub fn kept_host<'a, H: Files<File = File> + AllocGlobal + RandomSource>(
 ) -> Result<Host<Folder<&'a H>>, Fault>
     ensures { IfErr result IsUnkept }
 {
-    let files = match Folder::open(rt, alloc, dir) {
-        Ok(files) => files,
-        Err(fault) => return Err(of_store(fault)),
-    };
-    match restored_host(rt, alloc, dir, files) {
+    match opened_host(rt, alloc, dir) {
         Ok((host, _)) => Ok(host),
+        Err(fault) => Err(fault),
+    }
+}
+
+/// The host that a folder keeps, and how many requests of its journal were done again. A folder without a
+/// state is left as it is, or left out where it is not there; and while the host lives no other process
+/// can open it.
+pub fn standing_host<'a, H: Files<File = File> + AllocGlobal + RandomSource>(
+    rt: &'a H,
+    alloc: Global,
+    dir: &str,
+) -> Result<(Host<Folder<&'a H>>, u64), Fault>
+    ensures { IfErr result IsUnopened }
+{
+    match read_state(rt, alloc, dir) {
+        Ok(Some(_)) => {}
+        Ok(None) => return Err(Fault::NoState),
+        Err(fault) => return Err(of_state(fault)),
+    }
+    match opened_host(rt, alloc, dir) {
+        Ok(opened) => Ok(opened),
         Err(fault) => Err(fault),
     }
 }

@@ -1,5 +1,5 @@
 //! What `forkhost` does for the words that it is given, over any reader and writers: it names objects,
-//! serves a session or connections to a socket, and checks the folder that keeps a host.
+//! serves a session or connections to a socket, and checks or upgrades the folder that keeps a host.
 //! How each command ends, and what it wrote till then, is said of `program`.
 #![tactic(auto)]
 
@@ -20,5 +20,6 @@ mod send;
 mod serve;
 mod telling;
 mod tenants;
+mod upgrade;
 
 pub use crate::entry::{Untold, program};

@@ -17,6 +17,7 @@ use Rattle.git_name.proofs.Names.{name_total, name_exact}
 use Rattle.git_name.proofs.TreeMaps.{find_is_lookup}
 use Rattle.git_object.specs.ObjectIn.{links_in, object_in}
 use Rattle.git_object.specs.declared.link.Link.{Link}
+use Rattle.git_reftx.specs.Repository.{Repository}
 use Rattle.git_reftx.specs.Transaction.{References, is_branch, is_commit}
 use Rattle.git_reftx.proofs.PushLemmas.{keys_ascend}
 use Rattle.loose_store.specs.Files.{Files}
@@ -31,12 +32,14 @@ use Rattle.fork_model.specs.View.{View}
 use Rattle.fork_model.specs.World.{World}
 use Rattle.state_text.specs.Kept.{kept_of, states_of}
 use Rattle.state_text.specs.States.{States, TenantState}
-use Rattle.fork_host.specs.Restored.{AreOnStore, ByLimit, ByObject, ByTarget, IsFault, IsFirst, IsRefused, IsShownAgain, WantsMemory, WantsStore, first_astray, first_bad, is_bad_target, is_one_of, references_in}
+use Rattle.state_text.specs.Text.{IsStateText2}
+use Rattle.state_text.proofs.VersionLemmas.{one_value}
+use Rattle.fork_host.specs.Restored.{AreOnStore, ByLimit, ByObject, ByTarget, IsFault, IsFirst, IsRefused, IsShownAgain, WantsMemory, WantsStore, first_astray, first_bad, is_bad_target, is_one_of, references_in, without_offers}
 use Rattle.fork_host.specs.declared.restore_error.RestoreError.{RestoreError}
 use Rattle.fork_host.proofs.RecallLemmas.{one_whole}
 use Rattle.fork_host.proofs.RestoreLemmas.{one_of}
 use Rattle.fork_host.specs.Uploads.{closed, closed_world}
-use Rattle.fork_state.specs.Loaded.{HasWorld}
+use Rattle.fork_state.specs.Loaded.{HasWorld, IsLoaded}
 
 -- entries are what is found
 of_entry : {X : Type 0} (values : FinMap name_cmp X) (name : List ℕ) (value : X) → Contains (entries values) (name, value) → get values name ≡ Some value
@@ -145,11 +148,11 @@ none_bad files tenant fine =
     all_met (link ∷ links) met = (met_link fine.view.objects tenant.seen link fine.seen met.0, all_met links met.1)
 
 -- none of the references is astray
-none_in : (bad : List ℕ × List ℕ → Bool) (list : List (List ℕ × References)) → ((name : List ℕ) (references : References) → Contains list (name, references) → find bad (references_in (name, references)) ≡ None) → find bad (flat_map references_in list) ≡ None
+none_in : (bad : List ℕ × List ℕ → Bool) (list : List (List ℕ × Repository)) → ((name : List ℕ) (repository : Repository) → Contains list (name, repository) → find bad (references_in (name, repository)) ≡ None) → find bad (flat_map references_in list) ≡ None
 none_in bad [] none = refl
 none_in bad (r ∷ list) none =
     find-append bad (references_in r) (flat_map references_in list) ∙ ap (λ o. option_or o (find bad (flat_map references_in list))) (none r.0 r.1 (first r list))
-    ∙ none_in bad list (λ name references is. none name references (later r list (name, references) is))
+    ∙ none_in bad list (λ name repository is. none name repository (later r list (name, repository) is))
 
 good_target : (objects : Objects) (references : References) (reference target : List ℕ) → AreReferences objects references → get references reference ≡ Some target → is_bad_target (kind_in objects) (reference, target) ≡ false
 good_target objects references reference target are here =
@@ -166,9 +169,10 @@ good_target objects references reference target are here =
 
 none_astray : (files : Files) (tenant : TenantState) (fine : Fine files tenant) → first_astray tenant.repositories fine.view.objects ≡ None
 none_astray files tenant fine =
-    none_in (is_bad_target (kind_in fine.view.objects)) tenant.repositories (λ name references is.
-    let here = of_entry fine.view.repositories name references (subst (λ es. Contains es (name, references)) fine.repositories is) in
-    none_found (is_bad_target (kind_in fine.view.objects)) (entries references) (λ entry among. good_target fine.view.objects references entry.0 entry.1 (fine.sound.orderly.references name references here) (of_entry references entry.0 entry.1 among)))
+    none_in (is_bad_target (kind_in fine.view.objects)) tenant.repositories (λ name repository is.
+    let here = of_entry fine.view.repositories name repository (subst (λ es. Contains es (name, repository)) fine.repositories is) in
+    none_found (is_bad_target (kind_in fine.view.objects)) (entries repository.references)
+    (λ entry among. good_target fine.view.objects repository.references entry.0 entry.1 (fine.sound.orderly.references name repository here) (of_entry repository.references entry.0 entry.1 among)))
 
 none_some : {A : Type 0} (o : Option A) (a : A) (G : Type 0) → o ≡ None → o ≡ Some a → G
 none_some o a G none some = absurd (cc (sym none ∙ some))
@@ -220,11 +224,22 @@ same_rows files (e ∷ es) (f ∷ fs) same quiet left right =
       all = λ name object is stored. let found = there objects name is in found.1 ∙ ap Some (one_whole files name found.0 object (whole name found.0 found.1) stored);
     }
 
+-- a world has no offers that could be left out
+all_told : (es : List (List ℕ × View)) → map without_offers (map kept_of es) ≡ map kept_of es
+all_told [] = refl
+all_told (e ∷ es) = ap (λ states. kept_of e ∷ states) (all_told es)
+
 pub shows : (world new : World) (files : Files) → IsSoundWorld world → HasWorld files world → IsShownAgain files (states_of world) new → new ≡ closed_world world
 shows world new files sound has shown =
     same_entries_map new (closed_world world)
-    (same_rows files (entries new) (entries world) shown.states
+    (same_rows files (entries new) (entries world) (shown.states ∙ all_told (entries world))
     (λ name view is. shown.quiet name view (of_entry new name view is))
     (λ name view key object is. shown.whole name view key object (of_entry new name view is))
     (λ name view key object is. has name view key object (of_entry world name view is))
     ∙ sym (entries_map_values closed world))
+
+-- its text tells of that world alone
+pub loads : (world new : World) (files : Files) (text : List ℕ) → IsSoundWorld world → HasWorld files world → IsStateText2 (states_of world) text → IsLoaded files text new → new ≡ closed_world world
+loads world new files text sound has spelled loaded =
+    let same = one_value loaded.states (states_of world) text loaded.tells (inr spelled) in
+    shows world new files sound has (subst (λ states. IsShownAgain files states new) same loaded.shown)

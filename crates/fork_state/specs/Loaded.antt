@@ -10,7 +10,7 @@ use Rattle.fork_model.specs.World.{World}
 use Rattle.state_text.specs.Fault.{IsWrongLine}
 use Rattle.state_text.specs.Kept.{states_of}
 use Rattle.state_text.specs.States.{States}
-use Rattle.state_text.specs.Text.{IsStateText}
+use Rattle.state_text.specs.Text.{IsStateText, IsStateText2}
 use Rattle.fork_host.specs.Restored.{IsFault, IsRefused, IsShownAgain}
 use Rattle.fork_host.specs.Uploads.{closed_world}
 use Rattle.fork_host.specs.declared.restore_error.RestoreError.{RestoreError}
@@ -27,7 +27,7 @@ load_fault (restore.OverLimit tenant) = OverLimit tenant
 load_fault restore.Store = Store
 load_fault restore.Memory = Memory
 
--- the text is a state text
+-- the text is a state text, of either version
 abbrev pub IsText : List ℕ → Type 0
 IsText text = (states : States) × IsStateText states text
 
@@ -70,3 +70,7 @@ AcceptsItsWorld = (world : World) (files : Files) (error : RestoreError) → IsS
 -- and what is shown again is that world, uploads aside
 abbrev pub ShowsItsWorld : Type 0
 ShowsItsWorld = (world new : World) (files : Files) → IsSoundWorld world → HasWorld files world → IsShownAgain files (states_of world) new → new ≡ closed_world world
+
+-- and so is what is loaded of the text that is saved of it
+abbrev pub LoadsItsWorld : Type 0
+LoadsItsWorld = (world new : World) (files : Files) (text : List ℕ) → IsSoundWorld world → HasWorld files world → IsStateText2 (states_of world) text → IsLoaded files text new → new ≡ closed_world world

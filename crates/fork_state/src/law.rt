@@ -1,4 +1,4 @@
-ghost use Rattle.fork_state.specs.Loaded.{AcceptsItsWorld, ShowsItsWorld};
+ghost use Rattle.fork_state.specs.Loaded.{AcceptsItsWorld, LoadsItsWorld, ShowsItsWorld};
 
 /// A law, and no work: over an honest store that has the objects of a sound world, what `save` writes of
 /// it is refused by `load` for want of memory or of the store alone, and what `load` shows of it is that
@@ -6,4 +6,5 @@ ghost use Rattle.fork_state.specs.Loaded.{AcceptsItsWorld, ShowsItsWorld};
 pub fn what_is_saved_is_loaded()
     ensures accepted { AcceptsItsWorld }
     ensures shown { ShowsItsWorld }
+    ensures loaded { LoadsItsWorld }
 {}

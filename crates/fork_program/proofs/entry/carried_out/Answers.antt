@@ -2,8 +2,8 @@ use Rattle.std.proofs.Common.{IfErr, OnOk}
 use Rattle.std.proofs.KnownBytes.{Keeps-refl}
 use Rattle.std.proofs.lemmas.Result.{on_ok_weaker}
 use Rattle.std.specs.Io.KnownBytes.{Keeps}
-use Rattle.fork_command.specs.declared.command.Command.TheVariants.{Serve}
-use Rattle.fork_program.specs.Keeping.{IsUntouched}
+use Rattle.fork_command.specs.declared.command.Command.TheVariants.{Serve, Upgrade}
+use Rattle.fork_program.specs.Keeping.{IsNotUpgraded, IsUntouched}
 use Rattle.fork_program.specs.Serving.{IsListened, IsUnlistened}
 use Rattle.fork_program.proofs.EntryLemmas.{carried}
 use Rattle.fork_program.proofs.HostingLemmas.{if_err_more, untouched}
@@ -18,3 +18,11 @@ returns-in-Serve g c =
     let right : OnOk c.serve.result (IsListened hosting n × Keeps before before) = on_ok_weaker c.serve.result (λ served. (served, Keeps-refl before)) c.serve.ensures.ok in
     let why : IfErr c.serve.result (λ fault. IsUnlistened hosting n fault × IsUntouched input input before before) = if_err_more c.serve.result (λ fault why. (why, untouched input before)) c.serve.ensures.err in
     rw c.in-Serve.is (carried (Serve c.in-Serve.socket n hosting) input input before before c.serve.result c.done-in-Serve.result c.done-in-Serve.ensures right why)
+
+pub returns-in-Upgrade : goal.returns-in-Upgrade
+returns-in-Upgrade g c =
+    let input = g.R.Read.remaining c.args.reader.now in
+    let before = g.W.Write.contents c.args.writer.now in
+    let after = g.W.Write.contents c.upgrade.new.writer in
+    let why : IfErr c.upgrade.result (λ fault. IsNotUpgraded before after fault × Keeps input input) = if_err_more c.upgrade.result (λ fault why. (why, Keeps-refl input)) c.upgrade.ensures.err in
+    rw c.in-Upgrade.is (carried (Upgrade c.in-Upgrade.dir) input input before after c.upgrade.result c.done-in-Upgrade.result c.done-in-Upgrade.ensures c.upgrade.ensures.ok why)

@@ -1,0 +1,49 @@
+ghost use Rattle.std.specs.Prelude.{IfErr, OnOk};
+ghost use Rattle.fork_program.specs.Keeping.{IsNotUpgraded, IsRenewed, IsUnrenewed, IsUpgraded};
+
+use crate::fault::Fault;
+use crate::keep::save_closed;
+use crate::keeping::standing_host;
+use crate::send::send;
+use std::alloc::Global;
+use std::fs::{File, Files};
+use std::io::Write;
+use std::random::RandomSource;
+
+// Saves anew what a folder keeps, with all that its journal has done.
+fn renew<'x, H: Files<File = File> + AllocGlobal + RandomSource>(
+    rt: &'x H,
+    alloc: Global,
+    dir: &str,
+) -> Result<(), Fault>
+    ensures ok { OnOk result IsRenewed }
+    ensures err { IfErr result IsUnrenewed }
+{
+    let (host, _count) = standing_host(rt, alloc, dir)?;
+    let saved = save_closed(rt, alloc, dir, None, &host);
+    drop(host);
+    match saved {
+        Ok(()) => Ok(()),
+        Err(fault) => Err(fault),
+    }
+}
+
+/// Saves what a folder keeps in the newest form, with all that its journal has but for open uploads, and
+/// prints that form's version. A folder without a state is left as it is, or left out where it is not
+/// there. After any other `Err`, and where it is killed, the folder keeps what it kept, as it was or as it
+/// is saved.
+pub fn upgrade<H: Files<File = File> + AllocGlobal + RandomSource, W: Write>(
+    rt: &H,
+    alloc: Global,
+    dir: &str,
+    writer: &mut W,
+) -> Result<(), Fault>
+    ensures ok { OnOk result (IsUpgraded (W.contents writer.old) (W.contents writer.new)) }
+    ensures err { IfErr result (IsNotUpgraded (W.contents writer.old) (W.contents writer.new)) }
+{
+    renew(rt, alloc, dir)?;
+    match send(b"state 2\n", writer) {
+        Ok(()) => Ok(()),
+        Err(fault) => Err(fault),
+    }
+}

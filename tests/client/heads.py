@@ -4,7 +4,7 @@ from making import commit, line
 from program import done
 from world import World
 
-# By the second version of its protocol Git tells a clone of a HEAD whose branch is not there; by the first, and by a helper, not.
+# A clone is told of a HEAD whose branch is not there by the second version of Git's protocol, and not by a helper.
 FIRST = ["-c", "protocol.version=0"]
 SHOWN = (
     *(["symbolic-ref", "HEAD"], ["rev-parse", "-q", "--verify", "HEAD"], ["symbolic-ref", "refs/remotes/origin/HEAD"]),
@@ -65,15 +65,16 @@ def show_heads(checks, program, folder):
     line(world, "source", "x", branch="x", parent=tips[0])
     heads = Heads(world)
     heads.push("branches", "main", "x", f"{tips[0]}:refs/heads/a", f"{tips[0]}:refs/heads/master")
-    for ref in ("refs/heads/main", "refs/heads/x", "refs/heads/a", "refs/heads/none", "refs/heads/x/y", "refs/heads/master"):
-        heads.set_head(ref)
-        heads.alike(ref)
+    for branch in ("main", "x", "a", "none", "x/y", "master"):
+        heads.set_head(f"refs/heads/{branch}")
+        heads.alike(branch)
     heads.set_head("refs/heads/x")
     show_set_head(heads, "x")
     for ref in ("refs/tags/v", "HEAD", "main", "refs/heads/a..b"):
         ran = world.ran("forkhost-ask", world.host.socket, "alice", "set-head", "r", ref)
         checks.same(f"{ref} is no HEAD", refused(f"bad-ref {ref}"), ran)
-    checks.same("HEAD is as before", done(f"refs/heads/x {world.name('source', 'x')}\n".encode()), world.ask("alice", "head", "r"))
+    told = done(f"refs/heads/x {world.name('source', 'x')}\n".encode())
+    checks.same("HEAD is as before", told, world.ask("alice", "head", "r"))
     world.host.ends_well(checks, "after heads")
     world.host.begin()
     heads.alike("behind a start")

@@ -1,4 +1,4 @@
-"""The folder that the version before left, with a journal behind its state, and what it showed; `fixtures/make` made it."""
+"""The folder that the version before left, with a journal behind its state, and what it showed (`fixtures/make`)."""
 import os
 import shutil
 
@@ -48,12 +48,12 @@ NEW, ENDED = new_text(SAVED), new_text(SAVED, NAME)
 
 
 def told_of_upload(is_open):
-    """What the version before said of the open upload, where `asked` looks for it, and what is said where it is gone."""
+    """What the version before said to `asked`, and what is said where the open upload is gone that it looks for."""
     return TOLD if is_open else framed(b"ok\n").join(TOLD.rsplit(framed(b"no upload-open\n"), 1))
 
 
 def show_all(checks, program, label, folder, is_open=True):
-    """A start shows what the version before showed, and each HEAD as it was for it; the open upload goes on, or is gone."""
+    """A start shows what the version before showed, each HEAD at main; the open upload goes on, or is gone."""
     told = [*HEADS.values(), *(GOES_ON if is_open else IS_GONE)]
     wanted = done(told_of_upload(is_open) + b"".join(map(framed, told)))
     ran = program.ran("run", "--dir", folder.path, given=ASKED + frames([*HEADS, *REST]))

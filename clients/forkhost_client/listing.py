@@ -4,14 +4,12 @@ from typing import Dict, Iterable, Iterator, List, NamedTuple, Optional
 from .records import Linked, Record, linked
 from .remote import Remote
 
-FIRST_BRANCHES = ("refs/heads/main", "refs/heads/master")
-
 
 class Listing(NamedTuple):
     refs: Dict[str, str]
     # The type of each object that a reference or a tag names.
     kinds: Dict[str, str]
-    # The reference for which HEAD stands; it may be one that is not there.
+    # The branch that HEAD names, be it there or not; none where it was not asked for.
     head: Optional[str]
     # All tag objects behind references, with those that they name.
     tags: Dict[str, Record]
@@ -38,19 +36,13 @@ class Listing(NamedTuple):
         return self.kinds.get(name, "")
 
     def rows(self) -> Iterator[str]:
-        """The rows of the helper's `list`, HEAD first."""
+        """The rows of the helper's `list`, HEAD first, where its branch is there: Git could not fetch another."""
         if self.default():
             yield f"@{self.head} HEAD"
         for ref, name in self.refs.items():
             yield f"{name} {ref}"
             if name in self.tags:
                 yield f"{self.peeled(name).name} {ref}^{{}}"
-
-
-def default_branch(refs: Iterable[str]) -> Optional[str]:
-    """HEAD where the host keeps none: main, master, or the first branch."""
-    branches = [ref for ref in refs if ref.startswith("refs/heads/")]
-    return next((ref for ref in [*FIRST_BRANCHES, *branches] if ref in branches), None)
 
 
 def read_tags(remote: Remote, names: Iterable[str]) -> Dict[str, Record]:
@@ -74,4 +66,4 @@ def read_listing(remote: Remote, for_push: bool) -> Listing:
         return Listing(refs, kinds, None, {})
     tags = read_tags(remote, [name for name, kind in kinds.items() if kind == "tag"])
     kinds.update(dict(linked(tag.content) for tag in tags.values()))
-    return Listing(refs, kinds, remote.head() or default_branch(refs), tags)
+    return Listing(refs, kinds, remote.head(), tags)

@@ -1,6 +1,6 @@
 """A repository of the host, over one connection: each request that the helper makes, by its name."""
 import re
-from typing import Iterable, Iterator, List, Match, Optional, Pattern, Tuple
+from typing import Iterable, Iterator, List, Match, Pattern, Tuple
 
 from .connection import Connection
 from .faults import Fatal, Lost, Refused
@@ -42,14 +42,9 @@ class Remote:
             name, kind, ref = matched(ROW, row, "for-each-ref").groups()
             yield ref, name, kind
 
-    def head(self) -> Optional[str]:
-        """The repository's HEAD, or None of a host that keeps none."""
-        try:
-            return matched(HEAD, self.connection.text(f"head {self.name}"), "head")[1]
-        except Refused as refusal:
-            if refusal.word != "bad-request":
-                raise
-            return None
+    def head(self) -> str:
+        """The branch that the repository's HEAD names, be it there or not."""
+        return matched(HEAD, self.connection.text(f"head {self.name}"), "head")[1]
 
     def object(self, name: str) -> Record:
         return read_record(self.connection.ask(f"cat-file {name}"))

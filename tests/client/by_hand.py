@@ -32,6 +32,14 @@ def show_asking(checks, program, folder):
         (["alice", "cat-file", NAME], b"", done(b"%s blob 6\nhello\n\n" % NAME.encode())),
         (["bob", "cat-file", NAME], b"", refused(f"missing {NAME}")),
         (["alice", "for-each-ref", "r"], b"", done(row)),
+        (["alice", "head", "r"], b"", done(b"refs/heads/main\n")),
+        (["alice", "set-head", "r", "refs/heads/x"], b"", done()),
+        (["alice", "head", "r"], b"", done(b"refs/heads/x\n")),
+        (["alice", "set-head", "r", "refs/tags/v"], b"", refused("bad-ref refs/tags/v")),
+        (["alice", "set-head", "s", "HEAD"], b"", refused("no-repository s")),
+        (["alice", "set-head", "r"], b"", refused("bad-request")),
+        (["alice", "set-head", "r", "refs/heads/x", "-"], b"x", refused("bad-request")),
+        (["bob", "head", "r"], b"", refused("no-repository r")),
         (["alice", "part", "-"], body[:40], done()),
         (["alice", "part", "-"], b"", done()),
         (["alice", "part-drop"], b"", done()),
@@ -121,6 +129,13 @@ def show_door(checks, program, folder):
     world.succeeds("alice clones", world.git(None, "clone", "-q", url("alice", "r"), "copy"))
     world.sound("what she cloned", "copy")
     checks.same("it is hers", world.references("source"), world.kept("r", "alice"))
+    world.succeeds("alice pushes a branch", world.git("source", "push", "-q", url("alice", "r"), "main~1:refs/heads/x"))
+    ran = world.ran("forkhost-ask", door.path, "alice", "set-head", "r", "refs/heads/x")
+    checks.same("alice sets HEAD", done(), ran)
+    world.succeeds("alice fetches", world.git("copy", "fetch", "-q"))
+    told = done(b"origin/HEAD set to x\n")
+    checks.same("Git asks for it", told, world.git("copy", "remote", "set-head", "origin", "-a"))
+    world.succeeds("and the branch goes", world.git("source", "push", "-q", url("alice", "r"), ":x"))
     for who in ("bob", "carol"):
         ran = world.git(None, "ls-remote", url(who, "r"))
         wanted = (128, b"", f"fatal: forkhost: the host has no tenant '{who}'\n".encode())

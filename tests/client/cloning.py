@@ -46,21 +46,6 @@ def show_chosen(world, source):
         world.checks.same(f"{label}: HEAD", *heads)
 
 
-def show_heads(checks, program, folder):
-    """HEAD of a host that keeps none: main, else master, else the first branch; else there is none."""
-    world = World(checks, program, folder)
-    world.init("alice", "r")
-    (tip,) = line(world, world.repository("source"), "one")
-    wanted = None
-    for branch in ("refs/tags/t", "refs/heads/z", "refs/heads/b", "refs/heads/master", "refs/heads/main"):
-        world.succeeds(f"push of {branch}", world.git("source", "push", "-q", world.url("r"), f"{tip}:{branch}"))
-        wanted = branch if "heads" in branch else None
-        told = world.output(None, "ls-remote", "--symref", world.url("r")).splitlines()
-        rows = [f"ref: {wanted}\tHEAD", f"{tip}\tHEAD"] if wanted else [f"{tip}\trefs/tags/t"]
-        checks.same(f"HEAD after {branch}", rows, told[: len(rows)])
-    world.host.ends_well(checks, "after heads")
-
-
 def show_empty(checks, program, folder):
     """A clone of what is empty is of the SHA-1 format, unless Git is told otherwise; the helper says so."""
     world = World(checks, program, folder)

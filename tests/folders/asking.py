@@ -70,12 +70,12 @@ class Requests:
 
     def item(self):
         sign = b"^" * (self.chance.random() < 0.2)
-        return sign + self.chance.choice([*self.history.tips, *HEADS, *self.history.tags])
+        return sign + self.chance.choice([*self.history.tips, *HEADS, *self.history.tags, b"HEAD"])
 
     def payloads(self):
         """The payloads of one request, or of an upload in parts."""
         pick, place = self.chance.choice, self.chance.choice(REPOSITORIES)
-        changes = [b"part", b"update-refs", b"init", b"fork", b"drop", b"prune", b"quota"]
+        changes = [b"part", b"update-refs", b"init", b"fork", b"drop", b"prune", b"quota", b"set-head"]
         kind = pick([b"push"] * 4 + changes + [b"ask"] * 4)
         if kind == b"push":
             return [b"push %s\n%s" % (place, self.push())]
@@ -86,6 +86,8 @@ class Requests:
             return [b"part\n" + body[:cut], b"part\n" + body[cut:], end]
         if kind == b"update-refs":
             return [b"update-refs %s\n%s\n" % (place, self.command(pick(self.history.tips)))]
+        if kind == b"set-head":
+            return [b"set-head %s %s\n" % (place, pick(HEADS))]
         if kind == b"init":
             return [b"init %s\n" % place]
         if kind == b"fork":
@@ -99,10 +101,11 @@ class Requests:
                 [
                     b"cat-file %s\n" % pick([*self.history.names, ABSENT]),
                     b"for-each-ref %s\n" % place,
+                    b"head %s\n" % place,
                     b"rev-list %s %s %s\n" % (place, self.item(), self.item()),
                     b"fetch %s %s\n" % (place, self.item()),
                     b"ls-tree %s\n" % pick(self.history.names),
-                    b"merge-base %s %s %s\n" % (place, pick(HEADS), pick(self.history.tips)),
+                    b"merge-base %s %s %s\n" % (place, pick([*HEADS, b"HEAD"]), pick(self.history.tips)),
                 ]
             )
         ]
@@ -120,6 +123,6 @@ class Requests:
 
 def looks(history):
     """Requests that show all that a tenant has."""
-    asks = [b"for-each-ref %s\n" % place for place in REPOSITORIES] + [b"quota\n"]
+    asks = [b"%s %s\n" % (word, place) for word in (b"for-each-ref", b"head") for place in REPOSITORIES] + [b"quota\n"]
     asks += (b"cat-file %s\n" % name for name in history.names)
     return [(who, payload) for who in (b"alice", b"bob") for payload in asks]

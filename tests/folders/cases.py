@@ -4,7 +4,7 @@ import random
 
 from loading import verdict
 from objects import USE, name_of, stored
-from state_text import Repository, Tenant, spelled
+from state_text import Offer, Repository, Tenant, spelled
 
 ABSENT = b"f" * 64
 WHO = b"A <a@x> 100 +0000"
@@ -59,6 +59,11 @@ def hashed(*files):
 def tenant(name, seen, references=(), limit=LIMIT):
     repositories = [Repository(b"r", dict(sorted(references)))] if references else []
     return Tenant(name, limit, repositories, sorted(seen))
+
+
+def offering(seen, *references, own=(), limit=LIMIT):
+    """A tenant that sees these, with references of its own, and of an offer to bob."""
+    return tenant(b"alice", seen, own, limit)._replace(offers=[Offer(b"bob", b"r", dict(sorted(references)))])
 
 
 def alone(seen, *references, limit=LIMIT):
@@ -152,6 +157,38 @@ UNSOUND = {
     "another word at a tree": (alone(OBJECTS, (b"refs/head/t", T)), FILES, "sound"),
 }
 
+BOB, UNSEEN = tenant(b"bob", [O], limit=USED), (b"refs/tags/o", O)
+OFFERS = {
+    "an offer": (spelled([offering(OBJECTS, MAIN, EXTRA), BOB]), FILES, "sound"),
+    "an offer of nothing": (spelled([offering([])]), {}, "sound"),
+    "an offer to nobody": (spelled([offering(OBJECTS, MAIN, own=[EXTRA])]), FILES, "sound"),
+    "an offer costs its receiver nothing": (
+        spelled([offering(OBJECTS, MAIN), tenant(b"bob", [], limit=0)]),
+        FILES,
+        "sound",
+    ),
+    "an offer of what its giver does not see": (spelled([offering([B], UNSEEN)]), FILES, f"unsound {text(O)}"),
+    "an offer of what its receiver sees": (spelled([offering([B], UNSEEN), BOB]), FILES, f"unsound {text(O)}"),
+    "an offer of a branch at a blob": (spelled([offering([B], (b"refs/heads/b", B))]), FILES, f"unsound {text(B)}"),
+    "an offer of what is lost": (spelled([offering(OBJECTS, MAIN)]), lacking(D), f"lost {text(D)}"),
+    "a repository's references before those of an offer": (
+        spelled([offering([B], UNSEEN, own=[(b"refs/tags/z", ABSENT)])]),
+        FILES,
+        f"unsound {text(ABSENT)}",
+    ),
+    "those of an offer before the later tenant's": (
+        spelled([offering([B], UNSEEN), tenant(b"bob", [B], [(b"refs/tags/x", ABSENT)])]),
+        FILES,
+        f"unsound {text(O)}",
+    ),
+    "those of an offer before use": (spelled([offering([B], UNSEEN, limit=0)]), FILES, f"unsound {text(O)}"),
+    "heads that are not there": (
+        spelled([tenant(b"alice", [])._replace(repositories=[Repository(b"r", {}, b"refs/heads/none")])]),
+        {},
+        "sound",
+    ),
+}
+
 LIMITS = {
     "the limit is used": (alone(OBJECTS, MAIN, limit=USED), FILES, "sound"),
     "one more is used": (alone(OBJECTS, MAIN, limit=USED - 1), FILES, "over limit alice"),
@@ -188,7 +225,7 @@ ORDERS = {
     ),
 }
 
-CASES = LOST | DAMAGED | UNSOUND | LIMITS | ORDERS
+CASES = LOST | DAMAGED | UNSOUND | OFFERS | LIMITS | ORDERS
 
 SPOILED = [
     lambda chance, name, file: b"",

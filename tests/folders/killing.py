@@ -19,7 +19,7 @@ TENANTS = [b"alice", b"bob", b"carol", b"dave"]
 GRANTS = ["alice=60000", "bob=60000", "carol=4000000", "dave=5000"]
 LIVES, KILLS = 10, 10
 FULL = 60
-CHANGING = (b"init", b"drop", b"fork", b"push", b"part", b"part-drop", b"update-refs", b"prune")
+CHANGING = (b"init", b"drop", b"fork", b"push", b"part", b"part-drop", b"update-refs", b"set-head", b"prune")
 GREAT = 150_000
 ENDS = (b"forkhost: journal not written\n", b"forkhost: state not saved\n")
 
@@ -32,7 +32,7 @@ def changes(payload, reply):
 
 def looks(history):
     """Requests that show all that the tenants have, and that change nothing."""
-    asks = [b"for-each-ref %s\n" % place for place in REPOSITORIES] + [b"quota\n"]
+    asks = [b"%s %s\n" % (word, place) for word in (b"for-each-ref", b"head") for place in REPOSITORIES] + [b"quota\n"]
     asks += (b"push %s\n\n" % place for place in REPOSITORIES)
     asks += (b"cat-file %s\n" % name for name in history.names)
     return [(who, payload) for who in TENANTS for payload in asks]

@@ -19,7 +19,14 @@ in_one_body() {
     sees_all whole
     { git for-each-ref --format='verify %(refname) %(objectname)' && echo && all | records; } |
         push 'the same objects again' whole ok
+    asks 'HEAD is the branch of the name main' whole "ok
+refs/heads/main $(git rev-parse HEAD)" <<<'head r'
+    asks 'another HEAD' whole ok <<<'set-head r refs/heads/side'
+    asks 'it is where Git has it' whole "ok
+refs/heads/side $(git rev-parse side)" <<<'head r'
     asks 'a fork' whole ok <<<'fork r s'
+    asks 'it has the same HEAD' whole "ok
+refs/heads/side $(git rev-parse side)" <<<'head s'
     echo 'for-each-ref s' >"$work/asked/fork"
     turn 'a fork has the same references' whole "$work/asked/fork" "$references"
 }

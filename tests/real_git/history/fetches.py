@@ -37,6 +37,9 @@ def show_fetches(checks):
         show_fetch(checks, checks.some(references, 3), checks.some(objects, 3))
     show_fetch(checks, references, [])
     show_fetch(checks, [], references)
+    show_fetch(checks, ["HEAD"], [])
+    show_fetch(checks, ["HEAD"], references[:2])
+    show_fetch(checks, references, ["HEAD"])
 
 
 def show_prune(checks):

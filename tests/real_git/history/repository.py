@@ -63,6 +63,7 @@ class Repository:
         rows = self.git.lines("for-each-ref", "--format=%(refname) %(objectname)")
         self.references = dict(row.split() for row in rows)
         self.graph = Graph(self.records.values())
+        self.head = "refs/heads/main"
         kept = set(self.git.lines("rev-list", "--all"))
         self.lost = [name for name in self.commits if name not in kept]
 
@@ -85,9 +86,13 @@ class Repository:
         """A command for each reference."""
         return creating(self.references)
 
+    def set_head(self, ref):
+        self.git.output("symbolic-ref", "HEAD", ref)
+        self.head = ref
+
     def named(self, item):
         """The name of an item's object."""
-        return self.references.get(item, item)
+        return self.references.get(self.head if item == "HEAD" else item, item)
 
     def peeled(self, item):
         """The name that an item stands for once tags are followed."""

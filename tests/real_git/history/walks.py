@@ -51,6 +51,21 @@ def show_lists(checks):
     show_list(checks, [], references[:3])
 
 
+def show_heads(checks):
+    """`HEAD` is the branch that was set, as Git's is."""
+    repository = checks.repository
+    branches = [ref for ref in repository.references if ref.startswith("refs/heads/")]
+    for ref in ["refs/heads/main", *checks.chance.sample(branches, 8)]:
+        repository.set_head(ref)
+        checks.told(b"", "set-head", "r", ref)
+        checks.told(f"{ref} {repository.references[ref]}\n".encode(), "head", "r")
+        show_list(checks, ["HEAD"], [])
+        for other in checks.chance.sample(branches, 4):
+            show_list(checks, ["HEAD"], [other])
+            show_list(checks, [other], ["HEAD"])
+            show_base(checks, "HEAD", other)
+
+
 def show_base(checks, a, b):
     repository = checks.repository
     names = repository.graph.bases(repository.peeled(a), repository.peeled(b))

@@ -23,15 +23,14 @@ HEADS = {
     (BOB, b"head r\n"): b"ok\nrefs/heads/main\n",
     (BOB, b"head z\n"): b"ok\nrefs/heads/main\n",
 }
-# How many requests stand behind the state of an upgrade: open uploads end with it.
-LEFT = 0
+# How many requests stand behind the state of an upgrade: the parts of an open upload.
+LEFT = 1
 # The upload that is open, what is left of it, and what comes of that.
 THREE = (b"blob", b"three\n")
 UPLOAD = b"\n" + record(*THREE)
 NAME = name_of(*THREE)
 REST = [(BOB, b"part\n" + UPLOAD[-3:]), (BOB, b"part-end r\n"), (BOB, b"cat-file %s\n" % NAME)]
 GOES_ON = [b"ok\n", b"ok\n", b"ok\n" + record(*THREE)]
-IS_GONE = [b"ok\n", b"no syntax\n", b"no missing %s\n" % NAME]
 
 
 def copy(work, name):
@@ -47,18 +46,13 @@ def new_text(text, *seen):
 NEW, ENDED = new_text(SAVED), new_text(SAVED, NAME)
 
 
-def told_of_upload(is_open):
-    """What the version before said to `asked`, and what is said where the open upload is gone that it looks for."""
-    return TOLD if is_open else framed(b"ok\n").join(TOLD.rsplit(framed(b"no upload-open\n"), 1))
-
-
-def show_all(checks, program, label, folder, is_open=True):
-    """A start shows what the version before showed, each HEAD at main; the open upload goes on, or is gone."""
-    told = [*HEADS.values(), *(GOES_ON if is_open else IS_GONE)]
-    wanted = done(told_of_upload(is_open) + b"".join(map(framed, told)))
+def show_all(checks, program, label, folder):
+    """A start shows what the version before showed, each HEAD at main; the open upload goes on."""
+    told = [*HEADS.values(), *GOES_ON]
+    wanted = done(TOLD + b"".join(map(framed, told)))
     ran = program.ran("run", "--dir", folder.path, given=ASKED + frames([*HEADS, *REST]))
     checks.same(f"{label}: what it shows", wanted, ran)
-    checks.same(f"{label}: the state behind it", ENDED if is_open else NEW, folder.state())
+    checks.same(f"{label}: the state behind it", ENDED, folder.state())
     checks.same(f"{label}: check behind it", sound(), program.checked(folder.path))
     checks.same(f"{label}: files that are torn", [], torn(folder))
 

@@ -33,7 +33,7 @@ class Upgrades:
         self.checks.same(f"{label}: requests", left, folder.again())
         self.checks.same(f"{label}: check", sound(left), self.program.checked(folder.path))
         self.checks.same(f"{label}: what was being written", [], folder.parts())
-        show_all(self.checks, self.program, label, folder, left > 0)
+        show_all(self.checks, self.program, label, folder)
         shutil.rmtree(folder.path)
 
     def kill_within(self, label, wait):

@@ -44,7 +44,7 @@ def show_upgrades(checks, program, work):
         checks.same(f"{label}: its journal", [os.path.basename(folder.journal_path())], folder.journals())
         checks.same(f"{label}: check", sound(LEFT), program.checked(folder.path))
         checks.same(f"{label}: what was being written", [], folder.parts())
-    show_all(checks, program, "behind upgrades", folder, LEFT > 0)
+    show_all(checks, program, "behind upgrades", folder)
     bare = copy(work, "bare")
     shutil.rmtree(bare.inside("journal"))
     checks.same("an upgrade of the state alone", STATE_2, upgraded(program, bare))

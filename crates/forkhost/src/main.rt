@@ -1,5 +1,6 @@
 //! `forkhost`, the core of a Git host for many tenants: names objects, serves request frames from
-//! standard input to standard output or at a Unix socket, and checks the folder that keeps a host.
+//! standard input to standard output or at a Unix socket, and checks or upgrades the folder that keeps
+//! a host.
 #![tactic(auto)]
 
 use fork_program::{Untold, program};

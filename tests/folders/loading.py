@@ -44,7 +44,8 @@ def verdict(text, files):
             if found:
                 return f"{found} {name.decode()}"
     for tenant in tenants:
-        for repository in [*tenant.repositories, *tenant.offers]:
+        # A host keeps no offers, and does not judge them.
+        for repository in tenant.repositories:
             for reference, target in repository.references.items():
                 if not is_pointing(tenant, reference, target, files):
                     return f"unsound {target.decode()}"

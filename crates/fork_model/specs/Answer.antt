@@ -38,6 +38,7 @@ use Rattle.fork_request.specs.declared.refusal.Refusal.{Refusal}
 use Rattle.fork_request.specs.declared.refusal.Refusal.TheVariants.{BadRequest, BadName, RepositoryExists, NoRepository, BadRef, RepeatedRef, Stale, RefConflict, NotACommit, Missing, WrongType, OverQuota, TooMany, Syntax, WrongName, BadObject, Truncated, TooLarge, StagedTooLong, NoUpload, UploadOpen}
 use Rattle.fork_request.specs.declared.reply.Reply.{Reply}
 use Rattle.fork_request.specs.declared.reply.Reply.TheVariants.{Done, Refused}
+use Rattle.fork_model.specs.Offer.{Offers}
 use Rattle.fork_model.specs.View.{View, Repositories}
 
 -- the answer to a word in a repository's place: a refusal of the word, or the row's answer
@@ -256,9 +257,17 @@ quota_answer view = (Done (decimal (use_of view.objects) ++ codes " " ++ decimal
 abbrev pub targets_of : Repositories → List (List ℕ)
 targets_of repositories = flat_map (λ repository. values repository.references) (values repositories)
 
--- `prune`: objects that no reference of a repository reaches go
+-- and those at which references of these offers point
+abbrev pub targets_made : Offers → List (List ℕ)
+targets_made made = flat_map (λ offer. values offer.repository.references) (values made)
+
+-- where what is kept begins: at the references of repositories, and at those of offers that stand
+abbrev pub roots_of : View → List (List ℕ)
+roots_of view = targets_of view.repositories ++ targets_made view.made
+
+-- `prune`: objects that no reference of a repository or of an own offer reaches go
 abbrev pub pruned : View → View
-pruned view = record view { objects = retain_keys view.objects (is_reached (linked_names view.objects) view.objects (targets_of view.repositories)) }
+pruned view = record view { objects = retain_keys view.objects (is_reached (linked_names view.objects) view.objects (roots_of view)) }
 
 unfoldable pub prune_answer : View → Reply × View
 prune_answer view = (Done [], pruned view)

@@ -1,5 +1,6 @@
 pub mod Answer
 pub mod Missing
+pub mod Offer
 pub mod Provenance
 pub mod Runs
 pub mod Sound

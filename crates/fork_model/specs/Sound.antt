@@ -4,7 +4,7 @@ use Rattle.std.specs.Prelude.{◌≡◌, ◌≢◌, ℕ, ◌≤◌, true, List, 
 use Rattle.fork_request.specs.declared.limit.TheConstants.{MAX_LIMIT}
 use Rattle.git_reftx.specs.declared.transact.TheConstants.{MAX_REFERENCES}
 use Rattle.push_stream.specs.declared.upload.TheConstants.{MAX_UPLOAD}
-use Rattle.fork_model.specs.declared.limits.TheConstants.{MAX_REPOSITORIES, MAX_TENANTS}
+use Rattle.fork_model.specs.declared.limits.TheConstants.{MAX_OFFERS, MAX_REPOSITORIES, MAX_TENANTS}
 use Rattle.std.specs.List.{AllByRecursion}
 use Rattle.std.specs.FinMap.{get, contains_key, keys, len}
 use Rattle.git_refname.specs.Rule.{IsRefName}
@@ -18,6 +18,7 @@ use Rattle.push_stream.specs.Upload.{UploadValue}
 use Rattle.fork_reach.specs.Objects.{IsNamed, use_of}
 use Rattle.fork_reach.specs.Source.{Objects, kind_in}
 use Rattle.fork_request.specs.Names.{IsRepositoryName, IsTenantName}
+use Rattle.fork_model.specs.Offer.{Offer, Pair, reached_by}
 use Rattle.fork_model.specs.View.{View}
 use Rattle.fork_model.specs.World.{World}
 
@@ -45,6 +46,14 @@ pub record AreReferences (objects : Objects) (references : References) : Type 0 
   pub apart : least_upper (keys references) ≡ None
   pub few : len references ≤ MAX_REFERENCES
 
+-- an offer that a tenant which sees these objects may have made: the names are right, HEAD names a branch, and the references hold
+-- over the objects
+pub record IsOffer (objects : Objects) (key : Pair) (offer : Offer) : Type 0 where
+  pub receiver : IsTenantName key.0
+  pub named : IsRepositoryName key.1
+  pub head : IsBranch offer.repository.head
+  pub references : AreReferences objects offer.repository.references
+
 -- what names, kinds, lengths, references and limits decide of a view: it holds over any store
 pub record IsOrderly (view : View) : Type 0 where
   pub upload : (upload : UploadValue) → view.upload ≡ Some upload → upload.count ≤ MAX_UPLOAD
@@ -54,12 +63,20 @@ pub record IsOrderly (view : View) : Type 0 where
   pub repositories : (name : List ℕ) (repository : Repository) → get view.repositories name ≡ Some repository → IsRepositoryName name
   pub heads : (name : List ℕ) (repository : Repository) → get view.repositories name ≡ Some repository → IsBranch repository.head
   pub references : (name : List ℕ) (repository : Repository) → get view.repositories name ≡ Some repository → AreReferences view.objects repository.references
+  pub few_offers : len view.made ≤ MAX_OFFERS
+  pub offers : (key : Pair) (offer : Offer) → get view.made key ≡ Some offer → IsOffer view.objects key offer
+
+-- an offer holds what its references reach among these objects, their targets with it
+pub record IsReach (objects : Objects) (offer : Offer) : Type 0 where
+  pub targets : (reference target : List ℕ) → get offer.repository.references reference ≡ Some target → contains_key offer.objects target ≡ true
+  pub objects : offer.objects ≡ reached_by objects offer.repository.references
 
 -- what bytes decide of a view: it holds where the store is honest
 pub record IsRight (view : View) : Type 0 where
   pub named : IsNamed view.objects
   pub right : AreRight view.objects
   pub closed : IsClosed view.objects
+  pub offered : (key : Pair) (offer : Offer) → get view.made key ≡ Some offer → IsReach view.objects offer
   pub upload : (upload : UploadValue) → view.upload ≡ Some upload → AreObjects (sent_in upload.stream)
 
 -- a view that a host may show
@@ -67,11 +84,12 @@ pub record IsSound (view : View) : Type 0 where
   pub orderly : IsOrderly view
   pub right : IsRight view
 
--- no more tenants than a host may have, of right names, each with an orderly view
+-- no more tenants than a host may have, of right names, each with an orderly view, and no offer of a tenant to itself
 pub record IsOrderlyWorld (world : World) : Type 0 where
   pub few : len world ≤ MAX_TENANTS
   pub named : (tenant : List ℕ) → contains_key world tenant ≡ true → IsTenantName tenant
   pub views : (tenant : List ℕ) (view : View) → get world tenant ≡ Some view → IsOrderly view
+  pub to_others : (tenant : List ℕ) (view : View) (key : Pair) (offer : Offer) → get world tenant ≡ Some view → get view.made key ≡ Some offer → key.0 ≢ tenant
 
 -- what bytes decide of each view
 abbrev pub IsRightWorld : World → Type 0

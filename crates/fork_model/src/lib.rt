@@ -16,7 +16,7 @@ ghost use Rattle.fork_request.specs.declared.reply.Reply.{Reply};
 ghost use Rattle.fork_model.specs.View.{View};
 ghost use Rattle.fork_model.specs.World.{World, Event, Explains, IsUnfaulted, Agree, own, told, alone};
 
-pub use crate::limits::{MAX_ITEMS, MAX_REPOSITORIES, MAX_TENANTS};
+pub use crate::limits::{MAX_ITEMS, MAX_OFFERS, MAX_REPOSITORIES, MAX_TENANTS};
 pub use crate::missing::what_is_lacking_is_missing;
 pub use crate::provenance::{
     an_upload_is_all_its_parts, what_is_seen_was_seen_or_sent, what_runs_show_was_seen_or_sent,

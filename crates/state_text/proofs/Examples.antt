@@ -14,7 +14,7 @@ use Rattle.git_reftx.specs.Repository.{main_branch, new_repository}
 use Rattle.git_reftx.specs.Transaction.{is_branch}
 use Rattle.fork_request.specs.Names.{IsPlainName, is_plain_name}
 use Rattle.fork_request.proofs.NameLemmas.{plain_name}
-use Rattle.state_text.specs.declared.offer.TheConstants.{MAX_OFFERS}
+use Rattle.fork_model.specs.declared.limits.TheConstants.{MAX_OFFERS}
 use Rattle.state_text.specs.declared.fault.OfferError.TheVariants as offering
 use Rattle.state_text.specs.declared.place.Place.TheVariants.{Own, Offered}
 use Rattle.state_text.specs.declared.version.Version.{Version}

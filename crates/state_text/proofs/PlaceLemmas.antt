@@ -3,7 +3,7 @@ use Rattle.std.proofs.Common.{◌≡◌, ℕ, ◌<◌, List, [], ◌∷◌, ◌+
 use Rattle.git_reftx.specs.Repository as git
 use Rattle.fork_request.specs.Names.{IsRepositoryName}
 use Rattle.fork_model.specs.declared.limits.TheConstants.{MAX_REPOSITORIES}
-use Rattle.state_text.specs.declared.offer.TheConstants.{MAX_OFFERS}
+use Rattle.fork_model.specs.declared.limits.TheConstants.{MAX_OFFERS}
 use Rattle.state_text.specs.declared.place.Place.{Place}
 use Rattle.state_text.specs.declared.place.Place.TheVariants.{Own, Offered}
 use Rattle.state_text.specs.Offer.{Offer, offer_words, words_of_offer}

@@ -8,7 +8,7 @@ use Rattle.git_reftx.specs.Transaction.{References}
 use Rattle.fork_request.specs.Names.{IsTenantName}
 use Rattle.fork_request.specs.declared.limit.TheConstants.{MAX_LIMIT}
 use Rattle.fork_model.specs.declared.limits.TheConstants.{MAX_REPOSITORIES, MAX_TENANTS}
-use Rattle.state_text.specs.declared.offer.TheConstants.{MAX_OFFERS}
+use Rattle.fork_model.specs.declared.limits.TheConstants.{MAX_OFFERS}
 use Rattle.state_text.specs.Adding.{AreBefore, fresh, with_offer, with_repository, with_seen}
 use Rattle.state_text.specs.Offer.{Offer, words_of_offer}
 use Rattle.state_text.specs.States.{Ascend, IsOffer, IsNamedRepository, IsStates, IsTenantState, States, TenantState}

@@ -18,7 +18,7 @@ use Rattle.state_text.specs.declared.fault.AddError.{AddError}
 use Rattle.state_text.specs.declared.fault.AddError.TheVariants.{OutOfOrder, TooMany, Memory}
 use Rattle.state_text.specs.declared.fault.OfferError.{OfferError}
 use Rattle.state_text.specs.declared.fault.OfferError.TheVariants as offering
-use Rattle.state_text.specs.declared.offer.TheConstants.{MAX_OFFERS}
+use Rattle.fork_model.specs.declared.limits.TheConstants.{MAX_OFFERS}
 use Rattle.state_text.specs.declared.place.Place.{Place}
 use Rattle.state_text.specs.declared.place.Place.TheVariants.{Own, Offered}
 use Rattle.state_text.specs.declared.version.Version.{Version}

@@ -7,7 +7,7 @@ use Rattle.state_text.specs.declared.fault.AddError.{AddError}
 use Rattle.state_text.specs.declared.fault.AddError.TheVariants as add
 use Rattle.state_text.specs.declared.fault.OfferError.{OfferError}
 use Rattle.state_text.specs.declared.fault.OfferError.TheVariants as offering
-use Rattle.state_text.specs.declared.offer.TheConstants.{MAX_OFFERS}
+use Rattle.fork_model.specs.declared.limits.TheConstants.{MAX_OFFERS}
 use Rattle.state_text.specs.Offer.{Offer, words_of_offer}
 use Rattle.state_text.specs.States.{TenantState}
 

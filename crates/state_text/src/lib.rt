@@ -21,7 +21,7 @@ mod writing;
 
 pub use crate::fault::{AddError, OfferError, StateFault};
 pub use crate::laws::{one_value, one_wrong_line};
-pub use crate::offer::{MAX_OFFERS, Offer};
+pub use crate::offer::Offer;
 pub use crate::reading::read;
 pub use crate::states::States;
 pub use crate::tenant_state::TenantState;

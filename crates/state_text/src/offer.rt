@@ -9,9 +9,6 @@ use git_reftx::Repository;
 use std::cmp::Ordering;
 use std::marker::Model;
 
-/// The most offers that a tenant has made at one time (own).
-pub const MAX_OFFERS: usize = 256;
-
 /// An offer that a tenant has made: to whom, of which of its repositories, and that repository as it
 /// was when the offer was made. The giver is the tenant in whose state it stands.
 #[derive(Drop)]

@@ -9,10 +9,10 @@ ghost use Rattle.state_text.specs.States.{IsTenantState, MayBeTold};
 ghost use Rattle.state_text.specs.declared.place.Place as place;
 
 use crate::fault::{AddError, OfferError};
-use crate::offer::{MAX_OFFERS, Offer};
+use crate::offer::Offer;
 use crate::order::{name_follows, offer_follows, repository_follows};
 use crate::place::Place;
-use fork_model::MAX_REPOSITORIES;
+use fork_model::{MAX_OFFERS, MAX_REPOSITORIES};
 use fork_request::{MAX_LIMIT, RepositoryName, TenantName};
 use git_name::Name;
 use git_reftx::Repository;

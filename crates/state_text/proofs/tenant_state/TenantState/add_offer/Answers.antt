@@ -1,5 +1,5 @@
 use Rattle.std.proofs.Common.{◌≡◌, ◌≢◌, ◌<◌, true, false, length, map, sym, ap, subst, ◌∙◌, arith}
-use Rattle.state_text.specs.declared.offer.TheConstants.{MAX_OFFERS}
+use Rattle.fork_model.specs.declared.limits.TheConstants.{MAX_OFFERS}
 use Rattle.state_text.specs.Adding.{AreBefore}
 use Rattle.state_text.specs.Offer.{words_of_offer}
 use Rattle.std.proofs.lemmas.Bool.Decides.{Decides-eqb}

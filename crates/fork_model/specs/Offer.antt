@@ -1,0 +1,46 @@
+-- Offers between tenants (own): a repository as it was when it was offered, and the objects that its references reach.
+use Rattle.std.specs.Prelude.{ℕ, List, refl}
+use Rattle.std.specs.declared.cmp.Ordering.{Ordering}
+use Rattle.std.specs.Ordering.{ordering_then}
+use Rattle.std.specs.Coded.{Coded, code_by, coded×}
+use Rattle.std.specs.FinMap.{FinMap, code, retain_keys, values}
+use Rattle.git_name.specs.Name.{name_cmp}
+use Rattle.git_name.specs.Text.{bytes_code}
+use Rattle.git_name.specs.contracts.sealed.Sealed as sealed
+use Rattle.git_reftx.specs.Repository.{Repository, repository_code}
+use Rattle.git_reftx.specs.Transaction.{References}
+use Rattle.fork_reach.specs.Reach.{is_reached, linked_names}
+use Rattle.fork_reach.specs.Source.{Objects}
+
+-- a tenant's name and a repository's, ordered by the first, then by the second
+abbrev pub Pair : Type 0
+Pair = List ℕ × List ℕ
+
+abbrev pub pair_cmp : Pair → Pair → Ordering
+pair_cmp p q = ordering_then (name_cmp p.0 q.0) (name_cmp p.1 q.1)
+
+-- the repository as it was when the offer was made, and the objects that its references reached then
+pub record Offer : Type 0 where
+  pub repository : Repository
+  pub objects : Objects
+
+-- offers of one tenant, each under its receiver and the name of the repository
+abbrev pub Offers : Type 0
+Offers = FinMap pair_cmp Offer
+
+-- the objects that references reach
+abbrev pub reached_by : Objects → References → Objects
+reached_by objects references = retain_keys objects (is_reached (linked_names objects) objects (values references))
+
+-- a repository as it is offered by a tenant that sees these objects
+abbrev pub offered : Objects → Repository → Offer
+offered objects repository = record { repository = repository; objects = reached_by objects repository.references }
+
+-- pairs of names and offers have codes, so that they can be part of a model's value
+abbrev pub pair_code : Coded Pair
+pair_code = coded× bytes_code bytes_code
+
+abbrev pub offer_code : Coded Offer
+offer_code =
+    code_by (Repository × Objects) (coded× repository_code (code bytes_code sealed.the_row.coded))
+    (λ o. (o.repository, o.objects)) (λ p. record { repository = p.0; objects = p.1 }) (λ _. refl)

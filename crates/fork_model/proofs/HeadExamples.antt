@@ -26,7 +26,7 @@ abbrev nothing : Objects
 nothing = empty {X = Object} {R = name_cmp}
 
 abbrev having : Repository → View
-having repository = record { repositories = insert empty (codes "r") repository; objects = nothing; upload = None; limit = 1000 }
+having repository = record { repositories = insert empty (codes "r") repository; made = empty; objects = nothing; upload = None; limit = 1000 }
 
 plain : is_plain_name 64 (codes "r") ≡ true
 unfolding is_plain_name

@@ -4,6 +4,7 @@ use Rattle.std.specs.Prelude.{map, sum_by, Contains}
 use Rattle.std.specs.List.{AllByRecursion, filter, flat_map}
 use Rattle.std.specs.Option.{option_map}
 use Rattle.std.specs.Ordering.{eq_by_cmp}
+use Rattle.std.specs.declared.cmp.Ordering.{Ordering}
 use Rattle.std.specs.declared.cmp.Ordering.TheVariants.{Equal}
 use Rattle.std.specs.FinMap.{find, get, get-entries, get-retain_keys, get-from_sorted, entries-from_sorted, entries_sorted, from_sorted, same_map, retain_keys, contains_key, entries, values}
 use Rattle.std.specs.FinMap.Entries.{find-where_key, is_sorted-where_key}
@@ -18,12 +19,13 @@ use Rattle.git_reftx.specs.Transaction.{References, is_commit}
 use Rattle.fork_reach.specs.Objects.{IsNamed, use_of, use_of_object}
 use Rattle.fork_reach.specs.Reach.{linked_names, links_of_found}
 use Rattle.fork_reach.specs.Source.{Objects}
-use Rattle.fork_model.specs.Answer.{targets_of}
+use Rattle.fork_model.specs.Answer.{roots_of, targets_made, targets_of}
+use Rattle.fork_model.specs.Offer.{Offer, Offers, Pair, pair_cmp}
 use Rattle.fork_model.specs.Sound.{AreReferences, AreRight, IsClosed, IsMet}
-use Rattle.fork_model.specs.View.{Repositories}
+use Rattle.fork_model.specs.View.{Repositories, View}
 
 -- a look-up among the objects of which the names pass a test
-kept_at : (objects : Objects) (kept : List ℕ → Bool) (name : List ℕ) → get (retain_keys objects kept) name ≡ cond (kept name) (get objects name) None
+pub kept_at : (objects : Objects) (kept : List ℕ → Bool) (name : List ℕ) → get (retain_keys objects kept) name ≡ cond (kept name) (get objects name) None
 kept_at objects kept name = get-retain_keys objects kept name (λ other same. ap kept (sym (name_exact name other same)))
 
 pub stays_at : (objects : Objects) (kept : List ℕ → Bool) (name : List ℕ) → kept name ≡ true → get (retain_keys objects kept) name ≡ get objects name
@@ -49,25 +51,25 @@ here x xs = (0, omega arith, refl)
 pub there : {A : Type 0} (x y : A) (xs : List A) → Contains xs y → Contains (x ∷ xs) y
 there x y xs (k, few, is) = (suc k, omega arith, is)
 
-in_front : {A : Type 0} (x : A) (xs ys : List A) → Contains xs x → Contains (xs ++ ys) x
+pub in_front : {A : Type 0} (x : A) (xs ys : List A) → Contains xs x → Contains (xs ++ ys) x
 in_front x [] ys at = absurd (omega arith)
 in_front x (y ∷ xs) ys (zero, few, is) = (0, omega arith, is)
 in_front x (y ∷ xs) ys (suc k, few, is) = there y x (xs ++ ys) (in_front x xs ys (k, omega arith, is))
 
-behind : {A : Type 0} (x : A) (xs ys : List A) → Contains ys x → Contains (xs ++ ys) x
+pub behind : {A : Type 0} (x : A) (xs ys : List A) → Contains ys x → Contains (xs ++ ys) x
 behind x [] ys at = at
 behind x (y ∷ xs) ys at = there y x (xs ++ ys) (behind x xs ys at)
 
 -- what is found is among the values
-pub found_value : {X : Type 0} (q : List ℕ) (x : X) (es : List (List ℕ × X)) → find name_cmp q es ≡ Some x → Contains (map (λ e. e.1) es) x
-found_value q x [] is = absurd (cc)
-found_value q x (e ∷ es) is = by (eq_by_cmp name_cmp q e.0) is (found_value q x es)
+pub found_value : {K X : Type 0} (R : K → K → Ordering) (q : K) (x : X) (es : List (K × X)) → find R q es ≡ Some x → Contains (map (λ e. e.1) es) x
+found_value R q x [] is = absurd (cc)
+found_value R q x (e ∷ es) is = by (eq_by_cmp R q e.0) is (found_value R q x es)
   where
-    by : (b : Bool) → cond b (Some e.1) (find name_cmp q es) ≡ Some x → (find name_cmp q es ≡ Some x → Contains (map (λ f. f.1) es) x) → Contains (map (λ f. f.1) (e ∷ es)) x
+    by : (b : Bool) → cond b (Some e.1) (find R q es) ≡ Some x → (find R q es ≡ Some x → Contains (map (λ f. f.1) es) x) → Contains (map (λ f. f.1) (e ∷ es)) x
     by true same rest = subst (λ y. Contains (e.1 ∷ map (λ f. f.1) es) y) (cc) (here e.1 (map (λ f. f.1) es))
     by false is_there rest = there e.1 x (map (λ f. f.1) es) (rest is_there)
 
-among : {A B : Type 0} (f : A → List B) (x : A) (y : B) (xs : List A) → Contains xs x → Contains (f x) y → Contains (flat_map f xs) y
+pub among : {A B : Type 0} (f : A → List B) (x : A) (y : B) (xs : List A) → Contains xs x → Contains (f x) y → Contains (flat_map f xs) y
 among f x y [] at is = absurd (omega arith)
 among f x y (z ∷ xs) (zero, few, same) is = in_front y (f z) (flat_map f xs) (subst (λ w. Contains (f w) y) (sym same) is)
 among f x y (z ∷ xs) (suc k, few, same) is = behind y (f z) (flat_map f xs) (among f x y xs (k, omega arith, same) is)
@@ -77,12 +79,35 @@ pub target_among : (repositories : Repositories) (word : List ℕ) (repository :
     → get repositories word ≡ Some repository → get repository.references reference ≡ Some target → Contains (targets_of repositories) target
 target_among repositories word repository reference target there_is points =
     among (λ (r : Repository). values {X = List ℕ} {R = name_cmp} r.references) repository target (values repositories)
-    (found_value word repository (entries repositories) (sym (get-entries repositories word) ∙ there_is))
-    (found_value reference target (entries repository.references) (sym (get-entries repository.references reference) ∙ points))
+    (found_value name_cmp word repository (entries repositories) (sym (get-entries repositories word) ∙ there_is))
+    (found_value name_cmp reference target (entries repository.references) (sym (get-entries repository.references reference) ∙ points))
+
+-- and where one of an offer points
+pub target_made : (made : Offers) (key : Pair) (offer : Offer) (reference target : List ℕ)
+    → get made key ≡ Some offer → get offer.repository.references reference ≡ Some target → Contains (targets_made made) target
+target_made made key offer reference target there_is points =
+    among (λ (o : Offer). values {X = List ℕ} {R = name_cmp} o.repository.references) offer target (values made)
+    (found_value pair_cmp key offer (entries made) (sym (get-entries made key) ∙ there_is))
+    (found_value name_cmp reference target (entries offer.repository.references) (sym (get-entries offer.repository.references reference) ∙ points))
+
+-- both are where what is kept begins
+pub target_rooted : (view : View) (word : List ℕ) (repository : Repository) (reference target : List ℕ)
+    → get view.repositories word ≡ Some repository → get repository.references reference ≡ Some target → Contains (roots_of view) target
+target_rooted view word repository reference target there_is points = in_front target (targets_of view.repositories) (targets_made view.made) (target_among view.repositories word repository reference target there_is points)
+
+pub offer_rooted : (view : View) (key : Pair) (offer : Offer) (reference target : List ℕ)
+    → get view.made key ≡ Some offer → get offer.repository.references reference ≡ Some target → Contains (roots_of view) target
+offer_rooted view key offer reference target there_is points = behind target (targets_of view.repositories) (targets_made view.made) (target_made view.made key offer reference target there_is points)
 
 pub kind_there : (o : Option Object) (kind : _) → option_map (λ object. object.kind) o ≡ Some kind → is_some o ≡ true
 kind_there None kind is = absurd (cc)
 kind_there (Some object) kind is = refl
+
+-- what a link names is there, where the links are met
+pub there_by_link : (objects : Objects) (links : List Link) (name : List ℕ) → AllByRecursion (IsMet objects) links → Contains (map (λ link. link.name) links) name → contains_key objects name ≡ true
+there_by_link objects [] name met at = absurd (omega arith)
+there_by_link objects (link ∷ links) name met (zero, few, is) = subst (λ n. contains_key objects n ≡ true) is (kind_there (get objects link.name) link.kind met.0)
+there_by_link objects (link ∷ links) name met (suc k, few, is) = there_by_link objects links name met.1 (k, omega arith, is)
 
 -- links that are met stay met where what they name is found as before
 pub met_alike : (objects others : Objects) (links : List Link)

@@ -1,4 +1,5 @@
 pub mod ClosedLemmas
+pub mod EntryLemmas
 pub mod Examples
 pub mod FetchLemmas
 pub mod FetchedLemmas
@@ -11,6 +12,7 @@ pub mod LackingLemmas
 pub mod Meetings
 pub mod MissingExamples
 pub mod MissingLemmas
+pub mod OfferLemmas
 pub mod PartLemmas
 pub mod PrerequisiteLemmas
 pub mod ProvenanceLemmas

@@ -36,7 +36,7 @@ abbrev nothing : Objects
 nothing = empty {X = Object} {R = name_cmp}
 
 abbrev bare_view : Option UploadValue → View
-bare_view upload = record { repositories = insert empty (codes "r") new_repository; objects = nothing; upload = upload; limit = 0 }
+bare_view upload = record { repositories = insert empty (codes "r") new_repository; made = empty; objects = nothing; upload = upload; limit = 0 }
 
 abbrev digits : List ℕ
 digits = replicate 64 49

@@ -1,7 +1,6 @@
 -- A receiver whose objects link to what is there, and that has the excluded names, has what these reach.
-use Rattle.std.proofs.Common.{◌≡◌, ℕ, zero, suc, true, List, [], ◌∷◌, Option, None, Some, refl, subst, arith, map}
+use Rattle.std.proofs.Common.{◌≡◌, ℕ, true, List, [], Option, None, Some, refl, subst, arith, map}
 use Rattle.std.specs.Prelude.{Contains}
-use Rattle.std.specs.List.{AllByRecursion}
 use Rattle.std.specs.FinMap.{contains_key, get}
 use Rattle.git_name.specs.Object.{Object}
 use Rattle.git_object.specs.declared.link.Link.{Link}
@@ -9,16 +8,10 @@ use Rattle.git_object.specs.ObjectIn.{links_in}
 use Rattle.fork_reach.specs.Reach.{IsReached, Root, Next, linked_names, links_of_found}
 use Rattle.fork_reach.specs.Source.{Objects}
 use Rattle.fork_reach.proofs.ReachLemmas.{reached_led_to}
-use Rattle.fork_model.specs.Sound.{IsClosed, IsMet}
+use Rattle.fork_model.specs.Sound.{IsClosed}
 use Rattle.fork_model.specs.Transfer.{AreAlike, HasPrerequisites}
-use Rattle.fork_model.proofs.KeptLemmas.{kind_there}
+use Rattle.fork_model.proofs.KeptLemmas.{there_by_link}
 use Rattle.fork_model.proofs.TransferLemmas.{none_there}
-
--- what a link names is there, where the links are met
-there_by_link : (objects : Objects) (links : List Link) (name : List ℕ) → AllByRecursion (IsMet objects) links → Contains (map (λ link. link.name) links) name → contains_key objects name ≡ true
-there_by_link objects [] name met at = absurd (omega arith)
-there_by_link objects (link ∷ links) name met (zero, few, is) = subst (λ n. contains_key objects n ≡ true) is (kind_there (get objects link.name) link.kind met.0)
-there_by_link objects (link ∷ links) name met (suc k, few, is) = there_by_link objects links name met.1 (k, omega arith, is)
 
 none_linked : (name : List ℕ) → Contains (map (λ (link : Link). link.name) []) name → ⊥
 none_linked name at = omega arith

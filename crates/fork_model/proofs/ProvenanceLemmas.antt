@@ -23,7 +23,7 @@ use Rattle.fork_request.specs.Told.{is_host_fault}
 use Rattle.fork_request.specs.declared.refusal.Refusal.TheVariants.{BadName, BadRef, NoRepository, NoUpload, RepositoryExists, StagedTooLong, TooMany, UploadOpen}
 use Rattle.fork_request.specs.declared.reply.Reply.{Reply}
 use Rattle.fork_request.specs.declared.reply.Reply.TheVariants.{Done, Refused}
-use Rattle.fork_model.specs.Answer.{answer, both, without_upload, init_answer, drop_answer, fork_answer, push_answer, part_answer, part_end_answer, part_drop_answer, update_answer, set_head_answer, cat_file_answer, ls_tree_answer, rev_list_answer, merge_base_answer, fetch_answer, references_answer, head_answer, quota_answer, prune_answer, targets_of, named_repository, repository_added, dropped, copied, push_into, pushed, taken, open_upload, upload_into, end_in, upload_ended, update_in, carried_out, with_references, with_head, set_head_in, transaction_refusal, command_refusal, push_refusal}
+use Rattle.fork_model.specs.Answer.{answer, both, without_upload, init_answer, drop_answer, fork_answer, push_answer, part_answer, part_end_answer, part_drop_answer, update_answer, set_head_answer, cat_file_answer, ls_tree_answer, rev_list_answer, merge_base_answer, fetch_answer, references_answer, head_answer, quota_answer, prune_answer, roots_of, named_repository, repository_added, dropped, copied, push_into, pushed, taken, open_upload, upload_into, end_in, upload_ended, update_in, carried_out, with_references, with_head, set_head_in, transaction_refusal, command_refusal, push_refusal}
 use Rattle.fork_model.specs.Provenance.{IsAmong, IsFrom, Seen, Pushed, Uploaded, IsUploadFrom, Stays, Ends, GoesOn, part_in, ends_upload}
 use Rattle.fork_model.specs.View.{View}
 use Rattle.fork_model.proofs.ClosedLemmas.{of_one}
@@ -215,7 +215,7 @@ told_row view (AsksReferences word prefix) = plain view (AsksReferences word pre
 told_row view (AsksHead word) = plain view (AsksHead word) _ refl refl (known view (AsksHead word) _ (named_row (IsQuiet view) view word _ (quiet view (Refused (BadName word))) (quiet view _)))
 told_row view AsksUse = plain view AsksUse _ refl refl (known view AsksUse _ (quiet view _))
 told_row view Prunes = record {
-  objects = λ name object found. Seen (found_kept view.objects (is_reached (linked_names view.objects) view.objects (targets_of view.repositories)) name object found).1;
+  objects = λ name object found. Seen (found_kept view.objects (is_reached (linked_names view.objects) view.objects (roots_of view)) name object found).1;
   upload = Stays refl refl refl;
 }
 told_row view NoRequest = plain view NoRequest _ refl refl (known view NoRequest _ (quiet view _))

@@ -10,7 +10,7 @@ use Rattle.fork_model.proofs.Rows.{GoesTo, Refuses, Does, answer_row}
 
 row_keeps : (view left : View) (row : Reply × View) (refusal : Refusal) → GoesTo view left row → row.0 ≡ Refused refusal → row.1 ≡ left
 row_keeps view left row refusal (Refuses why told kept) is = kept
-row_keeps view left row refusal (Does text told orderly right) is = (let no : ⊥ = cc (sym told ∙ is) in absurd no)
+row_keeps view left row refusal (Does text told made orderly right) is = (let no : ⊥ = cc (sym told ∙ is) in absurd no)
 
 pub refusal_keeps : (view : View) (ask : Ask) (refusal : Refusal) → (answer view ask).0 ≡ Refused refusal → (answer view ask).1 ≡ left_by view ask
 refusal_keeps view ask refusal is = row_keeps view (left_by view ask) (answer view ask) refusal (answer_row view ask) is

@@ -1,6 +1,6 @@
 -- How each row of the answer goes: it refuses and leaves what a refusal leaves, or it is done and leaves a sound view sound.
 use Rattle.std.proofs.Common.{◌≡◌, ℕ, ◌+◌, ◌≤◌, Bool, true, false, cond, List, [], Option, Some, None, Result, Ok, Err, refl, sym, ap, subst, ◌∙◌, arith, is_some, inl, inr, ◌∷◌, length, ◌-◌}
-use Rattle.std.specs.Prelude.{nat_le, nat_lt, map}
+use Rattle.std.specs.Prelude.{Contains, nat_le, nat_lt, map}
 use Rattle.std.specs.Option.{option_map}
 use Rattle.std.specs.Ordering.{eq_by_cmp}
 use Rattle.std.specs.FinMap.{get, get-insert, get-remove, get-empty, insert, remove, retain_keys, contains_key, len, len-insert, len-remove, len-empty, len-entries, entries, empty}
@@ -40,20 +40,22 @@ use Rattle.fork_request.specs.declared.refusal.Refusal.{Refusal}
 use Rattle.fork_request.specs.declared.refusal.Refusal.TheVariants.{BadName, BadRef, BadRequest, NoRepository, NoUpload, RepositoryExists, StagedTooLong, TooMany, UploadOpen}
 use Rattle.fork_request.specs.declared.reply.Reply.{Reply}
 use Rattle.fork_request.specs.declared.reply.Reply.TheVariants.{Done, Refused}
-use Rattle.fork_model.specs.Answer.{Finished, answer, left_by, without_upload, init_answer, drop_answer, fork_answer, push_answer, part_answer, part_end_answer, part_drop_answer, update_answer, set_head_answer, cat_file_answer, ls_tree_answer, rev_list_answer, merge_base_answer, fetch_answer, references_answer, head_answer, quota_answer, prune_answer, pruned, targets_of, named_repository, repository_added, dropped, copied, push_into, pushed, taken, open_upload, upload_into, end_in, upload_ended, update_in, carried_out, with_references, with_head, set_head_in, reply_of, told_over, told_references, transaction_refusal, command_refusal, push_refusal}
-use Rattle.fork_model.specs.Sound.{AreReferences, IsOrderly, IsRight}
+use Rattle.fork_model.specs.Answer.{Finished, answer, left_by, without_upload, init_answer, drop_answer, fork_answer, push_answer, part_answer, part_end_answer, part_drop_answer, update_answer, set_head_answer, cat_file_answer, ls_tree_answer, rev_list_answer, merge_base_answer, fetch_answer, references_answer, head_answer, quota_answer, prune_answer, pruned, roots_of, named_repository, repository_added, dropped, copied, push_into, pushed, taken, open_upload, upload_into, end_in, upload_ended, update_in, carried_out, with_references, with_head, set_head_in, reply_of, told_over, told_references, transaction_refusal, command_refusal, push_refusal}
+use Rattle.fork_model.specs.Offer.{Offer, Pair}
+use Rattle.fork_model.specs.Sound.{AreReferences, IsOffer, IsOrderly, IsRight}
 use Rattle.fork_model.specs.View.{View, Repositories}
 use Rattle.fork_reach.proofs.KeptObjects.{at_key, kept_all, named_all, tied_names}
 use Rattle.fork_model.proofs.ClosedLemmas.{closed_both, right_both}
-use Rattle.fork_model.proofs.KeptLemmas.{closed_kept, named_kept, references_right, right_kept, target_among, use_of-kept}
+use Rattle.fork_model.proofs.KeptLemmas.{closed_kept, named_kept, offer_rooted, references_right, right_kept, target_rooted, use_of-kept}
+use Rattle.fork_model.proofs.OfferLemmas.{reach_grows, reach_kept}
 use Rattle.fork_model.proofs.PushLemmas.{AreHeld, IsAccepted, accepted, held_right}
 use Rattle.fork_model.proofs.TransactionLemmas.{sound_transacted}
 
 pub data GoesTo (view left : View) (row : Reply × View) : Type 0 where
   -- a refusal, which leaves this
   Refuses : (refusal : Refusal) → row.0 ≡ Refused refusal → row.1 ≡ left → GoesTo view left row
-  -- data, and a view that is in order and right where the view was
-  Does : (text : List ℕ) → row.0 ≡ Done text → (IsOrderly view → IsOrderly row.1) → (IsRight view → IsRight row.1) → GoesTo view left row
+  -- data, the same offers, and a view that is in order and right where the view was
+  Does : (text : List ℕ) → row.0 ≡ Done text → row.1.made ≡ view.made → (IsOrderly view → IsOrderly row.1) → (IsRight view → IsRight row.1) → GoesTo view left row
 
 -- a row whose refusal leaves the view
 abbrev IsRow : View → Reply × View → Type 0
@@ -91,11 +93,13 @@ with_repositories view repositories orderly few each = record {
   repositories = λ name repository is. (each name repository is).word;
   heads = λ name repository is. (each name repository is).branch;
   references = λ name repository is. (each name repository is).sound;
+  few_offers = orderly.few_offers;
+  offers = orderly.offers;
 }
 
 -- and leave it right
 still_right : (view : View) (repositories : Repositories) → IsRight view → IsRight (record view { repositories = repositories })
-still_right view repositories right = record { named = right.named; right = right.right; closed = right.closed; upload = right.upload }
+still_right view repositories right = record { named = right.named; right = right.right; closed = right.closed; offered = right.offered; upload = right.upload }
 
 -- a repository put beside others
 each_inserted : (objects : Objects) (repositories : Repositories) (word : List ℕ) (new : Repository) → MayStand objects word new → MayAllStand objects repositories → MayAllStand objects (insert repositories word new)
@@ -125,7 +129,7 @@ added_row : (view : View) (word : List ℕ) (repository : Repository) → (IsOrd
 added_row view word repository right =
     either view (contains_key view.repositories word) (Refused (RepositoryExists word), view) _ (λ _. refuses view (RepositoryExists word)) (λ _.
     either view (nat_le 256 (len view.repositories)) (Refused TooMany, view) (Done [], record view { repositories = insert view.repositories word repository }) (λ _. refuses view TooMany) (λ room.
-    Does [] refl (λ sound. with_repositories view (insert view.repositories word repository) sound
+    Does [] refl refl (λ sound. with_repositories view (insert view.repositories word repository) sound
     (subst (λ n. n ≤ 256) (sym (len-insert name_total view.repositories word repository)) (few_more (contains_key view.repositories word) (len view.repositories) room sound.few_repositories))
     (each_inserted view.objects view.repositories word repository (right sound) (sound_each view sound)))
     (still_right view (insert view.repositories word repository))))
@@ -162,7 +166,7 @@ found_before false o x is = is
 dropped_row : (view : View) (word : List ℕ) → IsRow view (dropped view word)
 dropped_row view word =
     either view (contains_key view.repositories word) (Done [], record view { repositories = remove view.repositories word }) (Refused (NoRepository word), view) (λ _.
-    Does [] refl (λ sound. with_repositories view (remove view.repositories word) sound
+    Does [] refl refl (λ sound. with_repositories view (remove view.repositories word) sound
     (subst (λ n. n ≤ 256) (sym (len-remove name_total view.repositories word)) (fewer (contains_key view.repositories word) (len view.repositories) sound.few_repositories))
     (λ name repository is.
     sound_each view sound name repository (found_before (eq_by_cmp name_cmp name word) (get view.repositories name) repository (sym (get-remove name_total view.repositories word name) ∙ is))))
@@ -197,6 +201,10 @@ still_few : (view : View) (word : List ℕ) (old new : Repository) → get view.
 still_few view word old new there few =
     subst (λ n. n ≤ 256) (sym (len-insert name_total view.repositories word new ∙ ap (λ b. cond b (len view.repositories) (len view.repositories + 1)) (ap is_some there))) few
 
+-- an offer may have been made by a tenant that sees other objects, where its references hold over these
+with_other_objects : (objects others : Objects) (key : Pair) (offer : Offer) → (AreReferences objects offer.repository.references → AreReferences others offer.repository.references) → IsOffer objects key offer → IsOffer others key offer
+with_other_objects objects others key offer holds is = record { receiver = is.receiver; named = is.named; head = is.head; references = holds is.references }
+
 -- an accepted push leaves an orderly view
 pub orderly_pushed : (view : View) (word : List ℕ) (old : Repository) (new : References) (commands : List Command) (both : Objects) → ((name : List ℕ) → contains_key view.objects name ≡ true → get both name ≡ get view.objects name) → get view.repositories word ≡ Some old
     → IsRepositoryName word → transacted old.references commands (kind_in both) ≡ Ok new → use_of both ≤ view.limit → IsOrderly view
@@ -214,6 +222,8 @@ orderly_pushed view word old new commands both grown there right carried within 
       repositories = λ name repository is. (each name repository is).word;
       heads = λ name repository is. (each name repository is).branch;
       references = λ name repository is. (each name repository is).sound;
+      few_offers = orderly.few_offers;
+      offers = λ key offer is. with_other_objects view.objects both key offer (kept offer.repository.references) (orderly.offers key offer is);
     }
 
 -- and a right one
@@ -224,13 +234,14 @@ right_pushed view word old new held are accepted right = record {
   named = named_all view.objects held.1 right.named;
   right = right_both view.objects held.1 right.right are;
   closed = closed_both view.objects held.1 right.closed accepted.met;
+  offered = λ key offer is. reach_grows view.objects (with_objects view.objects held.1) offer right.closed (λ name seen. kept_all view.objects held.1 name seen) (right.offered key offer is);
   upload = right.upload;
 }
 
 taken_row : (view : View) (word : List ℕ) (old : Repository) (objects : Objects) (value : Result References PushRefusal)
     → ((new : References) → value ≡ Ok new → IsOrderly view → IsOrderly (record view { repositories = insert view.repositories word (record old { references = new }); objects = objects }))
     → ((new : References) → value ≡ Ok new → IsRight view → IsRight (record view { repositories = insert view.repositories word (record old { references = new }); objects = objects })) → IsRow view (taken view word old objects value)
-taken_row view word old objects (Ok new) orderly right = Does [] refl (orderly new refl) (right new refl)
+taken_row view word old objects (Ok new) orderly right = Does [] refl refl (orderly new refl) (right new refl)
 taken_row view word old objects (Err refusal) orderly right = refuses view (push_refusal refusal)
 
 faulty_row : (view : View) (word : List ℕ) (old : Repository) (fault : StreamFault) → IsRow view (pushed view word old (Err fault))
@@ -262,10 +273,12 @@ orderly_upload view upload few orderly = record {
   repositories = orderly.repositories;
   heads = orderly.heads;
   references = orderly.references;
+  few_offers = orderly.few_offers;
+  offers = orderly.offers;
 }
 
 right_upload : (view : View) (upload : Option UploadValue) → ((value : UploadValue) → upload ≡ Some value → AreObjects (sent_in value.stream)) → IsRight view → IsRight (record view { upload = upload })
-right_upload view upload are right = record { named = right.named; right = right.right; closed = right.closed; upload = are }
+right_upload view upload are right = record { named = right.named; right = right.right; closed = right.closed; offered = right.offered; upload = are }
 
 pub orderly_without : (view : View) → IsOrderly view → IsOrderly (without_upload view)
 orderly_without view orderly = orderly_upload view None (λ value is. absurd (some_absent value is)) orderly
@@ -285,7 +298,7 @@ part_row : (view : View) (body : List ℕ) → IsRow view (part_answer view body
 unfolding part_answer
 part_row view body =
     either view (nat_lt 33554432 ((open_upload view.upload).count + length body)) (Refused StagedTooLong, view) _ (λ _. refuses view StagedTooLong)
-    (λ fits. Does [] refl
+    (λ fits. Does [] refl refl
     (orderly_upload view (Some (continued (open_upload view.upload) body)) (λ value is. subst (λ (u : UploadValue). u.count ≤ 33554432) (some_same (continued (open_upload view.upload) body) value is) (counted (open_upload view.upload) body fits)))
     (λ right. right_upload view (Some (continued (open_upload view.upload) body)) (λ value is.
     subst (λ (u : UploadValue). AreObjects (sent_in u.stream)) (some_same (continued (open_upload view.upload) body) value is) (continued_right (open_upload view.upload) body (open_right view.upload right.upload))) right))
@@ -302,17 +315,17 @@ end_row view word (Some old) there right = upload_row view word old view.upload 
 -- a row that ends the upload whatever it answers
 ended_row : (view : View) (row : Reply × View) → IsRow view row → GoesTo view (without_upload view) (upload_ended row)
 ended_row view row (Refuses refusal told kept) = Refuses refusal told (ap without_upload kept)
-ended_row view row (Does text told orderly right) = Does text told (λ before. orderly_without row.1 (orderly before)) (λ before. right_without row.1 (right before))
+ended_row view row (Does text told made orderly right) = Does text told made (λ before. orderly_without row.1 (orderly before)) (λ before. right_without row.1 (right before))
 
 dropped_upload_row : (view : View) → IsRow view (part_drop_answer view)
 unfolding part_drop_answer
 dropped_upload_row view =
-    either view (is_some view.upload) (Done [], without_upload view) (Refused NoUpload, view) (λ _. Does [] refl (orderly_without view) (right_without view)) (λ _. refuses view NoUpload)
+    either view (is_some view.upload) (Done [], without_upload view) (Refused NoUpload, view) (λ _. Does [] refl refl (orderly_without view) (right_without view)) (λ _. refuses view NoUpload)
 
 -- another repository stands in the place of one that is there
 replaced_row : (view : View) (word : List ℕ) (old new : Repository) → get view.repositories word ≡ Some old → (IsOrderly view → MayStand view.objects word new) → IsRow view (Done [], record view { repositories = insert view.repositories word new })
 replaced_row view word old new there right_new =
-    Does [] refl (λ sound. with_repositories view (insert view.repositories word new) sound (still_few view word old new there sound.few_repositories)
+    Does [] refl refl (λ sound. with_repositories view (insert view.repositories word new) sound (still_few view word old new there sound.few_repositories)
     (each_inserted view.objects view.repositories word new (right_new sound) (sound_each view sound)))
     (still_right view (insert view.repositories word new))
 
@@ -345,7 +358,7 @@ set_head_row view word reference (Some old) there = with_head_row view word old 
 
 -- a row that tells what was found, and leaves the view
 told_row : (view : View) (found : Result (List ℕ) Refusal) → IsRow view (reply_of found, view)
-told_row view (Ok text) = Does text refl (λ was. was) (λ was. was)
+told_row view (Ok text) = Does text refl refl (λ was. was) (λ was. was)
 told_row view (Err refusal) = refuses view refusal
 
 over_row : (view : View) (word : List ℕ) (query : Repository → Result (List ℕ) Refusal) (o : Option Repository) → IsRow view (told_over word query o, view)
@@ -358,12 +371,15 @@ few_row view false reply row = row
 
 listing_row : (view : View) (word : List ℕ) (prefix : Option (List ℕ)) (o : Option Repository) → IsRow view (told_references view word prefix o, view)
 listing_row view word prefix None = refuses view (NoRepository word)
-listing_row view word prefix (Some repository) = Does (listing view.objects repository.references prefix) refl (λ was. was) (λ was. was)
+listing_row view word prefix (Some repository) = Does (listing view.objects repository.references prefix) refl refl (λ was. was) (λ was. was)
 
--- where nothing goes at which a reference points, the view stays in order
-pub orderly_kept : (view : View) (kept : List ℕ → Bool) → ((word : List ℕ) (repository : Repository) (reference target : List ℕ) → get view.repositories word ≡ Some repository → get repository.references reference ≡ Some target
-    → contains_key view.objects target ≡ true → kept target ≡ true) → IsOrderly view → IsOrderly (record view { objects = retain_keys view.objects kept })
-orderly_kept view kept stays orderly =
+-- what is kept of objects has the roots that are there
+abbrev pub HasRoots : View → (List ℕ → Bool) → Type 0
+HasRoots view kept = (target : List ℕ) → Contains (roots_of view) target → contains_key view.objects target ≡ true → kept target ≡ true
+
+-- where no root goes, the view stays in order
+pub orderly_kept : (view : View) (kept : List ℕ → Bool) → HasRoots view kept → IsOrderly view → IsOrderly (record view { objects = retain_keys view.objects kept })
+orderly_kept view kept rooted orderly =
     let fits = use_of-kept view.objects kept in
     let before = orderly.within_limit in
     record {
@@ -373,26 +389,29 @@ orderly_kept view kept stays orderly =
       few_repositories = orderly.few_repositories;
       repositories = orderly.repositories;
       heads = orderly.heads;
-      references = λ word repository is. references_right view.objects kept repository.references (λ reference target points. stays word repository reference target is points) (orderly.references word repository is);
+      references = λ word repository is. references_right view.objects kept repository.references (λ reference target points. rooted target (target_rooted view word repository reference target is points)) (orderly.references word repository is);
+      few_offers = orderly.few_offers;
+      offers = λ key offer is. with_other_objects view.objects (retain_keys view.objects kept) key offer
+          (references_right view.objects kept offer.repository.references (λ reference target points. rooted target (offer_rooted view key offer reference target is points))) (orderly.offers key offer is);
     }
 
-orderly_pruned : (view : View) → IsOrderly view → IsOrderly (pruned view)
-orderly_pruned view orderly =
-    let next = linked_names view.objects in
-    let roots = targets_of view.repositories in
-    orderly_kept view (is_reached next view.objects roots)
-    (λ word repository reference target is points. root_reached next view.objects roots target (target_among view.repositories word repository reference target is points)) orderly
+roots_kept : (view : View) → HasRoots view (is_reached (linked_names view.objects) view.objects (roots_of view))
+roots_kept view target at there = root_reached (linked_names view.objects) view.objects (roots_of view) target at there
 
--- where nothing goes that a reference reaches, it stays right
+orderly_pruned : (view : View) → IsOrderly view → IsOrderly (pruned view)
+orderly_pruned view orderly = orderly_kept view (is_reached (linked_names view.objects) view.objects (roots_of view)) (roots_kept view) orderly
+
+-- where nothing goes that a root reaches, it stays right
 right_pruned : (view : View) → IsRight view → IsRight (pruned view)
 right_pruned view right =
     let next = linked_names view.objects in
-    let roots = targets_of view.repositories in
-    let kept = is_reached next view.objects roots in
+    let kept = is_reached next view.objects (roots_of view) in
+    let closed = closed_kept view.objects kept (λ from name. next_reached next view.objects (roots_of view) from name) right.closed in
     record {
       named = named_kept view.objects kept right.named;
       right = right_kept view.objects kept right.right;
-      closed = closed_kept view.objects kept (λ from name. next_reached next view.objects roots from name) right.closed;
+      closed = closed;
+      offered = λ key offer is. reach_kept view.objects kept offer closed (λ reference target points. roots_kept view target (offer_rooted view key offer reference target is points)) (right.offered key offer is);
       upload = right.upload;
     }
 
@@ -422,6 +441,6 @@ answer_row view (Fetches word items) =
 answer_row view (AsksReferences word prefix) =
     named_row view word (told_references view word prefix (get view.repositories word), view) (λ _. listing_row view word prefix (get view.repositories word))
 answer_row view (AsksHead word) = named_row view word _ (λ _. over_row view word (λ repository. Ok (head_told repository)) (get view.repositories word))
-answer_row view AsksUse = Does _ refl (λ was. was) (λ was. was)
-answer_row view Prunes = Does [] refl (orderly_pruned view) (right_pruned view)
+answer_row view AsksUse = Does _ refl refl (λ was. was) (λ was. was)
+answer_row view Prunes = Does [] refl refl (orderly_pruned view) (right_pruned view)
 answer_row view NoRequest = refuses view BadRequest

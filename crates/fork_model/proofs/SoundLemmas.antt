@@ -1,5 +1,5 @@
 -- Answers keep views in order, and right.
-use Rattle.std.proofs.Common.{sym, subst}
+use Rattle.std.proofs.Common.{◌≡◌, sym, subst, refl, ap, ◌∙◌}
 use Rattle.fork_request.specs.Asked.{Ask, Inits, Drops, Forks, Pushes, SendsPart, EndsParts, DropsParts, Updates, SetsHead, AsksObject, AsksTree, AsksRevisions, AsksBases, AsksReferences, AsksHead, Fetches, AsksUse, Prunes, NoRequest}
 use Rattle.fork_request.specs.declared.reply.Reply.{Reply}
 use Rattle.fork_model.specs.Answer.{answer, left_by, without_upload}
@@ -31,14 +31,22 @@ left_holds P without view NoRequest holds = holds
 
 row_orderly : (view left : View) (row : Reply × View) → GoesTo view left row → IsOrderly view → IsOrderly left → IsOrderly row.1
 row_orderly view left row (Refuses why told kept) was after = subst IsOrderly (sym kept) after
-row_orderly view left row (Does text told orderly right) was after = orderly was
+row_orderly view left row (Does text told made orderly right) was after = orderly was
 
 row_right : (view left : View) (row : Reply × View) → GoesTo view left row → IsRight view → IsRight left → IsRight row.1
 row_right view left row (Refuses why told kept) was after = subst IsRight (sym kept) after
-row_right view left row (Does text told orderly right) was after = right was
+row_right view left row (Does text told made orderly right) was after = right was
 
 pub orderly_answer : (view : View) (ask : Ask) → IsOrderly view → IsOrderly (answer view ask).1
 orderly_answer view ask was = row_orderly view (left_by view ask) (answer view ask) (answer_row view ask) was (left_holds IsOrderly orderly_without view ask was)
 
 pub right_answer : (view : View) (ask : Ask) → IsRight view → IsRight (answer view ask).1
 right_answer view ask was = row_right view (left_by view ask) (answer view ask) (answer_row view ask) was (left_holds IsRight right_without view ask was)
+
+row_made : (view left : View) (row : Reply × View) → GoesTo view left row → left.made ≡ view.made → row.1.made ≡ view.made
+row_made view left row (Refuses why told kept) after = ap (λ (v : View). v.made) kept ∙ after
+row_made view left row (Does text told made orderly right) after = made
+
+-- the offers that a tenant has made are those that it had made
+pub made_answer : (view : View) (ask : Ask) → (answer view ask).1.made ≡ view.made
+made_answer view ask = row_made view (left_by view ask) (answer view ask) (answer_row view ask) (left_holds (λ v. v.made ≡ view.made) (λ v is. is) view ask refl)

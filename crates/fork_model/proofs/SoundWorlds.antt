@@ -7,12 +7,13 @@ use Rattle.git_name.proofs.Names.{name_total}
 use Rattle.fork_request.specs.Asked.{Ask}
 use Rattle.fork_request.specs.declared.reply.Reply.{Reply}
 use Rattle.fork_model.specs.Answer.{answer}
+use Rattle.fork_model.specs.Offer.{Offers}
 use Rattle.fork_model.specs.Runs.{Asks, HostAsks, Answered, Unknown, Faulted, HostAnswered, HostFaulted}
-use Rattle.fork_model.specs.Sound.{IsOrderly, IsOrderlyWorld, IsRight, IsRightWorld}
+use Rattle.fork_model.specs.Sound.{AreToOthers, IsOrderly, IsOrderlyWorld, IsRight, IsRightWorld}
 use Rattle.fork_model.specs.View.{View}
 use Rattle.fork_model.specs.World.{World, Event, Steps, Explains}
 use Rattle.fork_reach.proofs.KeptObjects.{at_key, tied_names}
-use Rattle.fork_model.proofs.SoundLemmas.{orderly_answer, right_answer}
+use Rattle.fork_model.proofs.SoundLemmas.{made_answer, orderly_answer, right_answer}
 
 -- a world with another view in a tenant's place
 pub few_still : (world : World) (t : List ℕ) (view : View) → contains_key world t ≡ true → len world ≤ 64 → len (insert world t view) ≤ 64
@@ -32,16 +33,24 @@ known_still world t q view here is = by (eq_by_cmp name_cmp q t) refl (sym (ap i
     by true same there = ap (contains_key world) (tied_names q t same) ∙ here
     by false apart there = there
 
-pub orderly_insert : (world : World) (t : List ℕ) (view : View) → IsOrderlyWorld world → contains_key world t ≡ true → IsOrderly view → IsOrderlyWorld (insert world t view)
-orderly_insert world t view orderly here one = record {
+to_others_still : (world : World) (t : List ℕ) (view : View) → ((q : List ℕ) (other : View) → get world q ≡ Some other → AreToOthers q other) → AreToOthers t view → (q : List ℕ) (other : View) → get (insert world t view) q ≡ Some other → AreToOthers q other
+to_others_still world t view all one q other is = elim (at_key (eq_by_cmp name_cmp q t) view other (get world q) (sym (get-insert name_total world t view q) ∙ is)) [
+  | inl set ↦ subst (λ n. AreToOthers n other) (sym (tied_names q t set.0)) (subst (AreToOthers t) set.1 one)
+  | inr stays ↦ all q other stays
+]
+
+pub orderly_insert : (world : World) (t : List ℕ) (view : View) → IsOrderlyWorld world → contains_key world t ≡ true → IsOrderly view → AreToOthers t view → IsOrderlyWorld (insert world t view)
+orderly_insert world t view orderly here one others = record {
   few = few_still world t view here orderly.few;
   named = λ q is. orderly.named q (known_still world t q view here is);
   views = each_still IsOrderly world t view orderly.views one;
+  to_others = to_others_still world t view orderly.to_others others;
 }
 
 pub orderly_step : (old new : World) (step : Event) (reply : Reply) → IsOrderlyWorld old → Steps old step reply new → IsOrderlyWorld new
 orderly_step old new (Asks t ask) reply was (Answered view here told set) =
-    subst IsOrderlyWorld (sym set) (orderly_insert old t (answer view ask).1 was (ap is_some here) (orderly_answer view ask (was.views t view here)))
+    subst IsOrderlyWorld (sym set) (orderly_insert old t (answer view ask).1 was (ap is_some here) (orderly_answer view ask (was.views t view here))
+    (λ key offer is. was.to_others t view here key offer (ap (λ (made : Offers). get made key) (sym (made_answer view ask)) ∙ is)))
 orderly_step old new (Asks t ask) reply was (Unknown none told stays) = subst IsOrderlyWorld (sym stays) was
 orderly_step old new (Asks t ask) reply was (Faulted bad stays) = subst IsOrderlyWorld (sym stays) was
 orderly_step old new (HostAsks ask) reply was (HostAnswered says stays) = subst IsOrderlyWorld (sym stays) was

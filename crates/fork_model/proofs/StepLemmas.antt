@@ -11,7 +11,7 @@ use Rattle.fork_model.proofs.Rows.{GoesTo, Refuses, Does, answer_row}
 
 row_tells : (view left : View) (row : Reply × View) → GoesTo view left row → is_host_fault row.0 ≡ false
 row_tells view left row (Refuses why told kept) = ap is_host_fault told
-row_tells view left row (Does text told orderly right) = ap is_host_fault told
+row_tells view left row (Does text told made orderly right) = ap is_host_fault told
 
 -- no answer is a host fault
 pub answer_tells : (view : View) (ask : Ask) → is_host_fault (answer view ask).0 ≡ false

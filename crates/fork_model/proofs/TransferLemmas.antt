@@ -18,6 +18,7 @@ use Rattle.fork_model.specs.Transfer.{AreAlike, HasPrerequisites, fetched_object
 use Rattle.fork_model.specs.View.{View}
 use Rattle.fork_model.proofs.ClosedLemmas.{each_of}
 use Rattle.fork_model.proofs.FetchedLemmas.{each_value}
+use Rattle.git_name.specs.Name.{name_cmp}
 use Rattle.fork_model.proofs.KeptLemmas.{found_value, stays_at}
 use Rattle.fork_model.proofs.ProvenanceLemmas.{among_both}
 
@@ -86,7 +87,7 @@ arrives receiver view wanted excluded right has name reached = by (is_reached (l
     by false open_is None is = absurd (none_there (get view.objects name) is (reached_there (linked_names view.objects) view.objects wanted name reached))
     by false open_is (Some object) is =
         let beyond_is = stays_at view.objects kept name (and_from _ _ reached (ap not open_is)) ∙ is in
-        let among = found_value name object (entries (retain_keys view.objects kept)) (sym (get-entries (retain_keys view.objects kept) name) ∙ beyond_is) in
+        let among = found_value name_cmp name object (entries (retain_keys view.objects kept)) (sym (get-entries (retain_keys view.objects kept) name) ∙ beyond_is) in
         ap (contains_key (received receiver view.objects wanted excluded)) (sym (right.named name object is)) ∙ came receiver (fetched_objects view.objects wanted excluded) object among
 
 -- so under each name that the wanted ones reach stands the sender's object

@@ -66,10 +66,10 @@ pub record IsOrderly (view : View) : Type 0 where
   pub few_offers : len view.made ≤ MAX_OFFERS
   pub offers : (key : Pair) (offer : Offer) → get view.made key ≡ Some offer → IsOffer view.objects key offer
 
--- an offer holds what its references reach among these objects, their targets with it
-pub record IsReach (objects : Objects) (offer : Offer) : Type 0 where
+-- an offer holds what its references reach among what is seen, their targets with it
+pub record IsReach (seen : Objects) (offer : Offer) : Type 0 where
   pub targets : (reference target : List ℕ) → get offer.repository.references reference ≡ Some target → contains_key offer.objects target ≡ true
-  pub objects : offer.objects ≡ reached_by objects offer.repository.references
+  pub objects : offer.objects ≡ reached_by seen offer.repository.references
 
 -- what bytes decide of a view: it holds where the store is honest
 pub record IsRight (view : View) : Type 0 where
@@ -84,12 +84,16 @@ pub record IsSound (view : View) : Type 0 where
   pub orderly : IsOrderly view
   pub right : IsRight view
 
+-- no offer that a tenant has made is to itself
+abbrev pub AreToOthers : List ℕ → View → Type 0
+AreToOthers tenant view = (key : Pair) (offer : Offer) → get view.made key ≡ Some offer → key.0 ≢ tenant
+
 -- no more tenants than a host may have, of right names, each with an orderly view, and no offer of a tenant to itself
 pub record IsOrderlyWorld (world : World) : Type 0 where
   pub few : len world ≤ MAX_TENANTS
   pub named : (tenant : List ℕ) → contains_key world tenant ≡ true → IsTenantName tenant
   pub views : (tenant : List ℕ) (view : View) → get world tenant ≡ Some view → IsOrderly view
-  pub to_others : (tenant : List ℕ) (view : View) (key : Pair) (offer : Offer) → get world tenant ≡ Some view → get view.made key ≡ Some offer → key.0 ≢ tenant
+  pub to_others : (tenant : List ℕ) (view : View) → get world tenant ≡ Some view → AreToOthers tenant view
 
 -- what bytes decide of each view
 abbrev pub IsRightWorld : World → Type 0

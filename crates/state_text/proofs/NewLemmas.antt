@@ -1,10 +1,10 @@
 -- A new repository, and the branch that its HEAD names.
-use Rattle.std.proofs.Common.{◌≡◌, ◌≢◌, ℕ, cond, ◌&&◌, List, ◌++◌, Option, Some, None, is_none, refl, sym, ap, subst, map, ◌∙◌}
+use Rattle.std.proofs.Common.{◌≡◌, ◌≢◌, ℕ, cond, ◌&&◌, List, ◌++◌, Option, Some, None, is_none, sym, ap, subst, map, ◌∙◌}
 use Rattle.std.specs.Prelude.{IfNone}
 use Rattle.std.proofs.lemmas.List.{append_cancel_left}
 use Rattle.std.specs.List.{AllByRecursion}
 use Rattle.git_name.specs.Name.{IsName}
-use Rattle.git_reftx.specs.Repository.{IsBranch, branch_in, main_branch, new_repository}
+use Rattle.git_reftx.specs.Repository.{IsBranch, branch_in, new_repository}
 use Rattle.git_reftx.proofs.BranchLemmas.{main_right}
 use Rattle.git_reftx.proofs.TxLemmas.{sound_empty}
 use Rattle.state_text.specs.States.{MayBeTold}

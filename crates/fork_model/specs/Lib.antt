@@ -1,4 +1,5 @@
 pub mod Answer
+pub mod Context
 pub mod Missing
 pub mod Offer
 pub mod Provenance

@@ -2,7 +2,7 @@
 use Rattle.std.proofs.Common.{◌≡◌, ◌++◌, ℕ, List, [], ◌∷◌, codes, refl}
 use Rattle.hex.specs.Hex.{encode_lower}
 use Rattle.git_name.specs.Text.{words_of}
-use Rattle.fork_request.specs.Asked.{AsksBases, AsksHead, AsksOffers, AsksRevisions, Fetches, ForksOffer, NoRequest, Offers, SetsHead, Withdraws, asked_words, host_words}
+use Rattle.fork_request.specs.Asked.{AsksBases, AsksHead, AsksOffers, AsksRevisions, Fetches, ForksOffer, NoRequest, MakesOffer, SetsHead, Withdraws, asked_words, host_words}
 use Rattle.fork_request.specs.declared.host_request.HostRequest.TheVariants.{Bad, Collect, Fsck}
 use Rattle.fork_request.specs.declared.harm.Harm.TheVariants.{Lost, Damaged}
 use Rattle.fork_request.specs.declared.refusal.Refusal.TheVariants.{NoOffer, OfferExists}
@@ -45,7 +45,7 @@ a_branch_is_wanted = refl
 pub a_body_behind_set_head_is_bad : asked_words (words_of (codes "set-head r refs/heads/x")) (codes "\n") ≡ NoRequest
 a_body_behind_set_head_is_bad = refl
 
-pub an_offer_is_made : asked_words (words_of (codes "offer r bob")) [] ≡ Offers (codes "r") (codes "bob")
+pub an_offer_is_made : asked_words (words_of (codes "offer r bob")) [] ≡ MakesOffer (codes "r") (codes "bob")
 an_offer_is_made = refl
 
 pub a_receiver_is_wanted : asked_words (words_of (codes "offer r")) [] ≡ NoRequest

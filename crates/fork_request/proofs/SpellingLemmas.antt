@@ -10,7 +10,7 @@ use Rattle.git_name.specs.Name.{IsName}
 use Rattle.git_name.specs.Text.{Lacks, split_once, words_of}
 use Rattle.git_name.proofs.ReadingLemmas.{name_in-encode_lower}
 use Rattle.git_name.proofs.TextLemmas.{split_once-append, words_of-append, words_of-plain}
-use Rattle.fork_request.specs.Asked.{Ask, Inits, Drops, Forks, Pushes, SendsPart, EndsParts, DropsParts, Updates, SetsHead, Offers, Withdraws, ForksOffer, AsksObject, AsksTree, AsksRevisions, AsksBases, AsksReferences, AsksHead, AsksOffers, Fetches, AsksUse, Prunes, NoRequest, asked, asked_bases, asked_cat_file, asked_drop, asked_fetch, asked_fork, asked_fork_offer, asked_head, asked_init, asked_ls_tree, asked_object, asked_offer, asked_part_end, asked_parts, asked_push, asked_references, asked_revisions, asked_set_head, asked_tree, asked_update, asked_withdraw, asked_words}
+use Rattle.fork_request.specs.Asked.{Ask, Inits, Drops, Forks, Pushes, SendsPart, EndsParts, DropsParts, Updates, SetsHead, MakesOffer, Withdraws, ForksOffer, AsksObject, AsksTree, AsksRevisions, AsksBases, AsksReferences, AsksHead, AsksOffers, Fetches, AsksUse, Prunes, NoRequest, asked, asked_bases, asked_cat_file, asked_drop, asked_fetch, asked_fork, asked_fork_offer, asked_head, asked_init, asked_ls_tree, asked_object, asked_offer, asked_part_end, asked_parts, asked_push, asked_references, asked_revisions, asked_set_head, asked_tree, asked_update, asked_withdraw, asked_words}
 use Rattle.fork_request.specs.declared.request.TheConstants.{MAX_PAYLOAD}
 use Rattle.fork_request.specs.Spelling.{AreItems, IsItem, IsWord, Spells, behind_spaces}
 use Rattle.fork_request.specs.Words.{all_words, and_items, and_word, both_words, items_in, some_word}
@@ -136,7 +136,7 @@ spelled_asked payload (Updates repository body) fits spells =
 spelled_asked payload (SetsHead repository reference) fits spells =
     with_two payload (codes "set-head") repository reference [] (verb_by (codes "set-head") refl refl) spells.0 spells.1 (two_words payload (codes "set-head ") repository reference spells.2) fits
     ∙ ap (λ o. asked_set_head o []) (two_there repository reference spells.0 spells.1)
-spelled_asked payload (Offers repository receiver) fits spells =
+spelled_asked payload (MakesOffer repository receiver) fits spells =
     with_two payload (codes "offer") repository receiver [] (verb_by (codes "offer") refl refl) spells.0 spells.1 (two_words payload (codes "offer ") repository receiver spells.2) fits
     ∙ ap (λ o. asked_offer o []) (two_there repository receiver spells.0 spells.1)
 spelled_asked payload (Withdraws repository receiver) fits spells =

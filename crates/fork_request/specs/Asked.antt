@@ -5,7 +5,7 @@ use Rattle.git_name.specs.Name.{name_in}
 use Rattle.git_name.specs.Number.{number_in}
 use Rattle.git_name.specs.Text.{split_once, words_of}
 use Rattle.fork_request.specs.declared.request.Request.{Request}
-use Rattle.fork_request.specs.declared.request.Request.TheVariants.{Init, Drop, Fork, Push, Part, PartEnd, PartDrop, UpdateRefs, SetHead, Offer, Withdraw, ForkOffer, CatFile, LsTree, RevList, MergeBase, ForEachRef, Head, Offers as Offers_request, Fetch, Quota, Prune, Bad}
+use Rattle.fork_request.specs.declared.request.Request.TheVariants.{Init, Drop, Fork, Push, Part, PartEnd, PartDrop, UpdateRefs, SetHead, Offer, Withdraw, ForkOffer, CatFile, LsTree, RevList, MergeBase, ForEachRef, Head, Offers, Fetch, Quota, Prune, Bad}
 use Rattle.fork_request.specs.declared.request.TheConstants.{MAX_PAYLOAD}
 use Rattle.fork_request.specs.declared.host_request.HostRequest.{HostRequest}
 use Rattle.fork_request.specs.declared.host_request.HostRequest.TheVariants.{Sweep, Collect, Census, Fsck, Bad as Bad_host}
@@ -23,7 +23,7 @@ pub data Ask : Type 0 where
   DropsParts : Ask
   Updates : (repository : List ℕ) (body : List ℕ) → Ask
   SetsHead : (repository : List ℕ) (reference : List ℕ) → Ask
-  Offers : (repository : List ℕ) (receiver : List ℕ) → Ask
+  MakesOffer : (repository : List ℕ) (receiver : List ℕ) → Ask
   Withdraws : (repository : List ℕ) (receiver : List ℕ) → Ask
   ForksOffer : (giver : List ℕ) (repository : List ℕ) (copy : List ℕ) → Ask
   AsksObject : (name : List ℕ) → Ask
@@ -49,7 +49,7 @@ ask_of (PartEnd repository) = EndsParts repository.now
 ask_of PartDrop = DropsParts
 ask_of (UpdateRefs repository body) = Updates repository.now body.now
 ask_of (SetHead repository reference) = SetsHead repository.now reference.now
-ask_of (Offer repository receiver) = Offers repository.now receiver.now
+ask_of (Offer repository receiver) = MakesOffer repository.now receiver.now
 ask_of (Withdraw repository receiver) = Withdraws repository.now receiver.now
 ask_of (ForkOffer giver repository copy) = ForksOffer giver.now repository.now copy.now
 ask_of (CatFile name) = AsksObject name
@@ -58,7 +58,7 @@ ask_of (RevList repository items) = AsksRevisions repository.now (words_of items
 ask_of (MergeBase repository first second) = AsksBases repository.now first.now second.now
 ask_of (ForEachRef repository prefix) = AsksReferences repository.now (option_map (λ word. word.now) prefix)
 ask_of (Head repository) = AsksHead repository.now
-ask_of Offers_request = AsksOffers
+ask_of Offers = AsksOffers
 ask_of (Fetch repository items) = Fetches repository.now (words_of items.now)
 ask_of Quota = AsksUse
 ask_of Prune = Prunes
@@ -110,7 +110,7 @@ asked_set_head None body = NoRequest
 
 -- `offer REPO TENANT`
 abbrev pub asked_offer : Option (List ℕ × List ℕ) → List ℕ → Ask
-asked_offer (Some p) body = asked_plain (Offers p.0 p.1) body
+asked_offer (Some p) body = asked_plain (MakesOffer p.0 p.1) body
 asked_offer None body = NoRequest
 
 -- `withdraw REPO TENANT`

@@ -3,7 +3,7 @@ use Rattle.std.specs.Prelude.{◌≡◌, ◌≢◌, ℕ, ◌≤◌, List, ◌++�
 use Rattle.std.specs.List.{flat_map}
 use Rattle.hex.specs.Hex.{encode_lower}
 use Rattle.git_name.specs.Name.{IsName}
-use Rattle.fork_request.specs.Asked.{Ask, Inits, Drops, Forks, Pushes, SendsPart, EndsParts, DropsParts, Updates, SetsHead, Offers, Withdraws, ForksOffer, AsksObject, AsksTree, AsksRevisions, AsksBases, AsksReferences, AsksHead, AsksOffers, Fetches, AsksUse, Prunes, NoRequest}
+use Rattle.fork_request.specs.Asked.{Ask, Inits, Drops, Forks, Pushes, SendsPart, EndsParts, DropsParts, Updates, SetsHead, MakesOffer, Withdraws, ForksOffer, AsksObject, AsksTree, AsksRevisions, AsksBases, AsksReferences, AsksHead, AsksOffers, Fetches, AsksUse, Prunes, NoRequest}
 use Rattle.fork_request.specs.declared.host_request.HostRequest.{HostRequest}
 use Rattle.fork_request.specs.declared.host_request.HostRequest.TheVariants.{Sweep, Collect, Census, Fsck, Bad}
 use Rattle.fork_request.specs.declared.host_request.TheConstants.{MAX_SWEEP}
@@ -39,7 +39,7 @@ Spells (EndsParts repository) payload = IsWord repository × (payload ≡ codes 
 Spells DropsParts payload = payload ≡ codes "part-drop\n"
 Spells (Updates repository body) payload = IsWord repository × (payload ≡ codes "update-refs " ++ repository ++ codes "\n" ++ body)
 Spells (SetsHead repository reference) payload = IsWord repository × IsWord reference × (payload ≡ codes "set-head " ++ repository ++ codes " " ++ reference ++ codes "\n")
-Spells (Offers repository receiver) payload = IsWord repository × IsWord receiver × (payload ≡ codes "offer " ++ repository ++ codes " " ++ receiver ++ codes "\n")
+Spells (MakesOffer repository receiver) payload = IsWord repository × IsWord receiver × (payload ≡ codes "offer " ++ repository ++ codes " " ++ receiver ++ codes "\n")
 Spells (Withdraws repository receiver) payload = IsWord repository × IsWord receiver × (payload ≡ codes "withdraw " ++ repository ++ codes " " ++ receiver ++ codes "\n")
 Spells (ForksOffer giver repository copy) payload = IsWord giver × IsWord repository × IsWord copy × (payload ≡ codes "fork-offer " ++ giver ++ codes " " ++ repository ++ codes " " ++ copy ++ codes "\n")
 Spells (AsksObject name) payload = IsName name × (payload ≡ codes "cat-file " ++ encode_lower name ++ codes "\n")

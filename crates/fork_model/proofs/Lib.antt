@@ -1,5 +1,6 @@
 pub mod AlikeLemmas
 pub mod ClosedLemmas
+pub mod DisclosureLemmas
 pub mod EntryLemmas
 pub mod Examples
 pub mod FetchLemmas

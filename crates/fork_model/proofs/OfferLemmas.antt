@@ -127,7 +127,7 @@ among_joined objects others name there = get_joined name_total objects others na
     by None is = absurd (let no : ⊥ = cc in no)
 
 -- ---- offers under their keys
-tied_pairs : (a b : Pair) → eq_by_cmp pair_cmp a b ≡ true → a ≡ b
+pub tied_pairs : (a b : Pair) → eq_by_cmp pair_cmp a b ≡ true → a ≡ b
 tied_pairs a b is = pair_exact a b (is_equal (pair_cmp a b) is)
 
 apart_pairs : (a b : Pair) → a ≢ b → eq_by_cmp pair_cmp a b ≡ false

@@ -14,6 +14,7 @@ use Rattle.git_name.specs.Same.{same_name}
 use Rattle.git_name.proofs.HashMaps.{one_test}
 use Rattle.git_name.proofs.Names.{name_exact, name_total}
 use Rattle.git_name.proofs.SortedNames.{sorted_entries}
+use Rattle.git_name.proofs.TreeMaps.{entries_of_ordered}
 use Rattle.fork_request.specs.Asked.{Ask, Inits, Drops, Forks, Pushes, SendsPart, EndsParts, DropsParts, Updates, SetsHead, MakesOffer, Withdraws, ForksOffer, AsksObject, AsksTree, AsksRevisions, AsksBases, AsksReferences, AsksHead, AsksOffers, Fetches, AsksUse, Prunes, NoRequest}
 use Rattle.fork_request.specs.declared.reply.Reply.{Reply}
 use Rattle.fork_model.specs.Answer.{answer}
@@ -109,6 +110,71 @@ find_offered receiver who word (e ∷ es) sorted =
         let none = ap (λ n. find name_cmp n es) (name_exact who e.0 (is_equal (name_cmp who e.0) tied)) ∙ none_above e.0 es sorted.0 in
         ap (option_or (get e.1.made (receiver, word))) (rest ∙ ap (option_and_then (λ (view : View). get view.made (receiver, word))) none) ∙ alone (get e.1.made (receiver, word))
     by false tied rest = rest
+
+-- ---- what is offered stands in the order of the givers, then of the repositories
+keys_behind : {X : Type 0} (front back : List (Pair × X)) → map (λ e. e.0) (front ++ back) ≡ map (λ e. e.0) front ++ map (λ e. e.0) back
+keys_behind [] back = refl
+keys_behind (e ∷ front) back = ap (λ keys. e.0 ∷ keys) (keys_behind front back)
+
+all_behind : (P : Pair → Type 0) (front back : List Pair) → AllByRecursion P front → AllByRecursion P back → AllByRecursion P (front ++ back)
+all_behind P [] back front_all back_all = back_all
+all_behind P (key ∷ front) back front_all back_all = (front_all.0, all_behind P front back front_all.1 back_all)
+
+-- lists in order, each of the one below each of the other, are in order together
+sorted_behind : (front back : List Pair) → IsStrictlySortedBy pair_cmp front → IsStrictlySortedBy pair_cmp back → AllByRecursion (λ key. AllByRecursion (λ other. pair_cmp key other ≡ Less) back) front → IsStrictlySortedBy pair_cmp (front ++ back)
+unfolding IsStrictlySortedBy
+sorted_behind [] back front_sorted back_sorted below = back_sorted
+sorted_behind (key ∷ front) back front_sorted back_sorted below =
+    (all_behind (λ other. pair_cmp key other ≡ Less) front back front_sorted.0 below.0, sorted_behind front back front_sorted.1 back_sorted below.1)
+
+same_first : (who one two : List ℕ) (a b : List ℕ) → pair_cmp (one, a) (two, b) ≡ Less → one ≡ two → pair_cmp (who, a) (who, b) ≡ Less
+same_first who one two a b less same =
+    ap (λ order. ordering_then order (name_cmp a b)) (tied_itself name_total who)
+    ∙ (sym (ap (λ order. ordering_then order (name_cmp a b)) (ap (name_cmp one) (sym same) ∙ tied_itself name_total one)) ∙ less)
+
+given_sorted : (receiver giver : List ℕ) (offers : List (Pair × Offer)) → AllByRecursion (λ (key : Pair). key.0 ≡ receiver) (map (λ e. e.0) offers) → IsStrictlySortedBy pair_cmp (map (λ e. e.0) offers)
+    → IsStrictlySortedBy pair_cmp (map (λ (e : Pair × Offer). e.0) (map (λ offer. ((giver, offer.0.1), offer.1)) offers))
+unfolding IsStrictlySortedBy
+given_sorted receiver giver [] all sorted = tt
+given_sorted receiver giver (offer ∷ offers) all sorted = (above offers all.1 sorted.0, given_sorted receiver giver offers all.1 sorted.1)
+  where
+    above : (others : List (Pair × Offer)) → AllByRecursion (λ (key : Pair). key.0 ≡ receiver) (map (λ e. e.0) others) → AllByRecursion (λ key. pair_cmp offer.0 key ≡ Less) (map (λ e. e.0) others)
+        → AllByRecursion (λ key. pair_cmp (giver, offer.0.1) key ≡ Less) (map (λ (e : Pair × Offer). e.0) (map (λ o. ((giver, o.0.1), o.1)) others))
+    above [] others_all less = tt
+    above (other ∷ others) others_all less = (same_first giver offer.0.0 other.0.0 offer.0.1 other.0.1 less.0 (all.0 ∙ sym others_all.0), above others others_all.1 less.1)
+
+-- each of what this one gives stands under its name
+all_given : (receiver giver : List ℕ) (offers : List (Pair × Offer)) → AllByRecursion (λ (key : Pair). key.0 ≡ giver) (map (λ (e : Pair × Offer). e.0) (map (λ offer. ((giver, offer.0.1), offer.1)) offers))
+all_given receiver giver [] = tt
+all_given receiver giver (offer ∷ offers) = (refl, all_given receiver giver offers)
+
+-- and below what those give that stand behind it
+given_below : (receiver giver : List ℕ) (es : List (List ℕ × View)) → AllByRecursion (λ name. name_cmp giver name ≡ Less) (map (λ e. e.0) es) → (key : Pair) → key.0 ≡ giver → AllByRecursion (λ other. pair_cmp key other ≡ Less) (map (λ e. e.0) (flat_map (given_by receiver) es))
+given_below receiver giver [] above key is = tt
+given_below receiver giver (e ∷ es) above key is =
+    subst (AllByRecursion (λ other. pair_cmp key other ≡ Less)) (sym (keys_behind (given_by receiver e) (flat_map (given_by receiver) es)))
+    (all_behind (λ other. pair_cmp key other ≡ Less) (map (λ o. o.0) (given_by receiver e)) (map (λ o. o.0) (flat_map (given_by receiver) es)) (each (map (λ o. o.0) (given_by receiver e)) (all_given receiver e.0 (entries (made_to receiver e.1)))) (given_below receiver giver es above.1 key is))
+  where
+    each : (keys : List Pair) → AllByRecursion (λ (other : Pair). other.0 ≡ e.0) keys → AllByRecursion (λ other. pair_cmp key other ≡ Less) keys
+    each [] all = tt
+    each (other ∷ keys) all = ((λ i. ordering_then (name_cmp (is i) (all.0 i)) (name_cmp key.1 other.1)) ∙ ap (λ order. ordering_then order (name_cmp key.1 other.1)) above.0, each keys all.1)
+
+offered_sorted : (receiver : List ℕ) (es : List (List ℕ × View)) → IsStrictlySortedBy name_cmp (map (λ e. e.0) es) → IsStrictlySortedBy pair_cmp (map (λ e. e.0) (flat_map (given_by receiver) es))
+unfolding IsStrictlySortedBy
+offered_sorted receiver [] sorted = tt
+offered_sorted receiver (e ∷ es) sorted =
+    subst (IsStrictlySortedBy pair_cmp) (sym (keys_behind (given_by receiver e) (flat_map (given_by receiver) es)))
+    (sorted_behind (map (λ o. o.0) (given_by receiver e)) (map (λ o. o.0) (flat_map (given_by receiver) es)) (given_sorted receiver e.0 (entries (made_to receiver e.1)) (all_to receiver e.1) (sorted_entries (made_to receiver e.1))) (offered_sorted receiver es sorted.1)
+    (each (map (λ o. o.0) (given_by receiver e)) (all_given receiver e.0 (entries (made_to receiver e.1)))))
+  where
+    each : (keys : List Pair) → AllByRecursion (λ (key : Pair). key.0 ≡ e.0) keys → AllByRecursion (λ key. AllByRecursion (λ other. pair_cmp key other ≡ Less) (map (λ o. o.0) (flat_map (given_by receiver) es))) keys
+    each [] all = tt
+    each (key ∷ keys) all = (given_below receiver e.0 es sorted.0 key all.0, each keys all.1)
+
+-- so its entries are those of the givers, one behind the other
+pub offered_entries : (world : World) (receiver : List ℕ) → entries (offered_to world receiver) ≡ flat_map (given_by receiver) (entries world)
+unfolding offered_to
+offered_entries world receiver = entries_of_ordered pair_total (flat_map (given_by receiver) (entries world)) (offered_sorted receiver (entries world) (sorted_entries world))
 
 -- what a tenant is offered by another one is what that one has made to it
 pub get_offered : (world : World) (receiver giver word : List ℕ) → get (offered_to world receiver) (giver, word) ≡ option_and_then (λ (view : View). get view.made (receiver, word)) (get world giver)

@@ -4,6 +4,7 @@
 //! would tell it.
 #![tactic(auto)]
 
+mod disclosure;
 mod limits;
 mod missing;
 mod provenance;
@@ -17,6 +18,7 @@ ghost use Rattle.fork_model.specs.View.{View};
 ghost use Rattle.fork_model.specs.World.{World, Event, Explains, IsUnfaulted, LeavesOffers, Agree, own, told, alone, meeting, met};
 ghost use Rattle.fork_model.specs.Context.{met_by};
 
+pub use crate::disclosure::{offers_are_met_by_two_requests, offers_disclose_what_they_hold};
 pub use crate::limits::{MAX_ITEMS, MAX_OFFERS, MAX_REPOSITORIES, MAX_TENANTS};
 pub use crate::missing::what_is_lacking_is_missing;
 pub use crate::provenance::{
@@ -63,24 +65,6 @@ pub fn two_runs_agree()
         → Explains old2 steps2 replies2 new2 → IsUnfaulted tenant steps2 replies2 → LeavesOffers tenant steps2 replies2
         → Agree tenant old old2 → own tenant steps ≡ own tenant steps2
         → Agree tenant new new2 }
-{}
-
-/// Disclosure by offer: two runs from worlds that show a tenant alike, in which it asks the same and
-/// meets equal offers beside each request, tell it the same and leave worlds that show it alike,
-/// whatever else the runs and the worlds are.
-pub fn offers_disclose_what_they_hold()
-    ensures replies { (tenant : List ℕ) (old new : World) (steps : List Event) (replies : List Reply)
-        (old2 new2 : World) (steps2 : List Event) (replies2 : List Reply)
-        → (run : Explains old steps replies new) → IsUnfaulted tenant steps replies
-        → (run2 : Explains old2 steps2 replies2 new2) → IsUnfaulted tenant steps2 replies2
-        → get old tenant ≡ get old2 tenant → met tenant old steps replies new run ≡ met tenant old2 steps2 replies2 new2 run2
-        → told tenant steps replies ≡ told tenant steps2 replies2 }
-    ensures views { (tenant : List ℕ) (old new : World) (steps : List Event) (replies : List Reply)
-        (old2 new2 : World) (steps2 : List Event) (replies2 : List Reply)
-        → (run : Explains old steps replies new) → IsUnfaulted tenant steps replies
-        → (run2 : Explains old2 steps2 replies2 new2) → IsUnfaulted tenant steps2 replies2
-        → get old tenant ≡ get old2 tenant → met tenant old steps replies new run ≡ met tenant old2 steps2 replies2 new2 run2
-        → get new tenant ≡ get new2 tenant }
 {}
 
 ghost use Rattle.fork_request.specs.Asked.{Ask};

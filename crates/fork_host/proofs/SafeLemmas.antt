@@ -119,7 +119,6 @@ pub safe_left : (Within : Reply → Type 0) (repositories now : Repositories) (s
 safe_left Within repositories now seen objects rest other limit reply stays same alike faults =
     subst (λ r. IsSafe Within (view_of rest repositories seen limit) reply (view_of other r objects limit)) (sym stays) (record {
       orderly = orderly_measured repositories seen objects rest other limit same alike;
-      made = λ pair there. sym (still_made rest.made other.made pair alike.made) ∙ there;
       kept = λ _. shape_measured repositories seen objects rest other limit same alike.made;
       faults = faults;
     })
@@ -129,7 +128,6 @@ pub safe_from : (Within Over : Reply → Type 0) (repositories : Repositories) (
     → IsSafe Over (view_of rest repositories objects limit) reply new → IsSafe Within (view_of rest repositories seen limit) reply new
 safe_from Within Over repositories seen objects rest limit reply new same within safe = record {
   orderly = λ before. safe.orderly (orderly_measured repositories seen objects rest rest limit same (alike_itself rest) before);
-  made = safe.made;
   kept = λ not_done. safe.kept not_done ∙ shape_measured repositories seen objects rest rest limit same refl;
   faults = within safe.faults;
 }
@@ -139,7 +137,6 @@ pub safe_rest : (Within : Reply → Type 0) (old : View) (repositories : Reposit
     → IsSafe Within old reply (view_of other repositories objects limit)
 safe_rest Within old repositories objects rest other limit reply alike safe = record {
   orderly = λ before. orderly_measured repositories objects objects rest other limit refl alike (safe.orderly before);
-  made = λ pair there. safe.made pair (sym (still_made rest.made other.made pair alike.made) ∙ there);
   kept = λ not_done. shape_measured repositories objects objects rest other limit refl alike.made ∙ safe.kept not_done;
   faults = safe.faults;
 }
@@ -148,7 +145,6 @@ safe_rest Within old repositories objects rest other limit reply alike safe = re
 pub safe_ended : (Within : Reply → Type 0) (old new : View) (reply : Reply) → IsSafe Within old reply new → IsSafe Within old reply (without_upload new)
 safe_ended Within old new reply safe = record {
   orderly = λ before. orderly_without new (safe.orderly before);
-  made = safe.made;
   kept = safe.kept;
   faults = safe.faults;
 }
@@ -157,13 +153,11 @@ safe_ended Within old new reply safe = record {
 pub safe_gives : (Within : Reply → Type 0) (view new : View) (ask : Ask) (reply : Reply) → Within reply → Gives (answer view ask) view reply new → IsSafe Within view reply new
 safe_gives Within view new ask reply within (Given told is) = record {
   orderly = λ before. subst IsOrderly (sym is) (orderly_answer view ask before);
-  made = λ pair there. ap (λ m. contains_key m pair) (sym (made_answer view ask) ∙ ap (λ (v : View). v.made) (sym is)) ∙ there;
   kept = λ not_done. ap view_shape (is ∙ undone view ask reply told not_done) ∙ shape_but_upload (left_by view ask) view (left_but_upload view ask);
   faults = within;
 }
 safe_gives Within view new ask reply within (Wanting wanting stays) = record {
   orderly = λ before. subst IsOrderly (sym stays) before;
-  made = λ pair there. ap (λ (v : View). contains_key v.made pair) (sym stays) ∙ there;
   kept = λ _. ap view_shape stays;
   faults = within;
 }
@@ -172,7 +166,6 @@ pub safe_pruned : (Within : Reply → Type 0) (view : View) (objects : Objects) 
     → IsSafe Within view reply (view_of other view.repositories objects view.limit)
 safe_pruned Within view objects other reply alike within (Pruned kept done same rooted) = record {
   orderly = λ before. orderly_measured view.repositories (retain_keys view.objects kept) objects view other view.limit same alike (orderly_kept view kept rooted before);
-  made = λ pair there. sym (still_made view.made other.made pair alike.made) ∙ there;
   kept = λ not_done. (let differs : ⊥ = cc (ap is_done done) in absurd differs);
   faults = within;
 }
@@ -187,7 +180,6 @@ safe_taken Within repositories now seen both objects rest limit name old new rep
       orderly = λ before.
           orderly_measured (insert repositories name (record old { references = new })) both objects rest rest limit measured (alike_itself rest)
           (orderly_pushed (view_of rest repositories seen limit) name old new accepted.commands both grown here (before.repositories name old here) accepted.carried accepted.within before);
-      made = λ pair there. there;
       kept = λ not_done. (let differs : ⊥ = cc (ap is_done done) in absurd differs);
       faults = within;
     })

@@ -251,9 +251,13 @@ unfoldable pub fork_offer_answer : Context → View → List ℕ → List ℕ �
 fork_offer_answer context view giver word copy =
     named_giver view giver (named_repository view word (named_repository view copy (fork_offered view (giver, word) copy (get context.offered (giver, word)))))
 
--- a row for each offer: a word, the other tenant, the repository
+-- a row for an offer: a word, the other tenant, the repository
+abbrev pub offer_row : List ℕ → Pair → List ℕ
+offer_row word key = word ++ key.0 ++ codes " " ++ key.1 ++ codes "\n"
+
+-- a row for each
 abbrev pub offer_rows : List ℕ → Offers → List ℕ
-offer_rows word offers = flat_map (λ key. word ++ key.0 ++ codes " " ++ key.1 ++ codes "\n") (keys offers)
+offer_rows word offers = flat_map (offer_row word) (keys offers)
 
 -- `offers`: those to the tenant, then those that it has made
 unfoldable pub offers_answer : Context → View → Reply × View

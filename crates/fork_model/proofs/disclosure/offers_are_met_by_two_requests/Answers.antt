@@ -1,7 +1,7 @@
 use Rattle.std.proofs.Common.{ap, List, ◌++◌, codes, Option}
 use Rattle.std.specs.List.{flat_map}
 use Rattle.fork_request.specs.declared.reply.Reply.TheVariants.{Done}
-use Rattle.fork_model.specs.Answer.{answer, fork_offer_answer, fork_offered, named_giver, named_repository, offer_rows, offers_answer}
+use Rattle.fork_model.specs.Answer.{answer, fork_offer_answer, fork_offered, named_giver, named_repository, offer_row, offer_rows, offers_answer}
 use Rattle.fork_model.specs.Offer.{Offer, Pair}
 use Rattle.fork_model.proofs.DisclosureLemmas.{unlooked}
 use Rattle.fork_model.proofs.disclosure.offers_are_met_by_two_requests.Goals as goal
@@ -11,7 +11,7 @@ returns-clause-others c = unlooked
 
 pub returns-clause-listed : goal.returns-clause-listed
 unfolding answer offers_answer
-returns-clause-listed c = λ context other view same. ap (λ (all : List Pair). (Done (flat_map (λ (key : Pair). codes "from " ++ key.0 ++ codes " " ++ key.1 ++ codes "\n") all ++ offer_rows (codes "to ") view.made), view)) same
+returns-clause-listed c = λ context other view same. ap (λ (all : List Pair). (Done (flat_map (offer_row (codes "from ")) all ++ offer_rows (codes "to ") view.made), view)) same
 
 pub returns-clause-forked : goal.returns-clause-forked
 unfolding answer fork_offer_answer

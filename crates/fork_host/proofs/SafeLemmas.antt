@@ -21,9 +21,11 @@ use Rattle.fork_model.specs.Offer.{Offer, Pair}
 use Rattle.fork_model.specs.Sound.{AreReferences, IsOffer, IsOrderly}
 use Rattle.fork_model.specs.declared.limits.TheConstants.{MAX_OFFERS}
 use Rattle.fork_model.specs.Uploads.{upload_among}
+use Rattle.fork_model.specs.Context.{nothing_offered}
+use Rattle.fork_model.proofs.AlikeLemmas.{none_taken}
 use Rattle.fork_model.specs.View.{View, Repositories}
 use Rattle.fork_model.proofs.Rows.{orderly_kept, orderly_pushed, orderly_without}
-use Rattle.fork_model.proofs.SoundLemmas.{made_answer, orderly_answer}
+use Rattle.fork_model.proofs.SoundLemmas.{orderly_answer}
 use Rattle.fork_model.proofs.StepLemmas.{left_but_upload, undone}
 use Rattle.fork_ledger.specs.Private.{Private}
 use Rattle.fork_ledger.specs.Tenants.{private_of, shape_of as vault_shape}
@@ -149,14 +151,14 @@ safe_ended Within old new reply safe = record {
   faults = safe.faults;
 }
 
--- an answer of the model is safe, and so is want of memory
-pub safe_gives : (Within : Reply → Type 0) (view new : View) (ask : Ask) (reply : Reply) → Within reply → Gives (answer view ask) view reply new → IsSafe Within view reply new
-safe_gives Within view new ask reply within (Given told is) = record {
-  orderly = λ before. subst IsOrderly (sym is) (orderly_answer view ask before);
-  kept = λ not_done. ap view_shape (is ∙ undone view ask reply told not_done) ∙ shape_but_upload (left_by view ask) view (left_but_upload view ask);
+-- an answer of the model that looks at nothing offered is safe, and so is want of memory
+pub safe_gives : (Within : Reply → Type 0) (tenant : List ℕ) (view new : View) (ask : Ask) (reply : Reply) → Within reply → Gives (answer (nothing_offered tenant) view ask) view reply new → IsSafe Within view reply new
+safe_gives Within tenant view new ask reply within (Given told is) = record {
+  orderly = λ before. subst IsOrderly (sym is) (orderly_answer (nothing_offered tenant) view ask (none_taken tenant view.objects) before);
+  kept = λ not_done. ap view_shape (is ∙ undone (nothing_offered tenant) view ask reply told not_done) ∙ shape_but_upload (left_by view ask) view (left_but_upload view ask);
   faults = within;
 }
-safe_gives Within view new ask reply within (Wanting wanting stays) = record {
+safe_gives Within tenant view new ask reply within (Wanting wanting stays) = record {
   orderly = λ before. subst IsOrderly (sym stays) before;
   kept = λ _. ap view_shape stays;
   faults = within;

@@ -1,4 +1,4 @@
-ghost use Rattle.std.specs.Prelude.{◌≡◌, ◌≢◌, [], IfOk, IsTrue, List, ℕ, OnOk, OnErr, Some, None, false, option_map};
+ghost use Rattle.std.specs.Prelude.{◌≡◌, ◌≢◌, [], IfOk, IsTrue, List, ℕ, OnOk, OnErr, Some, None, false, true, option_map};
 ghost use Rattle.push_stream.specs.Upload.{upload_of};
 ghost use Rattle.std.specs.FinMap as map;
 ghost use Rattle.std.specs.BTreeMap.{IsUnchanged, Updates};
@@ -199,6 +199,7 @@ impl Accounts {
         ensures faults { IsBounded (sent_in_world (world_of (state_of self.old vault.old)) name.now (ask_of request.entry)) vault.old vault.new result }
         ensures grows { GrowsAmong (sent_names (sent_in_world (world_of (state_of self.old vault.old)) name.now (ask_of request.entry))) vault.old.places vault.new.places }
     {
+        vault.invariant();
         let Ok(met) = self.meet(alloc, vault, name, request) else {
             return Reply::Failed(HostFault::Memory);
         };
@@ -308,12 +309,50 @@ fn answer_met<S: LooseFiles>(
     ensures grows { GrowsAmong (sent_names (sent_by (shown tenant.old vault.old name.now) (ask_of request.entry))) vault.old.places vault.new.places }
     ensures staged { IsStaged vault.old.honest tenant.new.upload (staged_in vault.new name.now) }
 {
+    if looks_at_offers(request) {
+        return look(alloc, tenant, vault, name, request, met);
+    }
+    answer_from(alloc, tenant, vault, name, request)
+}
+
+// Whether a request looks at what others have offered to its tenant.
+fn looks_at_offers(request: Request<'_>) -> bool
+    ensures { result ≡ looks_at_offers (ask_of request.entry) }
+{
+    match request {
+        Request::Offers => true,
+        Request::ForkOffer(_, _, _) => true,
+        _ => false,
+    }
+}
+
+// The same as `answer_met`, of a request that looks at it.
+fn look<S: LooseFiles>(
+    alloc: Global,
+    tenant: &mut Tenant,
+    vault: &mut Vault<S>,
+    name: &TenantName,
+    request: Request<'_>,
+    met: Met,
+) -> Reply
+    requires ready { IsReady vault.old name.now tenant.old.limit }
+    requires staged { IsStaged vault.old.honest tenant.old.upload (staged_in vault.old name.now) }
+    requires looks { looks_at_offers (ask_of request.entry) ≡ true }
+    ensures row { (context : Context) → IsMet vault.old context (ask_of request.entry) met
+        → YieldsOver vault.old.honest (answer context (shown tenant.old vault.old name.now) (ask_of request.entry)) (shown tenant.old vault.old name.now) result (shown tenant.new vault.new name.now) }
+    ensures safe { (context : Context) → IsMet vault.old context (ask_of request.entry) met
+        → IsSafe (IsBounded [] vault.old vault.new) (shown tenant.old vault.old name.now) result (shown tenant.new vault.new name.now) }
+    ensures made { tenant.new.made ≡ tenant.old.made }
+    ensures own { IsOwn name.now vault.old vault.new }
+    ensures grows { GrowsAmong [] vault.old.places vault.new.places }
+    ensures staged { IsStaged vault.old.honest tenant.new.upload (staged_in vault.new name.now) }
+{
     match request {
         Request::Offers => list_offers(tenant, met),
         Request::ForkOffer(giver, word, copy) => {
             fork_offer(alloc, tenant, vault, name, met, (giver, word, copy))
         }
-        request => answer_from(alloc, tenant, vault, name, request),
+        _ => unreachable!(),
     }
 }
 

@@ -91,7 +91,7 @@ module _ (world : World) (tenant : List ℕ) (view : View) (sound : IsSoundWorld
       let right = sound.right key.0 given.view given.there in
       let reach = right.offered (tenant, key.1) offer given.made in
       let all = whole given.view.objects offer (record { named = right.named; right = right.right; closed = right.closed }) reach may.references in
-      (may.head, references_kept (met_by world tenant) offer.objects (joined view.objects offer.objects) offer.repository.references (second_among view.objects offer.objects (offer_match world tenant key.0 view given.view offer alike here given.there reach)) all.references)
+      (may.head, references_kept offer.objects (joined view.objects offer.objects) offer.repository.references (second_among view.objects offer.objects (offer_match world tenant key.0 view given.view offer alike here given.there reach)) all.references)
 
   pub sound_beside : IsSoundBeside (met_by world tenant) view.objects
   sound_beside key offer is =

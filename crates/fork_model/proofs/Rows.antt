@@ -61,6 +61,238 @@ abbrev pub SameBut : Option Pair → Offers → Offers → Type 0
 SameBut None old new = new ≡ old
 SameBut (Some key) old new = (other : Pair) → other ≢ key → get new other ≡ get old other
 
+-- a repository that a tenant with these objects may have under this name
+record MayStand (objects : Objects) (name : List ℕ) (repository : Repository) : Type 0 where
+  word : IsRepositoryName name
+  branch : IsBranch repository.head
+  sound : AreReferences objects repository.references
+
+-- each of these may
+abbrev MayAllStand : Objects → Repositories → Type 0
+MayAllStand objects repositories = (name : List ℕ) (repository : Repository) → get repositories name ≡ Some repository → MayStand objects name repository
+
+-- other repositories that may stand make an orderly view
+with_repositories : (view : View) (repositories : Repositories) → IsOrderly view → len repositories ≤ 256 → MayAllStand view.objects repositories → IsOrderly (record view { repositories = repositories })
+with_repositories view repositories orderly few each = record {
+  upload = orderly.upload;
+  within_limit = orderly.within_limit;
+  limit = orderly.limit;
+  few_repositories = few;
+  repositories = λ name repository is. (each name repository is).word;
+  heads = λ name repository is. (each name repository is).branch;
+  references = λ name repository is. (each name repository is).sound;
+  few_offers = orderly.few_offers;
+  offers = orderly.offers;
+}
+
+-- and leave it right
+still_right : (view : View) (repositories : Repositories) → IsRight view → IsRight (record view { repositories = repositories })
+still_right view repositories right = record { named = right.named; right = right.right; closed = right.closed; offered = right.offered; upload = right.upload }
+
+-- a repository put beside others
+each_inserted : (objects : Objects) (repositories : Repositories) (word : List ℕ) (new : Repository) → MayStand objects word new → MayAllStand objects repositories → MayAllStand objects (insert repositories word new)
+each_inserted objects repositories word new right others name repository is =
+    elim (at_key (eq_by_cmp name_cmp name word) new repository (get repositories name) (sym (get-insert name_total repositories word new name) ∙ is)) [
+      | inl here ↦ subst (λ n. MayStand objects n repository) (sym (tied_names name word here.0)) (subst (MayStand objects word) here.1 right)
+      | inr there ↦ others name repository there
+    ]
+
+-- those of an orderly view may stand
+sound_each : (view : View) → IsOrderly view → MayAllStand view.objects view.repositories
+sound_each view sound name repository is = record { word = sound.repositories name repository is; branch = sound.heads name repository is; sound = sound.references name repository is }
+
+-- a repository that stands may stand with other references, and with another head
+other_references : (view : View) (word : List ℕ) (old : Repository) (new : References) → IsOrderly view → get view.repositories word ≡ Some old → (objects : Objects) → AreReferences objects new
+    → MayStand objects word (record old { references = new })
+other_references view word old new orderly there objects sound = record { word = orderly.repositories word old there; branch = orderly.heads word old there; sound = sound }
+
+other_head : (view : View) (word : List ℕ) (old : Repository) (branch : List ℕ) → IsOrderly view → get view.repositories word ≡ Some old → IsBranch branch → MayStand view.objects word (record old { head = branch })
+other_head view word old branch orderly there is = record { word = orderly.repositories word old there; branch = is; sound = orderly.references word old there }
+
+few_more : (here : Bool) (n : ℕ) → nat_le 256 n ≡ false → n ≤ 256 → cond here n (n + 1) ≤ 256
+few_more true n room few = few
+few_more false n room few = grind (arith, nat_tests)
+
+some_absent : {X : Type 0} (x : X) → None ≡ Some x → ⊥
+some_absent x is = cc
+
+none_left : {A : Type 0} (xs : List A) → length xs ≡ 0 → xs ≡ []
+none_left [] is = refl
+none_left (x ∷ xs) is = absurd (omega arith)
+
+some_same : {X : Type 0} (x y : X) → Some x ≡ Some y → x ≡ y
+some_same x y is = cc
+
+no_entries : entries (empty {X = List ℕ} {R = name_cmp}) ≡ []
+no_entries = none_left (entries (empty {X = List ℕ} {R = name_cmp})) (sym (len-entries (empty {X = List ℕ} {R = name_cmp})) ∙ len-empty name_cmp (List ℕ))
+
+-- no references
+none_right : (objects : Objects) → AreReferences objects empty
+none_right objects = record {
+  each = λ reference target is. absurd (some_absent target (sym (get-empty {X = List ℕ} name_cmp reference) ∙ is));
+  apart = ap (λ es. least_upper (map (λ e. e.0) es)) no_entries;
+  few = subst (λ n. n ≤ 4096) (sym (len-empty name_cmp (List ℕ))) (omega arith);
+}
+
+fewer : (here : Bool) (n : ℕ) → n ≤ 256 → cond here (n - 1) n ≤ 256
+fewer true n few = omega arith
+fewer false n few = few
+
+found_before : {X : Type 0} (b : Bool) (o : Option X) (x : X) → cond b None o ≡ Some x → o ≡ Some x
+found_before true o x is = absurd (cc)
+found_before false o x is = is
+
+-- a new repository may stand
+new_stands : (objects : Objects) (word : List ℕ) → IsRepositoryName word → MayStand objects word new_repository
+new_stands objects word right = record { word = right; branch = main_right; sound = none_right objects }
+
+-- references stay right where objects come
+pub references_kept : (objects both : Objects) (references : References) → ((name : List ℕ) → contains_key objects name ≡ true → get both name ≡ get objects name) → AreReferences objects references → AreReferences both references
+references_kept objects both references grown right = record {
+  each = λ reference target is.
+      let at = right.each reference target is in
+      let kept = grown target at.there in
+      record {
+        named = at.named;
+        there = ap is_some kept ∙ at.there;
+        commit = λ branch. ap (λ o. is_commit (option_map (λ object. object.kind) o)) kept ∙ at.commit branch;
+      };
+  apart = right.apart;
+  few = right.few;
+}
+
+still_few : (view : View) (word : List ℕ) (old new : Repository) → get view.repositories word ≡ Some old → len view.repositories ≤ 256 → len (insert view.repositories word new) ≤ 256
+still_few view word old new there few =
+    subst (λ n. n ≤ 256) (sym (len-insert name_total view.repositories word new ∙ ap (λ b. cond b (len view.repositories) (len view.repositories + 1)) (ap is_some there))) few
+
+-- an offer may have been made by a tenant that sees other objects, where its references hold over these
+with_other_objects : (objects others : Objects) (key : Pair) (offer : Offer) → (AreReferences objects offer.repository.references → AreReferences others offer.repository.references) → IsOffer objects key offer → IsOffer others key offer
+with_other_objects objects others key offer holds is = record { receiver = is.receiver; named = is.named; head = is.head; references = holds is.references }
+
+-- an accepted push leaves an orderly view
+pub orderly_pushed : (view : View) (word : List ℕ) (old : Repository) (new : References) (commands : List Command) (both : Objects) → ((name : List ℕ) → contains_key view.objects name ≡ true → get both name ≡ get view.objects name) → get view.repositories word ≡ Some old
+    → IsRepositoryName word → transacted old.references commands (kind_in both) ≡ Ok new → use_of both ≤ view.limit → IsOrderly view
+    → IsOrderly (record view { repositories = insert view.repositories word (record old { references = new }); objects = both })
+orderly_pushed view word old new commands both grown there right carried within orderly =
+    let kept = λ (references : References). references_kept view.objects both references grown in
+    let each = each_inserted both view.repositories word (record old { references = new })
+    (other_references view word old new orderly there both (sound_transacted both old.references new commands (kept old.references (orderly.references word old there)) carried))
+    (λ name repository is. record { word = orderly.repositories name repository is; branch = orderly.heads name repository is; sound = kept repository.references (orderly.references name repository is) }) in
+    record {
+      upload = orderly.upload;
+      within_limit = within;
+      limit = orderly.limit;
+      few_repositories = still_few view word old (record old { references = new }) there orderly.few_repositories;
+      repositories = λ name repository is. (each name repository is).word;
+      heads = λ name repository is. (each name repository is).branch;
+      references = λ name repository is. (each name repository is).sound;
+      few_offers = orderly.few_offers;
+      offers = λ key offer is. with_other_objects view.objects both key offer (kept offer.repository.references) (orderly.offers key offer is);
+    }
+
+-- and a right one
+right_pushed : (view : View) (word : List ℕ) (old : Repository) (new : References) (held : List Command × List Object) → AreObjects held.1
+    → IsAccepted (with_objects view.objects held.1) old.references view.limit (held.0, map object_name held.1) new → IsRight view
+    → IsRight (record view { repositories = insert view.repositories word (record old { references = new }); objects = with_objects view.objects held.1 })
+right_pushed view word old new held are accepted right = record {
+  named = named_all view.objects held.1 right.named;
+  right = right_both view.objects held.1 right.right are;
+  closed = closed_both view.objects held.1 right.closed accepted.met;
+  offered = λ key offer is. reach_grows view.objects (with_objects view.objects held.1) offer right.closed (λ name seen. kept_all view.objects held.1 name seen) (right.offered key offer is);
+  upload = right.upload;
+}
+
+-- a view with another upload, or none
+orderly_upload : (view : View) (upload : Option UploadValue) → ((value : UploadValue) → upload ≡ Some value → value.count ≤ 33554432) → IsOrderly view → IsOrderly (record view { upload = upload })
+orderly_upload view upload few orderly = record {
+  upload = few;
+  within_limit = orderly.within_limit;
+  limit = orderly.limit;
+  few_repositories = orderly.few_repositories;
+  repositories = orderly.repositories;
+  heads = orderly.heads;
+  references = orderly.references;
+  few_offers = orderly.few_offers;
+  offers = orderly.offers;
+}
+
+right_upload : (view : View) (upload : Option UploadValue) → ((value : UploadValue) → upload ≡ Some value → AreObjects (sent_in value.stream)) → IsRight view → IsRight (record view { upload = upload })
+right_upload view upload are right = record { named = right.named; right = right.right; closed = right.closed; offered = right.offered; upload = are }
+
+pub orderly_without : (view : View) → IsOrderly view → IsOrderly (without_upload view)
+orderly_without view orderly = orderly_upload view None (λ value is. absurd (some_absent value is)) orderly
+
+pub right_without : (view : View) → IsRight view → IsRight (without_upload view)
+right_without view right = right_upload view None (λ value is. absurd (some_absent value is)) right
+
+open_right : (upload : Option UploadValue) → ((value : UploadValue) → upload ≡ Some value → AreObjects (sent_in value.stream)) → AreObjects (sent_in (open_upload upload).stream)
+open_right (Some upload) right = right upload refl
+open_right None right = stream_right []
+
+counted : (upload : UploadValue) (piece : List ℕ) → nat_lt 33554432 (upload.count + length piece) ≡ false → (continued upload piece).count ≤ 33554432
+unfolding continued
+counted upload piece fits = grind (arith, nat_tests)
+
+-- what is kept of objects has the roots that are there
+abbrev pub HasRoots : View → (List ℕ → Bool) → Type 0
+HasRoots view kept = (target : List ℕ) → Contains (roots_of view) target → contains_key view.objects target ≡ true → kept target ≡ true
+
+-- where no root goes, the view stays in order
+pub orderly_kept : (view : View) (kept : List ℕ → Bool) → HasRoots view kept → IsOrderly view → IsOrderly (record view { objects = retain_keys view.objects kept })
+orderly_kept view kept rooted orderly =
+    let fits = use_of-kept view.objects kept in
+    let before = orderly.within_limit in
+    record {
+      upload = orderly.upload;
+      within_limit = omega arith;
+      limit = orderly.limit;
+      few_repositories = orderly.few_repositories;
+      repositories = orderly.repositories;
+      heads = orderly.heads;
+      references = λ word repository is. references_right view.objects kept repository.references (λ reference target points. rooted target (target_rooted view word repository reference target is points)) (orderly.references word repository is);
+      few_offers = orderly.few_offers;
+      offers = λ key offer is. with_other_objects view.objects (retain_keys view.objects kept) key offer
+          (references_right view.objects kept offer.repository.references (λ reference target points. rooted target (offer_rooted view key offer reference target is points))) (orderly.offers key offer is);
+    }
+
+roots_kept : (view : View) → HasRoots view (is_reached (linked_names view.objects) view.objects (roots_of view))
+roots_kept view target at there = root_reached (linked_names view.objects) view.objects (roots_of view) target at there
+
+orderly_pruned : (view : View) → IsOrderly view → IsOrderly (pruned view)
+orderly_pruned view orderly = orderly_kept view (is_reached (linked_names view.objects) view.objects (roots_of view)) (roots_kept view) orderly
+
+-- where nothing goes that a root reaches, it stays right
+right_pruned : (view : View) → IsRight view → IsRight (pruned view)
+right_pruned view right =
+    let next = linked_names view.objects in
+    let kept = is_reached next view.objects (roots_of view) in
+    let closed = closed_kept view.objects kept (λ from name. next_reached next view.objects (roots_of view) from name) right.closed in
+    record {
+      named = named_kept view.objects kept right.named;
+      right = right_kept view.objects kept right.right;
+      closed = closed;
+      offered = λ key offer is. reach_kept view.objects kept offer closed (λ reference target points. roots_kept view target (offer_rooted view key offer reference target is points)) (right.offered key offer is);
+      upload = right.upload;
+    }
+
+-- other offers make an orderly view, where each may have been made
+with_offers : (view : View) (made : Offers) → IsOrderly view → len made ≤ 256 → ((key : Pair) (offer : Offer) → get made key ≡ Some offer → IsOffer view.objects key offer) → IsOrderly (record view { made = made })
+with_offers view made orderly few each = record {
+  upload = orderly.upload;
+  within_limit = orderly.within_limit;
+  limit = orderly.limit;
+  few_repositories = orderly.few_repositories;
+  repositories = orderly.repositories;
+  heads = orderly.heads;
+  references = orderly.references;
+  few_offers = few;
+  offers = each;
+}
+
+-- and a right one, where each holds what its references reach
+right_offers : (view : View) (made : Offers) → IsRight view → ((key : Pair) (offer : Offer) → get made key ≡ Some offer → IsReach view.objects offer) → IsRight (record view { made = made })
+right_offers view made right each = record { named = right.named; right = right.right; closed = right.closed; offered = each; upload = right.upload }
+
 -- the key of the offer that a request changes
 abbrev pub changed_by : Ask → Option Pair
 changed_by (MakesOffer repository receiver) = Some (receiver, repository)
@@ -95,58 +327,6 @@ module _ (context : Context) where
   named_row : (view : View) (word : List ℕ) (row : Reply × View) → (IsRepositoryName word → IsRow view row) → IsRow view (named_repository view word row)
   named_row view word row right = either view (is_plain_name 64 word) row (Refused (BadName word), view) (λ is. right (plain_name 64 word is)) (λ _. refuses view (BadName word))
 
-  -- a repository that a tenant with these objects may have under this name
-  record MayStand (objects : Objects) (name : List ℕ) (repository : Repository) : Type 0 where
-    word : IsRepositoryName name
-    branch : IsBranch repository.head
-    sound : AreReferences objects repository.references
-
-  -- each of these may
-  abbrev MayAllStand : Objects → Repositories → Type 0
-  MayAllStand objects repositories = (name : List ℕ) (repository : Repository) → get repositories name ≡ Some repository → MayStand objects name repository
-
-  -- other repositories that may stand make an orderly view
-  with_repositories : (view : View) (repositories : Repositories) → IsOrderly view → len repositories ≤ 256 → MayAllStand view.objects repositories → IsOrderly (record view { repositories = repositories })
-  with_repositories view repositories orderly few each = record {
-    upload = orderly.upload;
-    within_limit = orderly.within_limit;
-    limit = orderly.limit;
-    few_repositories = few;
-    repositories = λ name repository is. (each name repository is).word;
-    heads = λ name repository is. (each name repository is).branch;
-    references = λ name repository is. (each name repository is).sound;
-    few_offers = orderly.few_offers;
-    offers = orderly.offers;
-  }
-
-  -- and leave it right
-  still_right : (view : View) (repositories : Repositories) → IsRight view → IsRight (record view { repositories = repositories })
-  still_right view repositories right = record { named = right.named; right = right.right; closed = right.closed; offered = right.offered; upload = right.upload }
-
-  -- a repository put beside others
-  each_inserted : (objects : Objects) (repositories : Repositories) (word : List ℕ) (new : Repository) → MayStand objects word new → MayAllStand objects repositories → MayAllStand objects (insert repositories word new)
-  each_inserted objects repositories word new right others name repository is =
-      elim (at_key (eq_by_cmp name_cmp name word) new repository (get repositories name) (sym (get-insert name_total repositories word new name) ∙ is)) [
-        | inl here ↦ subst (λ n. MayStand objects n repository) (sym (tied_names name word here.0)) (subst (MayStand objects word) here.1 right)
-        | inr there ↦ others name repository there
-      ]
-
-  -- those of an orderly view may stand
-  sound_each : (view : View) → IsOrderly view → MayAllStand view.objects view.repositories
-  sound_each view sound name repository is = record { word = sound.repositories name repository is; branch = sound.heads name repository is; sound = sound.references name repository is }
-
-  -- a repository that stands may stand with other references, and with another head
-  other_references : (view : View) (word : List ℕ) (old : Repository) (new : References) → IsOrderly view → get view.repositories word ≡ Some old → (objects : Objects) → AreReferences objects new
-      → MayStand objects word (record old { references = new })
-  other_references view word old new orderly there objects sound = record { word = orderly.repositories word old there; branch = orderly.heads word old there; sound = sound }
-
-  other_head : (view : View) (word : List ℕ) (old : Repository) (branch : List ℕ) → IsOrderly view → get view.repositories word ≡ Some old → IsBranch branch → MayStand view.objects word (record old { head = branch })
-  other_head view word old branch orderly there is = record { word = orderly.repositories word old there; branch = is; sound = orderly.references word old there }
-
-  few_more : (here : Bool) (n : ℕ) → nat_le 256 n ≡ false → n ≤ 256 → cond here n (n + 1) ≤ 256
-  few_more true n room few = few
-  few_more false n room few = grind (arith, nat_tests)
-
   added_row : (view : View) (word : List ℕ) (repository : Repository) → (IsOrderly view → MayStand view.objects word repository) → IsRow view (repository_added view word repository)
   added_row view word repository right =
       either view (contains_key view.repositories word) (Refused (RepositoryExists word), view) _ (λ _. refuses view (RepositoryExists word)) (λ _.
@@ -155,35 +335,6 @@ module _ (context : Context) where
       (subst (λ n. n ≤ 256) (sym (len-insert name_total view.repositories word repository)) (few_more (contains_key view.repositories word) (len view.repositories) room sound.few_repositories))
       (each_inserted view.objects view.repositories word repository (right sound) (sound_each view sound)))
       (still_right view (insert view.repositories word repository))))
-
-  some_absent : {X : Type 0} (x : X) → None ≡ Some x → ⊥
-  some_absent x is = cc
-
-  none_left : {A : Type 0} (xs : List A) → length xs ≡ 0 → xs ≡ []
-  none_left [] is = refl
-  none_left (x ∷ xs) is = absurd (omega arith)
-
-  some_same : {X : Type 0} (x y : X) → Some x ≡ Some y → x ≡ y
-  some_same x y is = cc
-
-  no_entries : entries (empty {X = List ℕ} {R = name_cmp}) ≡ []
-  no_entries = none_left (entries (empty {X = List ℕ} {R = name_cmp})) (sym (len-entries (empty {X = List ℕ} {R = name_cmp})) ∙ len-empty name_cmp (List ℕ))
-
-  -- no references
-  none_right : (objects : Objects) → AreReferences objects empty
-  none_right objects = record {
-    each = λ reference target is. absurd (some_absent target (sym (get-empty {X = List ℕ} name_cmp reference) ∙ is));
-    apart = ap (λ es. least_upper (map (λ e. e.0) es)) no_entries;
-    few = subst (λ n. n ≤ 4096) (sym (len-empty name_cmp (List ℕ))) (omega arith);
-  }
-
-  fewer : (here : Bool) (n : ℕ) → n ≤ 256 → cond here (n - 1) n ≤ 256
-  fewer true n few = omega arith
-  fewer false n few = few
-
-  found_before : {X : Type 0} (b : Bool) (o : Option X) (x : X) → cond b None o ≡ Some x → o ≡ Some x
-  found_before true o x is = absurd (cc)
-  found_before false o x is = is
 
   dropped_row : (view : View) (word : List ℕ) → IsRow view (dropped view word)
   dropped_row view word =
@@ -195,70 +346,10 @@ module _ (context : Context) where
       (still_right view (remove view.repositories word)))
       (λ _. refuses view (NoRepository word))
 
-  -- a new repository may stand
-  new_stands : (objects : Objects) (word : List ℕ) → IsRepositoryName word → MayStand objects word new_repository
-  new_stands objects word right = record { word = right; branch = main_right; sound = none_right objects }
-
   -- the same repository under another name
   copied_row : (view : View) (source copy : List ℕ) (o : Option Repository) → get view.repositories source ≡ o → IsRepositoryName copy → IsRow view (copied view source copy o)
   copied_row view source copy None is right = refuses view (NoRepository source)
   copied_row view source copy (Some repository) is right = added_row view copy repository (λ sound. record { word = right; branch = sound.heads source repository is; sound = sound.references source repository is })
-
-  -- references stay right where objects come
-  pub references_kept : (objects both : Objects) (references : References) → ((name : List ℕ) → contains_key objects name ≡ true → get both name ≡ get objects name) → AreReferences objects references → AreReferences both references
-  references_kept objects both references grown right = record {
-    each = λ reference target is.
-        let at = right.each reference target is in
-        let kept = grown target at.there in
-        record {
-          named = at.named;
-          there = ap is_some kept ∙ at.there;
-          commit = λ branch. ap (λ o. is_commit (option_map (λ object. object.kind) o)) kept ∙ at.commit branch;
-        };
-    apart = right.apart;
-    few = right.few;
-  }
-
-  still_few : (view : View) (word : List ℕ) (old new : Repository) → get view.repositories word ≡ Some old → len view.repositories ≤ 256 → len (insert view.repositories word new) ≤ 256
-  still_few view word old new there few =
-      subst (λ n. n ≤ 256) (sym (len-insert name_total view.repositories word new ∙ ap (λ b. cond b (len view.repositories) (len view.repositories + 1)) (ap is_some there))) few
-
-  -- an offer may have been made by a tenant that sees other objects, where its references hold over these
-  with_other_objects : (objects others : Objects) (key : Pair) (offer : Offer) → (AreReferences objects offer.repository.references → AreReferences others offer.repository.references) → IsOffer objects key offer → IsOffer others key offer
-  with_other_objects objects others key offer holds is = record { receiver = is.receiver; named = is.named; head = is.head; references = holds is.references }
-
-  -- an accepted push leaves an orderly view
-  pub orderly_pushed : (view : View) (word : List ℕ) (old : Repository) (new : References) (commands : List Command) (both : Objects) → ((name : List ℕ) → contains_key view.objects name ≡ true → get both name ≡ get view.objects name) → get view.repositories word ≡ Some old
-      → IsRepositoryName word → transacted old.references commands (kind_in both) ≡ Ok new → use_of both ≤ view.limit → IsOrderly view
-      → IsOrderly (record view { repositories = insert view.repositories word (record old { references = new }); objects = both })
-  orderly_pushed view word old new commands both grown there right carried within orderly =
-      let kept = λ (references : References). references_kept view.objects both references grown in
-      let each = each_inserted both view.repositories word (record old { references = new })
-      (other_references view word old new orderly there both (sound_transacted both old.references new commands (kept old.references (orderly.references word old there)) carried))
-      (λ name repository is. record { word = orderly.repositories name repository is; branch = orderly.heads name repository is; sound = kept repository.references (orderly.references name repository is) }) in
-      record {
-        upload = orderly.upload;
-        within_limit = within;
-        limit = orderly.limit;
-        few_repositories = still_few view word old (record old { references = new }) there orderly.few_repositories;
-        repositories = λ name repository is. (each name repository is).word;
-        heads = λ name repository is. (each name repository is).branch;
-        references = λ name repository is. (each name repository is).sound;
-        few_offers = orderly.few_offers;
-        offers = λ key offer is. with_other_objects view.objects both key offer (kept offer.repository.references) (orderly.offers key offer is);
-      }
-
-  -- and a right one
-  right_pushed : (view : View) (word : List ℕ) (old : Repository) (new : References) (held : List Command × List Object) → AreObjects held.1
-      → IsAccepted (with_objects view.objects held.1) old.references view.limit (held.0, map object_name held.1) new → IsRight view
-      → IsRight (record view { repositories = insert view.repositories word (record old { references = new }); objects = with_objects view.objects held.1 })
-  right_pushed view word old new held are accepted right = record {
-    named = named_all view.objects held.1 right.named;
-    right = right_both view.objects held.1 right.right are;
-    closed = closed_both view.objects held.1 right.closed accepted.met;
-    offered = λ key offer is. reach_grows view.objects (with_objects view.objects held.1) offer right.closed (λ name seen. kept_all view.objects held.1 name seen) (right.offered key offer is);
-    upload = right.upload;
-  }
 
   taken_row : (view : View) (word : List ℕ) (old : Repository) (objects : Objects) (value : Result References PushRefusal)
       → ((new : References) → value ≡ Ok new → IsOrderly view → IsOrderly (record view { repositories = insert view.repositories word (record old { references = new }); objects = objects }))
@@ -284,37 +375,6 @@ module _ (context : Context) where
   into_row view word body (Some old) there right =
       either view (is_some view.upload) (Refused UploadOpen, view) (pushed view word old (finished (stream_of body))) (λ _. refuses view UploadOpen)
       (λ _. pushed_row view word old (finished (stream_of body)) there right (λ _. held_right (stream_of body) (stream_right body)))
-
-  -- a view with another upload, or none
-  orderly_upload : (view : View) (upload : Option UploadValue) → ((value : UploadValue) → upload ≡ Some value → value.count ≤ 33554432) → IsOrderly view → IsOrderly (record view { upload = upload })
-  orderly_upload view upload few orderly = record {
-    upload = few;
-    within_limit = orderly.within_limit;
-    limit = orderly.limit;
-    few_repositories = orderly.few_repositories;
-    repositories = orderly.repositories;
-    heads = orderly.heads;
-    references = orderly.references;
-    few_offers = orderly.few_offers;
-    offers = orderly.offers;
-  }
-
-  right_upload : (view : View) (upload : Option UploadValue) → ((value : UploadValue) → upload ≡ Some value → AreObjects (sent_in value.stream)) → IsRight view → IsRight (record view { upload = upload })
-  right_upload view upload are right = record { named = right.named; right = right.right; closed = right.closed; offered = right.offered; upload = are }
-
-  pub orderly_without : (view : View) → IsOrderly view → IsOrderly (without_upload view)
-  orderly_without view orderly = orderly_upload view None (λ value is. absurd (some_absent value is)) orderly
-
-  pub right_without : (view : View) → IsRight view → IsRight (without_upload view)
-  right_without view right = right_upload view None (λ value is. absurd (some_absent value is)) right
-
-  open_right : (upload : Option UploadValue) → ((value : UploadValue) → upload ≡ Some value → AreObjects (sent_in value.stream)) → AreObjects (sent_in (open_upload upload).stream)
-  open_right (Some upload) right = right upload refl
-  open_right None right = stream_right []
-
-  counted : (upload : UploadValue) (piece : List ℕ) → nat_lt 33554432 (upload.count + length piece) ≡ false → (continued upload piece).count ≤ 33554432
-  unfolding continued
-  counted upload piece fits = grind (arith, nat_tests)
 
   part_row : (view : View) (body : List ℕ) → IsRow view (part_answer view body)
   unfolding part_answer
@@ -395,48 +455,6 @@ module _ (context : Context) where
   listing_row view word prefix None = refuses view (NoRepository word)
   listing_row view word prefix (Some repository) = does (listing view.objects repository.references prefix) refl refl (λ was. was) (λ was. was)
 
-  -- what is kept of objects has the roots that are there
-  abbrev pub HasRoots : View → (List ℕ → Bool) → Type 0
-  HasRoots view kept = (target : List ℕ) → Contains (roots_of view) target → contains_key view.objects target ≡ true → kept target ≡ true
-
-  -- where no root goes, the view stays in order
-  pub orderly_kept : (view : View) (kept : List ℕ → Bool) → HasRoots view kept → IsOrderly view → IsOrderly (record view { objects = retain_keys view.objects kept })
-  orderly_kept view kept rooted orderly =
-      let fits = use_of-kept view.objects kept in
-      let before = orderly.within_limit in
-      record {
-        upload = orderly.upload;
-        within_limit = omega arith;
-        limit = orderly.limit;
-        few_repositories = orderly.few_repositories;
-        repositories = orderly.repositories;
-        heads = orderly.heads;
-        references = λ word repository is. references_right view.objects kept repository.references (λ reference target points. rooted target (target_rooted view word repository reference target is points)) (orderly.references word repository is);
-        few_offers = orderly.few_offers;
-        offers = λ key offer is. with_other_objects view.objects (retain_keys view.objects kept) key offer
-            (references_right view.objects kept offer.repository.references (λ reference target points. rooted target (offer_rooted view key offer reference target is points))) (orderly.offers key offer is);
-      }
-
-  roots_kept : (view : View) → HasRoots view (is_reached (linked_names view.objects) view.objects (roots_of view))
-  roots_kept view target at there = root_reached (linked_names view.objects) view.objects (roots_of view) target at there
-
-  orderly_pruned : (view : View) → IsOrderly view → IsOrderly (pruned view)
-  orderly_pruned view orderly = orderly_kept view (is_reached (linked_names view.objects) view.objects (roots_of view)) (roots_kept view) orderly
-
-  -- where nothing goes that a root reaches, it stays right
-  right_pruned : (view : View) → IsRight view → IsRight (pruned view)
-  right_pruned view right =
-      let next = linked_names view.objects in
-      let kept = is_reached next view.objects (roots_of view) in
-      let closed = closed_kept view.objects kept (λ from name. next_reached next view.objects (roots_of view) from name) right.closed in
-      record {
-        named = named_kept view.objects kept right.named;
-        right = right_kept view.objects kept right.right;
-        closed = closed;
-        offered = λ key offer is. reach_kept view.objects kept offer closed (λ reference target points. roots_kept view target (offer_rooted view key offer reference target is points)) (right.offered key offer is);
-        upload = right.upload;
-      }
-
   -- a row by a test, whatever offer it changes
   either_to : (view : View) (changed : Option Pair) (b : Bool) (x y : Reply × View) → (b ≡ true → GoesTo context view view changed x) → (b ≡ false → GoesTo context view view changed y) → GoesTo context view view changed (cond b x y)
   either_to view changed true x y left right = left refl
@@ -452,24 +470,6 @@ module _ (context : Context) where
   receiver_to view changed word row right =
       either_to view changed (is_plain_name 32 word && not (same_name word context.own)) row (Refused (BadName word), view)
       (λ is. right (plain_name 32 word (and_parts (is_plain_name 32 word) (not (same_name word context.own)) is).0)) (λ _. refuses_to view changed (BadName word))
-
-  -- other offers make an orderly view, where each may have been made
-  with_offers : (view : View) (made : Offers) → IsOrderly view → len made ≤ 256 → ((key : Pair) (offer : Offer) → get made key ≡ Some offer → IsOffer view.objects key offer) → IsOrderly (record view { made = made })
-  with_offers view made orderly few each = record {
-    upload = orderly.upload;
-    within_limit = orderly.within_limit;
-    limit = orderly.limit;
-    few_repositories = orderly.few_repositories;
-    repositories = orderly.repositories;
-    heads = orderly.heads;
-    references = orderly.references;
-    few_offers = few;
-    offers = each;
-  }
-
-  -- and a right one, where each holds what its references reach
-  right_offers : (view : View) (made : Offers) → IsRight view → ((key : Pair) (offer : Offer) → get made key ≡ Some offer → IsReach view.objects offer) → IsRight (record view { made = made })
-  right_offers view made right each = record { named = right.named; right = right.right; closed = right.closed; offered = each; upload = right.upload }
 
   offer_added_row : (view : View) (word receiver : List ℕ) (repository : Repository) → get view.repositories word ≡ Some repository → IsRepositoryName word → IsTenantName receiver → GoesTo context view view (Some (receiver, word)) (offer_added view (receiver, word) repository)
   offer_added_row view word receiver repository there named receiver_named =

@@ -47,10 +47,10 @@ module _ (context : Context) where
   row_right view left changed row (Does text told made orderly right) beside was after = right beside was
 
   pub orderly_answer : (view : View) (ask : Ask) → MayTake context view.objects → IsOrderly view → IsOrderly (answer context view ask).1
-  orderly_answer view ask may was = row_orderly view (left_by view ask) (changed_by ask) (answer context view ask) (answer_row context view ask) may was (left_holds IsOrderly (orderly_without context) view ask was)
+  orderly_answer view ask may was = row_orderly view (left_by view ask) (changed_by ask) (answer context view ask) (answer_row context view ask) may was (left_holds IsOrderly orderly_without view ask was)
 
   pub right_answer : (view : View) (ask : Ask) → IsSoundBeside context view.objects → IsSound view → IsRight (answer context view ask).1
-  right_answer view ask beside was = row_right view (left_by view ask) (changed_by ask) (answer context view ask) (answer_row context view ask) beside was (left_holds IsRight (right_without context) view ask was.right)
+  right_answer view ask beside was = row_right view (left_by view ask) (changed_by ask) (answer context view ask) (answer_row context view ask) beside was (left_holds IsRight right_without view ask was.right)
 
   same_but : (changed : Option Pair) (old new : Offers) → new ≡ old → SameBut changed old new
   same_but None old new is = is

@@ -2,6 +2,7 @@ pub mod AddingLemmas
 pub mod BetweenLemmas
 pub mod BoundLemmas
 pub mod FaultLemmas
+pub mod ForkedLemmas
 pub mod GatherLemmas
 pub mod HandleLemmas
 pub mod KeepingLemmas

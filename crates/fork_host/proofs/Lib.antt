@@ -2,10 +2,12 @@ pub mod AddingLemmas
 pub mod BetweenLemmas
 pub mod BoundLemmas
 pub mod FaultLemmas
+pub mod ForkedLemmas
 pub mod GatherLemmas
 pub mod HandleLemmas
 pub mod KeepingLemmas
 mod MadeLemmas
+pub mod MetLemmas
 pub mod NamesLemmas
 pub mod OpeningLemmas
 pub mod OwnLemmas

@@ -50,9 +50,9 @@ pub(crate) fn fork_offer<S: LooseFiles>(
 ) -> Reply
     requires ready { IsReady vault.old name.now tenant.old.limit }
     requires staged { IsStaged vault.old.honest tenant.old.upload (staged_in vault.old name.now) }
-    ensures row { (context : Context) → IsMet vault.old context (ForksOffer words.0.now words.1.now words.2.now) met
-        → YieldsOver vault.old.honest (fork_offer_answer context (shown tenant.old vault.old name.now) words.0.now words.1.now words.2.now) (shown tenant.old vault.old name.now) result (shown tenant.new vault.new name.now) }
-    ensures safe { (context : Context) → IsMet vault.old context (ForksOffer words.0.now words.1.now words.2.now) met
+    ensures row { (context : Context) → IsMet vault.old context (ForksOffer words.entry.0.now words.entry.1.now words.entry.2.now) met
+        → YieldsOver vault.old.honest (fork_offer_answer context (shown tenant.old vault.old name.now) words.entry.0.now words.entry.1.now words.entry.2.now) (shown tenant.old vault.old name.now) result (shown tenant.new vault.new name.now) }
+    ensures safe { (context : Context) → IsMet vault.old context (ForksOffer words.entry.0.now words.entry.1.now words.entry.2.now) met
         → IsSafe (IsBounded [] vault.old vault.new) (shown tenant.old vault.old name.now) result (shown tenant.new vault.new name.now) }
     ensures made { tenant.new.made ≡ tenant.old.made }
     ensures own { IsOwn name.now vault.old vault.new }
@@ -88,15 +88,15 @@ fn take_offer<S: LooseFiles>(
 ) -> Reply
     requires ready { IsReady vault.old name.now tenant.old.limit }
     requires staged { IsStaged vault.old.honest tenant.old.upload (staged_in vault.old name.now) }
-    requires head { IsBranch repository.head }
-    requires references { AreReferences (visible_in vault.old giver.now) repository.references }
     ensures row { YieldsOver vault.old.honest (offer_taken (shown tenant.old vault.old name.now) copy (offered (visible_in vault.old giver.now) repository)) (shown tenant.old vault.old name.now) result (shown tenant.new vault.new name.now) }
-    ensures safe { IsSafe (IsBounded [] vault.old vault.new) (shown tenant.old vault.old name.now) result (shown tenant.new vault.new name.now) }
+    ensures safe { IsBranch repository.head → AreReferences (visible_in vault.old giver.now) repository.references
+        → IsSafe (IsBounded [] vault.old vault.new) (shown tenant.old vault.old name.now) result (shown tenant.new vault.new name.now) }
     ensures made { tenant.new.made ≡ tenant.old.made }
     ensures own { IsOwn name.now vault.old vault.new }
     ensures grows { GrowsAmong [] vault.old.places vault.new.places }
     ensures staged { IsStaged vault.old.honest tenant.new.upload (staged_in vault.new name.now) }
 {
+    let _name = copy.as_bytes();
     if let Some(refusal) = tenant.refuses(&copy) {
         return Reply::Refused(refusal);
     }
@@ -150,9 +150,9 @@ fn adopt<S: LooseFiles>(
         return Reply::Refused(Refusal::OverQuota);
     }
     let key = copy.copy();
-    if tenant.put_repository(copy, repository).is_err() {
+    let Ok(()) = tenant.put_repository(copy, repository) else {
         return Reply::Failed(HostFault::Memory);
-    }
+    };
     match vault.adopt(alloc, name, giver, names) {
         Ok(()) => done(alloc),
         Err(fault) => {

@@ -6,6 +6,7 @@ pub mod GatherLemmas
 pub mod HandleLemmas
 pub mod KeepingLemmas
 mod MadeLemmas
+pub mod MetLemmas
 pub mod NamesLemmas
 pub mod OpeningLemmas
 pub mod OwnLemmas

@@ -1,15 +1,16 @@
 -- Offers as they are kept, as they are shown, and as a state tells them.
-use Rattle.std.proofs.Common.{◌≡◌, ◌≢◌, ℕ, Bool, true, false, List, [], ◌∷◌, ◌++◌, Option, None, Some, refl, sym, ap, subst, ◌∙◌, is_some, length, map, suc}
+use Rattle.std.proofs.Common.{◌≡◌, ◌≢◌, ℕ, Bool, true, false, cond, List, [], ◌∷◌, ◌++◌, Option, None, Some, refl, sym, ap, subst, ◌∙◌, is_some, length, map, suc}
 use Rattle.std.specs.Option.{option_map}
+use Rattle.std.specs.Ordering.{eq_by_cmp}
 use Rattle.std.specs.List.{flat_map}
-use Rattle.std.specs.FinMap.{contains_key, empty, entries, get, get-empty, len, len-entries, same_map, values}
+use Rattle.std.specs.FinMap.{contains_key, empty, entries, get, get-empty, get-remove, insert, keys, len, len-entries, remove, same_map, values}
 use Rattle.git_name.specs.Maps.{map_values, mapped}
-use Rattle.git_name.proofs.MapLemmas.{entries_map_values, get_map_values, map_values_empty}
+use Rattle.git_name.proofs.MapLemmas.{entries_map_values, get_map_values, map_values_empty, map_values_insert}
 use Rattle.git_reftx.specs.Repository.{Repository}
 use Rattle.fork_reach.specs.Source.{Objects}
 use Rattle.fork_ledger.specs.Private.{Private}
 use Rattle.fork_model.specs.Answer.{targets_made}
-use Rattle.fork_model.specs.Offer.{Offer, Offers, Pair, offered}
+use Rattle.fork_model.specs.Offer.{Offer, Offers, Pair, offered, pair_cmp}
 use Rattle.fork_model.specs.Sound.{IsRight}
 use Rattle.fork_model.specs.View.{View}
 use Rattle.fork_model.proofs.EntryLemmas.{pair_exact, pair_total}
@@ -26,7 +27,7 @@ repository_of offer = offer.repository
 pub get_made : (offers : Offers) (pair : Pair) → get (made_of offers) pair ≡ option_map repository_of (get offers pair)
 get_made offers pair = get_map_values pair_total repository_of offers pair
 
-get_shown : (objects : Objects) (made : Made) (pair : Pair) → get (made_shown objects made) pair ≡ option_map (offered objects) (get made pair)
+pub get_shown : (objects : Objects) (made : Made) (pair : Pair) → get (made_shown objects made) pair ≡ option_map (offered objects) (get made pair)
 get_shown objects made pair = get_map_values pair_total (offered objects) made pair
 
 -- offers that are shown have the repositories that are kept
@@ -71,6 +72,34 @@ shown_kept objects made pair offer is = by (get made pair) refl (sym (get_shown 
 -- and one that is kept is shown
 pub kept_shown : (objects : Objects) (made : Made) (pair : Pair) (repository : Repository) → get made pair ≡ Some repository → get (made_shown objects made) pair ≡ Some (offered objects repository)
 kept_shown objects made pair repository is = get_shown objects made pair ∙ ap (option_map (offered objects)) is
+
+-- one more, and one that goes
+pub shown_insert : (objects : Objects) (made : Made) (pair : Pair) (repository : Repository) → made_shown objects (insert made pair repository) ≡ insert (made_shown objects made) pair (offered objects repository)
+shown_insert objects made pair repository = map_values_insert pair_total pair_exact (offered objects) made pair repository
+
+pub shown_remove : (objects : Objects) (made : Made) (pair : Pair) → made_shown objects (remove made pair) ≡ remove (made_shown objects made) pair
+shown_remove objects made pair = same_map pair_total pair_exact _ _ (λ key.
+    get_shown objects (remove made pair) key ∙ ap (option_map (offered objects)) (get-remove pair_total made pair key) ∙ none_at (eq_by_cmp pair_cmp key pair) (get made key)
+    ∙ ap (cond (eq_by_cmp pair_cmp key pair) None) (sym (get_shown objects made key)) ∙ sym (get-remove pair_total (made_shown objects made) pair key))
+  where
+    none_at : (b : Bool) (o : Option Repository) → option_map (offered objects) (cond b None o) ≡ cond b None (option_map (offered objects) o)
+    none_at true o = refl
+    none_at false o = refl
+
+same_keys : {K X Y : Type 0} (f : X → Y) (es : List (K × X)) → map (λ e. e.0) (mapped f es) ≡ map (λ e. e.0) es
+same_keys f [] = refl
+same_keys f (e ∷ es) = ap (λ ks. e.0 ∷ ks) (same_keys f es)
+
+-- they stand under the same pairs
+pub keys_shown : (objects : Objects) (made : Made) → keys (made_shown objects made) ≡ keys made
+keys_shown objects made = ap (map (λ e. e.0)) (entries_map_values (offered objects) made) ∙ same_keys (offered objects) (entries made)
+
+pub known_shown : (objects : Objects) (made : Made) (pair : Pair) → contains_key (made_shown objects made) pair ≡ contains_key made pair
+known_shown objects made pair = ap is_some (get_shown objects made pair) ∙ by (get made pair)
+  where
+    by : (o : Option Repository) → is_some (option_map (offered objects) o) ≡ is_some o
+    by None = refl
+    by (Some repository) = refl
 
 -- an offer among others of the same repositories
 pub found_made : (offers others : Offers) (pair : Pair) (offer : Offer) → made_of others ≡ made_of offers → get others pair ≡ Some offer → (was : Offer) × (get offers pair ≡ Some was) × (was.repository ≡ offer.repository)

@@ -135,16 +135,16 @@ no_repository_name state receiver giver word orderly wrong = absent (get (offere
     wrong (((orderly.views giver given.view given.there).offers (receiver, word) offer given.made).named))
 
 -- an offer that is there is met, as it is kept
-pub offer_met : (state : HostState) (receiver giver word : List ℕ) (account : Account) (repository : Repository) → IsOrderlyWorld (world_of state) → get state.accounts giver ≡ Some account → get account.made (receiver, word) ≡ Some repository
-    → MeetsOffer state.vault (met_by (world_of state) receiver) giver word giver repository
-offer_met state receiver giver word account repository orderly here made =
+pub offer_met : (state : HostState) (receiver giver word who : List ℕ) (account : Account) (repository : Repository) → IsOrderlyWorld (world_of state) → who ≡ giver → get state.accounts giver ≡ Some account → get account.made (receiver, word) ≡ Some repository
+    → MeetsOffer state.vault (met_by (world_of state) receiver) giver word who repository
+offer_met state receiver giver word who account repository orderly same here made =
     let seen = visible_in state.vault giver in
     let view = shown account state.vault giver in
     let there = get_shown seen account.made (receiver, word) ∙ ap (option_map (offered seen)) made in
     let right : IsOffer seen (receiver, word) (offered seen repository) =
         (orderly.views giver view (get_world state giver ∙ ap (option_map (λ a. shown a state.vault giver)) here)).offers (receiver, word) (offered seen repository) there in
     record {
-      giver = refl;
+      named = same;
       stands = offer_at state receiver giver word ∙ ap (offered_by state.vault giver receiver word) here ∙ ap (option_map (offered seen)) made;
       head = right.head;
       references = right.references;

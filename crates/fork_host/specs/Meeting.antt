@@ -14,7 +14,7 @@ use Rattle.fork_host.specs.Own.{visible_in}
 
 -- this giver offers a repository as it is kept: what its references reach among what the giver sees; they hold over that
 pub record MeetsOffer (vault : VaultState) (context : Context) (giver word who : List ℕ) (repository : Repository) : Type 0 where
-  pub giver : who ≡ giver
+  pub named : who ≡ giver
   pub stands : get context.offered (giver, word) ≡ Some (offered (visible_in vault giver) repository)
   pub head : IsBranch repository.head
   pub references : AreReferences (visible_in vault giver) repository.references

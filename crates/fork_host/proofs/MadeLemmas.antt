@@ -1,11 +1,11 @@
 -- Offers as they are kept, as they are shown, and as a state tells them.
-use Rattle.std.proofs.Common.{◌≡◌, ◌≢◌, ℕ, Bool, true, false, cond, List, [], ◌∷◌, ◌++◌, Option, None, Some, refl, sym, ap, subst, ◌∙◌, is_some, length, map, suc, codes, nat_le, not, ◌&&◌, ◌<◌, ◌≤◌, le-leb}
+use Rattle.std.proofs.Common.{◌≡◌, ℕ, Bool, true, false, cond, List, [], ◌∷◌, ◌++◌, Option, None, Some, refl, sym, ap, ◌∙◌, is_some, length, map, suc, codes, nat_le, not, ◌&&◌, ◌<◌, ◌≤◌, le-leb}
 use Rattle.std.proofs.lemmas.Bool.{lt-leb}
 use Rattle.std.specs.Option.{option_map}
 use Rattle.std.specs.Ordering.{eq_by_cmp}
 use Rattle.std.specs.List.{flat_map}
-use Rattle.std.specs.FinMap.{contains_key, empty, entries, get, get-empty, get-remove, insert, keys, len, len-entries, remove, same_map, values}
-use Rattle.git_name.specs.Maps.{map_values, mapped}
+use Rattle.std.specs.FinMap.{contains_key, empty, entries, get, get-remove, insert, keys, len, len-entries, remove, same_map, values}
+use Rattle.git_name.specs.Maps.{mapped}
 use Rattle.git_name.specs.Same.{same_name}
 use Rattle.git_name.proofs.MapLemmas.{entries_map_values, get_map_values, map_values_empty, map_values_insert}
 use Rattle.git_reftx.specs.Repository.{Repository}

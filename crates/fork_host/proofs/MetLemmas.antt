@@ -6,7 +6,7 @@ use Rattle.std.specs.declared.cmp.Ordering.TheVariants.{Equal}
 use Rattle.std.specs.Cmp.{IsTotalOrder}
 use Rattle.std.specs.Option.{option_and_then, option_map}
 use Rattle.std.specs.List.{flat_map}
-use Rattle.std.specs.FinMap.{FinMap, IsAntisymmetric, entries, entries_sorted, entries-from_sorted, from_sorted, get, get-entries, get-from_sorted, get-retain_keys, keys, retain_keys, same_map}
+use Rattle.std.specs.FinMap.{FinMap, IsAntisymmetric, entries, entries_sorted, entries-from_sorted, from_sorted, get, get-entries, get-from_sorted, get-retain_keys, retain_keys, same_map}
 use Rattle.std.specs.FinMap.Entries.{find-where_key, is_sorted-where_key}
 use Rattle.std.proofs.lemmas.List.{append_assoc, map-append}
 use Rattle.git_name.specs.Maps.{mapped}
@@ -17,13 +17,13 @@ use Rattle.git_reftx.specs.Repository.{Repository}
 use Rattle.fork_request.specs.Names.{IsRepositoryName, IsTenantName}
 use Rattle.fork_ledger.specs.Tenants.{VaultState}
 use Rattle.fork_model.specs.Answer.{offer_row, offer_rows}
-use Rattle.fork_model.specs.Context.{given_by, made_to, met_by, offered_to}
-use Rattle.fork_model.specs.Offer.{Offer, Pair, offered, pair_cmp}
+use Rattle.fork_model.specs.Context.{given_by, met_by, offered_to}
+use Rattle.fork_model.specs.Offer.{Offer, Pair, offered}
 use Rattle.fork_model.specs.Sound.{IsOffer, IsOrderlyWorld}
 use Rattle.fork_model.specs.View.{View}
 use Rattle.fork_model.proofs.EntryLemmas.{pair_exact, pair_total}
-use Rattle.fork_model.proofs.OfferedLemmas.{IsGiven, get_offered, given_by_one, offered_entries}
-use Rattle.fork_host.specs.Made.{Made, made_shown, rows_from}
+use Rattle.fork_model.proofs.OfferedLemmas.{get_offered, given_by_one, offered_entries}
+use Rattle.fork_host.specs.Made.{made_shown, rows_from}
 use Rattle.fork_host.specs.Meeting.{MeetsOffer}
 use Rattle.fork_host.specs.Own.{visible_in}
 use Rattle.fork_host.specs.Shown.{Account, HostState, entry_shown, shown, world_of}

@@ -17,10 +17,10 @@ refusal_to_add world name limit =
     else if nat_lt MAX_LIMIT limit then Some Limit
     else None
 
--- an account without repositories, under this limit
+-- an account without repositories and offers, under this limit
 abbrev pub new_account : ℕ → Account
-new_account limit = record { repositories = empty; upload = None; limit = limit }
+new_account limit = record { repositories = empty; made = empty; upload = None; limit = limit }
 
 -- nothing, under this limit
 abbrev pub new_view : ℕ → View
-new_view limit = record { repositories = empty; objects = empty; upload = None; limit = limit }
+new_view limit = record { repositories = empty; made = empty; objects = empty; upload = None; limit = limit }

@@ -7,6 +7,7 @@ pub mod Fed
 pub mod Given
 pub mod Handle
 pub mod Keeping
+pub mod Made
 pub mod Opening
 pub mod Own
 pub mod Pushed

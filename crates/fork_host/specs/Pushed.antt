@@ -7,7 +7,6 @@ use Rattle.push_stream.specs.declared.fault.BodyError.{BodyError}
 use Rattle.push_stream.specs.declared.fault.BodyError.TheVariants.{Fault, Memory}
 use Rattle.push_stream.specs.Brief.{brief_of}
 use Rattle.push_stream.specs.declared.brief.Brief.{Brief}
-use Rattle.push_stream.specs.Upload.{UploadValue}
 use Rattle.fork_request.specs.declared.reply.Reply.{Reply}
 use Rattle.fork_request.specs.declared.reply.Reply.TheVariants.{Done}
 use Rattle.fork_ledger.specs.Tenants.{VaultState}
@@ -15,9 +14,9 @@ use Rattle.fork_model.specs.Answer.{Finished}
 use Rattle.fork_model.specs.View.{View, Repositories}
 use Rattle.fork_host.specs.Own.{both_in, visible_in}
 
--- a view of these parts
-abbrev pub view_of : Repositories → Objects → Option UploadValue → ℕ → View
-view_of repositories objects upload limit = record { repositories = repositories; objects = objects; upload = upload; limit = limit }
+-- a view of these parts, and else like another
+abbrev pub view_of : View → Repositories → Objects → ℕ → View
+view_of rest repositories objects limit = record rest { repositories = repositories; objects = objects; limit = limit }
 
 -- what the bytes of a stream gave, are these objects
 abbrev pub Sends : List Object → Result Body BodyError → Type 0

@@ -1,12 +1,11 @@
 -- A tenant that sees again what it saw, on the way to a host that is restored.
-use Rattle.std.specs.Prelude.{◌≡◌, ℕ, ◌≤◌, ◌<◌, ◌++◌, ◌∷◌, [], IsTrue, Option, None, Some, Result, Ok, Err, List, Contains}
+use Rattle.std.specs.Prelude.{◌≡◌, ℕ, ◌≤◌, ◌<◌, ◌++◌, ◌∷◌, [], IsTrue, Option, None, Some, Result, Ok, Err, List, Contains, map}
 use Rattle.std.specs.BTreeSet.{BTreeSet, contains}
 use Rattle.std.specs.FinMap.{entries, insert}
 use Rattle.std.specs.List.{find}
 use Rattle.git_name.specs.Name.{name_cmp}
 use Rattle.fork_sound.specs.Sound.{is_bad}
 use Rattle.git_name.specs.Object.{Object, object_name}
-use Rattle.git_reftx.specs.Repository.{Repository}
 use Rattle.loose_store.specs.Files.{Files}
 use Rattle.loose_store.specs.Stored.{Whole}
 use Rattle.fork_reach.specs.Objects.{IsNamed, use_of, with_objects}
@@ -15,9 +14,10 @@ use Rattle.fork_ledger.specs.Tenants.{VaultState}
 use Rattle.fork_model.specs.Sound.{AreRight, IsClosed}
 use Rattle.fork_model.specs.View.{View}
 use Rattle.fork_model.specs.World.{World}
+use Rattle.state_text.specs.Kept.{offer_kept}
 use Rattle.state_text.specs.States.{TenantState}
 use Rattle.fork_host.specs.Own.{ChangesTenant, SeesOnly, both_in, visible_in}
-use Rattle.fork_host.specs.Restored.{OnStore, TellsBad, first_astray, first_bad}
+use Rattle.fork_host.specs.Restored.{OnStore, TellsBad, first_astray, first_bad, repositories_in}
 use Rattle.fork_host.specs.declared.later.Bad.{Bad}
 use Rattle.fork_host.specs.declared.later.Bad.TheVariants.{Memory as BadMemory, Object as Object_of}
 use Rattle.fork_host.specs.declared.later.Later.{Later}
@@ -40,49 +40,50 @@ pub record SeesAgain (tenant : List ℕ) (names : List (List ℕ)) (old new : Va
 abbrev pub bad_in : BTreeSet (List ℕ) → Objects → Option (List ℕ)
 bad_in names objects = find (is_bad objects (contains name_cmp names)) names.keys
 
--- a tenant of these repositories and this limit sees again what it saw: over an honest store the objects of these names, each sound;
--- over any store each reference at an object that is seen, a branch at a commit, and no more use than the limit
-pub record IsRefilled (tenant : List ℕ) (names : List (List ℕ)) (repositories : List (List ℕ × Repository)) (limit : ℕ) (old new : VaultState) : Type 0 where
+-- a tenant of this state sees again what it saw: over an honest store the objects of its names, each sound; over any store each
+-- reference at an object that is seen, a branch at a commit, and no more use than the limit
+pub record IsRefilled (tenant : List ℕ) (state : TenantState) (old new : VaultState) : Type 0 where
   pub objects : Objects
   pub changes : ChangesTenant tenant (SeesOnly objects) old new
   pub named : IsTrue old.honest → IsNamed objects
   pub right : IsTrue old.honest → AreRight objects
   pub closed : IsTrue old.honest → IsClosed objects
-  pub stored : IsTrue old.honest → OnStore old.files names (λ others. (others ≡ objects) × (first_bad names others ≡ None))
-  pub targets : first_astray repositories (visible_in new tenant) ≡ None
-  pub within : use_of (visible_in new tenant) ≤ limit
+  pub stored : IsTrue old.honest → OnStore old.files state.seen (λ others. (others ≡ objects) × (first_bad state.seen others ≡ None))
+  pub targets : first_astray (repositories_in state) (visible_in new tenant) ≡ None
+  pub within : use_of (visible_in new tenant) ≤ state.limit
 
--- what stands against it: judged by the names of a set, among what the tenant sees, of the use of what it sees and has staged
-abbrev pub IsAgainst : BTreeSet (List ℕ) → List (List ℕ × Repository) → ℕ → Objects → Objects → Against → Type 0
-IsAgainst names repositories limit visible both NoMemory = Unit {0}
-IsAgainst names repositories limit visible both (BadObject name) = bad_in names visible ≡ Some name
-IsAgainst names repositories limit visible both (Astray target) = (bad_in names visible ≡ None) × (reference : List ℕ) × (first_astray repositories visible ≡ Some (reference, target))
-IsAgainst names repositories limit visible both Limit = (bad_in names visible ≡ None) × (first_astray repositories visible ≡ None) × (limit < use_of both)
+-- what stands against a state: judged by the names of a set, among what the tenant sees, of the use of what it sees and has staged
+abbrev pub IsAgainst : BTreeSet (List ℕ) → TenantState → Objects → Objects → Against → Type 0
+IsAgainst names state visible both NoMemory = Unit {0}
+IsAgainst names state visible both (BadObject name) = bad_in names visible ≡ Some name
+IsAgainst names state visible both (Astray target) = (bad_in names visible ≡ None) × (reference : List ℕ) × (first_astray (repositories_in state) visible ≡ Some (reference, target))
+IsAgainst names state visible both Limit = (bad_in names visible ≡ None) × (first_astray (repositories_in state) visible ≡ None) × (state.limit < use_of both)
 
 -- the same by what stands on the store
-abbrev pub StandsAgainst : Files → List (List ℕ) → List (List ℕ × Repository) → ℕ → Against → Type 0
-StandsAgainst files names repositories limit NoMemory = Unit {0}
-StandsAgainst files names repositories limit (BadObject name) = OnStore files names (λ objects. first_bad names objects ≡ Some name)
-StandsAgainst files names repositories limit (Astray target) =
-    OnStore files names (λ objects. (first_bad names objects ≡ None) × (reference : List ℕ) × (first_astray repositories objects ≡ Some (reference, target)))
-StandsAgainst files names repositories limit Limit =
-    OnStore files names (λ objects. (first_bad names objects ≡ None) × (first_astray repositories objects ≡ None) × (limit < use_of objects))
+abbrev pub StandsAgainst : Files → TenantState → Against → Type 0
+StandsAgainst files state NoMemory = Unit {0}
+StandsAgainst files state (BadObject name) = OnStore files state.seen (λ objects. first_bad state.seen objects ≡ Some name)
+StandsAgainst files state (Astray target) =
+    OnStore files state.seen (λ objects. (first_bad state.seen objects ≡ None) × (reference : List ℕ) × (first_astray (repositories_in state) objects ≡ Some (reference, target)))
+StandsAgainst files state Limit =
+    OnStore files state.seen (λ objects. (first_bad state.seen objects ≡ None) × (first_astray (repositories_in state) objects ≡ None) × (state.limit < use_of objects))
 
 -- a tenant that sees nothing sees again what it saw
 pub record IsRefilledIn (files : Files) (tenant : TenantState) (old new : World) : Type 0 where
   pub view : View
   pub world : new ≡ insert old tenant.name view
   pub repositories : entries view.repositories ≡ tenant.repositories
+  pub offers : map offer_kept (entries view.made) ≡ tenant.offers
   pub limit : view.limit ≡ tenant.limit
   pub upload : view.upload ≡ None
   pub stored : OnStore files tenant.seen (λ objects. (objects ≡ view.objects) × (first_bad tenant.seen objects ≡ None))
-  pub targets : first_astray tenant.repositories view.objects ≡ None
+  pub targets : first_astray (repositories_in tenant) view.objects ≡ None
   pub within : use_of view.objects ≤ tenant.limit
 
 -- a tenant's state was judged: what it saw is seen again, or something stands against it
 abbrev pub IsJudged : Files → TenantState → World → World → Result (Unit {0}) Against → Type 0
 IsJudged files tenant old new (Ok done) = IsRefilledIn files tenant old new
-IsJudged files tenant old new (Err against) = StandsAgainst files tenant.seen tenant.repositories tenant.limit against
+IsJudged files tenant old new (Err against) = StandsAgainst files tenant against
 
 -- where it was judged, the tenant is there, behind the others
 abbrev pub IsBehind : List ℕ → List (List ℕ) → List (List ℕ) → Result (Unit {0}) Against → Type 0

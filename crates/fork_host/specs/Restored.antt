@@ -16,13 +16,18 @@ use Rattle.fork_ledger.specs.Store.{IsDamaged}
 use Rattle.fork_model.specs.View.{View}
 use Rattle.fork_model.specs.World.{World}
 use Rattle.state_text.specs.Kept.{states_of}
+use Rattle.state_text.specs.Offer.{Offer}
 use Rattle.state_text.specs.States.{States, TenantState}
 use Rattle.fork_host.specs.declared.restore_error.RestoreError.{RestoreError}
 use Rattle.fork_host.specs.declared.restore_error.RestoreError.TheVariants.{Lost, Damaged, Unsound, OverLimit, Store, Memory}
 
+-- the repositories of a tenant, and then those of its offers
+abbrev pub repositories_in : TenantState → List Repository
+repositories_in tenant = map (λ row. row.1) tenant.repositories ++ map (λ (offer : Offer). offer.repository) tenant.offers
+
 -- the references of a repository, and the target of one
-abbrev pub references_in : List ℕ × Repository → List (List ℕ × List ℕ)
-references_in repository = entries repository.1.references
+abbrev pub references_in : Repository → List (List ℕ × List ℕ)
+references_in repository = entries repository.references
 
 abbrev pub target_of : List ℕ × List ℕ → List ℕ
 target_of reference = reference.1
@@ -36,7 +41,7 @@ abbrev pub first_bad : List (List ℕ) → Objects → Option (List ℕ)
 first_bad names objects = find (is_bad objects (is_one_of names)) names
 
 -- of the references of these repositories the first whose target isn't there, or is no commit where it is a branch
-abbrev pub first_astray : List (List ℕ × Repository) → Objects → Option (List ℕ × List ℕ)
+abbrev pub first_astray : List Repository → Objects → Option (List ℕ × List ℕ)
 first_astray repositories objects = find (is_bad_target (kind_in objects)) (flat_map references_in repositories)
 
 -- these are the objects of these names that stand whole on the store
@@ -55,9 +60,9 @@ pub record OnStore (files : Files) (names : List (List ℕ)) (Is : Objects → T
 abbrev pub HasObjects : Files → TenantState → Type 0
 HasObjects files tenant = OnStore files tenant.seen (λ objects. first_bad tenant.seen objects ≡ None)
 
--- what its references point at, it sees; branches point at commits
+-- what its references and those of its offers point at, it sees; branches point at commits
 abbrev pub HasTargets : Files → TenantState → Type 0
-HasTargets files tenant = OnStore files tenant.seen (λ objects. first_astray tenant.repositories objects ≡ None)
+HasTargets files tenant = OnStore files tenant.seen (λ objects. first_astray (repositories_in tenant) objects ≡ None)
 
 -- what it sees is of no more use than its limit
 abbrev pub KeepsLimit : Files → TenantState → Type 0
@@ -84,27 +89,23 @@ abbrev pub IsStoreOrMemory : RestoreError → Type 0
 IsStoreOrMemory error = (error ≡ Store) ⊎ (error ≡ Memory)
 
 -- why states are refused: first the objects of all tenants, tenant by tenant and name by name; then the targets of all references;
--- then the limits; and want of memory or a failing store at any time
+-- those of repositories before those of offers in each tenant; then the limits; and want of memory or a failing store at any time
 pub data AreRefused (files : Files) (states : States) : RestoreError → Type 0 where
   ByObject : (tenant : TenantState) (name : List ℕ) (error : RestoreError) → AllBefore (HasObjects files) states tenant
       → OnStore files tenant.seen (λ objects. first_bad tenant.seen objects ≡ Some name) → TellsBad files name error → AreRefused files states error
   ByTarget : (tenant : TenantState) (reference target : List ℕ) → AllByRecursion (HasObjects files) states → AllBefore (HasTargets files) states tenant
-      → OnStore files tenant.seen (λ objects. first_astray tenant.repositories objects ≡ Some (reference, target)) → AreRefused files states (Unsound target)
+      → OnStore files tenant.seen (λ objects. first_astray (repositories_in tenant) objects ≡ Some (reference, target)) → AreRefused files states (Unsound target)
   ByLimit : (tenant : TenantState) → AllByRecursion (HasObjects files) states → AllByRecursion (HasTargets files) states → AllBefore (KeepsLimit files) states tenant
       → OnStore files tenant.seen (λ objects. tenant.limit < use_of objects) → AreRefused files states (OverLimit tenant.name)
   WantsMemory : AreRefused files states Memory
   WantsStore : AreRefused files states Store
 
--- a tenant's state but for its offers, which no host makes or keeps
-abbrev pub without_offers : TenantState → TenantState
-without_offers tenant = record tenant { offers = [] }
-
 -- the store has each object that a tenant of the world sees
 abbrev pub HasWorld : Files → World → Type 0
 HasWorld files world = (tenant : List ℕ) (view : View) (name : List ℕ) (object : Object) → get world tenant ≡ Some view → get view.objects name ≡ Some object → Whole files name object
 
--- the world is the one that these states tell, offers aside: no upload is open, and each object is the one on the store
+-- the world is the one that these states tell: no upload is open, and each object is the one on the store
 pub record IsShownAgain (files : Files) (told : States) (world : World) : Type 0 where
-  pub states : states_of world ≡ map without_offers told
+  pub states : states_of world ≡ told
   pub quiet : (tenant : List ℕ) (view : View) → get world tenant ≡ Some view → view.upload ≡ None
   pub whole : HasWorld files world

@@ -1,6 +1,6 @@
 -- What a row of the answer comes to: the row itself, or a host fault: want of memory alone, where it does not ask the store.
 use Rattle.std.specs.Prelude.{◌≡◌, ℕ, Bool, IsTrue, true, List, [], Contains, Result, Ok, Err}
-use Rattle.std.specs.FinMap.{contains_key, retain_keys}
+use Rattle.std.specs.FinMap.{contains_key, empty, retain_keys}
 use Rattle.fork_request.specs.declared.host_fault.HostFault.{HostFault}
 use Rattle.fork_request.specs.declared.host_fault.HostFault.TheVariants.{Memory, Store, Damaged, Collision}
 use Rattle.fork_request.specs.declared.reply.Reply.{Reply}
@@ -14,6 +14,7 @@ use Rattle.fork_reach.specs.Source.{Objects}
 use Rattle.fork_query.specs.declared.query_error.QueryError.{QueryError}
 use Rattle.fork_query.specs.declared.query_error.QueryError.TheVariants as query
 use Rattle.fork_model.specs.View.{View}
+use Rattle.fork_host.specs.Made.{Made, made_of}
 
 pub data Gives (row : Reply × View) (old : View) (reply : Reply) (new : View) : Type 0 where
   -- the row's reply and view
@@ -21,14 +22,18 @@ pub data Gives (row : Reply × View) (old : View) (reply : Reply) (new : View) :
   -- want of memory, which leaves the view
   Wanting : reply ≡ Failed Memory → new ≡ old → Gives row old reply new
 
--- the same of a row that asks the store
+-- a view, but for the objects of its offers: where the view is right, what it sees decides them
+abbrev pub plain : View → View × Made
+plain view = (record view { made = empty }, made_of view.made)
+
+-- the same of a row that asks the store, of what is plain
 pub data Yields (row : Reply × View) (old : View) (reply : Reply) (new : View) : Type 0 where
   -- the row's reply and view
-  Yielded : reply ≡ row.0 → new ≡ row.1 → Yields row old reply new
+  Yielded : reply ≡ row.0 → plain new ≡ plain row.1 → Yields row old reply new
   -- want of memory, which leaves the view
-  Lacking : reply ≡ Failed Memory → new ≡ old → Yields row old reply new
+  Lacking : reply ≡ Failed Memory → plain new ≡ plain old → Yields row old reply new
   -- a host fault, which leaves it too
-  Faulted : (fault : HostFault) → reply ≡ Failed fault → new ≡ old → Yields row old reply new
+  Faulted : (fault : HostFault) → reply ≡ Failed fault → plain new ≡ plain old → Yields row old reply new
 
 -- the same over a store of this honesty
 pub record YieldsOver (honest : Bool) (row : Reply × View) (old : View) (reply : Reply) (new : View) : Type 0 where

@@ -13,12 +13,14 @@ use Rattle.fork_model.specs.Sound.{IsOrderlyWorld, IsRightWorld}
 use Rattle.fork_model.specs.Uploads.{upload_among}
 use Rattle.fork_model.specs.View.{View, Repositories}
 use Rattle.fork_model.specs.World.{World}
+use Rattle.fork_host.specs.Made.{Made, made_code, made_shown}
 use Rattle.fork_host.specs.Own.{staged_in}
 use Rattle.fork_host.specs.Staged.{IsStaged}
 
--- what a host keeps of a tenant beside its objects; of an open upload what is known of its bytes
+-- what a host keeps of a tenant beside its objects; of an offer its repository, and of an open upload what is known of its bytes
 pub record Account : Type 0 where
   pub repositories : Repositories
+  pub made : Made
   pub upload : Option Reading
   pub limit : ℕ
 
@@ -35,7 +37,13 @@ state_of accounts vault = record { accounts = accounts; vault = vault }
 
 -- the view of a tenant of this account that has these private maps
 abbrev pub seen_by : Account → Private → View
-seen_by account own = record { repositories = account.repositories; objects = own.visible; upload = option_map (upload_among own.staged) account.upload; limit = account.limit }
+seen_by account own = record {
+  repositories = account.repositories;
+  made = made_shown own.visible account.made;
+  objects = own.visible;
+  upload = option_map (upload_among own.staged) account.upload;
+  limit = account.limit;
+}
 
 -- the view of a tenant of this account over a vault
 abbrev pub shown : Account → VaultState → List ℕ → View
@@ -69,8 +77,8 @@ pub record IsWhole (state : HostState) : Type 0 where
 -- accounts and states have codes, so that they can be a model's value
 abbrev pub account_code : Coded Account
 account_code =
-    code_by (Repositories × (Option Reading × ℕ)) (coded× (code bytes_code repository_code) (coded× (coded_option reading_code) coded_ℕ))
-    (λ a. (a.repositories, (a.upload, a.limit))) (λ p. record { repositories = p.0; upload = p.1.0; limit = p.1.1 }) (λ _. refl)
+    code_by (Repositories × (Made × (Option Reading × ℕ))) (coded× (code bytes_code repository_code) (coded× made_code (coded× (coded_option reading_code) coded_ℕ)))
+    (λ a. (a.repositories, (a.made, (a.upload, a.limit)))) (λ p. record { repositories = p.0; made = p.1.0; upload = p.1.1.0; limit = p.1.1.1 }) (λ _. refl)
 
 abbrev pub host_code : Coded HostState
 host_code = code_by (Accounts × VaultState) (coded× (code bytes_code account_code) vault_code) (λ s. (s.accounts, s.vault)) (λ p. record { accounts = p.0; vault = p.1 }) (λ _. refl)

@@ -25,6 +25,7 @@ ghost use Rattle.fork_host.specs.Shown.{Account, IsWhole, Trusted, shown, state_
 ghost use Rattle.fork_host.specs.Staged.{Came, IsStaged};
 
 use crate::keeping::keep_tenant;
+use crate::made::Made;
 use crate::opening::bytes_of;
 use crate::own::Own;
 use crate::repositories::Repositories;
@@ -100,15 +101,15 @@ impl Accounts {
         take_out(&mut self.tenants, name)
     }
 
-    // Gives a tenant these repositories. It takes no memory.
-    pub(crate) fn settle(&mut self, name: &TenantName, repositories: Repositories)
+    // Gives a tenant these repositories and offers. It takes no memory.
+    pub(crate) fn settle(&mut self, name: &TenantName, repositories: Repositories, made: Made)
         ensures { (account : Account) → map.get self.old name.now ≡ Some account
-            → self.new ≡ map.insert self.old name.now (record { repositories = repositories; upload = account.upload; limit = account.limit }) }
+            → self.new ≡ map.insert self.old name.now (record account { repositories = repositories; made = made }) }
     {
         let Some(tenant) = self.tenants.get_mut(name) else {
             return;
         };
-        tenant.settle(repositories);
+        tenant.settle(repositories, made);
     }
 
     // What outlives the host's process, tenant by tenant.

@@ -110,8 +110,8 @@ impl<S: LooseFiles> Host<S> {
         self.accounts.len()
     }
 
-    /// What of the host outlives its process: of each tenant its limit, its repositories and the names
-    /// of the objects that it sees. Open uploads are not in it.
+    /// What of the host outlives its process: of each tenant its limit, its repositories, the names of
+    /// the objects that it sees, and its offers. Open uploads are not in it.
     pub fn states(&self, alloc: Global) -> Result<States, NoMemory>
         ensures { IfOk result (λ states. states ≡ states_of (world_of self.now)) }
     {

@@ -1,15 +1,16 @@
 // What is put behind the others of a state that outlives the host's process. Each is asked for in order
 // and within the limits, so that nothing but want of memory may refuse it.
-ghost use Rattle.std.specs.Prelude.{◌≡◌, ◌<◌, ◌++◌, ◌∷◌, [], OnOk, length, map};
-ghost use Rattle.fork_model.specs.declared.limits.TheConstants.{MAX_REPOSITORIES, MAX_TENANTS};
-ghost use Rattle.state_text.specs.Adding.{AreBefore, with_repository, with_seen};
+ghost use Rattle.std.specs.Prelude.{◌≡◌, ◌≢◌, ◌<◌, ◌++◌, ◌∷◌, [], OnOk, length, map};
+ghost use Rattle.fork_model.specs.declared.limits.TheConstants.{MAX_OFFERS, MAX_REPOSITORIES, MAX_TENANTS};
+ghost use Rattle.state_text.specs.Adding.{AreBefore, with_offer, with_repository, with_seen};
+ghost use Rattle.state_text.specs.Offer.{words_of_offer};
 ghost use Rattle.state_text.specs.States.{Ascend};
 ghost use Rattle.fork_host.specs.Keeping.{with_names};
 
 use fork_request::RepositoryName;
 use git_name::Name;
 use git_reftx::Repository;
-use state_text::{AddError, States, TenantState};
+use state_text::{AddError, Offer, OfferError, States, TenantState};
 use std::alloc::AllocError;
 
 // Puts a tenant's state behind the others.
@@ -38,6 +39,20 @@ pub(crate) fn keep_repository(
     match tenant.add_repository(name, repository) {
         Ok(()) => Ok(()),
         Err(AddError::Memory) => Err(AllocError),
+        Err(_) => unreachable!(),
+    }
+}
+
+// Puts an offer behind the others of a tenant.
+pub(crate) fn keep_offer(tenant: &mut TenantState, offer: Offer) -> Result<(), AllocError>
+    requires other { offer.receiver ≢ tenant.old.name }
+    requires before { AreBefore (map words_of_offer tenant.old.offers) (words_of_offer offer) }
+    requires room { length tenant.old.offers < MAX_OFFERS }
+    ensures { OnOk result (tenant.new ≡ with_offer tenant.old offer) }
+{
+    match tenant.add_offer(offer) {
+        Ok(()) => Ok(()),
+        Err(OfferError::Memory) => Err(AllocError),
         Err(_) => unreachable!(),
     }
 }

@@ -12,6 +12,7 @@ mod items;
 mod keeping;
 mod later;
 mod laws;
+mod made;
 mod open_error;
 mod opening;
 mod own;

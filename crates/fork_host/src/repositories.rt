@@ -12,6 +12,7 @@ ghost use Rattle.state_text.specs.States.{Ascend};
 ghost use Rattle.fork_host.specs.Keeping.{with_repositories};
 
 use crate::keeping::keep_repository;
+use crate::targets::add_targets;
 use fork_request::RepositoryName;
 use git_name::Name;
 use git_reftx::{ApplyError, Branch, Command, Known, Refs, Repository};
@@ -171,16 +172,6 @@ impl Repositories {
     {
         take_out(&mut self.repositories, name)
     }
-}
-
-// Adds the names at which these references point.
-fn add_targets(names: &mut Vec<Name>, references: &Refs) -> Result<(), AllocError>
-    ensures { OnOk result (names.new.items ≡ names.old.items ++ map.values references.now) }
-{
-    for (_, target) in references.iter() {
-        names.push(*target)?;
-    }
-    Ok(())
 }
 
 fn put(

@@ -12,30 +12,29 @@ ghost use Rattle.fork_host.specs.Refilled.{IsBehind, IsJudged, IsRefilled, IsWhy
 ghost use Rattle.fork_host.specs.Restored.{AreRefused, IsShownAgain, TellsBad};
 ghost use Rattle.fork_host.specs.Shown.{Trusted, world_of};
 ghost use Rattle.state_text.specs.Adding.{AreBefore};
-ghost use Rattle.state_text.specs.States.{Ascend};
 
 use crate::add_error::AddError;
 use crate::host::Host;
 use crate::later::{Bad, Later};
+use crate::made::Made;
 use crate::own::Own;
 use crate::reading::read_states;
 use crate::repositories::Repositories;
 use crate::restore_error::RestoreError;
 use crate::seeing::{Against, see_again};
 use fork_ledger::{Survey, Vault};
-use fork_request::{RepositoryName, TenantName};
+use fork_request::TenantName;
 use fork_sound::Readings;
 use git_name::Name;
-use git_reftx::Repository;
 use loose_store::{LooseFiles, StoreFault, read_checked};
 use state_text::{States, TenantState};
 use std::alloc::{AllocError, Global};
 
 impl<S: LooseFiles + Drop> Host<S> {
     /// A host that shows these states, over the store that holds their objects. What stands against it is
-    /// told in this order: the objects of all tenants; the targets of all references; the limits. Each
-    /// object that tenants see is read from the store once, however many they are, and judged for each
-    /// of them by what is known of it then.
+    /// told in this order: the objects of all tenants; the targets of all references, in each tenant those
+    /// of repositories before those of offers; the limits. Each object that tenants see is read from the
+    /// store once, however many they are, and judged for each of them by what is known of it then.
     pub fn restore(alloc: Global, files: S, states: States) -> Result<Host<S>, RestoreError>
         ensures trusted { IfOk result (λ host. IsTrue (S.honest files) → Trusted host) }
         ensures shown { IfOk result (λ host. IsTrue (S.honest files) → IsShownAgain (S.contents files) states (world_of host)) }
@@ -130,17 +129,12 @@ impl<S: LooseFiles> Host<S> {
         let Ok(gathered) = Repositories::gather(alloc, state.repositories()) else {
             return Err(Against::Memory);
         };
-        match see_in(
-            alloc,
-            &mut self.vault,
-            name,
-            readings,
-            state.seen(),
-            state.repositories(),
-            state.limit(),
-        ) {
+        let Ok(made) = Made::gather(alloc, state.offers()) else {
+            return Err(Against::Memory);
+        };
+        match see_in(alloc, &mut self.vault, name, readings, state) {
             Ok(()) => {
-                self.accounts.settle(name, gathered);
+                self.accounts.settle(name, gathered, made);
                 Ok(())
             }
             Err(against) => Err(against),
@@ -154,23 +148,20 @@ pub(crate) fn see_in<S: LooseFiles>(
     vault: &mut Vault<S>,
     name: &TenantName,
     readings: &Readings,
-    seen: &[Name],
-    repositories: &[(RepositoryName, Repository)],
-    limit: u64,
+    state: &TenantState,
 ) -> Result<(), Against>
     requires there { map.contains_key vault.old.tenants name.now ≡ true }
     requires nothing { private_of vault.old.tenants name.now ≡ nothing }
-    requires ascend { Ascend seen.now }
-    requires read { AreRead vault.old.honest vault.old.files seen.now readings.now }
-    ensures ok { OnOk result (IsRefilled name.now seen.now repositories.now limit vault.old vault.new) }
+    requires read { AreRead vault.old.honest vault.old.files state.now.seen readings.now }
+    ensures ok { OnOk result (IsRefilled name.now state.now vault.old vault.new) }
     ensures err { OnErr result (ChangesTenant name.now (SeesOnly map.empty) vault.old vault.new) }
-    ensures against { IsTrue vault.old.honest → IfErr result (StandsAgainst vault.old.files seen.now repositories.now limit) }
+    ensures against { IsTrue vault.old.honest → IfErr result (StandsAgainst vault.old.files state.now) }
     ensures files { vault.new.files ≡ vault.old.files }
     ensures honest { vault.new.honest ≡ vault.old.honest }
     ensures failures { vault.new.failures ≡ vault.old.failures }
 {
     let mut own = Own::new(vault, name);
-    see_again(alloc, &mut own, readings, seen, repositories, limit)
+    see_again(alloc, &mut own, readings, state)
 }
 
 // How what is bad is told.

@@ -11,18 +11,17 @@ ghost use Rattle.fork_host.specs.Handle.{IsSame, both_by, visible_by};
 ghost use Rattle.fork_host.specs.Own.{ChangesTenant, SeesOnly};
 ghost use Rattle.fork_host.specs.Read.{AreRead};
 ghost use Rattle.fork_host.specs.Refilled.{IsAgainst, IsRefilled, StandsAgainst, bad_in};
-ghost use Rattle.fork_host.specs.Restored.{first_astray};
+ghost use Rattle.fork_host.specs.Restored.{first_astray, repositories_in};
 ghost use Rattle.state_text.specs.States.{Ascend};
 
 use crate::own::Own;
 use crate::recalling::recall_all;
 use crate::targets::first_bad_target;
-use fork_request::RepositoryName;
 use fork_sound::{Readings, first_bad};
 use git_name::Name;
-use git_reftx::Repository;
 use indexmap::IndexSet;
 use loose_store::LooseFiles;
+use state_text::TenantState;
 use std::alloc::{AllocError, Global};
 use std::collections::BTreeSet;
 
@@ -39,36 +38,35 @@ pub(crate) enum Against {
     Limit,
 }
 
-// Lets a tenant that sees nothing see again the objects of these names, which are judged with its
-// references and its limit. Where it fails, it sees nothing.
+// Lets a tenant that sees nothing see again the objects of its state, which are judged with its
+// references, those of its offers and its limit. Where it fails, it sees nothing.
 pub(crate) fn see_again<S: LooseFiles>(
     alloc: Global,
     own: &mut Own<'_, S>,
     readings: &Readings,
-    seen: &[Name],
-    repositories: &[(RepositoryName, Repository)],
-    limit: u64,
+    state: &TenantState,
 ) -> Result<(), Against>
     requires there { map.contains_key own.old.vault.now.tenants own.old.tenant.now ≡ true }
     requires nothing { private_of own.old.vault.now.tenants own.old.tenant.now ≡ nothing }
-    requires ascend { Ascend seen.now }
-    requires read { AreRead own.old.vault.now.honest own.old.vault.now.files seen.now readings.now }
-    ensures ok { OnOk result (IsRefilled own.old.tenant.now seen.now repositories.now limit own.old.vault.now own.new.vault.now) }
+    requires read { AreRead own.old.vault.now.honest own.old.vault.now.files state.now.seen readings.now }
+    ensures ok { OnOk result (IsRefilled own.old.tenant.now state.now own.old.vault.now own.new.vault.now) }
     ensures err { OnErr result (ChangesTenant own.old.tenant.now (SeesOnly map.empty) own.old.vault.now own.new.vault.now) }
-    ensures against { IsTrue own.old.vault.now.honest → IfErr result (StandsAgainst own.old.vault.now.files seen.now repositories.now limit) }
+    ensures against { IsTrue own.old.vault.now.honest → IfErr result (StandsAgainst own.old.vault.now.files state.now) }
     ensures files { own.new.vault.now.files ≡ own.old.vault.now.files }
     ensures honest { own.new.vault.now.honest ≡ own.old.vault.now.honest }
     ensures failures { own.new.vault.now.failures ≡ own.old.vault.now.failures }
     ensures same { IsSame own.old own.new }
 {
-    let Ok(names) = set_of(alloc, seen) else {
+    // For its clause too: the state is in order.
+    let _name = state.name();
+    let Ok(names) = set_of(alloc, state.seen()) else {
         return Err(Against::Memory);
     };
-    match recall_all(own, readings, seen) {
+    match recall_all(own, readings, state.seen()) {
         Ok(()) => {}
         Err(_) => return Err(Against::Memory),
     }
-    match judge_seen(own, readings, &names, repositories, limit) {
+    match judge_seen(own, readings, &names, state) {
         Ok(()) => Ok(()),
         Err(against) => {
             let none = IndexSet::with_hasher(alloc, own.hashing_of_names());
@@ -95,21 +93,20 @@ pub(crate) fn judge_seen<S: LooseFiles>(
     own: &Own<'_, S>,
     readings: &Readings,
     names: &BTreeSet<Name>,
-    repositories: &[(RepositoryName, Repository)],
-    limit: u64,
+    state: &TenantState,
 ) -> Result<(), Against>
     ensures sound { AreReadings readings.now (contains name_cmp names.now) (visible_by own.now) → OnOk result (bad_in names.now (visible_by own.now) ≡ None) }
-    ensures targets { OnOk result (first_astray repositories.now (visible_by own.now) ≡ None) }
-    ensures within { OnOk result (use_of (both_by own.now) ≤ limit) }
-    ensures against { AreReadings readings.now (contains name_cmp names.now) (visible_by own.now) → IfErr result (IsAgainst names.now repositories.now limit (visible_by own.now) (both_by own.now)) }
+    ensures targets { OnOk result (first_astray (repositories_in state.now) (visible_by own.now) ≡ None) }
+    ensures within { OnOk result (use_of (both_by own.now) ≤ state.now.limit) }
+    ensures against { AreReadings readings.now (contains name_cmp names.now) (visible_by own.now) → IfErr result (IsAgainst names.now state.now (visible_by own.now) (both_by own.now)) }
 {
     if let Some(name) = first_bad(readings, names) {
         return Err(Against::BadObject(name));
     }
-    if let Some(target) = first_bad_target(own, repositories) {
+    if let Some(target) = first_bad_target(own, state) {
         return Err(Against::Astray(target));
     }
-    if !own.is_within(limit) {
+    if !own.is_within(state.limit()) {
         return Err(Against::Limit);
     }
     Ok(())

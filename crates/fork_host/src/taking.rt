@@ -1,11 +1,10 @@
 // What a whole stream holds is taken: all of it or nothing.
-ghost use Rattle.std.specs.Prelude.{◌≡◌, ℕ, IsTrue, IfOk, IfSome, Ok, List, Option, Some, false, map as map_list, true};
+ghost use Rattle.std.specs.Prelude.{◌≡◌, ℕ, IsTrue, IfOk, IfSome, Ok, List, Some, false, map as map_list, true};
 ghost use Rattle.std.specs.FinMap as map;
 ghost use Rattle.git_name.specs.Object.{Object, object_name};
 ghost use Rattle.git_reftx.specs.Repository.{Repository};
 ghost use Rattle.push_stream.specs.Brief.{brief_shown};
 ghost use Rattle.push_stream.specs.Stream.{Stream, finished as finished_in, sent_in};
-ghost use Rattle.push_stream.specs.Upload.{UploadValue};
 ghost use Rattle.fork_reach.specs.Objects.{with_objects};
 ghost use Rattle.fork_request.specs.Told.{is_done};
 ghost use Rattle.fork_ledger.specs.Store.{LeavesStore};
@@ -13,6 +12,7 @@ ghost use Rattle.fork_ledger.specs.Tenants.{shape_of};
 ghost use Rattle.fork_push.specs.Push.{judged};
 ghost use Rattle.fork_push.specs.Verdict.{IfAccepted, IsAcceptable, TellsJudged, fault_of_verdict};
 ghost use Rattle.fork_model.specs.Answer.{Finished, pushed};
+ghost use Rattle.fork_model.specs.View.{View};
 ghost use Rattle.fork_host.specs.Bounds.{IsBounded, ReadsStore};
 ghost use Rattle.fork_host.specs.Handle.{IsSame, Ready, Uses, both_by, staged_by, visible_by};
 ghost use Rattle.fork_host.specs.Own.{IsOwn, KeepsStaged, visible_in};
@@ -46,12 +46,12 @@ pub(crate) fn take_body<S: LooseFiles>(
     requires ready { Ready own.old limit }
     requires quiet { staged_by own.old ≡ map.empty }
     requires there { map.contains_key repositories.old name ≡ true }
-    ensures row { (upload : Option UploadValue) (held : Finished) (was : Repository) → TellsHeld held finished → map.get repositories.old name ≡ Some was → IsTrue own.old.vault.now.honest
-        → Yields (pushed (view_of repositories.old (visible_by own.old) upload limit) name was held)
-        (view_of repositories.old (visible_by own.old) upload limit) result (view_of repositories.new (visible_in own.new.vault.now own.old.tenant.now) upload limit) }
+    ensures row { (rest : View) (held : Finished) (was : Repository) → TellsHeld held finished → map.get repositories.old name ≡ Some was → IsTrue own.old.vault.now.honest
+        → Yields (pushed (view_of rest repositories.old (visible_by own.old) limit) name was held)
+        (view_of rest repositories.old (visible_by own.old) limit) result (view_of rest repositories.new (visible_in own.new.vault.now own.old.tenant.now) limit) }
     // Over any store.
-    ensures safe { (upload : Option UploadValue) (sent : List Object) → Sends sent finished → IsSafe (IsBounded sent own.old.vault.now own.new.vault.now) (view_of repositories.old (visible_by own.old) upload limit)
-        result (view_of repositories.new (visible_in own.new.vault.now own.old.tenant.now) upload limit) }
+    ensures safe { (rest : View) (sent : List Object) → Sends sent finished → IsSafe (IsBounded sent own.old.vault.now own.new.vault.now) (view_of rest repositories.old (visible_by own.old) limit)
+        result (view_of rest repositories.new (visible_in own.new.vault.now own.old.tenant.now) limit) }
     ensures own { (sent : List Object) → Sends sent finished → Uses (sent_names sent) own.old own.new }
 {
     match finished {
@@ -73,12 +73,12 @@ fn take<S: LooseFiles>(
     requires ready { Ready own.old limit }
     requires quiet { staged_by own.old ≡ map.empty }
     requires there { map.contains_key repositories.old name ≡ true }
-    ensures row { (upload : Option UploadValue) (was : Repository) → map.get repositories.old name ≡ Some was → IsTrue own.old.vault.now.honest
-        → Yields (pushed (view_of repositories.old (visible_by own.old) upload limit) name was (Ok (body.commands.items, body.objects.items)))
-        (view_of repositories.old (visible_by own.old) upload limit) result (view_of repositories.new (visible_in own.new.vault.now own.old.tenant.now) upload limit) }
+    ensures row { (rest : View) (was : Repository) → map.get repositories.old name ≡ Some was → IsTrue own.old.vault.now.honest
+        → Yields (pushed (view_of rest repositories.old (visible_by own.old) limit) name was (Ok (body.commands.items, body.objects.items)))
+        (view_of rest repositories.old (visible_by own.old) limit) result (view_of rest repositories.new (visible_in own.new.vault.now own.old.tenant.now) limit) }
     // Over any store.
-    ensures safe { (upload : Option UploadValue) → IsSafe (IsBounded body.objects.items own.old.vault.now own.new.vault.now) (view_of repositories.old (visible_by own.old) upload limit)
-        result (view_of repositories.new (visible_in own.new.vault.now own.old.tenant.now) upload limit) }
+    ensures safe { (rest : View) → IsSafe (IsBounded body.objects.items own.old.vault.now own.new.vault.now) (view_of rest repositories.old (visible_by own.old) limit)
+        result (view_of rest repositories.new (visible_in own.new.vault.now own.old.tenant.now) limit) }
     ensures own { Uses (sent_names body.objects.items) own.old own.new }
 {
     let Body {
@@ -120,13 +120,13 @@ pub(crate) fn settle_upload<S: LooseFiles>(
 ) -> Reply
     requires ready { Ready own.old limit }
     requires there { map.contains_key repositories.old name ≡ true }
-    ensures row { (upload : Option UploadValue) (stream : Stream) (was : Repository) → TellsBrief (finished_in stream) finished → map.get repositories.old name ≡ Some was → IsTrue own.old.vault.now.honest
+    ensures row { (rest : View) (stream : Stream) (was : Repository) → TellsBrief (finished_in stream) finished → map.get repositories.old name ≡ Some was → IsTrue own.old.vault.now.honest
         → both_by own.old ≡ with_objects (visible_by own.old) (sent_in stream)
-        → Yields (pushed (view_of repositories.old (visible_by own.old) upload limit) name was (finished_in stream))
-        (view_of repositories.old (visible_by own.old) upload limit) result (view_of repositories.new (visible_in own.new.vault.now own.old.tenant.now) upload limit) }
+        → Yields (pushed (view_of rest repositories.old (visible_by own.old) limit) name was (finished_in stream))
+        (view_of rest repositories.old (visible_by own.old) limit) result (view_of rest repositories.new (visible_in own.new.vault.now own.old.tenant.now) limit) }
     // Over any store.
-    ensures safe { (upload : Option UploadValue) (sent : List Object) → IsSafe (IsBounded sent own.old.vault.now own.new.vault.now) (view_of repositories.old (visible_by own.old) upload limit)
-        result (view_of repositories.new (visible_in own.new.vault.now own.old.tenant.now) upload limit) }
+    ensures safe { (rest : View) (sent : List Object) → IsSafe (IsBounded sent own.old.vault.now own.new.vault.now) (view_of rest repositories.old (visible_by own.old) limit)
+        result (view_of rest repositories.new (visible_in own.new.vault.now own.old.tenant.now) limit) }
     ensures own { IsOwn own.old.tenant.now own.old.vault.now own.new.vault.now }
     ensures kept { is_done result ≡ false → KeepsStaged own.old.tenant.now own.old.vault.now own.new.vault.now }
     ensures places { own.new.vault.now.places ≡ own.old.vault.now.places }
@@ -151,13 +151,13 @@ fn settle<S: LooseFiles>(
 ) -> Reply
     requires ready { Ready own.old limit }
     requires there { map.contains_key repositories.old name ≡ true }
-    ensures row { (upload : Option UploadValue) (sent : List Object) (was : Repository) → map.get repositories.old name ≡ Some was → IsTrue own.old.vault.now.honest
+    ensures row { (rest : View) (sent : List Object) (was : Repository) → map.get repositories.old name ≡ Some was → IsTrue own.old.vault.now.honest
         → brief.names.items ≡ map_list object_name sent → both_by own.old ≡ with_objects (visible_by own.old) sent
-        → Yields (pushed (view_of repositories.old (visible_by own.old) upload limit) name was (Ok (brief.commands.items, sent)))
-        (view_of repositories.old (visible_by own.old) upload limit) result (view_of repositories.new (visible_in own.new.vault.now own.old.tenant.now) upload limit) }
+        → Yields (pushed (view_of rest repositories.old (visible_by own.old) limit) name was (Ok (brief.commands.items, sent)))
+        (view_of rest repositories.old (visible_by own.old) limit) result (view_of rest repositories.new (visible_in own.new.vault.now own.old.tenant.now) limit) }
     // Over any store.
-    ensures safe { (upload : Option UploadValue) (sent : List Object) → IsSafe (IsBounded sent own.old.vault.now own.new.vault.now) (view_of repositories.old (visible_by own.old) upload limit)
-        result (view_of repositories.new (visible_in own.new.vault.now own.old.tenant.now) upload limit) }
+    ensures safe { (rest : View) (sent : List Object) → IsSafe (IsBounded sent own.old.vault.now own.new.vault.now) (view_of rest repositories.old (visible_by own.old) limit)
+        result (view_of rest repositories.new (visible_in own.new.vault.now own.old.tenant.now) limit) }
     ensures own { IsOwn own.old.tenant.now own.old.vault.now own.new.vault.now }
     ensures kept { is_done result ≡ false → KeepsStaged own.old.tenant.now own.old.vault.now own.new.vault.now }
     ensures places { own.new.vault.now.places ≡ own.old.vault.now.places }

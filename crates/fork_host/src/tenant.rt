@@ -20,6 +20,7 @@ mod queries;
 mod references;
 mod repositories;
 
+use crate::made::Made;
 use crate::own::Own;
 use crate::repositories::Repositories;
 use fork_request::{Refusal, Reply, Request};
@@ -33,6 +34,7 @@ use std::marker::Model;
 #[derive(Drop)]
 pub(crate) struct Tenant {
     repositories: Repositories,
+    made: Made,
     upload: Option<Incoming>,
     limit: u64,
 }
@@ -45,7 +47,7 @@ impl Model for Tenant {
 
     ghost coded = { account_code };
 
-    ghost view = { λ a. record { repositories = a.repositories; upload = option_map (λ upload. upload.brief) a.upload; limit = a.limit } };
+    ghost view = { λ a. record { repositories = a.repositories; made = a.made; upload = option_map (λ upload. upload.brief) a.upload; limit = a.limit } };
 }
 
 impl Tenant {
@@ -55,16 +57,18 @@ impl Tenant {
     {
         Tenant {
             repositories: Repositories::new(alloc),
+            made: Made::new(alloc),
             upload: None,
             limit,
         }
     }
 
-    // The tenant has these repositories.
-    pub(crate) fn settle(&mut self, repositories: Repositories)
-        ensures { self.new ≡ record self.old { repositories = repositories } }
+    // The tenant has these repositories, and has made these offers.
+    pub(crate) fn settle(&mut self, repositories: Repositories, made: Made)
+        ensures { self.new ≡ record self.old { repositories = repositories; made = made } }
     {
         self.repositories = repositories;
+        self.made = made;
     }
 
     #[tactic(auto, unfolding(fork_model::specs::Answer::answer))]

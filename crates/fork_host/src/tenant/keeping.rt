@@ -1,5 +1,8 @@
 // What of a tenant outlives the host's process.
-ghost use Rattle.std.specs.Prelude.{◌≡◌, IfOk, is_some, option_map};
+ghost use Rattle.std.specs.Prelude.{◌≡◌, ◌≢◌, IfOk, Some, is_some, option_map};
+ghost use Rattle.std.specs.FinMap as map;
+ghost use Rattle.git_reftx.specs.Repository.{Repository};
+ghost use Rattle.fork_model.specs.Offer.{Pair};
 ghost use Rattle.fork_model.specs.Sound.{IsOrderly};
 ghost use Rattle.state_text.specs.Kept.{state_kept};
 ghost use Rattle.fork_host.specs.Shown.{shown};
@@ -14,14 +17,15 @@ use state_text::TenantState;
 use std::alloc::{AllocError, Global};
 
 impl Tenant {
-    // The tenant's limit, its repositories and the names of the objects that it sees.
+    // The tenant's limit, its repositories, the names of the objects that it sees, and its offers.
     pub(crate) fn state<S: LooseFiles>(
         &self,
         alloc: Global,
         vault: &Vault<S>,
         name: &TenantName,
     ) -> Result<TenantState, AllocError>
-        requires { IsOrderly (shown self.now vault.now name.now) }
+        requires orderly { IsOrderly (shown self.now vault.now name.now) }
+        requires others { (pair : Pair) (repository : Repository) → map.get self.now.made pair ≡ Some repository → pair.0 ≢ name.now }
         ensures { IfOk result (λ state. state ≡ state_kept (name.now, shown self.now vault.now name.now)) }
     {
         let names = vault.names(alloc, name)?;
@@ -30,6 +34,7 @@ impl Tenant {
         };
         self.repositories.keep(&mut state)?;
         keep_names(&mut state, names)?;
+        self.made.keep(&mut state)?;
         Ok(state)
     }
 

@@ -1,8 +1,9 @@
 // Rows about all objects that a tenant sees.
-ghost use Rattle.std.specs.Prelude.{[], IsTrue};
-ghost use Rattle.fork_model.specs.Answer.{prune_answer, quota_answer};
+ghost use Rattle.std.specs.Prelude.{◌≡◌, ◌++◌, [], IfOk, IsTrue};
+ghost use Rattle.fork_model.specs.Answer.{prune_answer, quota_answer, targets_of};
 ghost use Rattle.fork_host.specs.Bounds.{IsBounded};
 ghost use Rattle.fork_host.specs.Handle.{Ready, Uses, shown_by};
+ghost use Rattle.fork_host.specs.Made.{targets_kept};
 ghost use Rattle.fork_host.specs.Rows.{Gives, Yields};
 ghost use Rattle.fork_host.specs.Safe.{IsSafe};
 ghost use Rattle.fork_host.specs.Shown.{shown};
@@ -12,8 +13,9 @@ use crate::pruning::keep_reached;
 use crate::replies::told_use;
 use crate::tenant::Tenant;
 use fork_request::{HostFault, Reply};
+use git_name::Name;
 use loose_store::LooseFiles;
-use std::alloc::Global;
+use std::alloc::{AllocError, Global};
 
 impl Tenant {
     #[tactic(auto, unfolding(fork_model::specs::Answer::quota_answer))]
@@ -26,16 +28,25 @@ impl Tenant {
     }
 
     #[tactic(auto, unfolding(fork_model::specs::Answer::prune_answer))]
-    // Objects go that no reference reaches.
+    // Objects go that no reference of a repository or of an offer reaches.
     pub(crate) fn prune<S: LooseFiles>(&self, alloc: Global, own: &mut Own<'_, S>) -> Reply
         requires ready { Ready own.old self.now.limit }
         ensures row { IsTrue own.old.vault.now.honest → Yields (prune_answer (shown_by self.now own.old)) (shown_by self.now own.old) result (shown self.now own.new.vault.now own.old.tenant.now) }
         ensures safe { IsSafe (IsBounded [] own.old.vault.now own.new.vault.now) (shown_by self.now own.old) result (shown self.now own.new.vault.now own.old.tenant.now) }
         ensures own { Uses [] own.old own.new }
     {
-        let Ok(targets) = self.repositories.targets(alloc) else {
+        let Ok(roots) = self.roots(alloc) else {
             return Reply::Failed(HostFault::Memory);
         };
-        keep_reached(alloc, own, targets.as_slice())
+        keep_reached(alloc, own, roots.as_slice())
+    }
+
+    // Where what is kept begins: at the references of repositories, and at those of offers.
+    fn roots(&self, alloc: Global) -> Result<Vec<Name>, AllocError>
+        ensures { IfOk result (λ names. names.items ≡ targets_of self.now.repositories ++ targets_kept self.now.made) }
+    {
+        let mut names = self.repositories.targets(alloc)?;
+        self.made.add_targets(&mut names)?;
+        Ok(names)
     }
 }

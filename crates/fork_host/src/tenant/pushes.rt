@@ -115,12 +115,13 @@ impl Tenant {
         requires ready { Ready own.old self.old.limit }
         requires staged { IsStaged own.old.vault.now.honest self.old.upload (staged_by own.old) }
         ensures row { IsTrue own.old.vault.now.honest → Yields (named_repository (shown_by self.old own.old) word.now (end_in (shown_by self.old own.old) word.now (map.get self.old.repositories word.now)))
-            (shown_by self.old own.old) result (view_of self.new.repositories (visible_in own.new.vault.now own.old.tenant.now) (shown_by self.old own.old).upload self.old.limit) }
+            (shown_by self.old own.old) result (view_of (shown_by self.old own.old) self.new.repositories (visible_in own.new.vault.now own.old.tenant.now) self.old.limit) }
         ensures safe { IsSafe (IsBounded (sent_in (open_upload (shown_by self.old own.old).upload).stream) own.old.vault.now own.new.vault.now)
-            (shown_by self.old own.old) result (view_of self.new.repositories (visible_in own.new.vault.now own.old.tenant.now) (shown_by self.old own.old).upload self.old.limit) }
+            (shown_by self.old own.old) result (view_of (shown_by self.old own.old) self.new.repositories (visible_in own.new.vault.now own.old.tenant.now) self.old.limit) }
         ensures kept { is_done result ≡ false → KeepsStaged own.old.tenant.now own.old.vault.now own.new.vault.now }
         ensures upload { self.new.upload ≡ self.old.upload }
         ensures limit { self.new.limit ≡ self.old.limit }
+        ensures made { self.new.made ≡ self.old.made }
         ensures own { Touches [] own.old own.new }
     {
         let Some(name) = RepositoryName::read(word) else {

@@ -1,0 +1,157 @@
+-- Offers as they are kept, as they are shown, and as a state tells them.
+use Rattle.std.proofs.Common.{◌≡◌, ◌≢◌, ℕ, Bool, true, false, List, [], ◌∷◌, ◌++◌, Option, None, Some, refl, sym, ap, subst, ◌∙◌, is_some, length, map, suc}
+use Rattle.std.specs.Option.{option_map}
+use Rattle.std.specs.declared.cmp.Ordering.{Ordering}
+use Rattle.std.specs.declared.cmp.Ordering.TheVariants.{Less, Equal, Greater}
+use Rattle.std.specs.Ordering.{ordering_then}
+use Rattle.std.specs.Cmp.{IsTotalOrder, on_total, then_total}
+use Rattle.std.specs.List.{flat_map}
+use Rattle.std.specs.FinMap.{FinMap, IsAntisymmetric, contains_key, empty, entries, get, get-empty, len, len-entries, same_map, values}
+use Rattle.git_name.specs.Maps.{map_values, mapped}
+use Rattle.git_name.specs.Name.{name_cmp}
+use Rattle.git_name.proofs.MapLemmas.{entries_map_values, get_map_values, map_values_empty}
+use Rattle.git_name.proofs.Names.{name_exact, name_total}
+use Rattle.git_reftx.specs.Repository.{Repository}
+use Rattle.fork_reach.specs.Source.{Objects}
+use Rattle.fork_ledger.specs.Private.{Private}
+use Rattle.fork_model.specs.Answer.{targets_made}
+use Rattle.fork_model.specs.Offer.{Offer, Offers, Pair, offered, pair_cmp}
+use Rattle.fork_model.specs.Sound.{IsRight}
+use Rattle.fork_model.specs.View.{View}
+use Rattle.state_text.specs.Kept.{offer_kept}
+use Rattle.state_text.specs.Offer as text
+use Rattle.fork_host.specs.Made.{Made, entry_of, made_of, made_shown, offer_told, targets_kept}
+use Rattle.fork_host.specs.Rows.{plain}
+use Rattle.fork_host.specs.Shown.{Account, seen_by}
+
+-- ---- the order of pairs
+pub pair_total : IsTotalOrder pair_cmp
+pair_total = then_total (on_total (λ (p : Pair). p.0) name_total) (on_total (λ (p : Pair). p.1) name_total)
+
+equal_parts : (o p : Ordering) → ordering_then o p ≡ Equal → (o ≡ Equal) × (p ≡ Equal)
+equal_parts Less p is = absurd (cc)
+equal_parts Equal p is = (refl, is)
+equal_parts Greater p is = absurd (cc)
+
+pub pair_exact : IsAntisymmetric pair_cmp
+pair_exact p q is = (let parts = equal_parts (name_cmp p.0 q.0) (name_cmp p.1 q.1) is in λ i. (name_exact p.0 q.0 parts.0 i, name_exact p.1 q.1 parts.1 i))
+
+-- ---- what is shown, and the repositories of it
+abbrev repository_of : Offer → Repository
+repository_of offer = offer.repository
+
+pub get_made : (offers : Offers) (pair : Pair) → get (made_of offers) pair ≡ option_map repository_of (get offers pair)
+get_made offers pair = get_map_values pair_total repository_of offers pair
+
+get_shown : (objects : Objects) (made : Made) (pair : Pair) → get (made_shown objects made) pair ≡ option_map (offered objects) (get made pair)
+get_shown objects made pair = get_map_values pair_total (offered objects) made pair
+
+-- offers that are shown have the repositories that are kept
+pub made_again : (objects : Objects) (made : Made) → made_of (made_shown objects made) ≡ made
+made_again objects made = same_map pair_total pair_exact _ _ (λ pair. get_made (made_shown objects made) pair ∙ ap (option_map repository_of) (get_shown objects made pair) ∙ again (get made pair))
+  where
+    again : (o : Option Repository) → option_map repository_of (option_map (offered objects) o) ≡ o
+    again None = refl
+    again (Some repository) = refl
+
+-- so they are the same, whichever objects are seen
+pub same_made : (made : Made) (objects others : Objects) → made_of (made_shown others made) ≡ made_of (made_shown objects made)
+same_made made objects others = made_again others made ∙ sym (made_again objects made)
+
+pub none_shown : (objects : Objects) → made_shown objects empty ≡ empty
+none_shown objects = map_values_empty pair_total pair_exact (offered objects)
+
+same_length : {K X Y : Type 0} (f : X → Y) (es : List (K × X)) → length (mapped f es) ≡ length es
+same_length f [] = refl
+same_length f (e ∷ es) = ap (λ n. suc n) (same_length f es)
+
+-- as many offers as repositories
+pub len_made : (offers : Offers) → len (made_of offers) ≡ len offers
+len_made offers = len-entries (made_of offers) ∙ ap length (entries_map_values repository_of offers) ∙ same_length repository_of (entries offers) ∙ sym (len-entries offers)
+
+pub len_shown : (objects : Objects) (made : Made) → len (made_shown objects made) ≡ len made
+len_shown objects made = len-entries (made_shown objects made) ∙ ap length (entries_map_values (offered objects) made) ∙ same_length (offered objects) (entries made) ∙ sym (len-entries made)
+
+-- an offer that is shown is of a repository that is kept
+pub shown_kept : (objects : Objects) (made : Made) (pair : Pair) (offer : Offer) → get (made_shown objects made) pair ≡ Some offer → (repository : Repository) × (get made pair ≡ Some repository) × (offered objects repository ≡ offer)
+shown_kept objects made pair offer is = by (get made pair) refl (sym (get_shown objects made pair) ∙ is)
+  where
+    by : (o : Option Repository) → get made pair ≡ o → option_map (offered objects) o ≡ Some offer → (repository : Repository) × (get made pair ≡ Some repository) × (offered objects repository ≡ offer)
+    by None found same = absurd (cc)
+    by (Some repository) found same = (repository, found, (let one : offered objects repository ≡ offer = cc in one))
+
+-- and one that is kept is shown
+pub kept_shown : (objects : Objects) (made : Made) (pair : Pair) (repository : Repository) → get made pair ≡ Some repository → get (made_shown objects made) pair ≡ Some (offered objects repository)
+kept_shown objects made pair repository is = get_shown objects made pair ∙ ap (option_map (offered objects)) is
+
+-- an offer among others of the same repositories
+pub found_made : (offers others : Offers) (pair : Pair) (offer : Offer) → made_of others ≡ made_of offers → get others pair ≡ Some offer → (was : Offer) × (get offers pair ≡ Some was) × (was.repository ≡ offer.repository)
+found_made offers others pair offer same is =
+    by (get offers pair) refl (sym (get_made offers pair) ∙ ap (λ (m : Made). get m pair) (sym same) ∙ get_made others pair ∙ ap (option_map repository_of) is)
+  where
+    by : (o : Option Offer) → get offers pair ≡ o → option_map repository_of o ≡ Some offer.repository → (was : Offer) × (get offers pair ≡ Some was) × (was.repository ≡ offer.repository)
+    by None found repository = absurd (cc)
+    by (Some was) found repository = (was, found, (let one : was.repository ≡ offer.repository = cc in one))
+
+there_of : (o : Option Offer) → is_some (option_map repository_of o) ≡ is_some o
+there_of None = refl
+there_of (Some offer) = refl
+
+-- where the repositories are the same, offers stand under the same pairs
+pub still_made : (offers others : Offers) (pair : Pair) → made_of others ≡ made_of offers → contains_key others pair ≡ contains_key offers pair
+still_made offers others pair same =
+    sym (there_of (get others pair)) ∙ ap is_some (sym (get_made others pair)) ∙ ap (λ (m : Made). contains_key m pair) same ∙ ap is_some (get_made offers pair) ∙ there_of (get offers pair)
+
+values_mapped : {K X Y : Type 0} (f : X → Y) (es : List (K × X)) → map (λ e. e.1) (mapped f es) ≡ map f (map (λ e. e.1) es)
+values_mapped f [] = refl
+values_mapped f (e ∷ es) = ap (λ ys. f e.1 ∷ ys) (values_mapped f es)
+
+flat_mapped : {X Y Z : Type 0} (f : X → Y) (g : Y → List Z) (xs : List X) → flat_map g (map f xs) ≡ flat_map (λ x. g (f x)) xs
+flat_mapped f g [] = refl
+flat_mapped f g (x ∷ xs) = ap (λ zs. g (f x) ++ zs) (flat_mapped f g xs)
+
+-- where the references of offers point
+pub targets_shown : (objects : Objects) (made : Made) → targets_made (made_shown objects made) ≡ targets_kept made
+targets_shown objects made =
+    ap (λ es. flat_map (λ (offer : Offer). values offer.repository.references) (map (λ e. e.1) es)) (entries_map_values (offered objects) made)
+    ∙ ap (flat_map (λ (offer : Offer). values offer.repository.references)) (values_mapped (offered objects) (entries made))
+    ∙ flat_mapped (offered objects) (λ (offer : Offer). values offer.repository.references) (values made)
+
+kept_mapped : (objects : Objects) (es : List (Pair × Repository)) → map offer_kept (mapped (offered objects) es) ≡ map offer_told es
+kept_mapped objects [] = refl
+kept_mapped objects (e ∷ es) = ap (λ os. offer_told e ∷ os) (kept_mapped objects es)
+
+-- what a state has of offers that are shown
+pub told_shown : (objects : Objects) (made : Made) → map offer_kept (entries (made_shown objects made)) ≡ map offer_told (entries made)
+told_shown objects made = ap (map offer_kept) (entries_map_values (offered objects) made) ∙ kept_mapped objects (entries made)
+
+-- and of what was gathered of a state's offers: these offers
+pub told_again : (offers : List text.Offer) → map offer_told (map entry_of offers) ≡ offers
+told_again [] = refl
+told_again (offer ∷ offers) = ap (λ os. offer ∷ os) (told_again offers)
+
+-- ---- views by what is plain of them
+-- each offer holds what its references reach among what is seen
+abbrev pub IsShown : View → Type 0
+IsShown view = made_shown view.objects (made_of view.made) ≡ view.made
+
+pub shown_itself : (account : Account) (own : Private) → IsShown (seen_by account own)
+shown_itself account own = ap (made_shown own.visible) (made_again own.visible account.made)
+
+pub shown_right : (view : View) → IsRight view → IsShown view
+shown_right view right =
+    same_map pair_total pair_exact _ _ (λ pair. get_shown view.objects (made_of view.made) pair ∙ ap (option_map (offered view.objects)) (get_made view.made pair) ∙ by pair (get view.made pair) refl)
+  where
+    by : (pair : Pair) (o : Option Offer) → get view.made pair ≡ o → option_map (offered view.objects) (option_map repository_of o) ≡ o
+    by pair None is = refl
+    by pair (Some offer) is = ap Some (λ i. record { repository = offer.repository; objects = sym (right.offered pair offer is).objects i })
+
+-- such views are equal by what is plain of them
+pub same_plain : (a b : View) → IsShown a → IsShown b → plain a ≡ plain b → a ≡ b
+same_plain a b of_a of_b same =
+    let made : a.made ≡ b.made = sym of_a ∙ (λ i. made_shown (same i).0.objects (same i).1) ∙ of_b in
+    λ i. record (same i).0 { made = made i }
+
+-- a view is plainly another one, where the rest of it is
+pub plain_as : (rest now : View) → now.upload ≡ rest.upload → made_of now.made ≡ made_of rest.made → plain now ≡ plain (record now { made = rest.made; upload = rest.upload })
+plain_as rest now upload made = λ i. (record now { made = empty; upload = upload i }, made i)

@@ -1,0 +1,115 @@
+ghost use Rattle.std.specs.Prelude.{◌≡◌, ◌≤◌, ◌++◌, List, [], map as mapped, OnOk, OnErr, IfOk, Some};
+ghost use Rattle.std.specs.FinMap as map;
+ghost use Rattle.std.specs.List.Sorted.{IsStrictlySortedBy};
+ghost use Rattle.std.specs.BTreeMap.{IsUnchanged, Updates};
+ghost use Rattle.fork_model.specs.Offer.{Pair, pair_cmp};
+ghost use Rattle.fork_model.specs.declared.limits.TheConstants.{MAX_OFFERS};
+ghost use Rattle.git_reftx.specs.Repository.{Repository as Shown};
+ghost use Rattle.fork_host.specs.Keeping.{with_offers};
+ghost use Rattle.fork_host.specs.Made.{IsToAnother, entry_of, offer_told, pair_of, targets_kept};
+
+use crate::keeping::keep_offer;
+use crate::targets::add_targets;
+use fork_request::{RepositoryName, TenantName};
+use git_name::Name;
+use git_reftx::Repository;
+use state_text::{Offer, TenantState};
+use std::alloc::{AllocError, Global};
+use std::collections::BTreeMap;
+use std::marker::Model;
+
+// The offers that a tenant has made: under receiver and name, the repository as it was when it was
+// offered.
+#[derive(Drop)]
+pub(crate) struct Made {
+    offers: BTreeMap<(TenantName, RepositoryName), Repository>,
+}
+
+impl Model for Made {
+    ghost use Rattle.std.specs.FinMap as map;
+    ghost use Rattle.fork_host.specs.Made as made;
+
+    ghost Value = { made.Made };
+
+    ghost coded = { made.made_code };
+
+    ghost view = { λ a. map.from_entries a.offers.entries };
+}
+
+impl Made {
+    // No offers.
+    pub(crate) fn new(alloc: Global) -> Made
+        ensures { result ≡ map.empty }
+    {
+        Made {
+            offers: BTreeMap::new(alloc),
+        }
+    }
+
+    // The offers of this list, which stand by receiver, then by name.
+    pub(crate) fn gather(alloc: Global, list: &[Offer]) -> Result<Made, AllocError>
+        requires { IsStrictlySortedBy pair_cmp (mapped pair_of list.now) }
+        ensures { IfOk result (λ gathered. map.entries gathered ≡ mapped entry_of list.now) }
+    {
+        let mut made = Made::new(alloc);
+        for offer in list {
+            let copy = offer.repository().copy()?;
+            made.insert(offer.receiver().copy(), offer.name().copy(), copy)?;
+        }
+        Ok(made)
+    }
+
+    // Puts one under a receiver and a name.
+    pub(crate) fn insert(
+        &mut self,
+        receiver: TenantName,
+        name: RepositoryName,
+        repository: Repository,
+    ) -> Result<(), AllocError>
+        ensures ok { OnOk result (self.new ≡ map.insert self.old (receiver, name) repository) }
+        ensures err { OnErr result (self.new ≡ self.old) }
+    {
+        put(&mut self.offers, receiver, name, repository)
+    }
+
+    // Adds the names of the objects at which references point, in the order of the offers and of their
+    // references.
+    pub(crate) fn add_targets(&self, names: &mut Vec<Name>) -> Result<(), AllocError>
+        ensures { OnOk result (names.new.items ≡ names.old.items ++ targets_kept self.now) }
+    {
+        for repository in self.offers.values() {
+            add_targets(names, repository.references())?;
+        }
+        Ok(())
+    }
+
+    // Puts a copy of each behind the offers of their giver's state.
+    pub(crate) fn keep(&self, state: &mut TenantState) -> Result<(), AllocError>
+        requires none { state.old.offers ≡ [] }
+        requires few { map.len self.now ≤ MAX_OFFERS }
+        requires others { (pair : Pair) (repository : Shown) → map.get self.now pair ≡ Some repository → IsToAnother state.old.name pair }
+        ensures { OnOk result (state.new ≡ with_offers state.old (mapped offer_told (map.entries self.now))) }
+    {
+        for (pair, repository) in self.offers.iter() {
+            let repository = repository.copy()?;
+            keep_offer(
+                state,
+                Offer::new(pair.0.copy(), pair.1.copy(), repository),
+            )?;
+        }
+        Ok(())
+    }
+}
+
+fn put(
+    offers: &mut BTreeMap<(TenantName, RepositoryName), Repository>,
+    receiver: TenantName,
+    name: RepositoryName,
+    repository: Repository,
+) -> Result<(), AllocError>
+    ensures ok { OnOk result (Updates pair_cmp offers.old offers.new (receiver, name) (Some repository)) }
+    ensures err { OnErr result (IsUnchanged offers.old offers.new) }
+{
+    offers.insert((receiver, name), repository)?;
+    Ok(())
+}

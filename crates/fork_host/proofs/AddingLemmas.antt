@@ -11,7 +11,8 @@ use Rattle.git_name.proofs.Names.{name_total}
 use Rattle.git_reftx.specs.Repository.{Repository}
 use Rattle.fork_reach.specs.Objects.{IsNamed}
 use Rattle.fork_request.specs.Names.{IsTenantName}
-use Rattle.fork_model.specs.Sound.{IsOrderly, IsOrderlyWorld, IsRight, IsRightWorld}
+use Rattle.fork_model.specs.Offer.{Offer, Pair, pair_cmp}
+use Rattle.fork_model.specs.Sound.{AreToOthers, IsOrderly, IsOrderlyWorld, IsRight, IsRightWorld}
 use Rattle.fork_model.specs.View.{View}
 use Rattle.push_stream.specs.Upload.{UploadValue}
 use Rattle.fork_model.specs.World.{World}
@@ -58,6 +59,9 @@ not_refused w t limit absent few low = few_tenants w t limit absent few ∙ ap (
 nothing_at : {X : Type 0} (name : List ℕ) (x : X) → get (empty {X = X} {R = name_cmp}) name ≡ Some x → ⊥
 nothing_at {X} name x is = (let no : ⊥ = cc (sym (get-empty {X = X} name_cmp name) ∙ is) in no)
 
+no_offer : (pair : Pair) (offer : Offer) → get (empty {X = Offer} {R = pair_cmp}) pair ≡ Some offer → ⊥
+no_offer pair offer is = (let no : ⊥ = cc (sym (get-empty {X = Offer} pair_cmp pair) ∙ is) in no)
+
 -- no objects, each under its own name
 pub none_named : IsNamed empty
 none_named = λ name object is. absurd (nothing_at name object is)
@@ -75,13 +79,19 @@ orderly_new_view limit low = record {
   repositories = λ name repository is. absurd (nothing_at name repository is);
   heads = λ name repository is. absurd (nothing_at name repository is);
   references = λ name repository is. absurd (nothing_at name repository is);
+  few_offers = (let none = len-empty pair_cmp Offer in omega arith);
+  offers = λ pair offer is. absurd (no_offer pair offer is);
 }
+
+pub others_new_view : (t : List ℕ) (limit : ℕ) → AreToOthers t (new_view limit)
+others_new_view t limit pair offer is = absurd (no_offer pair offer is)
 
 pub right_new_view : (limit : ℕ) → IsRight (new_view limit)
 right_new_view limit = record {
   named = none_named;
   right = λ name object is. absurd (nothing_at name object is);
   closed = λ name object is. absurd (nothing_at name object is);
+  offered = λ pair offer is. absurd (no_offer pair offer is);
   upload = λ upload is. absurd (no_upload upload is);
 }
 
@@ -109,6 +119,10 @@ orderly_more w t limit of_tenant absent few low orderly = record {
     | inr before ↦ orderly.named q before
   ];
   views = each_more IsOrderly w t (new_view limit) (orderly_new_view limit low) orderly.views;
+  to_others = λ q other is. elim (at_key (eq_by_cmp name_cmp q t) (new_view limit) other (get w q) (sym (get-insert name_total w t (new_view limit) q) ∙ is)) [
+    | inl set ↦ subst (AreToOthers q) set.1 (others_new_view q limit)
+    | inr stays ↦ orderly.to_others q other stays
+  ];
 }
 
 pub right_more : (w : World) (t : List ℕ) (limit : ℕ) → IsRightWorld w → IsRightWorld (insert w t (new_view limit))
@@ -123,6 +137,7 @@ orderly_none = record {
   few = (let none = len-empty name_cmp View in omega arith);
   named = λ q is. absurd (none_known q is);
   views = λ q view is. absurd (nothing_at q view is);
+  to_others = λ q view is. absurd (nothing_at q view is);
 }
 
 pub right_none : IsRightWorld empty

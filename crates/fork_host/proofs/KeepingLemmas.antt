@@ -8,7 +8,7 @@ use Rattle.std.specs.List.{AllByRecursion}
 use Rattle.std.specs.List.Sorted.{IsStrictlySortedBy}
 use Rattle.git_name.specs.Name.{name_cmp}
 use Rattle.git_reftx.proofs.PushLemmas.{keys_ascend}
-use Rattle.fork_model.specs.Sound.{IsOrderly, IsOrderlyWorld}
+use Rattle.fork_model.specs.Sound.{AreToOthers, IsOrderly, IsOrderlyWorld}
 use Rattle.fork_model.specs.declared.limits.TheConstants.{MAX_TENANTS}
 use Rattle.state_text.specs.Adding.{AreBefore}
 use Rattle.state_text.specs.Kept.{state_kept, states_of}
@@ -95,3 +95,8 @@ states_room state es e rest are orderly =
 pub orderly_at : (state : HostState) (tenant : List ℕ) (account : Account) → IsOrderlyWorld (world_of state) → get state.accounts tenant ≡ Some account → IsOrderly (shown account state.vault tenant)
 orderly_at state tenant account orderly is =
     orderly.views tenant (shown account state.vault tenant) (get_world state tenant ∙ ap (option_map (λ (a : Account). shown a state.vault tenant)) is)
+
+-- and its offers are to others
+pub others_at : (state : HostState) (tenant : List ℕ) (account : Account) → IsOrderlyWorld (world_of state) → get state.accounts tenant ≡ Some account → AreToOthers tenant (shown account state.vault tenant)
+others_at state tenant account orderly is =
+    orderly.to_others tenant (shown account state.vault tenant) (get_world state tenant ∙ ap (option_map (λ (a : Account). shown a state.vault tenant)) is)

@@ -1,40 +1,23 @@
 -- Offers as they are kept, as they are shown, and as a state tells them.
 use Rattle.std.proofs.Common.{◌≡◌, ◌≢◌, ℕ, Bool, true, false, List, [], ◌∷◌, ◌++◌, Option, None, Some, refl, sym, ap, subst, ◌∙◌, is_some, length, map, suc}
 use Rattle.std.specs.Option.{option_map}
-use Rattle.std.specs.declared.cmp.Ordering.{Ordering}
-use Rattle.std.specs.declared.cmp.Ordering.TheVariants.{Less, Equal, Greater}
-use Rattle.std.specs.Ordering.{ordering_then}
-use Rattle.std.specs.Cmp.{IsTotalOrder, on_total, then_total}
 use Rattle.std.specs.List.{flat_map}
-use Rattle.std.specs.FinMap.{FinMap, IsAntisymmetric, contains_key, empty, entries, get, get-empty, len, len-entries, same_map, values}
+use Rattle.std.specs.FinMap.{contains_key, empty, entries, get, get-empty, len, len-entries, same_map, values}
 use Rattle.git_name.specs.Maps.{map_values, mapped}
-use Rattle.git_name.specs.Name.{name_cmp}
 use Rattle.git_name.proofs.MapLemmas.{entries_map_values, get_map_values, map_values_empty}
-use Rattle.git_name.proofs.Names.{name_exact, name_total}
 use Rattle.git_reftx.specs.Repository.{Repository}
 use Rattle.fork_reach.specs.Source.{Objects}
 use Rattle.fork_ledger.specs.Private.{Private}
 use Rattle.fork_model.specs.Answer.{targets_made}
-use Rattle.fork_model.specs.Offer.{Offer, Offers, Pair, offered, pair_cmp}
+use Rattle.fork_model.specs.Offer.{Offer, Offers, Pair, offered}
 use Rattle.fork_model.specs.Sound.{IsRight}
 use Rattle.fork_model.specs.View.{View}
+use Rattle.fork_model.proofs.EntryLemmas.{pair_exact, pair_total}
 use Rattle.state_text.specs.Kept.{offer_kept}
 use Rattle.state_text.specs.Offer as text
 use Rattle.fork_host.specs.Made.{Made, entry_of, made_of, made_shown, offer_told, targets_kept}
 use Rattle.fork_host.specs.Rows.{plain}
 use Rattle.fork_host.specs.Shown.{Account, seen_by}
-
--- ---- the order of pairs
-pub pair_total : IsTotalOrder pair_cmp
-pair_total = then_total (on_total (λ (p : Pair). p.0) name_total) (on_total (λ (p : Pair). p.1) name_total)
-
-equal_parts : (o p : Ordering) → ordering_then o p ≡ Equal → (o ≡ Equal) × (p ≡ Equal)
-equal_parts Less p is = absurd (cc)
-equal_parts Equal p is = (refl, is)
-equal_parts Greater p is = absurd (cc)
-
-pub pair_exact : IsAntisymmetric pair_cmp
-pair_exact p q is = (let parts = equal_parts (name_cmp p.0 q.0) (name_cmp p.1 q.1) is in λ i. (name_exact p.0 q.0 parts.0 i, name_exact p.1 q.1 parts.1 i))
 
 -- ---- what is shown, and the repositories of it
 abbrev repository_of : Offer → Repository
@@ -60,6 +43,11 @@ same_made made objects others = made_again others made ∙ sym (made_again objec
 
 pub none_shown : (objects : Objects) → made_shown objects empty ≡ empty
 none_shown objects = map_values_empty pair_total pair_exact (offered objects)
+
+-- where none are shown none are kept, and so none are shown whatever is seen
+pub none_made : (objects others : Objects) (made : Made) → made_shown objects made ≡ empty → made_shown others made ≡ empty
+none_made objects others made none =
+    ap (made_shown others) (sym (made_again objects made) ∙ ap made_of none ∙ map_values_empty pair_total pair_exact repository_of) ∙ none_shown others
 
 same_length : {K X Y : Type 0} (f : X → Y) (es : List (K × X)) → length (mapped f es) ≡ length es
 same_length f [] = refl

@@ -34,22 +34,24 @@ use Rattle.fork_ledger.specs.AllStaged.{StoresAmong}
 use Rattle.fork_model.specs.Answer.{Finished, upload_ended, open_upload, part_answer, part_drop_answer, without_upload}
 use Rattle.fork_model.specs.Sound.{IsOrderly}
 use Rattle.fork_model.specs.Uploads.{stream_among, upload_among}
-use Rattle.fork_model.specs.View.{View, Repositories}
+use Rattle.fork_model.specs.View.{View}
 use Rattle.fork_host.specs.Bounds.{IsBounded, IsCollision}
 use Rattle.fork_host.specs.Fed.{IsFed, Fed, Full, Unfed}
+use Rattle.fork_host.specs.Made.{Made}
 use Rattle.fork_host.specs.Own.{KeepsSeen, KeepsStaged, staged_in, visible_in}
-use Rattle.fork_host.specs.Pushed.{TellsBrief, view_of}
-use Rattle.fork_host.specs.Rows.{Gives, Given, Yields, Yielded, Lacking, Faulted}
+use Rattle.fork_host.specs.Pushed.{TellsBrief}
+use Rattle.fork_host.specs.Rows.{plain, Gives, Given, Yields, Yielded, Lacking, Faulted}
 use Rattle.fork_host.specs.Safe.{IsSafe}
 use Rattle.fork_host.specs.Sent.{sent_names}
-use Rattle.fork_host.specs.Shown.{Account, shown}
+use Rattle.fork_host.specs.Shown.{Account, seen_by, shown}
 use Rattle.fork_host.specs.Staged.{Came, IsStaged}
-use Rattle.fork_host.proofs.SafeLemmas.{count_in, orderly_measured, shape_measured}
+use Rattle.fork_host.proofs.SafeLemmas.{orderly_measured, shape_measured}
+use Rattle.fork_host.proofs.MadeLemmas.{same_made, still_made}
 use Rattle.fork_host.proofs.StagedLemmas.{came_none, came_upload, staged_kept_still}
 
--- an account of these parts
-abbrev pub account_of : Repositories → Option Reading → ℕ → Account
-account_of repositories upload limit = record { repositories = repositories; upload = upload; limit = limit }
+-- an account with this upload
+abbrev pub with_upload : Account → Option Reading → Account
+with_upload account upload = record account { upload = upload }
 
 -- an upload, or one of which nothing came yet, went on by a piece, and stands so
 pub record IsPart (own : List ℕ) (waits now : Option Reading) (old new : Reading) (body : List ℕ) (before : VaultState) (reply : Reply) (after : VaultState) : Type 0 where
@@ -107,49 +109,49 @@ part_opened own waits old new body before after reply is begins staged fed done 
     part_begun own waits (Some new) old new body before after reply is begins staged fed (λ _. refl) (λ not_done. (let differs : ⊥ = cc (sym not_done ∙ done) in absurd differs))
 
 -- the views are the same, where what is staged, what is seen and whether an upload is open stay
-same_shown : (repositories : Repositories) (limit : ℕ) (own : List ℕ) (waits now : Option Reading) (before after : VaultState) → now ≡ waits → staged_in after own ≡ staged_in before own → visible_in after own ≡ visible_in before own
-    → shown (account_of repositories now limit) after own ≡ shown (account_of repositories waits limit) before own
-same_shown repositories limit own waits now before after upload staged seen = λ i. view_of repositories (seen i) (option_map (upload_among (staged i)) (upload i)) limit
+same_shown : (account : Account) (own : List ℕ) (waits now : Option Reading) (before after : VaultState) → now ≡ waits → staged_in after own ≡ staged_in before own → visible_in after own ≡ visible_in before own
+    → shown (with_upload account now) after own ≡ shown (with_upload account waits) before own
+same_shown account own waits now before after upload staged seen = λ i. seen_by (with_upload account (upload i)) (record { visible = seen i; staged = staged i })
 
 -- the row of a piece
-pub part_row : (repositories : Repositories) (limit : ℕ) (own : List ℕ) (waits now : Option Reading) (old new : Reading) (body : List ℕ) (before after : VaultState) (reply : Reply) → IsTrue before.honest → KeepsSeen own before after → IsPart own waits now old new body before reply after
-    → Yields (part_answer (shown (account_of repositories waits limit) before own) body) (shown (account_of repositories waits limit) before own) reply (shown (account_of repositories now limit) after own)
+pub part_row : (account : Account) (own : List ℕ) (waits now : Option Reading) (old new : Reading) (body : List ℕ) (before after : VaultState) (reply : Reply) → IsTrue before.honest → KeepsSeen own before after → IsPart own waits now old new body before reply after
+    → Yields (part_answer (shown (with_upload account waits) before own) body) (shown (with_upload account waits) before own) reply (shown (with_upload account now) after own)
 unfolding part_answer
-part_row repositories limit own waits now old new body before after reply honest seen part = by part.fed
+part_row account own waits now old new body before after reply honest seen part = by part.fed
   where
     view : View
-    view = shown (account_of repositories waits limit) before own
+    view = shown (with_upload account waits) before own
 
     counted : (open_upload view.upload).count ≡ old.count
     counted = ap (λ (upload : UploadValue). upload.count) (part.opened honest) ∙ ap (λ (reading : Reading). reading.count) part.came.read
 
     row : (b : Bool) → nat_lt MAX_UPLOAD (old.count + length body) ≡ b
-        → part_answer view body ≡ cond b (Refused StagedTooLong, view) (Done [], record { repositories = repositories; objects = visible_in before own; upload = Some (continued (open_upload view.upload) body); limit = limit })
-    row b is = ap (λ t. cond t (Refused StagedTooLong, view) (Done [], record { repositories = repositories; objects = visible_in before own; upload = Some (continued (open_upload view.upload) body); limit = limit }))
+        → part_answer view body ≡ cond b (Refused StagedTooLong, view) (Done [], record view { upload = Some (continued (open_upload view.upload) body) })
+    row b is = ap (λ t. cond t (Refused StagedTooLong, view) (Done [], record view { upload = Some (continued (open_upload view.upload) body) }))
         (ap (λ n. nat_lt MAX_UPLOAD (n + length body)) counted ∙ is)
 
     grown : Came before.honest (part.bytes ++ body) new (staged_in after own) → upload_among (staged_in after own) new ≡ continued (open_upload view.upload) body
     grown came = came_upload (part.bytes ++ body) new before.honest (staged_in after own) honest came ∙ sym (piece_joins part.bytes body) ∙ ap (λ (upload : UploadValue). continued upload body) (sym (part.opened honest))
 
-    by : IsFed own old body before reply new after → Yields (part_answer view body) view reply (shown (account_of repositories now limit) after own)
+    by : IsFed own old body before reply new after → Yields (part_answer view body) view reply (shown (with_upload account now) after own)
     by (Fed told room more) =
         let is = row false room in
         let upload : option_map (upload_among (staged_in after own)) now ≡ Some (continued (open_upload view.upload) body) = ap (option_map (upload_among (staged_in after own))) (part.done (ap is_done told)) ∙ ap Some (grown (more part.bytes part.came)) in
-        Yielded (told ∙ sym (ap (λ (r : Reply × View). r.0) is)) ((λ i. view_of repositories (seen.exact honest i) (upload i) limit) ∙ sym (ap (λ (r : Reply × View). r.1) is))
+        Yielded (told ∙ sym (ap (λ (r : Reply × View). r.0) is))
+        (ap plain ((λ i. record (seen_by account (record { visible = seen.exact honest i; staged = empty })) { upload = upload i }) ∙ sym (ap (λ (r : Reply × View). r.1) is)))
     by (Full told room same kept) =
         let is = row true room in
         Yielded (told ∙ sym (ap (λ (r : Reply × View). r.0) is))
-        (same_shown repositories limit own waits now before after (part.still (ap is_done told)) (kept.exact honest) (seen.exact honest) ∙ sym (ap (λ (r : Reply × View). r.1) is))
-    by (Unfed fault told same kept) = Faulted fault told (same_shown repositories limit own waits now before after (part.still (ap is_done told)) (kept.exact honest) (seen.exact honest))
+        (ap plain (same_shown account own waits now before after (part.still (ap is_done told)) (kept.exact honest) (seen.exact honest) ∙ sym (ap (λ (r : Reply × View). r.1) is)))
+    by (Unfed fault told same kept) = Faulted fault told (ap plain (same_shown account own waits now before after (part.still (ap is_done told)) (kept.exact honest) (seen.exact honest)))
 
 -- an upload within its limit
 within : (count more : ℕ) → nat_lt MAX_UPLOAD (count + more) ≡ false → count + more ≤ MAX_UPLOAD
 within count more is = grind (arith, nat_tests)
 
 -- another upload, within its limit
-orderly_opened : (repositories : Repositories) (objects : Objects) (upload other : Option UploadValue) (limit : ℕ) → ((waits : UploadValue) → other ≡ Some waits → waits.count ≤ MAX_UPLOAD)
-    → IsOrderly (view_of repositories objects upload limit) → IsOrderly (view_of repositories objects other limit)
-orderly_opened repositories objects upload other limit few orderly = record {
+orderly_opened : (view : View) (other : Option UploadValue) → ((waits : UploadValue) → other ≡ Some waits → waits.count ≤ MAX_UPLOAD) → IsOrderly view → IsOrderly (record view { upload = other })
+orderly_opened view other few orderly = record {
   upload = few;
   within_limit = orderly.within_limit;
   limit = orderly.limit;
@@ -157,6 +159,8 @@ orderly_opened repositories objects upload other limit few orderly = record {
   repositories = orderly.repositories;
   heads = orderly.heads;
   references = orderly.references;
+  few_offers = orderly.few_offers;
+  offers = orderly.offers;
 }
 
 -- an open upload with its objects has as many bytes
@@ -190,21 +194,26 @@ part_few own waits now old new body before after reply part few reading is = by 
     by (Full told room same kept) = few reading (sym (part.still (ap is_done told)) ∙ is)
     by (Unfed fault told same kept) = few reading (sym (part.still (ap is_done told)) ∙ is)
 
-pub part_safe : (Within : Reply → Type 0) (repositories : Repositories) (limit : ℕ) (own : List ℕ) (waits now : Option Reading) (old new : Reading) (body : List ℕ) (before after : VaultState) (reply : Reply) → Within reply → KeepsSeen own before after → IsPart own waits now old new body before reply after
-    → IsSafe Within (shown (account_of repositories waits limit) before own) reply (shown (account_of repositories now limit) after own)
-part_safe Within repositories limit own waits now old new body before after reply within seen part = record {
-  orderly = λ orderly.
-      orderly_opened repositories (visible_in after own) (option_map (upload_among (staged_in before own)) waits) (option_map (upload_among (staged_in after own)) now) limit
-      (counted_among (staged_in after own) now MAX_UPLOAD (part_few own waits now old new body before after reply part (counts_among (staged_in before own) waits MAX_UPLOAD orderly.upload)))
-      (orderly_measured repositories (visible_in before own) (visible_in after own) (option_map (upload_among (staged_in before own)) waits) (option_map (upload_among (staged_in before own)) waits) limit seen.shape refl orderly);
-  kept = λ _. shape_measured repositories (visible_in before own) (visible_in after own) (option_map (upload_among (staged_in after own)) now) (option_map (upload_among (staged_in before own)) waits) limit seen.shape;
-  faults = within;
-}
+pub part_safe : (Within : Reply → Type 0) (account : Account) (own : List ℕ) (waits now : Option Reading) (old new : Reading) (body : List ℕ) (before after : VaultState) (reply : Reply) → Within reply → KeepsSeen own before after → IsPart own waits now old new body before reply after
+    → IsSafe Within (shown (with_upload account waits) before own) reply (shown (with_upload account now) after own)
+part_safe Within account own waits now old new body before after reply within seen part =
+    let first = shown (with_upload account waits) before own in
+    let last = shown (with_upload account now) after own in
+    let made = same_made account.made (visible_in before own) (visible_in after own) in
+    record {
+      orderly = λ orderly.
+          orderly_opened (record last { upload = first.upload }) last.upload
+          (counted_among (staged_in after own) now MAX_UPLOAD (part_few own waits now old new body before after reply part (counts_among (staged_in before own) waits MAX_UPLOAD orderly.upload)))
+          (orderly_measured account.repositories (visible_in before own) (visible_in after own) first (record last { upload = first.upload }) account.limit seen.shape (record { counted = refl; made = made }) orderly);
+      made = λ pair there. sym (still_made first.made last.made pair made) ∙ there;
+      kept = λ _. shape_measured account.repositories (visible_in before own) (visible_in after own) first last account.limit seen.shape made;
+      faults = within;
+    }
 
 -- the objects that the upload has with the piece, over an honest store
-pub part_sent : (repositories : Repositories) (limit : ℕ) (own : List ℕ) (waits now : Option Reading) (old new : Reading) (body : List ℕ) (before after : VaultState) (reply : Reply) → (part : IsPart own waits now old new body before reply after) → IsTrue before.honest
-    → sent_in (stream_of (part.bytes ++ body)) ≡ sent_in (continued (open_upload (shown (account_of repositories waits limit) before own).upload) body).stream
-part_sent repositories limit own waits now old new body before after reply part honest =
+pub part_sent : (account : Account) (own : List ℕ) (waits now : Option Reading) (old new : Reading) (body : List ℕ) (before after : VaultState) (reply : Reply) → (part : IsPart own waits now old new body before reply after) → IsTrue before.honest
+    → sent_in (stream_of (part.bytes ++ body)) ≡ sent_in (continued (open_upload (shown (with_upload account waits) before own).upload) body).stream
+part_sent account own waits now old new body before after reply part honest =
     ap (λ (upload : UploadValue). sent_in upload.stream) (sym (piece_joins part.bytes body) ∙ ap (λ (upload : UploadValue). continued upload body) (sym (part.opened honest)))
 
 -- what came is staged
@@ -236,7 +245,7 @@ tells_brief bytes reading (Err Memory) read found exact = tt
 
 -- a row that ends the upload
 pub ended_told : (row : Reply × View) (old : View) (reply : Reply) (new : View) → is_host_fault reply ≡ false → Yields row old reply new → Yields (upload_ended row) old reply (without_upload new)
-ended_told row old reply new told (Yielded is same) = Yielded is (ap without_upload same)
+ended_told row old reply new told (Yielded is same) = Yielded is (ap (λ (p : View × Made). (without_upload p.0, p.1)) same)
 ended_told row old reply new told (Lacking wanting stays) = (let differs : ⊥ = cc (sym told ∙ ap is_host_fault wanting) in absurd differs)
 ended_told row old reply new told (Faulted fault is stays) = (let differs : ⊥ = cc (sym told ∙ ap is_host_fault is) in absurd differs)
 
@@ -245,13 +254,13 @@ is_some_among : (staged : Objects) (waits : Option Reading) → is_some (option_
 is_some_among staged None = refl
 is_some_among staged (Some reading) = refl
 
-pub drop_row : (repositories : Repositories) (limit : ℕ) (own : List ℕ) (waits : Option Reading) (before after : VaultState) (reply : Reply) → is_some waits ≡ true → reply ≡ Done [] → visible_in after own ≡ visible_in before own
-    → Gives (part_drop_answer (shown (account_of repositories waits limit) before own)) (shown (account_of repositories waits limit) before own) reply (shown (account_of repositories None limit) after own)
+pub drop_row : (account : Account) (own : List ℕ) (waits : Option Reading) (before after : VaultState) (reply : Reply) → is_some waits ≡ true → reply ≡ Done [] → visible_in after own ≡ visible_in before own
+    → Gives (part_drop_answer (shown (with_upload account waits) before own)) (shown (with_upload account waits) before own) reply (shown (with_upload account None) after own)
 unfolding part_drop_answer
-drop_row repositories limit own waits before after reply is told seen =
-    let view = shown (account_of repositories waits limit) before own in
+drop_row account own waits before after reply is told seen =
+    let view = shown (with_upload account waits) before own in
     let row = ap (λ b. cond b (Done [], without_upload view) (Refused NoUpload, view)) (is_some_among (staged_in before own) waits ∙ is) in
-    Given (told ∙ sym (ap (λ (r : Reply × View). r.0) row)) ((λ i. view_of repositories (seen i) None limit) ∙ sym (ap (λ (r : Reply × View). r.1) row))
+    Given (told ∙ sym (ap (λ (r : Reply × View). r.0) row)) ((λ i. seen_by (with_upload account None) (record { visible = seen i; staged = empty })) ∙ sym (ap (λ (r : Reply × View). r.1) row))
 
 pub drop_refused : (account : Account) (own : List ℕ) (vault : VaultState) → is_some account.upload ≡ false
     → Gives (part_drop_answer (shown account vault own)) (shown account vault own) (Refused NoUpload) (shown account vault own)
@@ -303,15 +312,6 @@ pub none_among : (staged : Objects) (upload : Option Reading) → option_map (up
 none_among staged None is = refl
 none_among staged (Some reading) is = absurd (cc)
 
--- what is safe, is safe with each upload of as many bytes
-pub safe_upload : (Within : Reply → Type 0) (old : View) (repositories : Repositories) (objects : Objects) (upload other : Option UploadValue) (limit : ℕ) (reply : Reply) → count_in other ≡ count_in upload → IsSafe Within old reply (view_of repositories objects upload limit)
-    → IsSafe Within old reply (view_of repositories objects other limit)
-safe_upload Within old repositories objects upload other limit reply counted safe = record {
-  orderly = λ before. orderly_measured repositories objects objects upload other limit refl counted (safe.orderly before);
-  kept = safe.kept;
-  faults = safe.faults;
-}
-
 -- a host fault is not done
 pub failed_not_done : (reply : Reply) → is_host_fault reply ≡ true → is_done reply ≡ false
 failed_not_done (Done text) is = absurd (cc)
@@ -320,7 +320,7 @@ failed_not_done (Failed fault) is = refl
 
 -- a safe answer keeps wider bounds too
 pub safe_within : (Within Over : Reply → Type 0) (old : View) (reply : Reply) (new : View) → (Within reply → Over reply) → IsSafe Within old reply new → IsSafe Over old reply new
-safe_within Within Over old reply new over safe = record { orderly = safe.orderly; kept = safe.kept; faults = over safe.faults }
+safe_within Within Over old reply new over safe = record { orderly = safe.orderly; made = safe.made; kept = safe.kept; faults = over safe.faults }
 
 -- ---- the catalogue
 -- what a piece adds stands behind what came, whichever objects these are

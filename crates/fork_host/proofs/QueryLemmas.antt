@@ -18,7 +18,7 @@ use Rattle.fork_model.specs.View.{View}
 use Rattle.fork_host.specs.declared.own.Own.{Own}
 use Rattle.fork_host.specs.Bounds.{IsBounded, ReadsStore}
 use Rattle.fork_host.specs.Handle.{Rest, Uses, own_state, shown_by}
-use Rattle.fork_host.specs.Rows.{Yields, Yielded, Faulted, fault_told, query_told}
+use Rattle.fork_host.specs.Rows.{plain, Yields, Yielded, Faulted, fault_told, query_told}
 use Rattle.fork_host.specs.Safe.{IsSafe}
 use Rattle.fork_host.specs.Shown.{Account, seen_by, shown}
 use Rattle.fork_host.proofs.BoundLemmas.{bounded_gains, bounded_read, gains_read}
@@ -52,9 +52,9 @@ stays account old new fault honest asked = ap (λ (rest : Rest). seen_by account
 pub query_gives : {S B : Type 0} (view : B → List ℕ) (account : Account) (old new : Own S) (model : Result (List ℕ) Refusal) (found : Result B QueryError) (reply : Reply) → IsTrue old.vault.now.honest → Tells view model found
     → IsAsked (own_state old) (own_state new) (fault_of found) → reply ≡ query_told view found
     → Yields (reply_of model, shown_by account old) (shown_by account old) reply (shown account new.vault.now old.tenant.now)
-query_gives view account old new model (Ok text) reply honest tells asked is = Yielded (is ∙ sym (ap reply_of tells)) (stays account old new _ honest asked)
-query_gives view account old new model (Err (query.Refused refusal)) reply honest tells asked is = Yielded (is ∙ sym (ap reply_of tells)) (stays account old new _ honest asked)
-query_gives view account old new model (Err (query.Failed fault)) reply honest tells asked is = Faulted (fault_told fault) is (stays account old new _ honest asked)
+query_gives view account old new model (Ok text) reply honest tells asked is = Yielded (is ∙ sym (ap reply_of tells)) (ap plain (stays account old new _ honest asked))
+query_gives view account old new model (Err (query.Refused refusal)) reply honest tells asked is = Yielded (is ∙ sym (ap reply_of tells)) (ap plain (stays account old new _ honest asked))
+query_gives view account old new model (Err (query.Failed fault)) reply honest tells asked is = Faulted (fault_told fault) is (ap plain (stays account old new _ honest asked))
 
 -- a row about a repository that is there, and about few items
 pub named_is : (view : View) (word : List ℕ) (row : Reply × View) → is_plain_name 64 word ≡ true → named_repository view word row ≡ row

@@ -14,7 +14,6 @@ use Rattle.git_name.proofs.Names.{name_total}
 use Rattle.git_name.specs.Object.{Object, object_name}
 use Rattle.git_name.specs.Same.{is_one_of}
 use Rattle.git_object.specs.ObjectIn.{links_in}
-use Rattle.git_reftx.specs.Repository.{Repository}
 use Rattle.loose_store.specs.Files.{Files}
 use Rattle.loose_store.specs.Stored.{Whole}
 use Rattle.fork_reach.specs.Objects.{IsNamed, use_of, with_objects}
@@ -26,8 +25,9 @@ use Rattle.fork_model.proofs.ProvenanceLemmas.{among_both}
 use Rattle.fork_model.proofs.TransferLemmas.{came}
 use Rattle.fork_sound.specs.Sound.{is_bad}
 use Rattle.fork_sound.proofs.SoundLemmas.{all_met, good_found, good_there, none_bad}
+use Rattle.state_text.specs.States.{TenantState}
 use Rattle.fork_host.specs.Refilled.{IsAgainst, StandsAgainst, bad_in}
-use Rattle.fork_host.specs.Restored.{AreOnStore, first_astray, first_bad, target_of}
+use Rattle.fork_host.specs.Restored.{AreOnStore, first_astray, first_bad, repositories_in, target_of}
 use Rattle.fork_host.specs.declared.seeing.Against.{Against}
 use Rattle.fork_host.specs.declared.seeing.Against.TheVariants.{Memory as NoMemory, BadObject, Astray, Limit}
 use Rattle.fork_host.proofs.RecallLemmas.{one_whole}
@@ -103,15 +103,15 @@ pub bad_by : (set : BTreeSet (List ℕ)) (names : List (List ℕ)) (objects : Ob
 bad_by set names objects is = ap (λ keys. first_bad keys objects) is
 
 -- what stands against the objects that are seen, by those on the store
-pub stands_against : (files : Files) (names : List (List ℕ)) (set : BTreeSet (List ℕ)) (repositories : List (List ℕ × Repository)) (limit : ℕ) (visible both objects : Objects) → set.keys ≡ names → visible ≡ objects → both ≡ objects → AreOnStore files names objects
-    → (against : Against) → IsAgainst set repositories limit visible both against → StandsAgainst files names repositories limit against
-stands_against files names set repositories limit visible both objects are seen all stored NoMemory is = tt
-stands_against files names set repositories limit visible both objects are seen all stored (BadObject name) is =
-    record { objects = objects; stored = stored; is = sym (bad_by set names objects are) ∙ ap (bad_in set) (sym seen) ∙ is }
-stands_against files names set repositories limit visible both objects are seen all stored (Astray target) is =
-    record { objects = objects; stored = stored; is = (sym (bad_by set names objects are) ∙ ap (bad_in set) (sym seen) ∙ is.0, is.1, ap (first_astray repositories) (sym seen) ∙ is.2) }
-stands_against files names set repositories limit visible both objects are seen all stored Limit is =
-    record { objects = objects; stored = stored; is = (sym (bad_by set names objects are) ∙ ap (bad_in set) (sym seen) ∙ is.0, ap (first_astray repositories) (sym seen) ∙ is.1, subst (λ o. limit < use_of o) all is.2) }
+pub stands_against : (files : Files) (state : TenantState) (set : BTreeSet (List ℕ)) (visible both objects : Objects) → set.keys ≡ state.seen → visible ≡ objects → both ≡ objects → AreOnStore files state.seen objects
+    → (against : Against) → IsAgainst set state visible both against → StandsAgainst files state against
+stands_against files state set visible both objects are seen all stored NoMemory is = tt
+stands_against files state set visible both objects are seen all stored (BadObject name) is =
+    record { objects = objects; stored = stored; is = sym (bad_by set state.seen objects are) ∙ ap (bad_in set) (sym seen) ∙ is }
+stands_against files state set visible both objects are seen all stored (Astray target) is =
+    record { objects = objects; stored = stored; is = (sym (bad_by set state.seen objects are) ∙ ap (bad_in set) (sym seen) ∙ is.0, is.1, ap (first_astray (repositories_in state)) (sym seen) ∙ is.2) }
+stands_against files state set visible both objects are seen all stored Limit is =
+    record { objects = objects; stored = stored; is = (sym (bad_by set state.seen objects are) ∙ ap (bad_in set) (sym seen) ∙ is.0, ap (first_astray (repositories_in state)) (sym seen) ∙ is.1, subst (λ o. state.limit < use_of o) all is.2) }
 
 -- the reference whose target is told
 pub told_target : (found : Option (List ℕ × List ℕ)) (target : List ℕ) → Some target ≡ option_map target_of found → (reference : List ℕ) × (found ≡ Some (reference, target))

@@ -21,7 +21,7 @@ use Rattle.state_text.specs.Kept.{state_kept, states_of}
 use Rattle.state_text.specs.States.{Ascend, States, TenantState}
 use Rattle.state_text.proofs.BehindLemmas.{each_behind, map_behind, nothing_in}
 use Rattle.fork_host.specs.Refilled.{IsBehind, IsJudged, IsRefilledIn, IsWhy, first_told, told_at_once, with_judged}
-use Rattle.fork_host.specs.Restored.{ByLimit, ByObject, ByTarget, HasObjects, HasTargets, IsStoreOrMemory, AllBefore, AreRefused, IsShownAgain, KeepsLimit, OnStore, TellsBad, WantsMemory, WantsStore, first_astray, first_bad, without_offers}
+use Rattle.fork_host.specs.Restored.{ByLimit, ByObject, ByTarget, HasObjects, HasTargets, IsStoreOrMemory, AllBefore, AreRefused, IsShownAgain, KeepsLimit, OnStore, TellsBad, WantsMemory, WantsStore, first_astray, first_bad, repositories_in}
 use Rattle.fork_host.specs.Shown.{HostState, world_of}
 use Rattle.fork_host.specs.declared.later.Bad.{Bad}
 use Rattle.fork_host.specs.declared.later.Bad.TheVariants.{Memory as BadMemory, Object as Object_of}
@@ -68,6 +68,7 @@ refilled_more files tenant old mid new view added refilled = record {
   view = refilled.view;
   world = refilled.world ∙ ap (λ (w : World). insert w tenant.name refilled.view) added ∙ put_twice old tenant.name view refilled.view;
   repositories = refilled.repositories;
+  offers = refilled.offers;
   limit = refilled.limit;
   upload = refilled.upload;
   stored = refilled.stored;
@@ -80,7 +81,7 @@ has_objects : (files : Files) (tenant : TenantState) (old new : World) → IsRef
 has_objects files tenant old new r = record { objects = r.stored.objects; stored = r.stored.stored; is = r.stored.is.1 }
 
 has_targets : (files : Files) (tenant : TenantState) (old new : World) → IsRefilledIn files tenant old new → HasTargets files tenant
-has_targets files tenant old new r = record { objects = r.stored.objects; stored = r.stored.stored; is = ap (first_astray tenant.repositories) r.stored.is.0 ∙ r.targets }
+has_targets files tenant old new r = record { objects = r.stored.objects; stored = r.stored.stored; is = ap (first_astray (repositories_in tenant)) r.stored.is.0 ∙ r.targets }
 
 keeps_limit : (files : Files) (tenant : TenantState) (old new : World) → IsRefilledIn files tenant old new → KeepsLimit files tenant
 keeps_limit files tenant old new r = record { objects = r.stored.objects; stored = r.stored.stored; is = subst (λ objects. use_of objects ≤ tenant.limit) (sym r.stored.is.0) r.within }
@@ -108,7 +109,7 @@ pub record IsAstray (files : Files) (states : States) (target : List ℕ) : Type
   pub tenant : TenantState
   pub reference : List ℕ
   pub first : AllBefore (HasTargets files) states tenant
-  pub astray : OnStore files tenant.seen (λ objects. first_astray tenant.repositories objects ≡ Some (reference, target))
+  pub astray : OnStore files tenant.seen (λ objects. first_astray (repositories_in tenant) objects ≡ Some (reference, target))
 
 -- the first tenant over its limit
 pub record IsOverLimit (files : Files) (states : States) (name : List ℕ) : Type 0 where
@@ -132,7 +133,7 @@ pub record Going (files : Files) (states : States) (state : HostState) (later : 
 -- one more tenant is shown
 shown_more : (files : Files) (states : States) (tenant : TenantState) (old new : World) → AreBefore (keys old) tenant.name → Ascend tenant.seen → IsShownAgain files states old → IsRefilledIn files tenant old new → IsShownAgain files (states ++ tenant ∷ []) new
 shown_more files states tenant old new before ascend shown r = record {
-  states = ap states_of r.world ∙ ap (map state_kept) (entries_behind old tenant.name r.view before) ∙ map_behind state_kept (entries old) (tenant.name, r.view) ∙ (λ i. shown.states i ++ kept i ∷ []) ∙ sym (map_behind without_offers states tenant);
+  states = ap states_of r.world ∙ ap (map state_kept) (entries_behind old tenant.name r.view before) ∙ map_behind state_kept (entries old) (tenant.name, r.view) ∙ (λ i. shown.states i ++ kept i ∷ []);
   quiet = λ name view here. quiet name view (eq_by_cmp name_cmp name tenant.name) (sym (get-insert name_total old tenant.name r.view name) ∙ ap (λ (w : World). get w name) (sym r.world) ∙ here);
   whole = λ name view key object here there. whole name view key object there (eq_by_cmp name_cmp name tenant.name) (sym (get-insert name_total old tenant.name r.view name) ∙ ap (λ (w : World). get w name) (sym r.world) ∙ here);
 }
@@ -140,8 +141,8 @@ shown_more files states tenant old new before ascend shown r = record {
     seen : keys r.view.objects ≡ tenant.seen
     seen = ap (λ (o : Objects). keys o) (sym r.stored.is.0) ∙ keys_seen files tenant.seen r.stored.objects ascend r.stored.stored r.stored.is.1
 
-    kept : state_kept (tenant.name, r.view) ≡ without_offers tenant
-    kept i = record { name = tenant.name; limit = r.limit i; repositories = r.repositories i; seen = seen i; offers = [] }
+    kept : state_kept (tenant.name, r.view) ≡ tenant
+    kept i = record { name = tenant.name; limit = r.limit i; repositories = r.repositories i; seen = seen i; offers = r.offers i }
 
     quiet : (name : List ℕ) (view : View) (b : Bool) → cond b (Some r.view) (get old name) ≡ Some view → view.upload ≡ None
     quiet name view true is = (let same : r.view ≡ view = cc in ap (λ v. v.upload) (sym same) ∙ r.upload)
@@ -156,12 +157,12 @@ shown_more files states tenant old new before ascend shown r = record {
 astray_more : (files : Files) (states : States) (last : TenantState) (target : List ℕ) → IsAstray files states target → IsAstray files (states ++ last ∷ []) target
 astray_more files states last target noted = record { tenant = noted.tenant; reference = noted.reference; first = first_more states noted.tenant last noted.first; astray = noted.astray }
 
-astray_last : (files : Files) (states : States) (tenant : TenantState) (target : List ℕ) → OnStore files tenant.seen (λ objects. (first_bad tenant.seen objects ≡ None) × (reference : List ℕ) × (first_astray tenant.repositories objects ≡ Some (reference, target)))
+astray_last : (files : Files) (states : States) (tenant : TenantState) (target : List ℕ) → OnStore files tenant.seen (λ objects. (first_bad tenant.seen objects ≡ None) × (reference : List ℕ) × (first_astray (repositories_in tenant) objects ≡ Some (reference, target)))
     → AllByRecursion (HasTargets files) states → IsAstray files (states ++ tenant ∷ []) target
 astray_last files states tenant target r targets =
     record { tenant = tenant; reference = r.is.1; first = first_last states tenant targets; astray = record { objects = r.objects; stored = r.stored; is = r.is.2 } }
 
-targets_met : (files : Files) (tenant : TenantState) → OnStore files tenant.seen (λ objects. (first_bad tenant.seen objects ≡ None) × (first_astray tenant.repositories objects ≡ None) × (tenant.limit < use_of objects)) → HasTargets files tenant
+targets_met : (files : Files) (tenant : TenantState) → OnStore files tenant.seen (λ objects. (first_bad tenant.seen objects ≡ None) × (first_astray (repositories_in tenant) objects ≡ None) × (tenant.limit < use_of objects)) → HasTargets files tenant
 targets_met files tenant r = record { objects = r.objects; stored = r.stored; is = r.is.1 }
 
 over_more : (files : Files) (states : States) (last : TenantState) (name : List ℕ) → HasTargets files last → IsOverLimit files states name → IsOverLimit files (states ++ last ∷ []) name

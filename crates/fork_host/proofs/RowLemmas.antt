@@ -1,6 +1,5 @@
 -- What a tenant answers is its part in a step of the world.
-use Rattle.std.proofs.Common.{ℕ, [], Option, ap}
-use Rattle.push_stream.specs.Upload.{UploadValue}
+use Rattle.std.proofs.Common.{◌≡◌, [], ap, ◌∙◌}
 use Rattle.fork_reach.specs.Source.{Objects}
 use Rattle.fork_request.specs.Asked.{Ask}
 use Rattle.fork_request.specs.Told.{is_host_fault}
@@ -8,23 +7,31 @@ use Rattle.fork_request.specs.declared.reply.Reply.{Reply}
 use Rattle.fork_request.specs.declared.reply.Reply.TheVariants.{Done}
 use Rattle.fork_model.specs.Answer.{answer}
 use Rattle.fork_model.specs.Runs.{Told, Failed}
-use Rattle.fork_model.specs.View.{View, Repositories}
+use Rattle.fork_model.specs.Sound.{IsRight}
+use Rattle.fork_model.specs.View.{View}
 use Rattle.fork_model.specs.World.{Answers}
-use Rattle.fork_host.specs.Pushed.{view_of}
-use Rattle.fork_host.specs.Rows.{KeepsObjects, Kept, Unkept, Gives, Given, Wanting, Yields, Yielded, Lacking, Faulted}
+use Rattle.fork_model.proofs.SoundLemmas.{right_answer}
+use Rattle.fork_host.specs.Rows.{plain, KeepsObjects, Kept, Unkept, Gives, Given, Wanting, Yields, Yielded, Lacking, Faulted}
+use Rattle.fork_host.proofs.MadeLemmas.{IsShown, same_plain, shown_right}
 
-pub answers_of : (view new : View) (ask : Ask) (reply : Reply) → Yields (answer view ask) view reply new → Answers view ask reply new
-answers_of view new ask reply (Yielded told is) = Told told is
-answers_of view new ask reply (Lacking wanting stays) = Failed (ap is_host_fault wanting) stays
-answers_of view new ask reply (Faulted fault failed stays) = Failed (ap is_host_fault failed) stays
+-- what is plain of the new view decides it, as answers keep views right
+pub answers_of : (view new : View) (ask : Ask) (reply : Reply) → IsRight view → IsShown new → Yields (answer view ask) view reply new → Answers view ask reply new
+answers_of view new ask reply right shown (Yielded told is) = Told told (same_plain new (answer view ask).1 shown (shown_right (answer view ask).1 (right_answer view ask right)) is)
+answers_of view new ask reply right shown (Lacking wanting stays) = Failed (ap is_host_fault wanting) (same_plain new view shown (shown_right view right) stays)
+answers_of view new ask reply right shown (Faulted fault failed stays) = Failed (ap is_host_fault failed) (same_plain new view shown (shown_right view right) stays)
 
 -- a row that does not ask the store
 pub yields_of : (row : Reply × View) (old new : View) (reply : Reply) → Gives row old reply new → Yields row old reply new
-yields_of row old new reply (Given told is) = Yielded told is
-yields_of row old new reply (Wanting wanting stays) = Lacking wanting stays
+yields_of row old new reply (Given told is) = Yielded told (ap plain is)
+yields_of row old new reply (Wanting wanting stays) = Lacking wanting (ap plain stays)
+
+-- what is told of a view is told of each that is plainly the same
+pub yields_plain : (row : Reply × View) (old now new : View) (reply : Reply) → plain new ≡ plain now → Yields row old reply now → Yields row old reply new
+yields_plain row old now new reply same (Yielded told is) = Yielded told (same ∙ is)
+yields_plain row old now new reply same (Lacking wanting stays) = Lacking wanting (same ∙ stays)
+yields_plain row old now new reply same (Faulted fault failed stays) = Faulted fault failed (same ∙ stays)
 
 -- objects that were kept, or not
-pub yields_kept : (repositories : Repositories) (seen kept objects : Objects) (upload : Option UploadValue) (limit : ℕ) (reply : Reply) → KeepsObjects kept seen reply objects
-    → Yields (Done [], view_of repositories kept upload limit) (view_of repositories seen upload limit) reply (view_of repositories objects upload limit)
-yields_kept repositories seen kept objects upload limit reply (Kept told is) = Yielded told (ap (λ o. view_of repositories o upload limit) is)
-yields_kept repositories seen kept objects upload limit reply (Unkept fault told is) = Faulted fault told (ap (λ o. view_of repositories o upload limit) is)
+pub yields_kept : (view : View) (kept objects : Objects) (reply : Reply) → KeepsObjects kept view.objects reply objects → Yields (Done [], record view { objects = kept }) view reply (record view { objects = objects })
+yields_kept view kept objects reply (Kept told is) = Yielded told (ap (λ o. plain (record view { objects = o })) is)
+yields_kept view kept objects reply (Unkept fault told is) = Faulted fault told (ap (λ o. plain (record view { objects = o })) is)

@@ -1,13 +1,13 @@
 -- What names, kinds and lengths decide of an answer.
 use Rattle.std.proofs.Common.{◌≡◌, ℕ, ◌≤◌, Bool, true, IsTrue, List, [], Option, None, Some, refl, sym, ap, subst, ◌∙◌}
 use Rattle.std.specs.Option.{option_map}
-use Rattle.std.specs.FinMap.{contains_key, get, insert, retain_keys}
-use Rattle.std.specs.Prelude.{Contains}
+use Rattle.std.specs.FinMap.{contains_key, get, insert, len, retain_keys}
 use Rattle.git_reftx.specs.Repository.{Repository}
 use Rattle.git_reftx.specs.Transaction.{References, is_commit}
 use Rattle.push_stream.specs.declared.upload.TheConstants.{MAX_UPLOAD}
 use Rattle.push_stream.specs.Reading.{Reading}
 use Rattle.push_stream.specs.Upload.{UploadValue}
+use Rattle.git_reftx.specs.Repository.{IsBranch}
 use Rattle.fork_reach.specs.Objects.{Measures, measures_of}
 use Rattle.fork_reach.specs.Source.{Objects}
 use Rattle.fork_reach.proofs.MeasureLemmas.{same_kinds, same_there, same_use}
@@ -16,25 +16,29 @@ use Rattle.fork_request.specs.Asked.{Ask}
 use Rattle.fork_request.specs.Told.{is_done}
 use Rattle.fork_request.specs.declared.reply.Reply.{Reply}
 use Rattle.fork_request.specs.declared.reply.Reply.TheVariants.{Done}
-use Rattle.fork_model.specs.Answer.{answer, left_by, targets_of, without_upload}
-use Rattle.fork_model.specs.Sound.{AreReferences, IsOrderly}
+use Rattle.fork_model.specs.Answer.{answer, left_by, roots_of, without_upload}
+use Rattle.fork_model.specs.Offer.{Offer, Pair}
+use Rattle.fork_model.specs.Sound.{AreReferences, IsOffer, IsOrderly}
+use Rattle.fork_model.specs.declared.limits.TheConstants.{MAX_OFFERS}
 use Rattle.fork_model.specs.Uploads.{upload_among}
 use Rattle.fork_model.specs.View.{View, Repositories}
-use Rattle.fork_model.proofs.KeptLemmas.{target_among}
 use Rattle.fork_model.proofs.Rows.{orderly_kept, orderly_pushed, orderly_without}
-use Rattle.fork_model.proofs.SoundLemmas.{orderly_answer}
+use Rattle.fork_model.proofs.SoundLemmas.{made_answer, orderly_answer}
 use Rattle.fork_model.proofs.StepLemmas.{left_but_upload, undone}
-use Rattle.fork_ledger.specs.Tenants.{shape_of as vault_shape}
+use Rattle.fork_ledger.specs.Private.{Private}
+use Rattle.fork_ledger.specs.Tenants.{private_of, shape_of as vault_shape}
 use Rattle.fork_ledger.proofs.BothLemmas.{same_measures}
 use Rattle.looks.proofs.GrowthLemmas.{grows_same}
 use Rattle.fork_host.specs.declared.own.Own.{Own}
 use Rattle.fork_host.specs.Handle.{IsSame, Uses, shown_by}
-use Rattle.fork_host.specs.Own.{staged_in, visible_in}
+use Rattle.fork_host.specs.Made.{made_of}
+use Rattle.fork_host.specs.Own.{visible_in}
 use Rattle.fork_host.specs.Pushed.{view_of}
 use Rattle.fork_host.specs.Rows.{Gives, Given, Wanting, IsPruned, Pruned, Unpruned}
 use Rattle.fork_host.specs.Safe.{IsSafe}
 use Rattle.fork_host.specs.Shape.{view_shape}
-use Rattle.fork_host.specs.Shown.{Account, shown}
+use Rattle.fork_host.specs.Shown.{Account, seen_by, shown}
+use Rattle.fork_host.proofs.MadeLemmas.{found_made, len_made, same_made, still_made}
 use Rattle.fork_host.proofs.OwnLemmas.{own_read, staged_read}
 use Rattle.fork_host.proofs.ShapeLemmas.{shape_but_upload}
 
@@ -69,46 +73,82 @@ upload_counted (Some upload) (Some other) counted each waits is =
     let same : upload.count ≡ waits.count = cc in
     subst (λ n. n ≤ MAX_UPLOAD) same (each upload refl)
 
--- a view is in order by its objects' measures and its upload's count
-pub orderly_measured : (repositories : Repositories) (seen objects : Objects) (upload other : Option UploadValue) (limit : ℕ) → measures_of objects ≡ measures_of seen → count_in other ≡ count_in upload
-    → IsOrderly (view_of repositories seen upload limit) → IsOrderly (view_of repositories objects other limit)
-orderly_measured repositories seen objects upload other limit same counted orderly = record {
-  upload = upload_counted upload other counted orderly.upload;
+-- views that tell alike of what is neither repositories nor objects: how many bytes an upload has, and of which repositories offers are
+pub record AreAlike (rest other : View) : Type 0 where
+  pub counted : count_in other.upload ≡ count_in rest.upload
+  pub made : made_of other.made ≡ made_of rest.made
+
+pub alike_itself : (view : View) → AreAlike view view
+alike_itself view = record { counted = refl; made = refl }
+
+-- a tenant's views, whatever it sees
+pub alike_shown : (account : Account) (before after : Private) → AreAlike (seen_by account before) (seen_by account after)
+alike_shown account before after = record { counted = same_count account.upload after.staged before.staged; made = same_made account.made before.visible after.visible }
+
+-- an offer that may have been made, and another of the same repository
+offer_measured : (seen objects : Objects) (pair : Pair) (was offer : Offer) → measures_of objects ≡ measures_of seen → was.repository ≡ offer.repository → IsOffer seen pair was → IsOffer objects pair offer
+offer_measured seen objects pair was offer same is right = record {
+  receiver = right.receiver;
+  named = right.named;
+  head = subst (λ (r : Repository). IsBranch r.head) is right.head;
+  references = references_measured seen objects offer.repository.references same (subst (λ (r : Repository). AreReferences seen r.references) is right.references);
+}
+
+-- a view is in order by its objects' measures, its upload's count and its offers' repositories
+pub orderly_measured : (repositories : Repositories) (seen objects : Objects) (rest other : View) (limit : ℕ) → measures_of objects ≡ measures_of seen → AreAlike rest other
+    → IsOrderly (view_of rest repositories seen limit) → IsOrderly (view_of other repositories objects limit)
+orderly_measured repositories seen objects rest other limit same alike orderly = record {
+  upload = upload_counted rest.upload other.upload alike.counted orderly.upload;
   within_limit = subst (λ n. n ≤ limit) (sym (same_use objects seen same)) orderly.within_limit;
   limit = orderly.limit;
   few_repositories = orderly.few_repositories;
   repositories = orderly.repositories;
   heads = orderly.heads;
   references = λ name repository is. references_measured seen objects repository.references same (orderly.references name repository is);
+  few_offers = subst (λ n. n ≤ MAX_OFFERS) (sym (len_made rest.made) ∙ ap len (sym alike.made) ∙ len_made other.made) orderly.few_offers;
+  offers = λ pair offer is. (let was = found_made rest.made other.made pair offer alike.made is in offer_measured seen objects pair was.0 offer same was.2 (orderly.offers pair was.0 was.1));
 }
 
-pub shape_measured : (repositories : Repositories) (seen objects : Objects) (upload other : Option UploadValue) (limit : ℕ) → measures_of objects ≡ measures_of seen
-    → view_shape (view_of repositories objects upload limit) ≡ view_shape (view_of repositories seen other limit)
-shape_measured repositories seen objects upload other limit same = λ i. record { repositories = repositories; objects = same i; limit = limit }
+pub shape_measured : (repositories : Repositories) (seen objects : Objects) (rest other : View) (limit : ℕ) → measures_of objects ≡ measures_of seen → made_of other.made ≡ made_of rest.made
+    → view_shape (view_of other repositories objects limit) ≡ view_shape (view_of rest repositories seen limit)
+shape_measured repositories seen objects rest other limit same made = λ i. record { repositories = repositories; made = made i; objects = same i; limit = limit }
 
--- an answer that leaves the repositories and what is seen, over any store as far as its measures go, and how many bytes the upload has
-pub safe_left : (Within : Reply → Type 0) (repositories now : Repositories) (seen objects : Objects) (upload other : Option UploadValue) (limit : ℕ) (reply : Reply) → now ≡ repositories → measures_of objects ≡ measures_of seen → count_in other ≡ count_in upload
-    → Within reply → IsSafe Within (view_of repositories seen upload limit) reply (view_of now objects other limit)
-safe_left Within repositories now seen objects upload other limit reply stays same counted faults =
-    subst (λ r. IsSafe Within (view_of repositories seen upload limit) reply (view_of r objects other limit)) (sym stays) (record {
-      orderly = orderly_measured repositories seen objects upload other limit same counted;
-      kept = λ _. shape_measured repositories seen objects other upload limit same;
+-- an answer that leaves the repositories and what is seen, over any store as far as its measures go, and the rest alike
+pub safe_left : (Within : Reply → Type 0) (repositories now : Repositories) (seen objects : Objects) (rest other : View) (limit : ℕ) (reply : Reply) → now ≡ repositories → measures_of objects ≡ measures_of seen → AreAlike rest other
+    → Within reply → IsSafe Within (view_of rest repositories seen limit) reply (view_of other now objects limit)
+safe_left Within repositories now seen objects rest other limit reply stays same alike faults =
+    subst (λ r. IsSafe Within (view_of rest repositories seen limit) reply (view_of other r objects limit)) (sym stays) (record {
+      orderly = orderly_measured repositories seen objects rest other limit same alike;
+      made = λ pair there. sym (still_made rest.made other.made pair alike.made) ∙ there;
+      kept = λ _. shape_measured repositories seen objects rest other limit same alike.made;
       faults = faults;
     })
 
 -- what is safe from a view on, is safe from each view of its measures on
-pub safe_from : (Within Over : Reply → Type 0) (repositories : Repositories) (seen objects : Objects) (upload : Option UploadValue) (limit : ℕ) (reply : Reply) (new : View) → measures_of objects ≡ measures_of seen → (Over reply → Within reply)
-    → IsSafe Over (view_of repositories objects upload limit) reply new → IsSafe Within (view_of repositories seen upload limit) reply new
-safe_from Within Over repositories seen objects upload limit reply new same within safe = record {
-  orderly = λ before. safe.orderly (orderly_measured repositories seen objects upload upload limit same refl before);
-  kept = λ not_done. safe.kept not_done ∙ shape_measured repositories seen objects upload upload limit same;
+pub safe_from : (Within Over : Reply → Type 0) (repositories : Repositories) (seen objects : Objects) (rest : View) (limit : ℕ) (reply : Reply) (new : View) → measures_of objects ≡ measures_of seen → (Over reply → Within reply)
+    → IsSafe Over (view_of rest repositories objects limit) reply new → IsSafe Within (view_of rest repositories seen limit) reply new
+safe_from Within Over repositories seen objects rest limit reply new same within safe = record {
+  orderly = λ before. safe.orderly (orderly_measured repositories seen objects rest rest limit same (alike_itself rest) before);
+  made = safe.made;
+  kept = λ not_done. safe.kept not_done ∙ shape_measured repositories seen objects rest rest limit same refl;
   faults = within safe.faults;
+}
+
+-- what is safe, is safe with each rest that tells alike
+pub safe_rest : (Within : Reply → Type 0) (old : View) (repositories : Repositories) (objects : Objects) (rest other : View) (limit : ℕ) (reply : Reply) → AreAlike rest other → IsSafe Within old reply (view_of rest repositories objects limit)
+    → IsSafe Within old reply (view_of other repositories objects limit)
+safe_rest Within old repositories objects rest other limit reply alike safe = record {
+  orderly = λ before. orderly_measured repositories objects objects rest other limit refl alike (safe.orderly before);
+  made = λ pair there. safe.made pair (sym (still_made rest.made other.made pair alike.made) ∙ there);
+  kept = λ not_done. shape_measured repositories objects objects rest other limit refl alike.made ∙ safe.kept not_done;
+  faults = safe.faults;
 }
 
 -- the upload goes
 pub safe_ended : (Within : Reply → Type 0) (old new : View) (reply : Reply) → IsSafe Within old reply new → IsSafe Within old reply (without_upload new)
 safe_ended Within old new reply safe = record {
   orderly = λ before. orderly_without new (safe.orderly before);
+  made = safe.made;
   kept = safe.kept;
   faults = safe.faults;
 }
@@ -117,40 +157,37 @@ safe_ended Within old new reply safe = record {
 pub safe_gives : (Within : Reply → Type 0) (view new : View) (ask : Ask) (reply : Reply) → Within reply → Gives (answer view ask) view reply new → IsSafe Within view reply new
 safe_gives Within view new ask reply within (Given told is) = record {
   orderly = λ before. subst IsOrderly (sym is) (orderly_answer view ask before);
+  made = λ pair there. ap (λ m. contains_key m pair) (sym (made_answer view ask) ∙ ap (λ (v : View). v.made) (sym is)) ∙ there;
   kept = λ not_done. ap view_shape (is ∙ undone view ask reply told not_done) ∙ shape_but_upload (left_by view ask) view (left_but_upload view ask);
   faults = within;
 }
 safe_gives Within view new ask reply within (Wanting wanting stays) = record {
   orderly = λ before. subst IsOrderly (sym stays) before;
+  made = λ pair there. ap (λ (v : View). contains_key v.made pair) (sym stays) ∙ there;
   kept = λ _. ap view_shape stays;
   faults = within;
 }
 
--- what is kept of a view has all that its references name
-targets_stay : (repositories : Repositories) (seen : Objects) (kept : List ℕ → Bool) → ((name : List ℕ) → Contains (targets_of repositories) name → contains_key seen name ≡ true → kept name ≡ true)
-    → (word : List ℕ) (repository : Repository) (reference target : List ℕ) → get repositories word ≡ Some repository → get repository.references reference ≡ Some target → contains_key seen target ≡ true → kept target ≡ true
-targets_stay repositories seen kept rooted word repository reference target here points there = rooted target (target_among repositories word repository reference target here points) there
-
-pub safe_pruned : (Within : Reply → Type 0) (repositories : Repositories) (seen objects : Objects) (upload other : Option UploadValue) (limit : ℕ) (reply : Reply) → count_in other ≡ count_in upload → Within reply → IsPruned (targets_of repositories) seen reply objects
-    → IsSafe Within (view_of repositories seen upload limit) reply (view_of repositories objects other limit)
-safe_pruned Within repositories seen objects upload other limit reply counted within (Pruned kept done same rooted) = record {
-  orderly = λ before.
-      orderly_measured repositories (retain_keys seen kept) objects upload other limit same counted
-      (orderly_kept (view_of repositories seen upload limit) kept (targets_stay repositories seen kept rooted) before);
+pub safe_pruned : (Within : Reply → Type 0) (view : View) (objects : Objects) (other : View) (reply : Reply) → AreAlike view other → Within reply → IsPruned (roots_of view) view.objects reply objects
+    → IsSafe Within view reply (view_of other view.repositories objects view.limit)
+safe_pruned Within view objects other reply alike within (Pruned kept done same rooted) = record {
+  orderly = λ before. orderly_measured view.repositories (retain_keys view.objects kept) objects view other view.limit same alike (orderly_kept view kept rooted before);
+  made = λ pair there. sym (still_made view.made other.made pair alike.made) ∙ there;
   kept = λ not_done. (let differs : ⊥ = cc (ap is_done done) in absurd differs);
   faults = within;
 }
-safe_pruned Within repositories seen objects upload other limit reply counted within (Unpruned fault failed same) = safe_left Within repositories repositories seen objects upload other limit reply refl same counted within
+safe_pruned Within view objects other reply alike within (Unpruned fault failed same) = safe_left Within view.repositories view.repositories view.objects objects view other view.limit reply refl same alike within
 
 -- a push that was accepted and is done: what is seen and staged is seen
-pub safe_taken : (Within : Reply → Type 0) (repositories now : Repositories) (seen both objects : Objects) (upload : Option UploadValue) (limit : ℕ) (name : List ℕ) (old : Repository) (new : References) (reply : Reply) (text : List ℕ)
+pub safe_taken : (Within : Reply → Type 0) (repositories now : Repositories) (seen both objects : Objects) (rest : View) (limit : ℕ) (name : List ℕ) (old : Repository) (new : References) (reply : Reply) (text : List ℕ)
     → ((q : List ℕ) → contains_key seen q ≡ true → get both q ≡ get seen q) → Within reply → reply ≡ Done text → get repositories name ≡ Some old → now ≡ insert repositories name (record old { references = new }) → measures_of objects ≡ measures_of both
-    → verdict.IsAcceptable both old.references limit new → IsSafe Within (view_of repositories seen upload limit) reply (view_of now objects upload limit)
-safe_taken Within repositories now seen both objects upload limit name old new reply text grown within done here set measured accepted =
-    subst (λ r. IsSafe Within (view_of repositories seen upload limit) reply (view_of r objects upload limit)) (sym set) (record {
+    → verdict.IsAcceptable both old.references limit new → IsSafe Within (view_of rest repositories seen limit) reply (view_of rest now objects limit)
+safe_taken Within repositories now seen both objects rest limit name old new reply text grown within done here set measured accepted =
+    subst (λ r. IsSafe Within (view_of rest repositories seen limit) reply (view_of rest r objects limit)) (sym set) (record {
       orderly = λ before.
-          orderly_measured (insert repositories name (record old { references = new })) both objects upload upload limit measured refl
-          (orderly_pushed (view_of repositories seen upload limit) name old new accepted.commands both grown here (before.repositories name old here) accepted.carried accepted.within before);
+          orderly_measured (insert repositories name (record old { references = new })) both objects rest rest limit measured (alike_itself rest)
+          (orderly_pushed (view_of rest repositories seen limit) name old new accepted.commands both grown here (before.repositories name old here) accepted.carried accepted.within before);
+      made = λ pair there. there;
       kept = λ not_done. (let differs : ⊥ = cc (ap is_done done) in absurd differs);
       faults = within;
     })
@@ -168,9 +205,9 @@ read_uses old new shape kept honest places same = record {
 pub read_safe : {S : Type 0} (Within : Reply → Type 0) (account : Account) (old new : Own S) (reply : Reply) → vault_shape new.vault.now.tenants ≡ vault_shape old.vault.now.tenants → Within reply
     → IsSafe Within (shown_by account old) reply (shown account new.vault.now old.tenant.now)
 read_safe Within account old new reply shape faults =
-    safe_left Within account.repositories account.repositories (visible_in old.vault.now old.tenant.now) (visible_in new.vault.now old.tenant.now) (shown_by account old).upload (shown account new.vault.now old.tenant.now).upload account.limit reply refl
-    (ap (λ (p : Measures × Measures). p.0) (same_measures old.vault.now.tenants new.vault.now.tenants old.tenant.now shape)) (same_count account.upload (staged_in new.vault.now old.tenant.now) (staged_in old.vault.now old.tenant.now)) faults
+    safe_left Within account.repositories account.repositories (visible_in old.vault.now old.tenant.now) (visible_in new.vault.now old.tenant.now) (shown_by account old) (shown account new.vault.now old.tenant.now) account.limit reply refl
+    (ap (λ (p : Measures × Measures). p.0) (same_measures old.vault.now.tenants new.vault.now.tenants old.tenant.now shape)) (alike_shown account (private_of old.vault.now.tenants old.tenant.now) (private_of new.vault.now.tenants old.tenant.now)) faults
 
 -- an answer that leaves the view
 pub safe_still : (Within : Reply → Type 0) (view : View) (reply : Reply) → Within reply → IsSafe Within view reply view
-safe_still Within view reply within = record { orderly = λ before. before; kept = λ _. refl; faults = within }
+safe_still Within view reply within = record { orderly = λ before. before; made = λ pair there. there; kept = λ _. refl; faults = within }

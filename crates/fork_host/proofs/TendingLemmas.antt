@@ -27,7 +27,7 @@ use Rattle.fork_host.specs.Shown.{Account, Accounts, IsWhole, seen_by, state_of,
 use Rattle.fork_host.specs.Staged.{IsStaged}
 use Rattle.fork_host.specs.Swept.{Tends, IsTended}
 use Rattle.fork_host.proofs.StagedLemmas.{staged_still}
-use Rattle.fork_host.proofs.WholeLemmas.{orderly_still, shape_still}
+use Rattle.fork_host.proofs.WholeLemmas.{orderly_still, others_still, shape_still}
 use Rattle.fork_host.proofs.WorldLemmas.{get_world, known_world, len_world}
 
 -- ---- the vault
@@ -81,6 +81,9 @@ orderly_tended accounts old new same orderly = record {
   views = λ q view is.
       orderly_still (state_of accounts old) (state_of accounts new) q q (get accounts q) view (seen_tended old new same q) (sym (get_world (state_of accounts new) q) ∙ is)
       (λ other found. orderly.views q other (get_world (state_of accounts old) q ∙ found));
+  to_others = λ q view is.
+      others_still (state_of accounts old) (state_of accounts new) q q (get accounts q) view (sym (get_world (state_of accounts new) q) ∙ is)
+      (λ other found. orderly.to_others q other (get_world (state_of accounts old) q ∙ found));
 }
 
 -- the host stays whole

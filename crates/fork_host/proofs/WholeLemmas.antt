@@ -20,7 +20,8 @@ use Rattle.fork_ledger.proofs.TenantLemmas.{private_new, there_new, there_others
 use Rattle.fork_model.specs.Answer.{answer}
 use Rattle.fork_model.specs.Runs.{Asks, Unknown}
 use Rattle.fork_request.specs.Names.{IsTenantName}
-use Rattle.fork_model.specs.Sound.{IsOrderly, IsOrderlyWorld, IsRightWorld}
+use Rattle.fork_model.specs.Offer.{Pair}
+use Rattle.fork_model.specs.Sound.{AreToOthers, IsOrderly, IsOrderlyWorld, IsRightWorld}
 use Rattle.fork_model.specs.View.{View}
 use Rattle.fork_model.specs.World.{HostSays, Steps, nothing_met}
 use Rattle.fork_model.proofs.SoundWorlds.{right_step}
@@ -31,12 +32,14 @@ use Rattle.fork_host.specs.Rows.{Yields}
 use Rattle.fork_host.specs.Safe.{IsSafe}
 use Rattle.fork_host.specs.Sent.{seen_in_world, seen_of, sent_by, sent_in_world, brought_by}
 use Rattle.fork_host.specs.Shape.{SameShape, view_shape}
-use Rattle.fork_host.specs.Shown.{Account, Accounts, HostState, IsWhole, Trusted, shown, state_of, world_of}
+use Rattle.fork_host.specs.Shown.{Account, Accounts, HostState, IsWhole, Trusted, seen_by, shown, state_of, world_of}
 use Rattle.fork_host.specs.Staged.{IsStaged}
 use Rattle.fork_host.proofs.AddingLemmas.{orderly_more, orderly_none, right_more, right_none}
 use Rattle.fork_host.proofs.RowLemmas.{answers_of}
 use Rattle.fork_host.proofs.WorldLemmas.{distinct, get_world, known_world, len_world, world_set}
-use Rattle.fork_host.proofs.SafeLemmas.{orderly_measured, same_count, shape_measured}
+use Rattle.fork_host.proofs.SafeLemmas.{alike_shown, orderly_measured, shape_measured}
+use Rattle.fork_host.proofs.MadeLemmas.{none_shown, same_made, shown_itself, still_made}
+use Rattle.fork_host.proofs.UpdateLemmas.{found}
 use Rattle.fork_host.proofs.StagedLemmas.{staged_still}
 
 some_same : {X : Type 0} (x y : X) → Some x ≡ Some y → x ≡ y
@@ -75,7 +78,7 @@ pub world_more : (old new : HostState) (t : List ℕ) (limit : ℕ) → IsWhole 
 world_more old new t limit whole absent added placed =
     let own : private_of new.vault.tenants t ≡ nothing = ap (λ m. private_of m t) placed ∙ private_new old.vault.tenants t t ∙ absent_nothing old.vault t (whole.there t ∙ absent) in
     world_set old new t (new_account limit) added (λ q differs. ap (λ m. private_of m q) placed ∙ private_new old.vault.tenants t q)
-    ∙ ap (λ (p : Private). insert (world_of old) t (record { repositories = empty; objects = p.visible; upload = None; limit = limit })) own
+    ∙ ap (λ (p : Private). insert (world_of old) t (seen_by (new_account limit) p)) own ∙ ap (insert (world_of old) t) (λ i. record (new_view limit) { made = none_shown empty i })
 
 pub whole_more : (old new : HostState) (t : List ℕ) (limit : ℕ) → IsTenantName t → IsWhole old → contains_key old.accounts t ≡ false → len old.accounts < 64 → limit ≤ 1099511627776
     → new.accounts ≡ insert old.accounts t (new_account limit) → new.vault.tenants ≡ with_tenant old.vault.tenants t → new.vault.honest ≡ old.vault.honest → IsWhole new
@@ -118,11 +121,12 @@ ready state t account whole here =
     }
 
 -- it is answered from its account and its own part of the vault, which alone change
-pub answered_step : (old new : HostState) (t : List ℕ) (ask : Ask) (account after : Account) (reply : Reply) → get old.accounts t ≡ Some account → new.accounts ≡ insert old.accounts t after
+pub answered_step : (old new : HostState) (t : List ℕ) (ask : Ask) (account after : Account) (reply : Reply) → IsRightWorld (world_of old) → get old.accounts t ≡ Some account → new.accounts ≡ insert old.accounts t after
     → Yields (answer (shown account old.vault t) ask) (shown account old.vault t) reply (shown after new.vault t) → IsOwn t old.vault new.vault → Trusted old → Steps (world_of old) (Asks t ask) reply (world_of new)
-answered_step old new t ask account after reply here set gives own trusted =
+answered_step old new t ask account after reply right here set gives own trusted =
+    let view_is = get_world old t ∙ ap (option_map (λ a. shown a old.vault t)) here in
     answered name_cmp name_total name_exact nothing_met (λ _. answer) (Refused UnknownTenant) is_host_fault HostSays (world_of old) (world_of new) t ask (shown account old.vault t) reply (shown after new.vault t)
-    (get_world old t ∙ ap (option_map (λ a. shown a old.vault t)) here) (answers_of (shown account old.vault t) (shown after new.vault t) ask reply gives)
+    view_is (answers_of (shown account old.vault t) (shown after new.vault t) ask reply (right t (shown account old.vault t) view_is) (shown_itself after (private_of new.vault.tenants t)) gives)
     (world_set old new t after set (own.others trusted))
 
 pub unknown_step : (state : HostState) (t : List ℕ) (ask : Ask) → get state.accounts t ≡ None → Steps (world_of state) (Asks t ask) (Refused UnknownTenant) (world_of state)
@@ -161,21 +165,46 @@ pub orderly_still : (old new : HostState) (t q : List ℕ) (o : Option Account) 
 orderly_still old new t q None view same is each = absurd (cc)
 orderly_still old new t q (Some a) view same is each =
     subst IsOrderly (some_same (shown a new.vault q) view is)
-    (orderly_measured a.repositories (visible_in old.vault q) (visible_in new.vault q) (shown a old.vault q).upload (shown a new.vault q).upload a.limit same (same_count a.upload (staged_in new.vault q) (staged_in old.vault q)) (each (shown a old.vault q) refl))
+    (orderly_measured a.repositories (visible_in old.vault q) (visible_in new.vault q) (shown a old.vault q) (shown a new.vault q) a.limit same (alike_shown a (private_of old.vault.tenants q) (private_of new.vault.tenants q))
+    (each (shown a old.vault q) refl))
+
+-- of whom offers are made stays too, where the offers do
+others_alike : (t : List ℕ) (old new : View) → ((pair : Pair) → contains_key new.made pair ≡ true → contains_key old.made pair ≡ true) → AreToOthers t old → AreToOthers t new
+others_alike t old new made others pair offer is = (let was = found (get old.made pair) (made pair (ap is_some is)) in others pair was.0 was.1)
+
+pub others_still : (old new : HostState) (t q : List ℕ) (o : Option Account) (view : View) → option_map (λ a. shown a new.vault q) o ≡ Some view → ((other : View) → option_map (λ a. shown a old.vault q) o ≡ Some other → AreToOthers t other) → AreToOthers t view
+others_still old new t q None view is each = absurd (cc)
+others_still old new t q (Some a) view is each =
+    let before = shown a old.vault q in
+    let after = shown a new.vault q in
+    subst (AreToOthers t) (some_same after view is)
+    (others_alike t before after (λ pair there. sym (still_made before.made after.made pair (same_made a.made (visible_in old.vault q) (visible_in new.vault q))) ∙ there) (each before refl))
 
 -- the world stays in order where the tenant's view does
 pub orderly_after : (old new : HostState) (t : List ℕ) (account after : Account) → IsOrderlyWorld (world_of old) → get old.accounts t ≡ Some account → new.accounts ≡ insert old.accounts t after → IsOwn t old.vault new.vault
-    → (IsOrderly (shown account old.vault t) → IsOrderly (shown after new.vault t)) → IsOrderlyWorld (world_of new)
-orderly_after old new t account after orderly here set own still = record {
+    → (IsOrderly (shown account old.vault t) → IsOrderly (shown after new.vault t)) → (AreToOthers t (shown account old.vault t) → AreToOthers t (shown after new.vault t)) → IsOrderlyWorld (world_of new)
+orderly_after old new t account after orderly here set own still others = record {
   few = subst (λ n. n ≤ 64) (sym (as_many old new t account after here set)) orderly.few;
   named = λ q is. orderly.named q (known_world old q ∙ sym (known_still old new t q account after here set) ∙ sym (known_world new q) ∙ is);
   views = λ q view is. at q view (eq_by_cmp name_cmp q t) refl is;
+  to_others = λ q view is. of q view (eq_by_cmp name_cmp q t) refl is;
 }
   where
+    view_is : get (world_of old) t ≡ Some (shown account old.vault t)
+    view_is = get_world old t ∙ ap (option_map (λ a. shown a old.vault t)) here
+
+    of : (q : List ℕ) (view : View) (b : Bool) → eq_by_cmp name_cmp q t ≡ b → get (world_of new) q ≡ Some view → AreToOthers q view
+    of q view true tied is =
+        subst (λ k. AreToOthers k view) (sym (tied_names q t tied))
+        (subst (AreToOthers t) (some_same (shown after new.vault t) view (sym (at_own old new t q after set tied) ∙ is)) (others (orderly.to_others t (shown account old.vault t) view_is)))
+    of q view false apart is =
+        others_still old new q q (get old.accounts q) view (sym (ap (option_map (λ a. shown a new.vault q)) (at_other old new t q after set apart)) ∙ sym (get_world new q) ∙ is)
+        (λ other found. orderly.to_others q other (get_world old q ∙ found))
+
     at : (q : List ℕ) (view : View) (b : Bool) → eq_by_cmp name_cmp q t ≡ b → get (world_of new) q ≡ Some view → IsOrderly view
     at q view true tied is =
         subst IsOrderly (some_same (shown after new.vault t) view (sym (at_own old new t q after set tied) ∙ is))
-        (still (orderly.views t (shown account old.vault t) (get_world old t ∙ ap (option_map (λ a. shown a old.vault t)) here)))
+        (still (orderly.views t (shown account old.vault t) view_is))
     at q view false apart is =
         orderly_still old new t q (get old.accounts q) view (seen_still old new t q own apart)
         (sym (ap (option_map (λ a. shown a new.vault q)) (at_other old new t q after set apart)) ∙ sym (get_world new q) ∙ is)
@@ -185,7 +214,8 @@ orderly_after old new t account after orderly here set own still = record {
 pub shape_still : (old new : HostState) (q : List ℕ) (o : Option Account) → measures_of (visible_in new.vault q) ≡ measures_of (visible_in old.vault q)
     → option_map view_shape (option_map (λ a. shown a new.vault q) o) ≡ option_map view_shape (option_map (λ a. shown a old.vault q) o)
 shape_still old new q None same = refl
-shape_still old new q (Some a) same = ap Some (shape_measured a.repositories (visible_in old.vault q) (visible_in new.vault q) (shown a new.vault q).upload (shown a old.vault q).upload a.limit same)
+shape_still old new q (Some a) same =
+    ap Some (shape_measured a.repositories (visible_in old.vault q) (visible_in new.vault q) (shown a old.vault q) (shown a new.vault q) a.limit same (same_made a.made (visible_in old.vault q) (visible_in new.vault q)))
 
 others_shape : (old new : HostState) (t q : List ℕ) (after : Account) → new.accounts ≡ insert old.accounts t after → IsOwn t old.vault new.vault → eq_by_cmp name_cmp q t ≡ false → SameShape q (world_of old) (world_of new)
 others_shape old new t q after set own apart =
@@ -229,7 +259,7 @@ staged_after old new t after set own before came q other is = subst (λ h. IsSta
 pub whole_after : (Within : Reply → Type 0) (old new : HostState) (t : List ℕ) (ask : Ask) (account after : Account) (reply : Reply) → IsWhole old → get old.accounts t ≡ Some account → new.accounts ≡ insert old.accounts t after
     → (Trusted old → Steps (world_of old) (Asks t ask) reply (world_of new)) → IsSafe Within (shown account old.vault t) reply (shown after new.vault t) → IsOwn t old.vault new.vault → IsStaged old.vault.honest after.upload (staged_in new.vault t) → IsWhole new
 whole_after Within old new t ask account after reply whole here set step safe own came = record {
-  orderly = orderly_after old new t account after whole.orderly here set own safe.orderly;
+  orderly = orderly_after old new t account after whole.orderly here set own safe.orderly (others_alike t (shown account old.vault t) (shown after new.vault t) safe.made);
   right = λ trusted. (let before = sym own.honest ∙ trusted in right_step (world_of old) (world_of new) (Asks t ask) reply (whole.right before) (step before));
   there = λ q. own.there q ∙ whole.there q ∙ sym (known_still old new t q account after here set);
   staged = staged_after old new t after set own (λ q other is. whole.staged q other is) came;

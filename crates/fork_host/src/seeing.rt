@@ -59,10 +59,11 @@ pub(crate) fn see_again<S: LooseFiles>(
 {
     // For its clause too: the state is in order.
     let _name = state.name();
-    let Ok(names) = set_of(alloc, state.seen()) else {
+    let seen = state.seen();
+    let Ok(names) = set_of(alloc, seen) else {
         return Err(Against::Memory);
     };
-    match recall_all(own, readings, state.seen()) {
+    match recall_all(own, readings, seen) {
         Ok(()) => {}
         Err(_) => return Err(Against::Memory),
     }

@@ -1,9 +1,6 @@
 // What of a tenant outlives the host's process.
-ghost use Rattle.std.specs.Prelude.{◌≡◌, ◌≢◌, IfOk, Some, is_some, option_map};
-ghost use Rattle.std.specs.FinMap as map;
-ghost use Rattle.git_reftx.specs.Repository.{Repository};
-ghost use Rattle.fork_model.specs.Offer.{Pair};
-ghost use Rattle.fork_model.specs.Sound.{IsOrderly};
+ghost use Rattle.std.specs.Prelude.{◌≡◌, IfOk, is_some, option_map};
+ghost use Rattle.fork_model.specs.Sound.{AreToOthers, IsOrderly};
 ghost use Rattle.state_text.specs.Kept.{state_kept};
 ghost use Rattle.fork_host.specs.Shown.{shown};
 
@@ -25,7 +22,7 @@ impl Tenant {
         name: &TenantName,
     ) -> Result<TenantState, AllocError>
         requires orderly { IsOrderly (shown self.now vault.now name.now) }
-        requires others { (pair : Pair) (repository : Repository) → map.get self.now.made pair ≡ Some repository → pair.0 ≢ name.now }
+        requires others { AreToOthers name.now (shown self.now vault.now name.now) }
         ensures { IfOk result (λ state. state ≡ state_kept (name.now, shown self.now vault.now name.now)) }
     {
         let names = vault.names(alloc, name)?;

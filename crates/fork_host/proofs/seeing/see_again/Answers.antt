@@ -14,7 +14,8 @@ use Rattle.fork_host.specs.Own.{ChangesTenant, SeesOnly, both_in, visible_in}
 use Rattle.fork_sound.specs.Reading.{AreReadings, ReadingMap}
 use Rattle.fork_host.specs.Read.{AreRead}
 use Rattle.fork_host.specs.Refilled.{SeesAgain, bad_in}
-use Rattle.fork_host.specs.Restored.{AreOnStore, first_astray}
+use Rattle.fork_host.specs.Restored.{AreOnStore, first_astray, repositories_in}
+use Rattle.state_text.specs.States.{Ascend}
 use Rattle.fork_host.specs.declared.own.Own.{Own}
 use Rattle.fork_host.proofs.OwnLemmas.{changes_none, emptied, none_staged, seen_itself}
 use Rattle.fork_host.proofs.ReadingLemmas.{are_readings}
@@ -45,6 +46,9 @@ read_of first mid names set readings none tenant told are read h =
     subst (AreReadings readings (contains name_cmp set)) (sym (seen_of first mid names none tenant told h))
     (are_readings first.vault.now.honest first.vault.now.files names readings (with_objects map.empty told.came) set are h read (stored_of first mid names told h))
 
+pub set_of-requires : goal.set_of-requires
+set_of-requires g c = subst Ascend (sym c.seen-seen.ensures) c.name-name.ensures.sound.seen_ordered
+
 pub returns-in_default-clause-err : goal.returns-in_default-clause-err
 returns-in_default-clause-err g c =
     let first = c.args.own.now in
@@ -55,24 +59,26 @@ returns-in-Ok-judge_seen-clause-ok g c =
     let first = c.args.own.now in
     let mid = c.recall_all.new.own in
     let t = first.tenant.now in
-    let names = c.args.seen.now in
+    let state = c.args.state.now in
     let set = c.in-Ok.names in
-    let told = c.in-Ok-recall_all.ensures.ok in
+    let keys = c.in-Ok.ensures ∙ c.seen-seen.ensures in
+    let told = subst (λ names. SeesAgain t names first.vault.now mid.vault.now) c.seen-seen.ensures c.in-Ok-recall_all.ensures.ok in
     let judged = c.in-Ok-judge_seen.ensures in
     let objects = with_objects map.empty told.came in
-    let changes = came_of first mid names c.requires.nothing told in
+    let changes = came_of first mid state.seen c.requires.nothing told in
     let tenant = c.recall_all.ensures.same.tenant in
-    let stored = stored_of first mid names told in
-    let none = λ (h : IsTrue first.vault.now.honest). sym (bad_by set names objects c.in-Ok.ensures) ∙ ap (bad_in set) (sym (seen_of first mid names c.requires.nothing tenant told h)) ∙ judged.sound (read_of first mid names set c.args.readings.now c.requires.nothing tenant told c.in-Ok.ensures c.requires.read h) in
+    let stored = stored_of first mid state.seen told in
+    let none = λ (h : IsTrue first.vault.now.honest). sym (bad_by set state.seen objects keys) ∙ ap (bad_in set) (sym (seen_of first mid state.seen c.requires.nothing tenant told h))
+        ∙ judged.sound (read_of first mid state.seen set c.args.readings.now c.requires.nothing tenant told keys c.requires.read h) in
     record {
       objects = objects;
       changes = changes;
       named = λ h. named_came told.came;
-      right = λ h. right_seen first.vault.now.files names objects (stored h).among (none h);
-      closed = λ h. closed_seen first.vault.now.files names objects (stored h).among (none h);
+      right = λ h. right_seen first.vault.now.files state.seen objects (stored h).among (none h);
+      closed = λ h. closed_seen first.vault.now.files state.seen objects (stored h).among (none h);
       stored = λ h. record { objects = objects; stored = stored h; is = (refl, none h) };
-      targets = ap (λ r. first_astray c.args.repositories.now (visible_in mid.vault.now r.now)) (sym tenant) ∙ judged.targets;
-      within = subst (λ o. use_of o ≤ c.args.limit) (ap (λ r. both_in mid.vault.now r.now) tenant ∙ both_quiet (private_of mid.vault.now.tenants t) (none_staged first.vault.now mid.vault.now t objects changes)) judged.within;
+      targets = ap (λ r. first_astray (repositories_in state) (visible_in mid.vault.now r.now)) (sym tenant) ∙ judged.targets;
+      within = subst (λ o. use_of o ≤ state.limit) (ap (λ r. both_in mid.vault.now r.now) tenant ∙ both_quiet (private_of mid.vault.now.tenants t) (none_staged first.vault.now mid.vault.now t objects changes)) judged.within;
     }
 
 pub returns-clause-against : goal.returns-clause-against
@@ -80,16 +86,17 @@ returns-clause-against g c = λ h.
     let first = c.args.own.now in
     let mid = c.recall_all.new.own in
     let t = first.tenant.now in
-    let names = c.args.seen.now in
-    let told = c.in-Ok-recall_all.ensures.ok in
+    let state = c.args.state.now in
+    let keys = c.in-Ok.ensures ∙ c.seen-seen.ensures in
+    let told = subst (λ names. SeesAgain t names first.vault.now mid.vault.now) c.seen-seen.ensures c.in-Ok-recall_all.ensures.ok in
     let objects = with_objects map.empty told.came in
     let tenant = c.recall_all.ensures.same.tenant in
-    let came = came_of first mid names c.requires.nothing told in
-    let seen = seen_of first mid names c.requires.nothing tenant told h in
+    let came = came_of first mid state.seen c.requires.nothing told in
+    let seen = seen_of first mid state.seen c.requires.nothing tenant told h in
     let quiet = ap (λ r. both_in mid.vault.now r.now) tenant ∙ both_quiet (private_of mid.vault.now.tenants t) (none_staged first.vault.now mid.vault.now t objects came) in
     let all = quiet ∙ seen_itself first.vault.now mid.vault.now t objects came h in
-    stands_against first.vault.now.files names c.in-Ok.names c.args.repositories.now c.args.limit (visible_by mid) (both_by mid) objects c.in-Ok.ensures seen all (stored_of first mid names told h) c.in-Err-judge_seen.against
-    (c.in-Err-judge_seen.ensures.against (read_of first mid names c.in-Ok.names c.args.readings.now c.requires.nothing tenant told c.in-Ok.ensures c.requires.read h))
+    stands_against first.vault.now.files state c.in-Ok.names (visible_by mid) (both_by mid) objects keys seen all (stored_of first mid state.seen told h) c.in-Err-judge_seen.against
+    (c.in-Err-judge_seen.ensures.against (read_of first mid state.seen c.in-Ok.names c.args.readings.now c.requires.nothing tenant told keys c.requires.read h))
 
 pub returns-clause-err : goal.returns-clause-err
 returns-clause-err g c =

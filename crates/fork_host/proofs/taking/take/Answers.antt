@@ -17,24 +17,24 @@ use Rattle.fork_host.specs.Sent.{sent_names}
 use Rattle.fork_host.proofs.BoundLemmas.{bounded_after, bounded_left}
 use Rattle.fork_host.proofs.HandleLemmas.{of_first, ready_still, same_then, sent_beside}
 use Rattle.fork_host.proofs.OwnLemmas.{own_then, seen_kept, staged_kept, still_none}
-use Rattle.fork_host.proofs.SafeLemmas.{safe_from, safe_left}
+use Rattle.fork_host.proofs.SafeLemmas.{alike_itself, safe_from, safe_left}
 use Rattle.fork_host.proofs.TakingLemmas.{gives_nothing, yields_from}
 use Rattle.fork_host.proofs.taking.take.Goals as goal
 
 pub returns-in-Err-clause-row : goal.returns-in-Err-clause-row
-returns-in-Err-clause-row g c upload was here honest =
+returns-in-Err-clause-row g c rest was here honest =
     let first = c.args.own.now in
     let new = c.stage_all.new.own in
-    gives_nothing _ c.args.repositories.now (visible_by first) (visible_in new.vault.now first.tenant.now) upload c.args.limit (vault_told c.in-Err.fault) _
+    gives_nothing _ c.args.repositories.now (visible_by first) (visible_in new.vault.now first.tenant.now) rest c.args.limit (vault_told c.in-Err.fault) _
     (ap (λ f. Failed f) c.vault_fault.ensures) ((seen_kept first.vault.now new.vault.now first.tenant.now (λ p. p) (λ p. refl) c.in-Err.ensures.err).exact honest)
 
 pub returns-in-Err-clause-safe : goal.returns-in-Err-clause-safe
-returns-in-Err-clause-safe g c upload =
+returns-in-Err-clause-safe g c rest =
     let first = c.args.own.now in
     let new = c.stage_all.new.own in
     let sent = c.args.body.objects.items in
-    safe_left (IsBounded sent first.vault.now new.vault.now) c.args.repositories.now c.args.repositories.now (visible_by first) (visible_in new.vault.now first.tenant.now) upload upload c.args.limit _ refl
-    (seen_kept first.vault.now new.vault.now first.tenant.now (λ p. p) (λ p. refl) c.in-Err.ensures.err).shape refl
+    safe_left (IsBounded sent first.vault.now new.vault.now) c.args.repositories.now c.args.repositories.now (visible_by first) (visible_in new.vault.now first.tenant.now) rest rest c.args.limit _ refl
+    (seen_kept first.vault.now new.vault.now first.tenant.now (λ p. p) (λ p. refl) c.in-Err.ensures.err).shape (alike_itself rest)
     (subst (λ fault. IsBounded sent first.vault.now new.vault.now (Failed fault)) (sym c.vault_fault.ensures) c.in-Err.ensures.bounds)
 
 pub returns-in-Err-clause-own : goal.returns-in-Err-clause-own
@@ -65,7 +65,7 @@ discard-requires g c =
     }
 
 pub returns-clause-row : goal.returns-clause-row
-returns-clause-row g c upload was here honest =
+returns-clause-row g c rest was here honest =
     let first = c.args.own.now in
     let staged = c.stage_all.new.own in
     let mid = c.settle-reply.new.own in
@@ -77,13 +77,13 @@ returns-clause-row g c upload was here honest =
     let named = c.in-Ok.ensures ∙ ap (map_list object_name) c.as_slice.ensures.value in
     let still : visible_in new.vault.now first.tenant.now ≡ visible_in mid.vault.now first.tenant.now =
     of_first first mid (λ t. visible_in new.vault.now t ≡ visible_in mid.vault.now t) (same_then first staged mid same c.settle-reply.ensures.same) c.discard.ensures.still in
-    yields_from c.args.repositories.now c.settle-reply.new.repositories (visible_by staged) (visible_by first) (visible_in mid.vault.now staged.tenant.now) (visible_in new.vault.now first.tenant.now) upload c.args.limit c.args.name was
+    yields_from c.args.repositories.now c.settle-reply.new.repositories (visible_by staged) (visible_by first) (visible_in mid.vault.now staged.tenant.now) (visible_in new.vault.now first.tenant.now) rest c.args.limit c.args.name was
     (Ok (c.args.body.commands.items, sent)) c.settle-reply.result
     (ap (λ r. visible_in staged.vault.now r.now) same.tenant ∙ seen.exact honest) (ap (λ r. visible_in mid.vault.now r.now) same.tenant ∙ sym still)
-    (c.settle-reply.ensures.row upload sent was here (changes.honest ∙ honest) named (sent_beside first staged sent same honest c.requires.quiet changes))
+    (c.settle-reply.ensures.row rest sent was here (changes.honest ∙ honest) named (sent_beside first staged sent same honest c.requires.quiet changes))
 
 pub returns-clause-safe : goal.returns-clause-safe
-returns-clause-safe g c upload =
+returns-clause-safe g c rest =
     let first = c.args.own.now in
     let staged = c.stage_all.new.own in
     let mid = c.settle-reply.new.own in
@@ -96,12 +96,12 @@ returns-clause-safe g c upload =
     let still : visible_in new.vault.now first.tenant.now ≡ visible_in mid.vault.now first.tenant.now =
     of_first first mid (λ t. visible_in new.vault.now t ≡ visible_in mid.vault.now t) (same_then first staged mid same c.settle-reply.ensures.same) c.discard.ensures.still in
     let reply = c.settle-reply.result in
-    subst (λ objects. IsSafe (IsBounded sent first.vault.now new.vault.now) (view_of repositories (visible_by first) upload c.args.limit) reply (view_of c.settle-reply.new.repositories objects upload c.args.limit))
+    subst (λ objects. IsSafe (IsBounded sent first.vault.now new.vault.now) (view_of rest repositories (visible_by first) c.args.limit) reply (view_of rest c.settle-reply.new.repositories objects c.args.limit))
     (ap (λ r. visible_in mid.vault.now r.now) same.tenant ∙ sym still)
-    (safe_from (IsBounded sent first.vault.now new.vault.now) (IsBounded sent staged.vault.now mid.vault.now) repositories (visible_by first) (visible_by staged) upload c.args.limit reply _
+    (safe_from (IsBounded sent first.vault.now new.vault.now) (IsBounded sent staged.vault.now mid.vault.now) repositories (visible_by first) (visible_by staged) rest c.args.limit reply _
     (ap (λ r. measures_of (visible_in staged.vault.now r.now)) same.tenant ∙ seen.shape)
     (λ bounded. bounded_left sent first.vault.now mid.vault.now new.vault.now reply (bounded_after sent first.vault.now staged.vault.now mid.vault.now reply c.in_default-stage_all.ensures.gains bounded) c.discard.ensures.store)
-    (c.settle-reply.ensures.safe upload sent))
+    (c.settle-reply.ensures.safe rest sent))
 
 pub returns-clause-own : goal.returns-clause-own
 returns-clause-own g c =

@@ -38,7 +38,7 @@ returns-clause-explained g c trusted =
     let set = written_back c.args.self.now entries (c.get_mut.follows.lender c.answer_from.new.tenant).entries c.args.name.now c.answer_from.new.tenant c.self.view_is stays.0 in
     let old = state_of c.args.self.now c.args.vault.now in
     let new = state_of (map.from_entries (c.get_mut.follows.lender c.answer_from.new.tenant).entries) c.answer_from.new.vault in
-    answered_step old new c.args.name.now (ask_of c.args.request) c.in-Some.tenant.now c.answer_from.new.tenant c.answer_from.result here set (c.answer_from.ensures.row.yields trusted) c.answer_from.ensures.own trusted
+    answered_step old new c.args.name.now (ask_of c.args.request) c.in-Some.tenant.now c.answer_from.new.tenant c.answer_from.result (c.requires.whole.right trusted) here set (c.answer_from.ensures.row.yields trusted) c.answer_from.ensures.own trusted
 
 pub returns-clause-whole : goal.returns-clause-whole
 returns-clause-whole g c =

@@ -17,4 +17,4 @@ returns c account here =
     let found = found_in c.args.self.now entries c.args.name.now (Some c.in-Some.tenant.now) c.self.view_is c.in-Some.ensures.value in
     let same : c.in-Some.tenant.now ≡ account = ap (λ o. unwrap_or o account) (sym found ∙ here) in
     written_back c.args.self.now entries (c.get_mut.follows.lender c.settle.new.self).entries c.args.name.now c.settle.new.self c.self.view_is stays.0
-    ∙ ap (map.insert c.args.self.now c.args.name.now) (c.settle.ensures ∙ ap (λ (a : Account). record { repositories = c.args.repositories; upload = a.upload; limit = a.limit }) same)
+    ∙ ap (map.insert c.args.self.now c.args.name.now) (c.settle.ensures ∙ ap (λ (a : Account). record a { repositories = c.args.repositories; made = c.args.made }) same)

@@ -9,7 +9,7 @@ use Rattle.git_name.proofs.TreeMaps.{entries_of_ordered, get_of_entries}
 use Rattle.fork_model.specs.declared.limits.TheConstants.{MAX_TENANTS}
 use Rattle.state_text.specs.Adding.{AreBefore}
 use Rattle.fork_host.specs.Shown.{Account, state_of}
-use Rattle.fork_host.proofs.KeepingLemmas.{all_at, all_states, moved, orderly_at, so_far, state_more, states_before, states_by, states_room}
+use Rattle.fork_host.proofs.KeepingLemmas.{all_at, all_states, moved, orderly_at, others_at, so_far, state_more, states_before, states_by, states_room}
 use Rattle.fork_host.proofs.accounts.Accounts.states.Goals as goal
 
 pub loop-name-init : goal.loop-name-init
@@ -27,8 +27,8 @@ state-requires g c =
     let ordered = entries_of_ordered name_total rows c.iter-name-items.ensures.ordered in
     let all = subst (All (λ e. tree.get name_cmp c.self.inside.tenants e.0 ≡ Some e.1)) (sym (so_far c.loop-name.invariant.0 (name, c.in-Some.tenant.now) c.next.new.self c.loop-name.name-iterator (entries c.args.self.now) c.in-Some.ensures.steps c.loop-name.invariant.1 ∙ ap entries (sym c.self.view_is) ∙ ordered)) c.iter-name-items.ensures.found in
     let here = all_at (λ e. tree.get name_cmp c.self.inside.tenants e.0 ≡ Some e.1) c.loop-name.invariant.0 (name, c.in-Some.tenant.now) c.next.new.self all in
-    orderly_at (state_of c.args.self.now c.args.vault.now) name c.in-Some.tenant.now c.requires
-    (ap (λ m. get m name) (sym c.self.view_is) ∙ get_of_entries name_total rows name ∙ here)
+    let is = ap (λ m. get m name) (sym c.self.view_is) ∙ get_of_entries name_total rows name ∙ here in
+    record { orderly = orderly_at (state_of c.args.self.now c.args.vault.now) name c.in-Some.tenant.now c.requires is; others = others_at (state_of c.args.self.now c.args.vault.now) name c.in-Some.tenant.now c.requires is }
 
 pub keep_tenant-requires-clause-before : goal.keep_tenant-requires-clause-before
 keep_tenant-requires-clause-before g c =

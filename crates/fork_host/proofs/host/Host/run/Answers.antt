@@ -1,10 +1,11 @@
-use Rattle.std.proofs.Common.{◌≡◌, ◌<◌, ◌+◌, ◌≤◌, ◌++◌, ◌∷◌, [], ℕ, List, length, get_or, take, ap, subst, ◌∙◌, sym, arith}
+use Rattle.std.proofs.Common.{◌≡◌, ◌<◌, ◌+◌, ◌≤◌, ◌++◌, ◌∷◌, [], ℕ, List, length, get_or, take, ap, refl, rules, subst, ◌∙◌, sym, arith}
 use Rattle.std.proofs.lemmas.List.{take_more, take_all, map-append}
 use Rattle.fork_request.specs.declared.reply.Reply.{Reply}
 use Rattle.fork_ledger.specs.Swept.{IsAccounted}
+use Rattle.fork_model.specs.Sound.{IsRightWorld}
 use Rattle.fork_host.specs.declared.step.HostStep.{HostStep}
 use Rattle.fork_host.specs.Given.{event_given, events_given}
-use Rattle.fork_host.specs.Shown.{HostState, world_of}
+use Rattle.fork_host.specs.Shown.{HostState, Trusted, world_of}
 use Rattle.fork_host.specs.Step.{IsRun, IsStep}
 use Rattle.fork_host.proofs.StepLemmas.{run_explained, run_honest, run_more}
 use Rattle.fork_host.proofs.SweptLemmas.{are_swept}
@@ -19,6 +20,18 @@ taken steps i step lt is =
 turn : (old mid new : HostState) (steps : List HostStep) (i : ℕ) (step : HostStep) (replies more : List Reply) (reply : Reply) → i < length steps → step ≡ get_or steps i step → more ≡ replies ++ reply ∷ []
     → IsRun old (events_given (take i steps)) replies mid → IsStep mid (event_given step) reply new → IsRun old (events_given (take (i + 1) steps)) more new
 turn old mid new steps i step replies more reply lt is grown ran next = rw (taken steps i step lt is, grown) (run_more old mid new (events_given (take i steps)) replies (event_given step) reply ran next)
+
+pub returns-in_default-clause-right : goal.returns-in_default-clause-right
+returns-in_default-clause-right g c = subst (λ (s : HostState). Trusted s → IsRightWorld (world_of s)) c.self.view_is c.self.invariant.right
+
+pub loop-step-init : goal.loop-step-init
+loop-step-init g c = record {
+  ran = subst (λ replies. IsRun c.args.self.now [] replies c.args.self.now) (sym c.in-Ok.ensures.items) refl;
+  orderly = search rules;
+  right = subst (λ (s : HostState). Trusted s → IsRightWorld (world_of s)) c.self.view_is c.self.invariant.right;
+  told = search rules;
+  room = search rules;
+}
 
 pub loop-step-preserved : goal.loop-step-preserved
 loop-step-preserved g c =

@@ -27,7 +27,7 @@ returns-clause-row g c honest =
     let view = shown_by account own in
     let inside = c.self.inside in
     let objects = visible_in c.settle_upload.new.own.vault.now own.tenant.now in
-    let now = view_of c.settle_upload.new.repositories objects view.upload account.limit in
+    let now = view_of view c.settle_upload.new.repositories objects account.limit in
     let word = c.args.word.now in
     let name = c.in-Some.name in
     let reading = c.in-Some-upload.upload.brief in
@@ -40,9 +40,9 @@ returns-clause-row g c honest =
     let row = end_is view word (map.get account.repositories word) there.0 (upload_of bytes) (ap (map.get account.repositories) (sym c.in-Some.ensures.found.0) ∙ here) is in
     subst (λ (r : Reply × View). Yields r view c.settle_upload.result now) (sym (named_is view word _ (sym c.in-Some.ensures.test) ∙ row))
     (subst (λ w. Yields (pushed view w there.0 (finished (stream_of bytes))) view c.settle_upload.result now) c.in-Some.ensures.found.0
-    (yields_as (λ v. pushed v name there.0 (finished (stream_of bytes))) (view_of inside.repositories (visible_by own) view.upload inside.limit) view (view_of c.settle_upload.new.repositories objects view.upload inside.limit) now c.settle_upload.result
-    (ap (λ (a : Account). view_of a.repositories (visible_by own) view.upload a.limit) c.self.view_is) (ap (λ (a : Account). view_of c.settle_upload.new.repositories objects view.upload a.limit) c.self.view_is)
-    (c.settle_upload.ensures.row view.upload (stream_of bytes) there.0 (tells_brief bytes reading c.finish-finished.result came.1.read c.finish-finished.ensures.found c.finish-finished.ensures.exact) there.1 honest
+    (yields_as (λ v. pushed v name there.0 (finished (stream_of bytes))) (view_of view inside.repositories (visible_by own) inside.limit) view (view_of view c.settle_upload.new.repositories objects inside.limit) now c.settle_upload.result
+    (ap (λ (a : Account). view_of view a.repositories (visible_by own) a.limit) c.self.view_is) (ap (λ (a : Account). view_of view c.settle_upload.new.repositories objects a.limit) c.self.view_is)
+    (c.settle_upload.ensures.row view (stream_of bytes) there.0 (tells_brief bytes reading c.finish-finished.result came.1.read c.finish-finished.ensures.found c.finish-finished.ensures.exact) there.1 honest
     (came_beside bytes reading own.vault.now.honest (visible_by own) (staged_by own) honest came.1))))
 
 pub returns-clause-safe : goal.returns-clause-safe
@@ -53,7 +53,7 @@ returns-clause-safe g c =
     let inside = c.self.inside in
     let objects = visible_in c.settle_upload.new.own.vault.now own.tenant.now in
     let sent = sent_in (open_upload view.upload).stream in
-    safe_as (IsBounded sent own.vault.now c.settle_upload.new.own.vault.now) (view_of inside.repositories (visible_by own) view.upload inside.limit) view
-    (view_of c.settle_upload.new.repositories objects view.upload inside.limit) (view_of c.settle_upload.new.repositories objects view.upload account.limit) c.settle_upload.result
-    (ap (λ (a : Account). view_of a.repositories (visible_by own) view.upload a.limit) c.self.view_is) (ap (λ (a : Account). view_of c.settle_upload.new.repositories objects view.upload a.limit) c.self.view_is)
-    (c.settle_upload.ensures.safe view.upload sent)
+    safe_as (IsBounded sent own.vault.now c.settle_upload.new.own.vault.now) (view_of view inside.repositories (visible_by own) inside.limit) view
+    (view_of view c.settle_upload.new.repositories objects inside.limit) (view_of view c.settle_upload.new.repositories objects account.limit) c.settle_upload.result
+    (ap (λ (a : Account). view_of view a.repositories (visible_by own) a.limit) c.self.view_is) (ap (λ (a : Account). view_of view c.settle_upload.new.repositories objects a.limit) c.self.view_is)
+    (c.settle_upload.ensures.safe view sent)

@@ -12,7 +12,8 @@ use Rattle.fork_host.specs.Safe.{IsSafe}
 use Rattle.fork_host.specs.Sent.{sent_names}
 use Rattle.fork_host.specs.Shown.{Account, shown}
 use Rattle.fork_host.specs.Staged.{IsStaged}
-use Rattle.fork_host.proofs.PartLemmas.{IsPart, account_of, begun_grows, bounded_among, part_grows, part_kept, part_more, part_opened, part_row, part_safe, part_sent, part_staged}
+use Rattle.fork_host.proofs.PartLemmas.{IsPart, with_upload, begun_grows, bounded_among, part_grows, part_kept, part_more, part_opened, part_row, part_safe, part_sent, part_staged}
+use Rattle.fork_host.specs.contracts.tenant.Tenant as tenant
 use Rattle.fork_host.proofs.tenant.Tenant.part.Goals as goal
 
 pub returns-in-Some-clause-row : goal.returns-in-Some-clause-row
@@ -26,9 +27,9 @@ returns-in-Some-clause-row g c honest =
     let reply = c.feed.result in
     let part : IsPart own.tenant.now waits (Some c.feed.new.upload.brief) c.in-Some.upload.brief c.feed.new.upload.brief c.args.body.now own.vault.now reply new =
     part_more own.tenant.now waits c.in-Some.upload.brief c.feed.new.upload.brief c.args.body.now own.vault.now new reply (ap (option_map (λ upload. upload.brief)) c.in-Some.is) staged c.feed.ensures.fed in
-    let now = shown (account_of inside.repositories (Some c.feed.new.upload.brief) inside.limit) new own.tenant.now in
+    let now = shown (with_upload (tenant.the_view inside) (Some c.feed.new.upload.brief)) new own.tenant.now in
     subst (λ (a : Account). Yields (part_answer (shown a own.vault.now own.tenant.now) c.args.body.now) (shown a own.vault.now own.tenant.now) reply now) c.self.view_is
-    (part_row inside.repositories inside.limit own.tenant.now waits (Some c.feed.new.upload.brief) c.in-Some.upload.brief c.feed.new.upload.brief c.args.body.now own.vault.now new reply honest c.feed.ensures.seen part)
+    (part_row (tenant.the_view inside) own.tenant.now waits (Some c.feed.new.upload.brief) c.in-Some.upload.brief c.feed.new.upload.brief c.args.body.now own.vault.now new reply honest c.feed.ensures.seen part)
 
 pub returns-in-Some-clause-safe : goal.returns-in-Some-clause-safe
 returns-in-Some-clause-safe g c =
@@ -41,12 +42,12 @@ returns-in-Some-clause-safe g c =
     let reply = c.feed.result in
     let part : IsPart own.tenant.now waits (Some c.feed.new.upload.brief) c.in-Some.upload.brief c.feed.new.upload.brief c.args.body.now own.vault.now reply new =
     part_more own.tenant.now waits c.in-Some.upload.brief c.feed.new.upload.brief c.args.body.now own.vault.now new reply (ap (option_map (λ upload. upload.brief)) c.in-Some.is) staged c.feed.ensures.fed in
-    let now = shown (account_of inside.repositories (Some c.feed.new.upload.brief) inside.limit) new own.tenant.now in
+    let now = shown (with_upload (tenant.the_view inside) (Some c.feed.new.upload.brief)) new own.tenant.now in
     subst (λ (a : Account). IsSafe (IsBounded (sent_in (continued (open_upload (shown a own.vault.now own.tenant.now).upload) c.args.body.now).stream) own.vault.now new) (shown a own.vault.now own.tenant.now) reply now) c.self.view_is
-    (part_safe (IsBounded (sent_in (continued (open_upload (shown (account_of inside.repositories waits inside.limit) own.vault.now own.tenant.now).upload) c.args.body.now).stream) own.vault.now new)
-    inside.repositories inside.limit own.tenant.now waits (Some c.feed.new.upload.brief) c.in-Some.upload.brief c.feed.new.upload.brief c.args.body.now own.vault.now new reply
-    (bounded_among (sent_in (stream_of (part.bytes ++ c.args.body.now))) (sent_in (continued (open_upload (shown (account_of inside.repositories waits inside.limit) own.vault.now own.tenant.now).upload) c.args.body.now).stream) own.vault.now new reply
-    (part_sent inside.repositories inside.limit own.tenant.now waits (Some c.feed.new.upload.brief) c.in-Some.upload.brief c.feed.new.upload.brief c.args.body.now own.vault.now new reply part) (c.feed.ensures.bounds part.bytes part.came))
+    (part_safe (IsBounded (sent_in (continued (open_upload (shown (with_upload (tenant.the_view inside) waits) own.vault.now own.tenant.now).upload) c.args.body.now).stream) own.vault.now new)
+    (tenant.the_view inside) own.tenant.now waits (Some c.feed.new.upload.brief) c.in-Some.upload.brief c.feed.new.upload.brief c.args.body.now own.vault.now new reply
+    (bounded_among (sent_in (stream_of (part.bytes ++ c.args.body.now))) (sent_in (continued (open_upload (shown (with_upload (tenant.the_view inside) waits) own.vault.now own.tenant.now).upload) c.args.body.now).stream) own.vault.now new reply
+    (part_sent (tenant.the_view inside) own.tenant.now waits (Some c.feed.new.upload.brief) c.in-Some.upload.brief c.feed.new.upload.brief c.args.body.now own.vault.now new reply part) (c.feed.ensures.bounds part.bytes part.came))
     c.feed.ensures.seen part)
 
 pub returns-in-Some-clause-staged : goal.returns-in-Some-clause-staged
@@ -73,9 +74,9 @@ returns-then-not-is_done-clause-row g c honest =
     let reply = c.feed-reply.result in
     let part : IsPart own.tenant.now waits waits c.new-upload.result.brief c.feed-reply.new.upload.brief c.args.body.now own.vault.now reply new =
     part_kept own.tenant.now waits c.new-upload.result.brief c.feed-reply.new.upload.brief c.args.body.now own.vault.now new reply (ap (option_map (λ upload. upload.brief)) c.in_default.is) c.new-upload.ensures.brief staged c.feed-reply.ensures.fed (sym c.is_done.ensures ∙ c.if-not-is_done.true) in
-    let now = shown (account_of inside.repositories waits inside.limit) new own.tenant.now in
+    let now = shown (with_upload (tenant.the_view inside) waits) new own.tenant.now in
     subst (λ (a : Account). Yields (part_answer (shown a own.vault.now own.tenant.now) c.args.body.now) (shown a own.vault.now own.tenant.now) reply now) c.self.view_is
-    (part_row inside.repositories inside.limit own.tenant.now waits waits c.new-upload.result.brief c.feed-reply.new.upload.brief c.args.body.now own.vault.now new reply honest c.feed-reply.ensures.seen part)
+    (part_row (tenant.the_view inside) own.tenant.now waits waits c.new-upload.result.brief c.feed-reply.new.upload.brief c.args.body.now own.vault.now new reply honest c.feed-reply.ensures.seen part)
 
 pub returns-then-not-is_done-clause-safe : goal.returns-then-not-is_done-clause-safe
 returns-then-not-is_done-clause-safe g c =
@@ -88,12 +89,12 @@ returns-then-not-is_done-clause-safe g c =
     let reply = c.feed-reply.result in
     let part : IsPart own.tenant.now waits waits c.new-upload.result.brief c.feed-reply.new.upload.brief c.args.body.now own.vault.now reply new =
     part_kept own.tenant.now waits c.new-upload.result.brief c.feed-reply.new.upload.brief c.args.body.now own.vault.now new reply (ap (option_map (λ upload. upload.brief)) c.in_default.is) c.new-upload.ensures.brief staged c.feed-reply.ensures.fed (sym c.is_done.ensures ∙ c.if-not-is_done.true) in
-    let now = shown (account_of inside.repositories waits inside.limit) new own.tenant.now in
+    let now = shown (with_upload (tenant.the_view inside) waits) new own.tenant.now in
     subst (λ (a : Account). IsSafe (IsBounded (sent_in (continued (open_upload (shown a own.vault.now own.tenant.now).upload) c.args.body.now).stream) own.vault.now new) (shown a own.vault.now own.tenant.now) reply now) c.self.view_is
-    (part_safe (IsBounded (sent_in (continued (open_upload (shown (account_of inside.repositories waits inside.limit) own.vault.now own.tenant.now).upload) c.args.body.now).stream) own.vault.now new)
-    inside.repositories inside.limit own.tenant.now waits waits c.new-upload.result.brief c.feed-reply.new.upload.brief c.args.body.now own.vault.now new reply
-    (bounded_among (sent_in (stream_of (part.bytes ++ c.args.body.now))) (sent_in (continued (open_upload (shown (account_of inside.repositories waits inside.limit) own.vault.now own.tenant.now).upload) c.args.body.now).stream) own.vault.now new reply
-    (part_sent inside.repositories inside.limit own.tenant.now waits waits c.new-upload.result.brief c.feed-reply.new.upload.brief c.args.body.now own.vault.now new reply part) (c.feed-reply.ensures.bounds part.bytes part.came))
+    (part_safe (IsBounded (sent_in (continued (open_upload (shown (with_upload (tenant.the_view inside) waits) own.vault.now own.tenant.now).upload) c.args.body.now).stream) own.vault.now new)
+    (tenant.the_view inside) own.tenant.now waits waits c.new-upload.result.brief c.feed-reply.new.upload.brief c.args.body.now own.vault.now new reply
+    (bounded_among (sent_in (stream_of (part.bytes ++ c.args.body.now))) (sent_in (continued (open_upload (shown (with_upload (tenant.the_view inside) waits) own.vault.now own.tenant.now).upload) c.args.body.now).stream) own.vault.now new reply
+    (part_sent (tenant.the_view inside) own.tenant.now waits waits c.new-upload.result.brief c.feed-reply.new.upload.brief c.args.body.now own.vault.now new reply part) (c.feed-reply.ensures.bounds part.bytes part.came))
     c.feed-reply.ensures.seen part)
 
 pub returns-then-not-is_done-clause-staged : goal.returns-then-not-is_done-clause-staged
@@ -120,9 +121,9 @@ returns-clause-row g c honest =
     let reply = c.feed-reply.result in
     let part : IsPart own.tenant.now waits (Some c.feed-reply.new.upload.brief) c.new-upload.result.brief c.feed-reply.new.upload.brief c.args.body.now own.vault.now reply new =
     part_opened own.tenant.now waits c.new-upload.result.brief c.feed-reply.new.upload.brief c.args.body.now own.vault.now new reply (ap (option_map (λ upload. upload.brief)) c.in_default.is) c.new-upload.ensures.brief staged c.feed-reply.ensures.fed (sym c.is_done.ensures ∙ c.if-not-is_done.false) in
-    let now = shown (account_of inside.repositories (Some c.feed-reply.new.upload.brief) inside.limit) new own.tenant.now in
+    let now = shown (with_upload (tenant.the_view inside) (Some c.feed-reply.new.upload.brief)) new own.tenant.now in
     subst (λ (a : Account). Yields (part_answer (shown a own.vault.now own.tenant.now) c.args.body.now) (shown a own.vault.now own.tenant.now) reply now) c.self.view_is
-    (part_row inside.repositories inside.limit own.tenant.now waits (Some c.feed-reply.new.upload.brief) c.new-upload.result.brief c.feed-reply.new.upload.brief c.args.body.now own.vault.now new reply honest c.feed-reply.ensures.seen part)
+    (part_row (tenant.the_view inside) own.tenant.now waits (Some c.feed-reply.new.upload.brief) c.new-upload.result.brief c.feed-reply.new.upload.brief c.args.body.now own.vault.now new reply honest c.feed-reply.ensures.seen part)
 
 pub returns-clause-safe : goal.returns-clause-safe
 returns-clause-safe g c =
@@ -135,12 +136,12 @@ returns-clause-safe g c =
     let reply = c.feed-reply.result in
     let part : IsPart own.tenant.now waits (Some c.feed-reply.new.upload.brief) c.new-upload.result.brief c.feed-reply.new.upload.brief c.args.body.now own.vault.now reply new =
     part_opened own.tenant.now waits c.new-upload.result.brief c.feed-reply.new.upload.brief c.args.body.now own.vault.now new reply (ap (option_map (λ upload. upload.brief)) c.in_default.is) c.new-upload.ensures.brief staged c.feed-reply.ensures.fed (sym c.is_done.ensures ∙ c.if-not-is_done.false) in
-    let now = shown (account_of inside.repositories (Some c.feed-reply.new.upload.brief) inside.limit) new own.tenant.now in
+    let now = shown (with_upload (tenant.the_view inside) (Some c.feed-reply.new.upload.brief)) new own.tenant.now in
     subst (λ (a : Account). IsSafe (IsBounded (sent_in (continued (open_upload (shown a own.vault.now own.tenant.now).upload) c.args.body.now).stream) own.vault.now new) (shown a own.vault.now own.tenant.now) reply now) c.self.view_is
-    (part_safe (IsBounded (sent_in (continued (open_upload (shown (account_of inside.repositories waits inside.limit) own.vault.now own.tenant.now).upload) c.args.body.now).stream) own.vault.now new)
-    inside.repositories inside.limit own.tenant.now waits (Some c.feed-reply.new.upload.brief) c.new-upload.result.brief c.feed-reply.new.upload.brief c.args.body.now own.vault.now new reply
-    (bounded_among (sent_in (stream_of (part.bytes ++ c.args.body.now))) (sent_in (continued (open_upload (shown (account_of inside.repositories waits inside.limit) own.vault.now own.tenant.now).upload) c.args.body.now).stream) own.vault.now new reply
-    (part_sent inside.repositories inside.limit own.tenant.now waits (Some c.feed-reply.new.upload.brief) c.new-upload.result.brief c.feed-reply.new.upload.brief c.args.body.now own.vault.now new reply part) (c.feed-reply.ensures.bounds part.bytes part.came))
+    (part_safe (IsBounded (sent_in (continued (open_upload (shown (with_upload (tenant.the_view inside) waits) own.vault.now own.tenant.now).upload) c.args.body.now).stream) own.vault.now new)
+    (tenant.the_view inside) own.tenant.now waits (Some c.feed-reply.new.upload.brief) c.new-upload.result.brief c.feed-reply.new.upload.brief c.args.body.now own.vault.now new reply
+    (bounded_among (sent_in (stream_of (part.bytes ++ c.args.body.now))) (sent_in (continued (open_upload (shown (with_upload (tenant.the_view inside) waits) own.vault.now own.tenant.now).upload) c.args.body.now).stream) own.vault.now new reply
+    (part_sent (tenant.the_view inside) own.tenant.now waits (Some c.feed-reply.new.upload.brief) c.new-upload.result.brief c.feed-reply.new.upload.brief c.args.body.now own.vault.now new reply part) (c.feed-reply.ensures.bounds part.bytes part.came))
     c.feed-reply.ensures.seen part)
 
 pub returns-clause-staged : goal.returns-clause-staged

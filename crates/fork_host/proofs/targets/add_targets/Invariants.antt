@@ -1,6 +1,6 @@
 use Rattle.std.proofs.Common.{◌≡◌, ◌++◌, map as map_list}
 use Rattle.std.specs.FinMap.{values}
-use Rattle.fork_host.proofs.repositories.add_targets.Given as goal
+use Rattle.fork_host.proofs.targets.add_targets.Given as goal
 
 -- the targets so far, and then those of the references that are left, are all
 abbrev pub invariant-loop-target : goal.invariant-loop-target

@@ -5,11 +5,11 @@ pub mod FaultLemmas
 pub mod GatherLemmas
 pub mod HandleLemmas
 pub mod KeepingLemmas
-mod MadeLemmas
+pub mod MadeLemmas
 pub mod NamesLemmas
 pub mod OpeningLemmas
 pub mod OwnLemmas
-mod PairLemmas
+pub mod PairLemmas
 pub mod PartLemmas
 pub mod PushLemmas
 pub mod QueryLemmas

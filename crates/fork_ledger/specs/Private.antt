@@ -48,6 +48,14 @@ with_discarded own = record { visible = own.visible; staged = empty }
 abbrev pub with_kept : (List ℕ → Bool) → Private → Private
 with_kept names own = record { visible = retain_keys own.visible names; staged = own.staged }
 
+-- with these objects seen beside the others: of two of one name the one that is seen already counts
+abbrev pub with_adopted : Objects → Private → Private
+with_adopted objects own = record { visible = joined own.visible objects; staged = own.staged }
+
+-- each of the first objects is among the others, under its name
+abbrev pub AreAmong : Objects → Objects → Type 0
+AreAmong some all = (name : List ℕ) (object : Object) → get some name ≡ Some object → get all name ≡ Some object
+
 -- whether the tenant has an object of this name
 abbrev pub is_held_by : Private → List ℕ → Bool
 is_held_by own name = contains_key own.visible name || contains_key own.staged name

@@ -128,7 +128,7 @@ all_made shown own (name ∷ names) q = λ words. made_more shown own name names
 pub offered_at : (names : List ℕ → Bool) (shown : Words) (q : List ℕ) → get (offered_words names shown) q ≡ option_and_then (λ word. kept_as (names q && is_visible word) (seen_word word)) (get shown q)
 offered_at names shown q = get_chosen name_total name_exact (λ name word. kept_as (names name && is_visible word) (seen_word word)) shown q
 
-pub adopted_at : (offered words : Words) (q : List ℕ) → get (adopted_words offered words) q ≡ option_or (option_and_then (λ word. Some (seen_if (contains_key offered q) word)) (get words q)) (get offered q)
+adopted_at : (offered words : Words) (q : List ℕ) → get (adopted_words offered words) q ≡ option_or (option_and_then (λ word. Some (seen_if (contains_key offered q) word)) (get words q)) (get offered q)
 adopted_at offered words q =
     get_joined name_total _ offered q ∙ ap (λ o. option_or o (get offered q)) (get_chosen name_total name_exact (λ name word. Some (seen_if (contains_key offered name) word)) words q)
 
@@ -163,9 +163,15 @@ made_is name comes (Some shown) (Some own) = by comes (is_visible shown) own.sta
     by false true Both is = refl
     by false false s is = refl
 
+-- what becomes of a word, of the two that there are of its name
+abbrev pub adopted : Bool → Option Word → Option Word → Option Word
+adopted comes shown own = option_or (option_and_then (λ word. Some (seen_if (is_some (offer comes shown)) word)) own) (offer comes shown)
+
+pub word_adopted : (names : List ℕ → Bool) (shown own : Words) (q : List ℕ) → get (adopted_words (offered_words names shown) own) q ≡ adopted (names q) (get shown q) (get own q)
+word_adopted names shown own q =
+    adopted_at (offered_words names shown) own q ∙ (λ i. option_or (option_and_then (λ word. Some (seen_if (is_some (offered_at names shown q i)) word)) (get own q)) (offered_at names shown q i))
+
 -- the entries that come make of a ledger what is to come of it
 pub adopted_is : (shown own : Words) (names : List (List ℕ)) → all_seen_words (coming_in shown own names) own ≡ adopted_words (offered_words (is_listed names) shown) own
 adopted_is shown own names = same_map name_total name_exact _ _ (λ q.
-    all_made shown own names q own ∙ made_is q (is_listed names q) (get shown q) (get own q)
-    ∙ sym (adopted_at (offered_words (is_listed names) shown) own q
-    ∙ (λ i. option_or (option_and_then (λ word. Some (seen_if (is_some (offered_at (is_listed names) shown q i)) word)) (get own q)) (offered_at (is_listed names) shown q i))))
+    all_made shown own names q own ∙ made_is q (is_listed names q) (get shown q) (get own q) ∙ sym (word_adopted (is_listed names) shown own q))

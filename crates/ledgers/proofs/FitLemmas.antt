@@ -32,7 +32,7 @@ all_listed P (name ∷ names) each =
 
 -- ---- what is offered
 -- the word that is shown, where it is offered
-offered_word : (comes : Bool) (shown : Option Word) (word : Word) → offer comes shown ≡ Some word → (own : Word) × (shown ≡ Some own) × (comes ≡ true) × (is_visible own ≡ true) × (seen_word own ≡ word)
+pub offered_word : (comes : Bool) (shown : Option Word) (word : Word) → offer comes shown ≡ Some word → (own : Word) × (shown ≡ Some own) × (comes ≡ true) × (is_visible own ≡ true) × (seen_word own ≡ word)
 offered_word comes None word is = (let bad : ⊥ = cc in absurd bad)
 offered_word comes (Some shown) word is = by comes (is_visible shown) refl refl is
   where

@@ -23,14 +23,14 @@ use Rattle.ledgers.proofs.SumLemmas.{same_sums, sum_insert, worth}
 
 -- ---- at a name
 -- the word that is shown, if there is one
-abbrev showing : Option Word → Option Word
+abbrev pub showing : Option Word → Option Word
 showing own = option_and_then (λ word. kept_as (is_visible word) word) own
 
 -- what stands there beside what comes
-abbrev beside : Bool → Option Word → Option Word → Option Word
+abbrev pub beside : Bool → Option Word → Option Word → Option Word
 beside comes shown own = option_or (showing own) (offer comes shown)
 
-beside_at : (names : List ℕ → Bool) (shown own : Words) (q : List ℕ) → get (shown_beside (offered_words names shown) own) q ≡ beside (names q) (get shown q) (get own q)
+pub beside_at : (names : List ℕ → Bool) (shown own : Words) (q : List ℕ) → get (shown_beside (offered_words names shown) own) q ≡ beside (names q) (get shown q) (get own q)
 beside_at names shown own q =
     get_joined name_total (words_that is_visible own) (offered_words names shown) q
     ∙ ap (λ o. option_or o (get (offered_words names shown) q)) (get_chosen name_total name_exact (λ _ word. kept_as (is_visible word) word) own q)

@@ -111,7 +111,7 @@ joined_at : (files : Files) (names : List ℕ → Bool) (shown own : Words) (q :
 joined_at files names shown own q =
     get_joined name_total (part is_visible files own) (offered_by files names shown) q ∙ (λ i. option_or (get_part is_visible files own q i) (offered_object files names shown q i))
 
-pub adopted_own : (files : Files) (names : List ℕ → Bool) (shown own : Words) → Fits (offered_words names shown) own
+adopted_own : (files : Files) (names : List ℕ → Bool) (shown own : Words) → Fits (offered_words names shown) own
     → own_of files (adopted_words (offered_words names shown) own) ≡ with_adopted (offered_by files names shown) (own_of files own)
 adopted_own files names shown own fits = same_private _ _
     (same_map name_total name_exact _ _ (λ q.
@@ -121,12 +121,16 @@ adopted_own files names shown own fits = same_private _ _
     get_part is_staged files (adopted_words (offered_words names shown) own) q ∙ ap (shown_at is_staged files q) (word_adopted names shown own q)
     ∙ staged_adopted files q (names q) (get shown q) (get own q) ∙ sym (get_part is_staged files own q)))
 
--- one tenant adopts of another
-pub adopted_shown : (files : Files) (m : AllWords) (to from : List ℕ) (names : List ℕ → Bool) → Fits (offered_words names (ledger_at m from)) (ledger_at m to)
+adopted_shown : (files : Files) (m : AllWords) (to from : List ℕ) (names : List ℕ → Bool) → Fits (offered_words names (ledger_at m from)) (ledger_at m to)
     → tenants_of files (at_ledger m to (adopted_words (offered_words names (ledger_at m from)))) ≡ at_tenant (tenants_of files m) to (with_adopted (retain_keys (private_of (tenants_of files m) from).visible names))
 adopted_shown files m to from names fits =
     changed_here files m to (adopted_words (offered_words names (ledger_at m from))) (with_adopted (offered_by files names (ledger_at m from))) (adopted_own files names (ledger_at m from) (ledger_at m to) fits)
     ∙ ap (λ (own : Private). at_tenant (tenants_of files m) to (with_adopted (retain_keys own.visible names))) (sym (private_shown files m from))
+
+-- one tenant adopts of another
+pub adopted_tenants : (files : Files) (m n : AllWords) (to from : List ℕ) (names : List ℕ → Bool) → Fits (offered_words names (ledger_at m from)) (ledger_at m to)
+    → n ≡ at_ledger m to (adopted_words (offered_words names (ledger_at m from))) → tenants_of files n ≡ at_tenant (tenants_of files m) to (with_adopted (retain_keys (private_of (tenants_of files m) from).visible names))
+adopted_tenants files m n to from names fits is = ap (tenants_of files) is ∙ adopted_shown files m to from names fits
 
 -- ---- what comes is seen
 seen_among : (files : Files) (q : List ℕ) (comes : Bool) (shown own : Option Word) (object : Object) → FitHere comes shown own → coming comes files q shown ≡ Some object
@@ -187,10 +191,16 @@ use_beside files q comes (Some word) (Some own) = by comes (is_visible word) (is
     by false true false = refl
     by false false false = refl
 
-pub room_shown : (files : Files) (names : List ℕ → Bool) (shown own : Words) → total_of (shown_beside (offered_words names shown) own) ≡ use_of (joined (part is_visible files own) (offered_by files names shown))
+room_shown : (files : Files) (names : List ℕ → Bool) (shown own : Words) → total_of (shown_beside (offered_words names shown) own) ≡ use_of (joined (part is_visible files own) (offered_by files names shown))
 unfolding total_of use_of
 room_shown files names shown own = same_sums name_total name_exact use_of_word use_of_object (shown_beside (offered_words names shown) own) (joined (part is_visible files own) (offered_by files names shown)) (λ q.
     ap (worth use_of_word) (beside_at names shown own q) ∙ use_beside files q (names q) (get shown q) (get own q) ∙ ap (worth use_of_object) (sym (joined_at files names shown own q)))
+
+pub room_tenants : (files : Files) (m : AllWords) (to from : List ℕ) (names : List ℕ → Bool)
+    → total_of (shown_beside (offered_words names (ledger_at m from)) (ledger_at m to)) ≡ use_of (joined (private_of (tenants_of files m) to).visible (retain_keys (private_of (tenants_of files m) from).visible names))
+room_tenants files m to from names =
+    room_shown files names (ledger_at m from) (ledger_at m to)
+    ∙ (λ i. use_of (joined (sym (private_shown files m to) i).visible (retain_keys (sym (private_shown files m from) i).visible names)))
 
 -- ---- measures
 -- adopted objects and private maps of the same measures

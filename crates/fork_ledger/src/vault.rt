@@ -18,7 +18,7 @@ ghost use Rattle.fork_ledger.specs.AllStaged.{MeetsAmong, StoresAmong, with_all_
 ghost use Rattle.fork_ledger.specs.Checked.{WasAsked};
 ghost use Rattle.fork_ledger.specs.Harms.{AreFound};
 ghost use Rattle.fork_ledger.specs.Kept.{IsExact, TakesAway};
-ghost use Rattle.fork_ledger.specs.Private.{AreAmong, both_of, held_in, with_adopted, with_discarded, with_kept, with_published, with_staged};
+ghost use Rattle.fork_ledger.specs.Private.{AreAlike, AreAmong, both_of, held_in, with_adopted, with_discarded, with_kept, with_published, with_staged};
 ghost use Rattle.fork_ledger.specs.Store.{AsksStore, HoldOne, IsOver, LeavesStore, Meets, Recalls, StoresAlone};
 ghost use Rattle.fork_ledger.specs.Swept.{IsAccounted};
 ghost use Rattle.fork_ledger.specs.Taken.{is_taken};
@@ -432,6 +432,7 @@ impl<S: LooseFiles> Vault<S> {
         ensures err { OnErr result (self.new.tenants ≡ self.old.tenants) }
         ensures store { LeavesStore self.old self.new }
         ensures cause { IfErr result (λ fault. (fault ≡ VaultFault.Memory) ⊎ (fault ≡ VaultFault.Damaged)) }
+        ensures damaged { IfErr result (λ fault. fault ≡ VaultFault.Damaged → AreAlike (map.retain_keys (private_of self.old.tenants from.now).visible (contains same_name names.now)) (both_of (private_of self.old.tenants to.now)) → ⊥) }
     {
         if !self.holdings.fits(to, from, names) {
             return Err(VaultFault::Damaged);

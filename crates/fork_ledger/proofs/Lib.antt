@@ -1,3 +1,5 @@
+pub mod AdoptedLemmas
+pub mod AdoptedStore
 pub mod AllStagedLemmas
 pub mod BothLemmas
 pub mod CameLemmas

@@ -1,5 +1,5 @@
 -- That known parents are those of what stands on the store, as files and commits change.
-use Rattle.std.proofs.Common.{◌≡◌, ◌≢◌, ◌⊎◌, ◌++◌, ℕ, zero, suc, List, [], ◌∷◌, Bool, true, false, Contains, Result, Ok, Err, IsTrue, inl, inr, subst, sym, ap, ◌∙◌, arith}
+use Rattle.std.proofs.Common.{◌≡◌, ◌≢◌, ◌⊎◌, ◌++◌, ℕ, zero, suc, List, [], ◌∷◌, Bool, true, false, Contains, Result, Ok, Err, inl, inr, subst, sym, ap, ◌∙◌, arith}
 use Rattle.std.specs.Bool.{OnFalse, OnTrue}
 use Rattle.std.specs.List.{AllByRecursion}
 use Rattle.std.specs.Result.{IfOk, OnErr}

@@ -125,16 +125,21 @@ there_shown files m t = ap is_some (get_tenant files m t) ∙ by (get m t)
     by (Some words) = refl
 
 -- one tenant's ledger changes, and no file
-pub changed_shown : (files : Files) (m : AllWords) (t : List ℕ) (f : Words → Words) (change : Private → Private) → ((words : Words) → own_of files (f words) ≡ change (own_of files words))
+pub changed_here : (files : Files) (m : AllWords) (t : List ℕ) (f : Words → Words) (change : Private → Private) → own_of files (f (ledger_at m t)) ≡ change (own_of files (ledger_at m t))
     → tenants_of files (at_ledger m t f) ≡ at_tenant (tenants_of files m) t change
-changed_shown files m t f change own =
+changed_here files m t f change own =
     by (contains_key m t) ∙ ap (λ b. cond b (insert (tenants_of files m) t (change (private_of (tenants_of files m) t))) (tenants_of files m)) (sym (there_shown files m t))
   where
     by : (b : Bool) → tenants_of files (cond b (insert m t (f (ledger_at m t))) m) ≡ cond b (insert (tenants_of files m) t (change (private_of (tenants_of files m) t))) (tenants_of files m)
     by true =
         map_values_insert name_total name_exact (own_of files) m t (f (ledger_at m t))
-        ∙ ap (insert (tenants_of files m) t) (own (ledger_at m t) ∙ ap change (sym (private_shown files m t)))
+        ∙ ap (insert (tenants_of files m) t) (own ∙ ap change (sym (private_shown files m t)))
     by false = refl
+
+-- the same of a change that is known of any words
+pub changed_shown : (files : Files) (m : AllWords) (t : List ℕ) (f : Words → Words) (change : Private → Private) → ((words : Words) → own_of files (f words) ≡ change (own_of files words))
+    → tenants_of files (at_ledger m t f) ≡ at_tenant (tenants_of files m) t change
+changed_shown files m t f change own = changed_here files m t f change (own (ledger_at m t))
 
 -- a tenant is added
 pub added_shown : (files : Files) (m : AllWords) (t : List ℕ) → tenants_of files (with_ledger m t) ≡ with_tenant (tenants_of files m) t

@@ -39,7 +39,7 @@ abbrev pub Brings : (Private → Private) → Type 0
 Brings change = (own : Private) (name : List ℕ) (object : Object) → Holds (change own) name object → Holds own name object
 
 -- one tenant's private maps change
-holds_at : (tenants : Tenants) (t : List ℕ) (change : Private → Private) (tenant name : List ℕ) (object : Object) (G : Type 0) → Holds (private_of (at_tenant tenants t change) tenant) name object
+pub holds_at : (tenants : Tenants) (t : List ℕ) (change : Private → Private) (tenant name : List ℕ) (object : Object) (G : Type 0) → Holds (private_of (at_tenant tenants t change) tenant) name object
     → (tenant ≡ t → Holds (change (private_of tenants t)) name object → G) → (Holds (private_of tenants tenant) name object → G) → G
 holds_at tenants t change tenant name object G holds own others = by_test (contains_key tenants t) G here absent
   where
@@ -56,7 +56,7 @@ stored_at tenants t files change brings stored = λ tenant name object holds. ho
     (λ same now. stored t name object (brings (private_of tenants t) name object now))
     (λ before. stored tenant name object before)
 
-either_side : (seen waits : Option Object) (object : Object) → option_or seen waits ≡ Some object → (seen ≡ Some object) ⊎ (waits ≡ Some object)
+pub either_side : (seen waits : Option Object) (object : Object) → option_or seen waits ≡ Some object → (seen ≡ Some object) ⊎ (waits ≡ Some object)
 either_side (Some x) waits object is = inl is
 either_side None waits object is = inr is
 
@@ -72,7 +72,7 @@ pub brings_discarded : Brings with_discarded
 brings_discarded own name object (Sees is) = Sees is
 brings_discarded own name object (Awaits is) = absurd (nothing_found name object is)
 
-kept_was : (b : Bool) (o : Option Object) (object : Object) → cond b o None ≡ Some object → o ≡ Some object
+pub kept_was : (b : Bool) (o : Option Object) (object : Object) → cond b o None ≡ Some object → o ≡ Some object
 kept_was true o object is = is
 kept_was false o object is = absurd (cc)
 

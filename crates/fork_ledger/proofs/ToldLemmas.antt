@@ -119,7 +119,7 @@ names_shown files words =
     by k word false = refl
 
 -- ---- use
-use_at : (files : Files) (name : List ℕ) (word : Word) → use_of_object (object_at files name word) ≡ use_of_word word
+pub use_at : (files : Files) (name : List ℕ) (word : Word) → use_of_object (object_at files name word) ≡ use_of_word word
 use_at files name word = ap (λ n. n + OBJECT_USE) (length_at files name word)
 
 pub used_shown : (files : Files) (words : Words) → used_by words ≡ use_of (part is_visible files words)

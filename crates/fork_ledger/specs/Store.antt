@@ -14,6 +14,10 @@ use Rattle.fork_ledger.specs.Tenants.{Tenants, VaultState, at_tenant, private_of
 abbrev pub IsStored : Tenants → Files → Type 0
 IsStored tenants files = (tenant name : List ℕ) (object : Object) → Holds (private_of tenants tenant) name object → Whole files name object
 
+-- what tenants see or have staged under one name is one object
+abbrev pub HoldOne : Tenants → Type 0
+HoldOne tenants = (first second name : List ℕ) (object other : Object) → Holds (private_of tenants first) name object → Holds (private_of tenants second) name other → other ≡ object
+
 -- some tenant has an object of this name
 abbrev pub IsHeldBySome : Tenants → List ℕ → Type 0
 IsHeldBySome tenants name = (tenant : List ℕ) × (is_held_by (private_of tenants tenant) name ≡ true)

@@ -1,9 +1,11 @@
 ghost use Rattle.std.specs.Prelude.{◌≡◌, ◌≢◌, ◌⊎◌, ◌≤◌, ◌<◌, ◌+◌, ◌∷◌, ℕ, List, [], false, true, length, map as map_list, IsTrue, OnOk, OnErr, IfOk, IfErr, IfSome, Some, is_some, nat_le};
 ghost use Rattle.std.specs.FinMap as map;
+ghost use Rattle.std.specs.HashSet.{contains};
 ghost use Rattle.std.specs.List.{AllByRecursion};
 ghost use Rattle.std.specs.Result.{IsOk};
+ghost use Rattle.git_name.specs.Maps.{joined};
 ghost use Rattle.git_name.specs.Object.{object_name};
-ghost use Rattle.git_name.specs.Same.{is_listed};
+ghost use Rattle.git_name.specs.Same.{is_listed, same_name};
 ghost use Rattle.git_name.specs.Count.{fault_in};
 ghost use Rattle.commit_graph.specs.Graph.{IsGraph, name_at, parents_at};
 ghost use Rattle.fork_reach.specs.Known.{AreParents, seen_name, seen_place};
@@ -16,8 +18,8 @@ ghost use Rattle.fork_ledger.specs.AllStaged.{MeetsAmong, StoresAmong, with_all_
 ghost use Rattle.fork_ledger.specs.Checked.{WasAsked};
 ghost use Rattle.fork_ledger.specs.Harms.{AreFound};
 ghost use Rattle.fork_ledger.specs.Kept.{IsExact, TakesAway};
-ghost use Rattle.fork_ledger.specs.Private.{both_of, held_in, with_discarded, with_kept, with_published, with_staged};
-ghost use Rattle.fork_ledger.specs.Store.{AsksStore, IsOver, LeavesStore, Meets, Recalls, StoresAlone};
+ghost use Rattle.fork_ledger.specs.Private.{AreAlike, AreAmong, both_of, held_in, with_adopted, with_discarded, with_kept, with_published, with_staged};
+ghost use Rattle.fork_ledger.specs.Store.{AsksStore, HoldOne, IsOver, LeavesStore, Meets, Recalls, StoresAlone};
 ghost use Rattle.fork_ledger.specs.Swept.{IsAccounted};
 ghost use Rattle.fork_ledger.specs.Taken.{is_taken};
 ghost use Rattle.fork_ledger.specs.Tenants.{at_tenant, private_of, shape_of, with_tenant};
@@ -38,6 +40,7 @@ use catalogue::Catalogue;
 use commit_graph::Graph;
 use fork_request::TenantName;
 use git_name::{Hashing, Kind, Name, Sealed};
+use indexmap::IndexSet;
 use ledgers::{Holdings, NameSet};
 use looks::sharp_collection;
 use loose_store::LooseFiles;
@@ -397,6 +400,49 @@ impl<S: LooseFiles> Vault<S> {
         self.holdings.keep_only(tenant, names);
     }
 
+    /// Whether what a tenant sees, with the objects of these names that another one sees beside it, is of so
+    /// many bytes of use at the most, in linear time of the names.
+    pub fn has_room(
+        &self,
+        to: &TenantName,
+        from: &TenantName,
+        names: &IndexSet<Name, Hashing>,
+        limit: u64,
+    ) -> bool
+        ensures { result ≡ nat_le (use_of (joined (private_of self.now.tenants to.now).visible (map.retain_keys (private_of self.now.tenants from.now).visible (contains same_name names.now)))) limit }
+    {
+        self.holdings.has_room(to, from, names, limit)
+    }
+
+    /// A tenant comes to see the objects of these names that another one sees, beside those that it sees.
+    /// What it has staged stays. All or none, in linear time of the names. It asks no store. Where the tenant
+    /// has an object of one of the names that is of another kind or length it is told as damaged.
+    pub fn adopt(
+        &mut self,
+        alloc: Global,
+        to: &TenantName,
+        from: &TenantName,
+        names: &IndexSet<Name, Hashing>,
+    ) -> Result<(), VaultFault>
+        ensures undamaged { IsTrue self.old.honest → IfErr result (λ fault. fault ≡ VaultFault.Memory) }
+
+        // Over any store.
+        ensures ok { OnOk result (self.new.tenants ≡ at_tenant self.old.tenants to.now (with_adopted (map.retain_keys (private_of self.old.tenants from.now).visible (contains same_name names.now)))) }
+        ensures same { map.contains_key self.old.tenants to.now ≡ true → OnOk result (AreAmong (map.retain_keys (private_of self.old.tenants from.now).visible (contains same_name names.now)) (private_of self.new.tenants to.now).visible) }
+        ensures err { OnErr result (self.new.tenants ≡ self.old.tenants) }
+        ensures store { LeavesStore self.old self.new }
+        ensures cause { IfErr result (λ fault. (fault ≡ VaultFault.Memory) ⊎ (fault ≡ VaultFault.Damaged)) }
+        ensures damaged { IfErr result (λ fault. fault ≡ VaultFault.Damaged → AreAlike (map.retain_keys (private_of self.old.tenants from.now).visible (contains same_name names.now)) (both_of (private_of self.old.tenants to.now)) → ⊥) }
+    {
+        if !self.holdings.fits(to, from, names) {
+            return Err(VaultFault::Damaged);
+        }
+        let Ok(()) = self.holdings.adopt(alloc, to, from, names) else {
+            return Err(VaultFault::Memory);
+        };
+        Ok(())
+    }
+
     /// The bytes of use of what a tenant sees, in constant time behind the look-up of the tenant.
     pub fn used(&self, tenant: &TenantName) -> u128
         ensures { result ≡ capped (use_of (private_of self.now.tenants tenant.now).visible) }
@@ -496,6 +542,7 @@ impl<S: LooseFiles> Vault<S> {
         ensures place { self.now.places.place ≤ length self.now.places.names }
         ensures accounted { IsTrue self.now.honest → IsAccounted self.now }
         ensures graph { IsGraph self.now.commits }
+        ensures one { IsTrue self.now.honest → HoldOne self.now.tenants }
         ensures parents { IsTrue self.now.honest → (tenant : List ℕ) → AreParents (private_of self.now.tenants tenant).visible self.now.commits }
     {
         let _place = self.holdings.place();

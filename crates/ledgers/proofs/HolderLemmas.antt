@@ -1,14 +1,15 @@
 -- Who holds a name, as ledgers change.
 use Rattle.std.proofs.Common.{◌≡◌, ℕ, ◌+◌, ◌<◌, ◌≤◌, List, Bool, true, false, not, Option, Some, None, cond, is_some, refl, sym, ap, ◌∙◌, arith}
-use Rattle.std.specs.Prelude.{count_by}
-use Rattle.std.specs.Option.{option_and_then, option_map_or}
+use Rattle.std.specs.Prelude.{count_by, Result, Ok, Err, OnOk, OnErr}
+use Rattle.std.specs.Option.{option_and_then, option_map_or, unwrap_or}
 use Rattle.std.specs.Ordering.{eq_by_cmp}
 use Rattle.std.specs.Cmp.{eq_by_cmp_equiv}
-use Rattle.std.specs.FinMap.{contains_key, empty, entries, get, get-empty, get-insert, insert, len, len-entries, values}
+use Rattle.std.specs.FinMap.{contains_key, empty, entries, get, get-empty, get-insert, insert, len, len-entries, len-insert, values}
 use Rattle.std.proofs.lemmas.Bool.{lt-ltb, ltb-true}
 use Rattle.std.proofs.lemmas.List.Sums.{count_by-le-length}
 use Rattle.std.proofs.lemmas.Map.Entries.{length-values_of}
 use Rattle.git_name.specs.declared.kind.Kind.{Kind}
+use Rattle.git_name.specs.declared.kind.Kind.TheVariants.{Blob}
 use Rattle.git_name.specs.Name.{name_cmp}
 use Rattle.git_name.proofs.Names.{name_total, name_exact}
 use Rattle.git_name.specs.Same.{same_name}
@@ -17,7 +18,7 @@ use Rattle.catalogue.proofs.PlaceLemmas.{one_name, own_name}
 use Rattle.ledgers.specs.declared.word.Word.{Word}
 use Rattle.ledgers.specs.Due.{due_at, leaves_discarded, leaves_kept, leaves_unstaged}
 use Rattle.ledgers.specs.Holders.{holders_of, is_held_in}
-use Rattle.ledgers.specs.Ledgers.{AllWords, at_ledger, with_ledger}
+use Rattle.ledgers.specs.Ledgers.{AllWords, at_ledger, ledger_at, with_ledger}
 use Rattle.ledgers.specs.Words.{Words, discarded_words, is_visible, kept_as, kept_word, kept_words, published_words, seen_word, staged_over, staged_words, unstaged_if, unstaged_word, unstaged_words}
 use Rattle.ledgers.proofs.ChosenLemmas.{get_chosen, one_key}
 use Rattle.ledgers.proofs.SumLemmas.{counts_some, sum_empty, sum_insert, worth, worth_within}
@@ -120,18 +121,33 @@ set_there words name word q = ap is_some (get-insert name_total words name word 
     by true = refl
     by false = refl
 
+-- a word is set where there is one of its name
+pub set_again : (words : Words) (name : List ℕ) (word : Word) (q : List ℕ) → contains_key words name ≡ true → contains_key (insert words name word) q ≡ contains_key words q
+set_again words name word q there = set_there words name word q ∙ by (same_name name q) refl
+  where
+    by : (b : Bool) → same_name name q ≡ b → cond b true (contains_key words q) ≡ contains_key words q
+    by true e = sym (ap (contains_key words) (sym (one_name name q e)) ∙ there)
+    by false e = refl
+
+-- and where there is none
+pub set_fresh : (words : Words) (name : List ℕ) (word : Word) (q : List ℕ) → contains_key words name ≡ false → one_if (contains_key (insert words name word) q) ≡ one_if (contains_key words q) + one_if (same_name name q)
+set_fresh words name word q lacks = ap one_if (set_there words name word q) ∙ by (same_name name q) refl
+  where
+    nothing_more : (i : ℕ) → i + 0 ≡ i
+    nothing_more i = omega arith
+
+    by : (b : Bool) → same_name name q ≡ b → one_if (cond b true (contains_key words q)) ≡ one_if (contains_key words q) + one_if b
+    by true e = ap (λ c. one_if c + 1) (sym (ap (contains_key words) (sym (one_name name q e)) ∙ lacks))
+    by false e = sym (nothing_more (one_if (contains_key words q)))
+
 -- a name of which there is a word already
 pub staged_again : (m : AllWords) (t : List ℕ) (own : Words) (name : List ℕ) (kind : Kind) (n : ℕ) (q : List ℕ) → get m t ≡ Some own → contains_key own name ≡ true
     → holders_of (at_ledger m t (staged_words name kind n)) q ≡ holders_of m q
 staged_again m t own name kind n q here there =
     let set = holders_set m t own (staged_words name kind n own) q here in
     let at = ap (λ x. holders_of x q) (changed_at m t own (staged_words name kind n) here) in
-    let alike = ap one_if (set_there own name (staged_over kind n (get own name)) q ∙ by (same_name name q) refl) in
+    let alike = ap one_if (set_again own name (staged_over kind n (get own name)) q there) in
     omega (arith, set, at, alike)
-  where
-    by : (b : Bool) → same_name name q ≡ b → cond b true (contains_key own q) ≡ contains_key own q
-    by true e = sym (ap (contains_key own) (sym (one_name name q e)) ∙ there)
-    by false e = refl
 
 -- a new one
 pub staged_fresh : (m : AllWords) (t : List ℕ) (own : Words) (name : List ℕ) (kind : Kind) (n : ℕ) (q : List ℕ) → get m t ≡ Some own → contains_key own name ≡ false
@@ -139,15 +155,8 @@ pub staged_fresh : (m : AllWords) (t : List ℕ) (own : Words) (name : List ℕ)
 staged_fresh m t own name kind n q here lacks =
     let set = holders_set m t own (staged_words name kind n own) q here in
     let at = ap (λ x. holders_of x q) (changed_at m t own (staged_words name kind n) here) in
-    let more = ap one_if (set_there own name (staged_over kind n (get own name)) q) ∙ by (same_name name q) refl in
+    let more = set_fresh own name (staged_over kind n (get own name)) q lacks in
     omega (arith, set, at, more)
-  where
-    nothing_more : (i : ℕ) → i + 0 ≡ i
-    nothing_more i = omega arith
-
-    by : (b : Bool) → same_name name q ≡ b → one_if (cond b true (contains_key own q)) ≡ one_if (contains_key own q) + one_if b
-    by true e = ap (λ c. one_if c + 1) (sym (ap (contains_key own) (sym (one_name name q e)) ∙ lacks))
-    by false e = sym (nothing_more (one_if (contains_key own q)))
 
 -- there are no more holders than tenants
 pub few_holders : (m : AllWords) (q : List ℕ) → holders_of m q ≤ len m
@@ -211,3 +220,34 @@ held_by m t own q here there =
     let within = worth_within (has q) m t in
     let one = ap (worth (has q)) here ∙ ap (λ b. cond b 1 0) there in
     lt-ltb 0 (holders_of m q) (omega (arith, within, one))
+
+-- a name of which some ledger has a word is held
+pub held_at : (m : AllWords) (t q : List ℕ) → is_some (get (ledger_at m t) q) ≡ true → is_held_in m q ≡ true
+held_at m t q there = by_ledger _ (get m t)
+    (λ none. let bad : ⊥ = cc (sym (ap (λ o. is_some (get (unwrap_or o empty) q)) none ∙ ap is_some (get-empty {X = Word} name_cmp q)) ∙ there) in absurd bad)
+    (λ own here. held_by m t own q here (sym (ap (λ o. is_some (get (unwrap_or o empty) q)) here) ∙ there))
+
+-- ---- one ledger changes, or none does
+-- a name that a tenant lacks has fewer holders than there are tenants
+pub few_others : (m : AllWords) (t : List ℕ) (own : Words) (q : List ℕ) → get m t ≡ Some own → contains_key own q ≡ false → holders_of m q + 1 ≤ len m
+few_others m t own q here lacks =
+    let fits = raise_fits m (at_ledger m t (staged_words q Blob 0)) t own q Blob 0 here lacks refl in
+    let size = ap len (changed_at m t own (staged_words q Blob 0) here) ∙ len-insert name_total m t (staged_words q Blob 0 own) ∙ ap (λ o. cond (is_some o) (len m) (len m + 1)) here in
+    omega (arith, fits, size)
+
+set_ledger : (m : AllWords) (t : List ℕ) (after : Words) → ledger_at (insert m t after) t ≡ after
+set_ledger m t after = ap (λ o. unwrap_or o empty) (get-insert name_total m t after t ∙ ap (λ b. cond b (Some after) (get m t)) ((eq_by_cmp_equiv name_total).refl t))
+
+pub counted_still : {A E : Type 0} (m new : AllWords) (t : List ℕ) (own : Words) (f : Words → Words) (q : List ℕ) (r : Result A E) → get m t ≡ Some own → OnOk r (new ≡ at_ledger m t f) → OnErr r (new ≡ m)
+    → holders_of new q + one_if (contains_key (ledger_at m t) q) ≡ holders_of m q + one_if (contains_key (ledger_at new t) q)
+counted_still m new t own f q (Ok a) here ok err =
+    let is = ok ∙ changed_at m t own f here in
+    let set = holders_set m t own (f own) q here in
+    let now = ap (λ x. holders_of x q) is in
+    let before = ap (λ o. one_if (contains_key (unwrap_or o empty) q)) here in
+    let after = ap (λ x. one_if (contains_key (ledger_at x t) q)) is ∙ ap (λ words. one_if (contains_key words q)) (set_ledger m t (f own)) in
+    omega (arith, set, now, before, after)
+counted_still m new t own f q (Err e) here ok err =
+    let now = ap (λ x. holders_of x q) err in
+    let after = ap (λ x. one_if (contains_key (ledger_at x t) q)) err in
+    omega (arith, now, after)

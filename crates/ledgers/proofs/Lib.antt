@@ -1,7 +1,11 @@
+pub mod AdoptLemmas
 pub mod CappedLemmas
 pub mod ChosenLemmas
 pub mod DueLemmas
+pub mod FitLemmas
 pub mod HolderLemmas
+pub mod RoomLemmas
+pub mod SeenLemmas
 pub mod SettleLemmas
 pub mod SumLemmas
 pub mod TenantEntries

@@ -3,8 +3,10 @@ use Rattle.std.proofs.Common.{◌≡◌, ℕ, Bool, true, false, cond, List, Opt
 use Rattle.std.specs.Option.{unwrap_or}
 use Rattle.std.specs.Map.{lookup}
 use Rattle.std.specs.BTreeMap.{is_at}
-use Rattle.std.specs.FinMap.{contains_key, empty, from_entries, get, get-empty, insert}
+use Rattle.std.specs.Cmp.{eq_by_cmp_equiv}
+use Rattle.std.specs.FinMap.{contains_key, empty, from_entries, get, get-empty, get-insert, insert}
 use Rattle.git_name.specs.Name.{name_cmp}
+use Rattle.git_name.proofs.Names.{name_total}
 use Rattle.ledgers.specs.declared.word.Standing.{Standing}
 use Rattle.ledgers.specs.declared.word.Word.{Word}
 use Rattle.ledgers.specs.Words.{Words, standing_of}
@@ -69,3 +71,10 @@ was_there before (Some word) is some = refl
 pub was_absent : (before : Option Standing) (word : Option Word) → before ≡ standing_of word → is_some before ≡ false → is_some word ≡ false
 was_absent before None is none = refl
 was_absent before (Some word) is none = (let no : ⊥ = cc in absurd no)
+
+-- what is written back is found
+pub ledger_written : (ledgers : AllWords) (es fs : List (List ℕ × Words)) (t : List ℕ) (after : Words) → from_entries es ≡ ledgers
+    → ((q : List ℕ) → lookup (is_at (name_cmp q)) fs ≡ cond (is_at (name_cmp t) q) (Some after) (lookup (is_at (name_cmp q)) es)) → ledger_at (from_entries fs) t ≡ after
+ledger_written ledgers es fs t after is set =
+    ap (λ m. ledger_at m t) (written_back ledgers es fs t after is set)
+    ∙ ap (λ o. unwrap_or o empty) (get-insert name_total ledgers t after t ∙ ap (λ b. cond b (Some after) (get ledgers t)) ((eq_by_cmp_equiv name_total).refl t))

@@ -1,5 +1,7 @@
+pub mod Adopted
 pub mod AllStaged
 pub mod Chosen
+pub mod Coming
 pub mod Due
 pub mod Holders
 pub mod Ledgers

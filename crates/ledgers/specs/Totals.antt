@@ -1,6 +1,7 @@
 -- What the objects of a ledger use, kept beside its words (own).
-use Rattle.std.specs.Prelude.{◌≡◌, ◌+◌, ℕ, min, sum_by, if◌then◌else◌}
+use Rattle.std.specs.Prelude.{◌≡◌, ◌+◌, ℕ, Option, false, is_some, min, sum_by, if◌then◌else◌}
 use Rattle.std.specs.FinMap.{values}
+use Rattle.std.specs.Option.{option_map_or}
 use Rattle.ledgers.specs.declared.usage.TheConstants.{WORD_USE}
 use Rattle.ledgers.specs.declared.word.Word.{Word}
 use Rattle.ledgers.specs.Words.{Words, is_visible}
@@ -20,6 +21,13 @@ used_by words = sum_by seen_use (values words)
 -- what all of them use
 unfoldable pub total_of : Words → ℕ
 total_of words = sum_by use_of_word (values words)
+
+-- what a word adds to what is seen, and to all, where there was this word of its name before
+abbrev pub shown_more : Option Word → Word → ℕ
+shown_more before word = if option_map_or is_visible before false then 0 else use_of_word word
+
+abbrev pub held_more : Option Word → Word → ℕ
+held_more before word = if is_some before then 0 else use_of_word word
 
 -- a total that stays at the greatest of 128 bits
 abbrev pub capped : ℕ → ℕ

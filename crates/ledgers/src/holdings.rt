@@ -1,21 +1,25 @@
 ghost use Rattle.std.specs.Prelude.{◌≡◌, ◌<◌, ◌≤◌, ◌+◌, ◌⊎◌, ◌++◌, ◌∷◌, [], ◌||◌, ◌&&◌, not, ℕ, List, Some, length, slice_get, take, OnOk, OnErr, IfOk, IfSome, IfNone, false, true, nat_le, IsPermutation};
 ghost use Rattle.std.specs.FinMap as map;
+ghost use Rattle.std.specs.HashSet.{contains};
 ghost use Rattle.std.specs.Option.{option_map_or};
 ghost use Rattle.git_name.specs.Same.{is_listed, same_name};
 ghost use Rattle.looks.specs.Growth.{GrowsAmong};
 ghost use Rattle.looks.specs.Places.{at_start, looked_at};
 ghost use Rattle.catalogue.specs.Counted.{LooksNextAt, count_of, places_of};
+ghost use Rattle.ledgers.specs.Adopted.{Fits, adopted_words, offered_words, shown_beside};
 ghost use Rattle.ledgers.specs.Holders.{IsCounting, holders_of, is_held_in};
 ghost use Rattle.ledgers.specs.Ledgers.{at_ledger, ledger_at, with_ledger, word_at};
 ghost use Rattle.ledgers.specs.Totals.{capped, total_of, used_by};
 ghost use Rattle.ledgers.specs.Words.{discarded_words, is_staged, is_visible, kept_words, published_words, staged_words, standing_of, unstaged_words, words_that};
 
+use crate::adopting::{adopt_counted, coming_to, fits_in, used_with};
 use crate::ledgers::Ledgers;
 use crate::name_set::NameSet;
 use crate::word::{Standing, Word};
 use catalogue::Catalogue;
 use fork_request::TenantName;
 use git_name::{Hashing, Kind, Name};
+use indexmap::IndexSet;
 use std::alloc::{AllocError, Global};
 use std::marker::Model;
 
@@ -124,6 +128,54 @@ impl Holdings {
         ensures { result ≡ is_held_in self.now.ledgers name }
     {
         self.catalogue.count(name) > 0
+    }
+
+    /// Whether what a tenant sees, with the objects of these names that another one sees beside it, uses so
+    /// much at the most, in linear time of the names.
+    pub fn has_room(
+        &self,
+        to: &TenantName,
+        from: &TenantName,
+        names: &IndexSet<Name, Hashing>,
+        limit: u64,
+    ) -> bool
+        ensures { result ≡ nat_le (total_of (shown_beside (offered_words (contains same_name names.now) (ledger_at self.now.ledgers from.now)) (ledger_at self.now.ledgers to.now))) limit }
+    {
+        let _unique = names.as_slice();
+        used_with(&self.ledgers, to, from, names) <= limit as u128
+    }
+
+    /// Whether the objects of these names that another tenant sees are of the kinds and lengths that
+    /// a tenant knows of them, in linear time of the names.
+    pub fn fits(&self, to: &TenantName, from: &TenantName, names: &IndexSet<Name, Hashing>) -> bool
+        ensures fits { result ≡ true → Fits (offered_words (contains same_name names.now) (ledger_at self.now.ledgers from.now)) (ledger_at self.now.ledgers to.now) }
+        ensures differ { result ≡ false → Fits (offered_words (contains same_name names.now) (ledger_at self.now.ledgers from.now)) (ledger_at self.now.ledgers to.now) → ⊥ }
+    {
+        fits_in(&self.ledgers, to, from, names)
+    }
+
+    /// A tenant comes to see the objects of these names that another one sees, all or none, in linear time
+    /// of the names.
+    pub fn adopt(
+        &mut self,
+        alloc: Global,
+        to: &TenantName,
+        from: &TenantName,
+        names: &IndexSet<Name, Hashing>,
+    ) -> Result<(), AllocError>
+        ensures ok { OnOk result (self.new.ledgers ≡ at_ledger self.old.ledgers to.now (adopted_words (offered_words (contains same_name names.now) (ledger_at self.old.ledgers from.now)))) }
+        ensures err { OnErr result (self.new.ledgers ≡ self.old.ledgers) }
+        ensures places { places_of self.new.catalogue ≡ places_of self.old.catalogue }
+    {
+        let Ok(entries) = coming_to(alloc, &self.ledgers, to, from, names) else {
+            return Err(AllocError);
+        };
+        adopt_counted(
+            &mut self.ledgers,
+            &mut self.catalogue,
+            to,
+            entries.as_slice(),
+        )
     }
 
     /// Stages a name that is catalogued for a tenant. Answers how its object stood with the tenant

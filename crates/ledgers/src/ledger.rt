@@ -1,10 +1,13 @@
-ghost use Rattle.std.specs.Prelude.{◌≡◌, ◌≤◌, ◌+◌, List, ℕ, OnOk, OnErr, IfOk, nat_le};
+ghost use Rattle.std.specs.Prelude.{◌≡◌, ◌<◌, ◌≤◌, ◌+◌, ◌^◌, false, List, ℕ, OnOk, OnErr, IfOk, nat_le};
 ghost use Rattle.std.specs.FinMap as map;
-ghost use Rattle.catalogue.specs.Counted.{count_of, places_of};
+ghost use Rattle.catalogue.specs.Counted.{count_of, one_if, places_of};
+ghost use Rattle.ledgers.specs.AllStaged.{AreListed};
+ghost use Rattle.ledgers.specs.Coming.{all_seen_words};
 ghost use Rattle.ledgers.specs.Due.{due_at, leaves_discarded, leaves_kept, leaves_unstaged};
 ghost use Rattle.ledgers.specs.Totals.{capped, total_of, used_by};
 ghost use Rattle.ledgers.specs.Words.{discarded_words, is_visible, kept_words, published_words, staged_words, standing_of, unstaged_words, words_that};
 
+use crate::entry::Entry;
 use crate::name_set::NameSet;
 use crate::word::{Standing, Word};
 use crate::word_map::WordMap;
@@ -115,6 +118,20 @@ impl Ledger {
     {
         self.words.discard(catalogue);
         self.total = self.used;
+    }
+
+    /// The objects of these entries come to be seen, all or none, and the numbers of the names of which
+    /// there was no word are raised.
+    pub fn adopt(&mut self, catalogue: &mut Catalogue, entries: &[Entry]) -> Result<(), AllocError>
+        requires listed { AreListed (places_of catalogue.old) entries.now }
+        requires fits { (q : List ℕ) → map.contains_key self.old q ≡ false → count_of catalogue.old q + 1 < 2 ^ 64 }
+        ensures ok { OnOk result (self.new ≡ all_seen_words entries.now self.old) }
+        ensures err { OnErr result (self.new ≡ self.old) }
+        ensures places { places_of catalogue.new ≡ places_of catalogue.old }
+        ensures counts { (q : List ℕ) → count_of catalogue.new q + one_if (map.contains_key self.old q) ≡ count_of catalogue.old q + one_if (map.contains_key self.new q) }
+    {
+        self.words
+            .adopt(catalogue, &mut self.used, &mut self.total, entries)
     }
 
     /// Of what is visible keeps these names alone. It takes no memory.

@@ -1,11 +1,14 @@
-ghost use Rattle.std.specs.Prelude.{◌≡◌, ◌≤◌, ◌+◌, List, ℕ, IfOk, OnOk, OnErr};
+ghost use Rattle.std.specs.Prelude.{◌≡◌, ◌<◌, ◌≤◌, ◌+◌, ◌^◌, false, List, ℕ, IfOk, OnOk, OnErr};
 ghost use Rattle.std.specs.FinMap as map;
 ghost use Rattle.std.specs.Option.{option_copied};
-ghost use Rattle.catalogue.specs.Counted.{count_of, places_of};
+ghost use Rattle.catalogue.specs.Counted.{count_of, one_if, places_of};
+ghost use Rattle.ledgers.specs.AllStaged.{AreListed};
+ghost use Rattle.ledgers.specs.Coming.{all_seen_words};
 ghost use Rattle.ledgers.specs.Due.{due_at, leaves_discarded};
 ghost use Rattle.ledgers.specs.Ledgers.{at_ledger, ledger_at, with_ledger, word_at};
 ghost use Rattle.ledgers.specs.Words.{discarded_words, kept_words, published_words, staged_words, standing_of, unstaged_words};
 
+use crate::entry::Entry;
 use crate::ledger::Ledger;
 use crate::name_set::NameSet;
 use crate::word::Standing;
@@ -125,6 +128,30 @@ impl Ledgers {
             return;
         };
         own.discard(catalogue);
+    }
+
+    /// The objects of these entries come to be seen by a tenant, all or none, and the numbers of the
+    /// names of which it had no word are raised.
+    pub fn adopt(
+        &mut self,
+        tenant: &TenantName,
+        catalogue: &mut Catalogue,
+        entries: &[Entry],
+    ) -> Result<(), AllocError>
+        requires listed { AreListed (places_of catalogue.old) entries.now }
+        requires fits { (q : List ℕ) → map.contains_key (ledger_at self.old tenant.now) q ≡ false → count_of catalogue.old q + 1 < 2 ^ 64 }
+        ensures ok { OnOk result (self.new ≡ at_ledger self.old tenant.now (all_seen_words entries.now)) }
+        ensures err { OnErr result (self.new ≡ self.old) }
+        ensures places { places_of catalogue.new ≡ places_of catalogue.old }
+        ensures counts { (q : List ℕ) → count_of catalogue.new q + one_if (map.contains_key (ledger_at self.old tenant.now) q) ≡ count_of catalogue.old q + one_if (map.contains_key (ledger_at self.new tenant.now) q) }
+    {
+        let Some(own) = self.tenants.get_mut(tenant) else {
+            return Ok(());
+        };
+        let Ok(()) = own.adopt(catalogue, entries) else {
+            return Err(AllocError);
+        };
+        Ok(())
     }
 
     /// Of what a tenant sees, keeps these names alone. It takes no memory.

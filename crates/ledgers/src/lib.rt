@@ -4,12 +4,15 @@
 //! have staged it, or both.
 #![tactic(auto)]
 
+mod adopting;
+mod coming;
 mod counting;
 mod entry;
 mod holdings;
 mod ledger;
 mod ledgers;
 mod name_set;
+mod seeing;
 mod staging;
 mod usage;
 mod word;

@@ -1,5 +1,7 @@
 ghost use Rattle.std.specs.Prelude.{◌≡◌, Some, false, is_some, not, if◌then◌else◌};
 ghost use Rattle.std.specs.Option.{option_map_or};
+ghost use Rattle.ledgers.specs.Adopted.{seen_too};
+ghost use Rattle.ledgers.specs.Coming.{seen_over};
 ghost use Rattle.ledgers.specs.Words.{is_staged, is_visible, kept_as, kept_word, seen_word, standing_of, staged_over, staged_too, unstaged_if, unstaged_word, waits};
 
 use git_name::Kind;
@@ -55,6 +57,16 @@ pub(crate) fn is_staged(word: Option<Word>) -> bool
     }
 }
 
+// Whether a word says that its object is seen.
+pub(crate) fn is_seen(word: Option<Word>) -> bool
+    ensures { result ≡ option_map_or is_visible word false }
+{
+    match word {
+        Some(word) => word.is_visible(),
+        None => false,
+    }
+}
+
 // How an object stands of which a ledger says this.
 pub(crate) fn standing_of(word: Option<Word>) -> Option<Standing>
     ensures { result ≡ standing_of word }
@@ -101,6 +113,35 @@ pub(crate) fn word_over(kind: Kind, length: u64, before: Option<Word>) -> Word
             kind,
             length,
             standing: Standing::Staged,
+        },
+    }
+}
+
+// How an object stands that is seen beside what it was.
+fn seen_beside(standing: Standing) -> Standing
+    ensures { result ≡ seen_too standing }
+{
+    match standing {
+        Standing::Visible => Standing::Visible,
+        Standing::Staged => Standing::Both,
+        Standing::Both => Standing::Both,
+    }
+}
+
+// The word of an object that comes to be seen, where its ledger said this of it before.
+pub(crate) fn word_seen(kind: Kind, length: u64, before: Option<Word>) -> Word
+    ensures { result ≡ seen_over kind length before }
+{
+    match before {
+        Some(word) => Word {
+            kind: word.kind,
+            length: word.length,
+            standing: seen_beside(word.standing),
+        },
+        None => Word {
+            kind,
+            length,
+            standing: Standing::Visible,
         },
     }
 }

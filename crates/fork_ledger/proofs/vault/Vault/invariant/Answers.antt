@@ -2,8 +2,10 @@ use Rattle.std.proofs.Common.{ap, subst, ◌∙◌}
 use Rattle.catalogue.specs.Counted.{places_of}
 use Rattle.fork_reach.specs.Known.{AreParents}
 use Rattle.fork_ledger.specs.Shown.{tenants_of}
+use Rattle.fork_ledger.specs.Store.{HoldOne}
 use Rattle.fork_ledger.specs.Swept.{IsAccounted}
 use Rattle.fork_ledger.specs.Tenants.{VaultState, private_of}
+use Rattle.fork_ledger.proofs.AdoptedStore.{hold_one}
 use Rattle.fork_ledger.proofs.GraphLemmas.{known_parents}
 use Rattle.fork_ledger.proofs.SliceLemmas.{accounted}
 use Rattle.fork_ledger.proofs.vault.Vault.invariant.Goals as goal
@@ -19,3 +21,9 @@ returns-clause-parents g c = λ h tenant.
     let files = c.self.inside.files.contents in
     subst (λ (s : VaultState). AreParents (private_of s.tenants tenant).visible s.commits) c.self.view_is
     (known_parents (tenants_of files c.self.inside.holdings.ledgers) files c.self.inside.graph kept.0.stored kept.1 tenant)
+
+pub returns-clause-one : goal.returns-clause-one
+returns-clause-one g c = λ h.
+    let kept = (c.self.invariant (ap (λ s. s.honest) c.self.view_is ∙ h)).0 in
+    let files = c.self.inside.files.contents in
+    subst (λ (s : VaultState). HoldOne s.tenants) c.self.view_is (hold_one (tenants_of files c.self.inside.holdings.ledgers) files kept.stored)

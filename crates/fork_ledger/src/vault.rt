@@ -412,8 +412,9 @@ impl<S: LooseFiles> Vault<S> {
     }
 
     /// A tenant comes to see the objects of these names that another one sees, beside those that it sees.
-    /// What it has staged stays. All or none, in linear time of the names. It asks no store. Where the tenant
-    /// has an object of one of the names that is of another kind or length it is told as damaged.
+    /// What it has staged stays. All or none, in linear time of the names; it asks no store. Where the
+    /// tenant has an object of one of these names that is of another kind or length, that is told as
+    /// damaged.
     pub fn adopt(
         &mut self,
         alloc: Global,

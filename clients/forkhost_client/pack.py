@@ -6,7 +6,7 @@ import tempfile
 import zlib
 from typing import Iterator, List, Optional, Set
 
-from .faults import Fatal
+from .faults import GitFailed
 from .progress import Progress
 from .records import Record
 from .repository import Repository
@@ -86,8 +86,8 @@ class Pack:
         return os.path.join(self.folder, "pack", f"pack-{name}.keep") if word == "keep" else None
 
     def taken(self, command: str, words: List[str]) -> str:
-        environment = self.repository.environment
-        ran = subprocess.run(["git", command, *words], stdin=self.file, stdout=subprocess.PIPE, env=environment)
+        how = {"stdout": subprocess.PIPE, "stderr": self.repository.errors, "env": self.repository.environment}
+        ran = subprocess.run(["git", command, *words], stdin=self.file, **how)
         if ran.returncode:
-            raise Fatal("Git did not take the objects that were received")
+            raise GitFailed("Git did not take the objects that were received")
         return ran.stdout.decode()

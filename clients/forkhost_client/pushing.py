@@ -64,14 +64,14 @@ class Push:
     def blame(self, refusal: Refused, sent: Plan, updates: List[Update]) -> None:
         text = told_of_push(refusal, self.address, self.repository, self.remote, sent)
         for update in blamed(updates, refusal.word, refusal.detail):
-            update.refusal = update.stale() if refusal.word == "stale" else text
+            update.refuse(update.stale() if refusal.word == "stale" else text, refusal.word)
 
 
-def refuse(updates: List[Update], text: str) -> None:
+def refuse(updates: List[Update], text: str, word: str = "failed") -> None:
     """All that were not carried out, and have not been told why, were refused for this."""
     for update in updates:
         if not update.refusal and not update.is_done:
-            update.refusal = text
+            update.refuse(text, word)
 
 
 def chosen(updates: List[Update], repository: Repository, atomic: bool) -> List[Update]:

@@ -19,6 +19,8 @@ class Update:
         # Whether the host carried it out, or why it was not carried out, in words.
         self.is_done = False
         self.refusal: Optional[str] = None
+        # The host's word for it, or `failed` where it has none.
+        self.word = "ok"
 
     def command(self) -> str:
         if self.new == ABSENT:
@@ -28,6 +30,9 @@ class Update:
     def stale(self) -> str:
         """What Git is told where the reference is not as it was listed, in Git's own words."""
         return "stale info" if self.forced or self.new == ABSENT else "fetch first"
+
+    def refuse(self, text: str, word: str = "failed") -> None:
+        self.refusal, self.word = text, word
 
     def row(self) -> str:
         """What Git is told of it."""
@@ -60,16 +65,18 @@ def why_not(update: Update) -> Optional[str]:
 def judge(updates: List[Update], repository: Repository) -> None:
     """Git has judged each update by the list, and leaves two of its answers to the helper, in words that it knows."""
     for update in updates:
-        update.refusal = why_not(update)
+        why = why_not(update)
+        if why:
+            update.refuse(why)
     due = [one for one in updates if not one.refusal and not one.forced and ABSENT not in (one.old, one.new)]
     due = [one for one in due if not one.ref.startswith("refs/tags/")]
     here = repository.present(one.old for one in due)
     commits = repository.resolve([f"{name}^{{commit}}" for one in due for name in (one.old, one.new)])
     for at, update in enumerate(due):
         if update.old not in here:
-            update.refusal = "fetch first"
+            update.refuse("fetch first")
         elif None in commits[2 * at : 2 * at + 2]:
-            update.refusal = "needs force"
+            update.refuse("needs force")
 
 
 def blamed(updates: List[Update], word: str, detail: str) -> List[Update]:

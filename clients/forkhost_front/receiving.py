@@ -16,12 +16,9 @@ from forkhost_client.updates import ABSENT, Update
 from forkhost_client.words import told
 
 from .cache import Cache
+from .hooked import LOCK, PLACE, REPORT, REPOSITORY, TENANT
 from .packets import read_lines, write_lines
 from .settings import read_settings
-
-# How the hook is told of the request to which it belongs.
-PLACE, TENANT, REPOSITORY = "FORKHOST_SETTINGS", "FORKHOST_TENANT", "FORKHOST_REPOSITORY"
-LOCK, REPORT = "FORKHOST_LOCK", "FORKHOST_REPORT"
 
 
 def read_updates(source: BinaryIO) -> List[Update]:

@@ -1,10 +1,11 @@
 """A program of Git's that serves a cache, between the standard streams."""
 import os
 import subprocess
-from typing import List, Mapping, NamedTuple
+from typing import Dict, List, Mapping, NamedTuple, Tuple
 
-from . import receiving
+from . import hooked
 from .cache import Cache
+from .caches import make_room
 from .environment import environment
 from .settings import Settings
 
@@ -28,7 +29,7 @@ class Served(NamedTuple):
         return self.words or ("ok" if self.status == 0 else "failed")
 
 
-def carry(source: int) -> tuple:
+def carry(source: int) -> Tuple[int, bool]:
     """Hands on what the program says; how many bytes, and whether the client went before the end."""
     count = 0
     while piece := os.read(source, PIECE):
@@ -41,28 +42,54 @@ def carry(source: int) -> tuple:
     return count, False
 
 
-def serve(settings: Settings, cache: Cache, words: List[str], more: Mapping[str, str]) -> Served:
-    """The program reads what the client says itself, and has the cache's lock and use as long as it or a child runs."""
-    report, told = os.pipe()
-    os.set_blocking(report, False)
-    outer = {**environment(cache.path), **more, receiving.PLACE: settings.place, receiving.REPORT: str(told)}
-    outer |= {receiving.TENANT: cache.address.tenant, receiving.REPOSITORY: cache.address.repository}
-    outer |= {receiving.LOCK: str(cache.lock.file)}
-    files = [told, cache.lock.file, cache.use.file]
-    child = subprocess.Popen(words, env=without_git_dir(outer), stdout=subprocess.PIPE, pass_fds=files)
-    os.close(told)
-    count, is_alone = carry(child.stdout.fileno())
-    child.stdout.close()
-    status = child.wait()
+class Service:
+    """A repository of one tenant, by its cache."""
+
+    def __init__(self, settings: Settings, tenant: str, repository: str, is_push: bool):
+        self.settings, self.is_push = settings, is_push
+        self.cache = Cache(settings, tenant, repository)
+
+    def serve(self, words: List[str], more: Mapping[str, str]) -> Served:
+        """Runs a program of Git's once the cache is as the host is; then there is room for all caches."""
+        try:
+            self.cache.begin()
+            self.cache.freshen()
+            return self.run(words, more)
+        finally:
+            has_grown = self.is_push or self.cache.has_grown
+            self.cache.close()
+            if has_grown:
+                make_room(self.settings)
+
+    def outer(self, more: Mapping[str, str], told: int) -> Dict[str, str]:
+        """What the program and its hooks are told. Git finds the folder by its words."""
+        found = {**environment(self.cache.path), **more}
+        del found["GIT_DIR"]
+        address = self.cache.address
+        found |= {hooked.TENANT: address.tenant, hooked.REPOSITORY: address.repository}
+        found |= {hooked.PLACE: self.settings.place}
+        return found | {hooked.LOCK: str(self.cache.lock.file), hooked.REPORT: str(told)}
+
+    def run(self, words: List[str], more: Mapping[str, str]) -> Served:
+        """The program reads what the client says itself. It and its children have the files of the locks."""
+        report, told = os.pipe()
+        os.set_blocking(report, False)
+        files = [told, self.cache.lock.file, self.cache.use.file]
+        child = subprocess.Popen(words, env=self.outer(more, told), stdout=subprocess.PIPE, pass_fds=files)
+        os.close(told)
+        count, is_alone = carry(child.stdout.fileno())
+        child.stdout.close()
+        status = child.wait()
+        if status and not is_alone:
+            self.cache.doubt()
+        return Served(status, count, is_alone, taken(report))
+
+
+def taken(report: int) -> str:
+    """What was written into a pipe."""
     try:
-        said = os.read(report, PIECE).decode()
+        return os.read(report, PIECE).decode()
     except BlockingIOError:
-        said = ""
-    os.close(report)
-    if status and not is_alone:
-        cache.doubt()
-    return Served(status, count, is_alone, said)
-
-
-def without_git_dir(outer: Mapping[str, str]) -> Mapping[str, str]:
-    return {name: value for name, value in outer.items() if name != "GIT_DIR"}
+        return ""
+    finally:
+        os.close(report)

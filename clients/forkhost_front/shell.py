@@ -11,11 +11,9 @@ from forkhost_client.progress import say
 from forkhost_client.words import told
 
 from . import by_hand
-from .asked import PROGRAMS, Asked, read_asked
-from .cache import Cache
-from .caches import make_room
+from .asked import PROGRAMS, WRITE, read_asked
 from .log import Entry, Log
-from .service import Served, serve
+from .service import Service
 from .settings import PLACE, Settings, read_settings
 
 USAGE = "usage: forkhost-shell [--settings FILE] TENANT, by sshd, with the user's command in SSH_ORIGINAL_COMMAND"
@@ -39,21 +37,6 @@ def protocol() -> Dict[str, str]:
     return {PROTOCOL: asked} if VERSION.fullmatch(asked) else {}
 
 
-def serve_git(settings: Settings, asked: Asked, entry: Entry) -> Served:
-    """Git's own program on a cache that is as the host is."""
-    cache = Cache(settings, entry.tenant, asked.repository())
-    try:
-        cache.begin()
-        cache.freshen()
-        served = serve(settings, cache, ["git", PROGRAMS[asked.word], cache.path], protocol())
-    finally:
-        has_grown = cache.has_grown or asked.word == "git-receive-pack"
-        cache.close()
-        if has_grown:
-            make_room(settings)
-    return served
-
-
 def answer(settings: Settings, entry: Entry) -> int:
     asked = read_asked(os.environ.get(COMMAND, ""))
     entry.word, entry.repository = asked.word, asked.repository() or entry.repository
@@ -62,7 +45,8 @@ def answer(settings: Settings, entry: Entry) -> int:
         entry.reply = "ok"
         return DONE
     try:
-        served = serve_git(settings, asked, entry)
+        service = Service(settings, entry.tenant, asked.repository(), asked.word == WRITE)
+        served = service.serve(["git", PROGRAMS[asked.word], service.cache.path], protocol())
     except Refused as refusal:
         entry.reply = refusal.word
         raise Fatal(told(refusal, Address(settings.socket, entry.tenant, asked.repository()))) from refusal

@@ -13,7 +13,7 @@ LINE = re.compile(r"\d{4}-\d\d-\d\dT\d\d:\d\d:\d\dZ [a-z]+ [a-z-]+ [a-z0-9_-]+ [
 def show_words(world):
     """Requests of one tenant, told as the host tells them; each is a line of the log."""
     checks = world.checks
-    told = lambda *words: world.by_ssh("alice", words)
+    told = lambda *words: world.by_hand("alice", *words)
     no = lambda text: Ran(1, b"", f"forkhost: {text}\n".encode())
     checks.same("init", done(), told("init", "r"))
     checks.same("init again", no("repository-exists r"), told("init", "r"))
@@ -86,7 +86,7 @@ NO_COMMANDS = {
 def show_no_commands(world):
     """What is no command here is told, and nothing is run."""
     for command, text in NO_COMMANDS.items():
-        ran = world.by_ssh("alice", [command.replace("GOT", world.path("got"))] if command else [])
+        ran = world.by_hand("alice", *([command.replace("GOT", world.path("got"))] if command else []))
         wanted = (128, b"", True, False)
         told = (ran.status, ran.output, text.encode() in ran.fault, b"Traceback" in ran.fault)
         world.checks.same(f"no command: {command!r}", wanted, told)

@@ -58,6 +58,10 @@ class FrontWorld(World):
     def apart(self):
         """From now on each command has a connection of its own, as it has anyway."""
 
+    def by_hand(self, tenant, *words):
+        """One request of a tenant, by the front end where it has words for hand."""
+        return self.ask(tenant, *words)
+
     def cache(self, repository="r", tenant="alice"):
         return os.path.join(self.caches, tenant, repository)
 

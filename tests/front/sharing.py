@@ -19,9 +19,9 @@ class Neighbour(Bob):
                 self.told[number] = (one[0], one[1]._replace(fault=lines), *one[2:])
 
     def asks(self, *words, given=b""):
-        """By hand, where the front end has words for hand and the request has no body."""
-        if hasattr(self.world, "by_ssh") and not given:
-            self.told.append((words, self.world.by_ssh("bob", words), self.world.kept("r", "bob")))
+        """By hand: over SSH where that is what is shown, and where the request has no body."""
+        if not given:
+            self.told.append((words, self.world.by_hand("bob", *words), self.world.kept("r", "bob")))
 
 
 def show_sharing(world):

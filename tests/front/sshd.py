@@ -91,6 +91,6 @@ class SshWorld(FrontWorld):
     def url(self, repository, tenant="alice"):
         return f"ssh://{tenant}/{repository}.git"
 
-    def by_ssh(self, tenant, command, given=b""):
+    def by_hand(self, tenant, *words):
         """What a user asks for without Git."""
-        return self.ran("ssh", "-F", self.path("ssh_config"), "-T", tenant, *command, given=given)
+        return self.ran("ssh", "-F", self.path("ssh_config"), "-T", tenant, *words)

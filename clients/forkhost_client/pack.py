@@ -69,15 +69,17 @@ class Pack:
         self.file.flush()
         os.lseek(self.file.fileno(), 0, os.SEEK_SET)
 
-    def keep(self) -> Optional[str]:
-        """Brings the objects into the repository; the path of the file that holds a pack, if one is held."""
+    def keep(self, is_clone: bool) -> Optional[str]:
+        """Brings the objects into the repository; the path of the file that holds a pack, if one is held.
+
+        A clone keeps its pack, however few they are, as Git's own do."""
         self.progress.done()
         if not self.names:
             return None
         self.end()
         few = int(self.repository.setting("fetch.unpackLimit", "transfer.unpackLimit", kind="int") or FEW)
         strict = self.repository.setting("fetch.fsckObjects", "transfer.fsckObjects", kind="bool") == "true"
-        if len(self.names) < few:
+        if len(self.names) < few and not is_clone:
             self.taken("unpack-objects", ["-q", *(["--strict"] if strict else [])])
             return None
         words = ["--stdin", f"--keep=forkhost {os.getpid()}", *(["--strict"] if strict else [])]

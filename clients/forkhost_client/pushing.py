@@ -70,16 +70,16 @@ class Push:
 def refuse(updates: List[Update], text: str, word: str = "failed") -> None:
     """All that were not carried out, and have not been told why, were refused for this."""
     for update in updates:
-        if not update.refusal and not update.is_done:
+        if update.is_due():
             update.refuse(text, word)
 
 
 def chosen(updates: List[Update], repository: Repository, atomic: bool) -> List[Update]:
     """Those that the host is to be asked for."""
     judge(updates, repository)
-    good = [update for update in updates if not update.refusal]
-    if atomic and len(good) < len(updates):
+    good = [update for update in updates if update.is_due()]
+    if atomic and any(update.refusal for update in updates):
         refuse(good, ONE_FAILED)
     elif atomic and len(good) > MAX_COMMANDS:
         refuse(good, f"the host changes at most {MAX_COMMANDS} references at once")
-    return [update for update in good if not update.refusal]
+    return [update for update in good if update.is_due()]

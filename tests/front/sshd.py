@@ -22,16 +22,17 @@ MaxStartups 100
 MaxSessions 100
 LogLevel ERROR
 """
-CLIENT = """Host {tenant}
+CLIENT = """Host {host}
 HostName 127.0.0.1
+HostKeyAlias forkhost
 Port {port}
-IdentityFile {folder}/key_{tenant}
+IdentityFile {folder}/key_{key}
 IdentitiesOnly yes
 UserKnownHostsFile {folder}/known_hosts
 StrictHostKeyChecking yes
 BatchMode yes
 LogLevel ERROR
-ControlPath {folder}/shared_{tenant}
+ControlPath {folder}/shared_{key}
 ControlMaster no
 SendEnv GIT_PROTOCOL
 """
@@ -72,12 +73,18 @@ class SshWorld(FrontWorld):
         for name in ["host_key", *(f"key_{tenant}" for tenant in self.names)]:
             subprocess.run([maker, "-q", "-t", "ed25519", "-N", "", "-C", name, "-f", self.path(name)], check=True)
         self.write("authorized_keys", "".join(self.line(tenant) for tenant in self.names))
-        self.write("known_hosts", f"[127.0.0.1]:{self.port} {self.key('host_key')}\n")
+        self.write("known_hosts", f"forkhost {self.key('host_key')}\n")
         self.write("sshd_config", SERVER.format(port=self.port, folder=self.folder))
-        rows = (CLIENT.format(tenant=tenant, port=self.port, folder=self.folder) for tenant in self.names)
-        self.write("ssh_config", "".join(rows))
+        self.write("ssh_config", "")
+        for tenant in self.names:
+            self.add_client(tenant, tenant)
         self.environment |= {"GIT_SSH_COMMAND": f"ssh -F {self.path('ssh_config')}"}
         return [server, "-D", "-e", "-f", self.path("sshd_config")]
+
+    def add_client(self, host, key):
+        """A name by which a client reaches the server with a key."""
+        with open(self.path("ssh_config"), "a", encoding="utf-8") as file:
+            file.write(CLIENT.format(host=host, key=key, port=self.port, folder=self.folder))
 
     def key(self, name):
         with open(self.path(f"{name}.pub"), encoding="utf-8") as file:

@@ -2,26 +2,12 @@
 import base64
 import hashlib
 import os
+import subprocess
 
 from front import FrontWorld
 from packages import found
+from page import configuration
 from world import CLIENTS
-
-SERVER = """server.modules = ("mod_auth", "mod_authn_file", "mod_alias", "mod_setenv", "mod_cgi")
-server.bind = "127.0.0.1"
-server.port = {port}
-server.document-root = "{folder}/pages"
-server.upload-dirs = ("{folder}/uploads")
-server.errorlog = "{folder}/errors"
-server.stream-response-body = 1
-auth.backend = "htpasswd"
-auth.backend.htpasswd.userfile = "{folder}/passwords"
-auth.require = ("" => ("method" => "basic", "realm" => "git", "require" => "valid-user"))
-alias.url = ("/" => "{clients}/forkhost-http/")
-cgi.assign = ("" => "")
-setenv.set-environment = ("FORKHOST_SETTINGS" => "{folder}/front", "PATH" => "{path}")
-"""
-
 
 def password(user):
     return f"{user}-secret"
@@ -42,9 +28,25 @@ class WebWorld(FrontWorld):
             os.mkdir(self.path(name))
         self.write("users", "".join(f"{tenant.upper()} {tenant}\n" for tenant in self.names))
         self.write("passwords", "".join(hashed(user) for user in [*map(str.upper, self.names), "NOBODY"]))
-        places = {"port": self.port, "folder": self.folder, "clients": CLIENTS, "path": "/usr/bin:/bin"}
-        self.write("lighttpd.conf", SERVER.format(**places))
+        self.write("lighttpd.conf", self.configured(self.folder))
         return [server, "-D", "-f", self.path("lighttpd.conf")]
+
+    def configured(self, place):
+        """The configuration of docs/OPERATING.md, with the places of this test, run by whoever runs the test."""
+        lines = configuration().replace("/etc/forkhost", place).replace("/usr/local/bin", CLIENTS)
+        for old, name in {"/var/empty": "pages", "/var/cache/lighttpd/uploads": "uploads"}.items():
+            lines = lines.replace(old, self.path(name))
+        lines = lines.replace("/var/log/lighttpd/error.log", self.path("errors")).replace("8080", str(self.port))
+        return "".join(row for row in lines.splitlines(True) if not row.startswith("server.username"))
+
+    def follow_page(self):
+        """The server begins anew, with the settings and the users that the page's commands have made."""
+        self.server.terminate()
+        self.server.communicate()
+        self.write("lighttpd.conf", self.configured(self.path("page")))
+        words = [found("lighttpd", "lighttpd"), "-D", "-f", self.path("lighttpd.conf")]
+        self.server = subprocess.Popen(words, stdin=subprocess.DEVNULL, stderr=subprocess.PIPE)
+        self.wait()
 
     def url(self, repository, tenant="alice"):
         user = tenant.upper()

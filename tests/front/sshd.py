@@ -86,6 +86,14 @@ class SshWorld(FrontWorld):
         with open(self.path("ssh_config"), "a", encoding="utf-8") as file:
             file.write(CLIENT.format(host=host, key=key, port=self.port, folder=self.folder))
 
+    def add_plain(self):
+        """A key that may run any command, for what Git does without a front end."""
+        maker = found("ssh-keygen", "openssh-client")
+        subprocess.run([maker, "-q", "-t", "ed25519", "-N", "", "-C", "plain", "-f", self.path("key_plain")], check=True)
+        with open(self.path("authorized_keys"), "a", encoding="utf-8") as file:
+            file.write(self.key("key_plain") + "\n")
+        self.add_client("plain", "plain")
+
     def key(self, name):
         with open(self.path(f"{name}.pub"), encoding="utf-8") as file:
             return file.read().strip()

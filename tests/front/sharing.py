@@ -1,4 +1,4 @@
-"""A second tenant names what the first one has, by the front end, and is told what a host without the first would tell."""
+"""A second tenant names what the first has, by the front end, and is told what a host without the first would tell."""
 from making import line
 from program import Ran
 from tenants import BOTH, Bob, alice

@@ -32,12 +32,9 @@ def ask(cache: Cache, updates: List[Update], options: Options) -> None:
     """Asks the host; each update is told apart whether it is done."""
     try:
         good = chosen(updates, cache.repository, options.atomic)
-        upload = Lock(cache.upload)
-        upload.exclusive()
-        with cache.connect() as remote:
+        with Lock(cache.upload), cache.connect() as remote:
             listing = read_listing(remote, True)
             Push(cache.address, cache.repository, remote, listing, options).carry_out(good)
-        upload.close()
     except Refused as refusal:
         refuse(updates, told(refusal, cache.address), refusal.word)
     except Fatal as fault:

@@ -62,6 +62,17 @@ def show_log(world):
         checks.same("nor the caches", 0o700, os.stat(folder).st_mode & 0o777)
 
 
+def show_no_log(world):
+    """A log that can not be written is told, and serving goes on."""
+    rows = f"socket {world.host.socket}\ncaches {world.caches}\nlog {world.path('no', 'log')}\n"
+    world.write("unlogged", rows)
+    more = {"SSH_ORIGINAL_COMMAND": "quota"}
+    ran = world.ran(world.shell(), "--settings", world.path("unlogged"), "alice", more=more)
+    said = b"forkhost: can not write the log '%s'" % world.path("no", "log").encode()
+    wanted = (0, world.ask("alice", "quota").output, True)
+    world.checks.same("without a log", wanted, (ran.status, ran.output, ran.fault.startswith(said)))
+
+
 NO_COMMANDS = {
     "": "there is no shell here",
     "sh": "'sh' is not done here",
@@ -98,6 +109,7 @@ def show_no_commands(world):
     for words in ([], ["alice", "bob"], ["@host"], ["Alice"], ["--settings", world.path("front")]):
         ran = world.ran(world.shell(), *words)
         world.checks.same(f"no tenant: {words}", (128, True), (ran.status, b"usage: forkhost-shell" in ran.fault))
+    show_no_log(world)
     wrong = {"socket /x\n": "does not set caches", "socket /x\nsocket /y\n": "line 2 of", "what\n": "line 1 of"}
     wrong |= {"socket /x\ncaches /y\nbytes few\n": "no number", "socket /x\ncaches /y\nelse z\n": "sets else"}
     for text, said in wrong.items():

@@ -12,6 +12,8 @@ PROGRAMS = {READ: "upload-pack", WRITE: "receive-pack"}
 # Requests that are asked by hand, with the number of their words; none stands for one or more.
 BY_HAND = {"init": 1, "drop": 1, "fork": 2, "head": 1, "set-head": 2, "quota": 0, "prune": 0, "for-each-ref": None}
 BY_HAND |= {"cat-file": 1, "ls-tree": 1, "rev-list": None, "merge-base": 3}
+# Their words begin with an object.
+OF_OBJECTS = ("cat-file", "ls-tree")
 NAME = re.compile(rf"/*({REPOSITORY})(?:\.git)?/*")
 USAGE = "ask by 'git clone', 'git fetch' or 'git push', or for one of: " + ", ".join(BY_HAND)
 
@@ -25,7 +27,7 @@ class Asked(NamedTuple):
 
     def repository(self) -> Optional[str]:
         """The repository that the words begin with, as far as it is a name."""
-        found = NAME.fullmatch(self.rest[0]) if self.rest else None
+        found = NAME.fullmatch(self.rest[0]) if self.rest and self.word not in OF_OBJECTS else None
         return found[1] if found else None
 
 
@@ -52,7 +54,7 @@ def read_asked(text: str) -> Asked:
 def judge_repository(asked: Asked) -> None:
     if len(asked.rest) != 1 or not asked.repository():
         shown = " ".join(asked.rest)
-        raise Fatal(f"'{shown}' is no repository's name: letters a to z, digits, '-' and '_', and '.git' where you like")
+        raise Fatal(f"'{shown}' is no repository's name, which has letters a to z, digits, '-' and '_'")
 
 
 def judge_by_hand(asked: Asked) -> None:

@@ -1,7 +1,6 @@
 """A cache: a bare repository of Git's that has what one repository of one tenant has at the host, and nothing else."""
 import os
 import shutil
-import subprocess
 from typing import Dict, List, Optional
 
 from forkhost_client.address import Address
@@ -20,7 +19,8 @@ from .log import Log
 from .settings import Settings
 
 DOUBT = "doubt"
-FORMAT = "sha256"
+NEW = ("--object-format=sha256", "--initial-branch=main", "--template=")
+CONNECTED = ("rev-list", "--objects", "--quiet", "--stdin", "--not", "--all")
 # More packs than this are made fewer.
 MANY = 50
 GONE = ("no-repository", "unknown-tenant")
@@ -39,7 +39,9 @@ class Cache:
         self.log = Log(settings.log)
         self.path = os.path.join(own_folder(os.path.join(own_folder(settings.caches), tenant)), name)
         self.lock, self.use = Lock(self.path + ".lock", lock), Lock(self.path + ".use")
-        self.repository = Repository(environment(self.path), quiet=True)
+        self.repository = Repository(environment(self.path, settings.bytes), quiet=True)
+        # Held while the host is sent objects: a tenant has one upload.
+        self.upload = os.path.join(os.path.dirname(self.path), ".upload")
         # Whether it has other files than it had.
         self.has_grown = False
 
@@ -79,18 +81,25 @@ class Cache:
     def mend(self) -> None:
         """What a request left that broke off goes; where something lacks or is in doubt, all is made anew."""
         if not os.path.isdir(self.path):
-            self.make("")
+            self.make("it is no folder")
             return
         why = seal.why_spoiled(self.path)
         doubt = os.path.join(self.path, DOUBT)
         if not why and os.path.exists(doubt):
-            is_sound = self.repository.answer("fsck", "--full", "--no-dangling", "--no-progress") is not None
-            why = "" if is_sound else "git fsck found a fault in it"
-            if is_sound:
+            why = "" if self.is_sound() else "Git found a fault in it"
+            if not why:
                 os.remove(doubt)
         if why:
             self.make(why)
         self.clear_quarantines()
+
+    def is_sound(self) -> bool:
+        """Whether all packs are whole, and all that references lead to is there."""
+        folder = os.path.join(self.path, "objects", "pack")
+        packs = [os.path.join(folder, name) for name in os.listdir(folder) if name.endswith(".idx")]
+        looks = [["verify-pack", *packs]] if packs else []
+        looks.append(["rev-list", "--objects", "--all", "--quiet"])
+        return all(self.repository.answer(*words) is not None for words in looks)
 
     def clear_quarantines(self) -> None:
         """Nobody else uses the cache: what Git kept for clients that were killed goes."""
@@ -106,9 +115,9 @@ class Cache:
         """An empty one; where one was there, the log tells why it is made anew."""
         if os.path.lexists(self.path):
             self.tell("made-anew", why)
-            shutil.rmtree(self.path)
-        words = ["init", "-q", "--bare", f"--object-format={FORMAT}", "--initial-branch=main", "--template=", self.path]
-        subprocess.run(["git", *words], env=without_folder(self.repository.environment), check=True)
+            is_folder = os.path.isdir(self.path) and not os.path.islink(self.path)
+            shutil.rmtree(self.path) if is_folder else os.remove(self.path)
+        self.repository.output("init", "-q", "--bare", *NEW)
         seal.write(self.path)
 
     def doubt(self) -> None:
@@ -118,8 +127,8 @@ class Cache:
                 pass
 
     def references(self) -> Dict[str, str]:
-        rows = self.repository.output("for-each-ref", "--format=%(refname) %(objectname)").splitlines()
-        return dict(row.split(" ") for row in rows)
+        rows = self.repository.output("for-each-ref", "--format=%(refname) %(objectname)").split("\n")
+        return dict(row.split(" ") for row in rows[:-1])
 
     def follow(self, listing: Listing) -> None:
         """It has what the host lists; whoever reads it meanwhile loses nothing."""
@@ -202,10 +211,3 @@ class Cache:
     def close(self) -> None:
         self.lock.close()
         self.use.close()
-
-
-CONNECTED = ("rev-list", "--objects", "--quiet", "--stdin", "--not", "--all")
-
-
-def without_folder(outer: Dict[str, str]) -> Dict[str, str]:
-    return {name: value for name, value in outer.items() if name != "GIT_DIR"}

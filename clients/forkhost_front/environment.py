@@ -16,6 +16,8 @@ SETTINGS = {
     "uploadpack.allowFilter": "true",
     "uploadpack.allowAnySHA1InWant": "true",
     "http.getanyfile": "false",
+    # The host takes no object of this length, so such a one is never held in memory.
+    "core.bigFileThreshold": "9m",
     # The front end packs and tidies when it has the cache for itself.
     "receive.autogc": "false",
     "gc.auto": "0",
@@ -26,9 +28,11 @@ FIXED = {"GIT_CONFIG_GLOBAL": os.devnull, "GIT_CONFIG_NOSYSTEM": "1", "LC_ALL": 
 KEPT = ("PATH", "TMPDIR")
 
 
-def environment(cache: str) -> Dict[str, str]:
+def environment(cache: str, most: int) -> Dict[str, str]:
+    """`most` bytes one push may bring."""
+    settings = {**SETTINGS, "receive.maxInputSize": str(most)}
     found = {name: os.environ[name] for name in KEPT if name in os.environ}
-    found |= {**FIXED, "HOME": cache, "GIT_DIR": cache, "GIT_CONFIG_COUNT": str(len(SETTINGS))}
-    for at, (name, value) in enumerate(SETTINGS.items()):
+    found |= {**FIXED, "HOME": cache, "GIT_DIR": cache, "GIT_CONFIG_COUNT": str(len(settings))}
+    for at, (name, value) in enumerate(settings.items()):
         found |= {f"GIT_CONFIG_KEY_{at}": name, f"GIT_CONFIG_VALUE_{at}": value}
     return found

@@ -9,6 +9,13 @@ class Lock:
         self.path = path
         self.file = file if file >= 0 else self.opened()
 
+    def __enter__(self) -> "Lock":
+        self.exclusive()
+        return self
+
+    def __exit__(self, *_) -> None:
+        self.close()
+
     def opened(self) -> int:
         return os.open(self.path, os.O_RDWR | os.O_CREAT, 0o600)
 

@@ -2,6 +2,8 @@
 import os
 import time
 
+from forkhost_client.progress import say
+
 # What stands where there is nothing to tell.
 NOTHING = "-"
 
@@ -18,13 +20,18 @@ class Log:
 
     def line(self, *words: object) -> None:
         text = " ".join([now(), *(str(word) or NOTHING for word in words)])
-        shown = text.encode("utf-8", "backslashreplace").replace(b"\n", b" ")
         if self.path:
-            file = os.open(self.path, os.O_WRONLY | os.O_APPEND | os.O_CREAT, 0o600)
             try:
-                os.write(file, shown + b"\n")
-            finally:
-                os.close(file)
+                self.write(text.encode("utf-8", "backslashreplace").replace(b"\n", b" ") + b"\n")
+            except OSError as fault:
+                say(f"can not write the log '{self.path}': {fault.strerror or fault}")
+
+    def write(self, line: bytes) -> None:
+        file = os.open(self.path, os.O_WRONLY | os.O_APPEND | os.O_CREAT, 0o600)
+        try:
+            os.write(file, line)
+        finally:
+            os.close(file)
 
 
 class Entry:

@@ -17,6 +17,7 @@ from forkhost_client.words import told
 
 from .cache import Cache
 from .hooked import LOCK, PLACE, REPORT, REPOSITORY, TENANT
+from .lock import Lock
 from .packets import read_lines, write_lines
 from .settings import read_settings
 
@@ -31,7 +32,7 @@ def ask(cache: Cache, updates: List[Update], options: Options) -> None:
     """Asks the host; each update is told apart whether it is done."""
     try:
         good = chosen(updates, cache.repository, options.atomic)
-        with cache.connect() as remote:
+        with Lock(cache.upload), cache.connect() as remote:
             listing = read_listing(remote, True)
             Push(cache.address, cache.repository, remote, listing, options).carry_out(good)
     except Refused as refusal:
@@ -49,7 +50,7 @@ def settle(cache: Cache, updates: List[Update]) -> None:
         after = {ref: name for ref, name in {**before, **done}.items() if name != ABSENT}
         cache.set_references(before, after)
         cache.end_change()
-    except GitFailed as fault:
+    except (GitFailed, OSError) as fault:
         cache.tell("not-settled", str(fault))
 
 

@@ -6,6 +6,7 @@ NAME = "seal"
 # Where Git's receive-pack keeps what comes, until it is taken or refused.
 QUARANTINE = "tmp_objdir"
 LAST = "end"
+FOLDERS = ("objects/pack", "refs")
 
 
 def files(cache: str) -> Dict[str, int]:
@@ -53,6 +54,9 @@ def why_spoiled(cache: str) -> Optional[str]:
     wanted, found = read(cache), files(cache)
     if wanted is None:
         return "it has no seal of its own"
+    for name in FOLDERS:
+        if not os.path.isdir(os.path.join(cache, name)):
+            return f"{name} is gone"
     for name, size in wanted.items():
         if name not in found:
             return f"{name} is gone"

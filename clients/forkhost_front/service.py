@@ -3,6 +3,8 @@ import os
 import subprocess
 from typing import Dict, List, Mapping, NamedTuple, Tuple
 
+from forkhost_client.faults import Refused
+
 from . import hooked
 from .cache import Cache
 from .caches import make_room
@@ -61,9 +63,15 @@ class Service:
             if has_grown:
                 make_room(self.settings)
 
+    def told(self, refusal: Refused) -> str:
+        """Why the host did not show the repository, in words."""
+        from forkhost_client.words import told
+
+        return told(refusal, self.cache.address)
+
     def outer(self, more: Mapping[str, str], told: int) -> Dict[str, str]:
         """What the program and its hooks are told. Git finds the folder by its words."""
-        found = {**environment(self.cache.path), **more}
+        found = {**environment(self.cache.path, self.settings.bytes), **more}
         del found["GIT_DIR"]
         address = self.cache.address
         found |= {hooked.TENANT: address.tenant, hooked.REPOSITORY: address.repository}

@@ -4,11 +4,10 @@ import re
 import sys
 from typing import Dict, List, Tuple
 
-from forkhost_client.address import TENANT, Address
+from forkhost_client.address import TENANT
 from forkhost_client.faults import Fatal, HostFault, Refused
 from forkhost_client.frames import bytes_of
 from forkhost_client.progress import say
-from forkhost_client.words import told
 
 from . import by_hand
 from .asked import PROGRAMS, WRITE, read_asked
@@ -38,18 +37,20 @@ def protocol() -> Dict[str, str]:
 
 
 def answer(settings: Settings, entry: Entry) -> int:
+    entry.reply = "refused"
     asked = read_asked(os.environ.get(COMMAND, ""))
+    entry.reply = "failed"
     entry.word, entry.repository = asked.word, asked.repository() or entry.repository
     if not asked.is_git():
         by_hand.ask(settings, asked, entry, sys.stdout.buffer)
         entry.reply = "ok"
         return DONE
+    service = Service(settings, entry.tenant, asked.repository(), asked.word == WRITE)
     try:
-        service = Service(settings, entry.tenant, asked.repository(), asked.word == WRITE)
         served = service.serve(["git", PROGRAMS[asked.word], service.cache.path], protocol())
     except Refused as refusal:
         entry.reply = refusal.word
-        raise Fatal(told(refusal, Address(settings.socket, entry.tenant, asked.repository()))) from refusal
+        raise Fatal(service.told(refusal)) from refusal
     entry.reply, entry.bytes = served.word(), served.bytes
     return served.status
 

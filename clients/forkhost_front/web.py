@@ -5,10 +5,9 @@ import signal
 import sys
 from typing import Dict, List, NamedTuple, Optional
 
-from forkhost_client.address import REPOSITORY, TENANT, Address
+from forkhost_client.address import REPOSITORY, TENANT
 from forkhost_client.faults import Fatal, HostFault, Refused
 from forkhost_client.progress import say
-from forkhost_client.words import told
 
 from .asked import READ, WRITE
 from .log import NOTHING, Entry, Log
@@ -73,13 +72,12 @@ def outer(settings: Settings, tenant: str, asked: Asked) -> Dict[str, str]:
 def serve(settings: Settings, entry: Entry) -> None:
     asked = read_asked()
     entry.word, entry.repository = asked.what.replace("/", "-"), asked.repository
+    service = Service(settings, entry.tenant, asked.repository, asked.what == WRITE)
     try:
-        service = Service(settings, entry.tenant, asked.repository, asked.what == WRITE)
         served = service.serve(["git", "http-backend"], outer(settings, entry.tenant, asked))
     except Refused as refusal:
         entry.reply = refusal.word
-        text = told(refusal, Address(settings.socket, entry.tenant, asked.repository))
-        raise Answered(MISSING, text) from refusal
+        raise Answered(MISSING, service.told(refusal)) from refusal
     entry.reply, entry.bytes = served.word(), served.bytes
 
 

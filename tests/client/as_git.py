@@ -6,7 +6,7 @@ from world import World
 
 
 def show_rounds(checks, program, folder):
-    """Git fetches tags in a second round, and nothing is said of it; nor has a listing of nothing new a second request."""
+    """Git fetches tags in a second round, and nothing is said of it; a fetch of nothing is a listing and no more."""
     world = World(checks, program, folder)
     world.init("alice", "r")
     line(world, world.repository("source"), "one", "two")

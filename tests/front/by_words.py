@@ -58,6 +58,19 @@ def show_log(world):
         checks.same(f"the log has: {wanted}", 1, words.count(wanted))
     checks.same("the log has: a repository that is not there", "alice git-upload-pack s no-repository", words[-1])
     checks.same("nobody else reads it", 0, os.stat(world.path("log")).st_mode & 0o077)
+    for folder in (world.caches, os.path.join(world.caches, "alice")):
+        checks.same("nor the caches", 0o700, os.stat(folder).st_mode & 0o777)
+
+
+def show_no_log(world):
+    """A log that can not be written is told, and serving goes on."""
+    rows = f"socket {world.host.socket}\ncaches {world.caches}\nlog {world.path('no', 'log')}\n"
+    world.write("unlogged", rows)
+    more = {"SSH_ORIGINAL_COMMAND": "quota"}
+    ran = world.ran(world.shell(), "--settings", world.path("unlogged"), "alice", more=more)
+    said = b"forkhost: can not write the log '%s'" % world.path("no", "log").encode()
+    wanted = (0, world.ask("alice", "quota").output, True)
+    world.checks.same("without a log", wanted, (ran.status, ran.output, ran.fault.startswith(said)))
 
 
 NO_COMMANDS = {
@@ -90,10 +103,13 @@ def show_no_commands(world):
         wanted = (128, b"", True, False)
         told = (ran.status, ran.output, text.encode() in ran.fault, b"Traceback" in ran.fault)
         world.checks.same(f"no command: {command!r}", wanted, told)
+    told = {" ".join(row[:4]) for row in world.logged()[-len(NO_COMMANDS) :]}
+    world.checks.same("the log tells none of it", {"alice - - refused", "alice git-upload-pack etcx no-repository"}, told)
     world.checks.same("nothing was run", False, os.path.exists(world.path("got")))
     for words in ([], ["alice", "bob"], ["@host"], ["Alice"], ["--settings", world.path("front")]):
         ran = world.ran(world.shell(), *words)
         world.checks.same(f"no tenant: {words}", (128, True), (ran.status, b"usage: forkhost-shell" in ran.fault))
+    show_no_log(world)
     wrong = {"socket /x\n": "does not set caches", "socket /x\nsocket /y\n": "line 2 of", "what\n": "line 1 of"}
     wrong |= {"socket /x\ncaches /y\nbytes few\n": "no number", "socket /x\ncaches /y\nelse z\n": "sets else"}
     for text, said in wrong.items():
@@ -128,13 +144,13 @@ def show_bound(world):
     checks.same("the log tells both", [["a", "removed"], ["b", "removed"]], told)
     world.cloned("what went comes again", "b")
     world.set(1)
-    world.succeeds("one that is above the bound by itself", world.git("long", "push", "-q", world.url("a"), "main"))
-    checks.same("goes behind its request, as all others", [], there(world))
-    world.cloned("it is served", "a")
-    checks.same("and goes again", [], there(world))
+    world.remove(world.cache("a"))
+    world.cloned("one that is above the bound by itself is served", "a")
+    checks.same("and goes behind its request, as all others", [], there(world))
     os.chmod(world.path("caches", "alice"), 0o755)
     ran = world.git(None, "ls-remote", world.url("a"))
-    checks.same("a folder that is open to others is not used", (128, True), (ran.status, b"open to others" in ran.fault))
+    told = (ran.status, b"open to others" in ran.fault)
+    checks.same("a folder that is open to others is not used", (128, True), told)
     world.host.ends_well(checks, "after the bound")
 
 

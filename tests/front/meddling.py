@@ -80,6 +80,16 @@ def in_place(cache, other):
     shutil.copytree(other, cache)
 
 
+def file_in_place(cache, other):
+    shutil.rmtree(cache)
+    put(cache, "file\n")
+
+
+def link_in_place(cache, other):
+    shutil.rmtree(cache)
+    os.symlink(other, cache)
+
+
 # What is done to a cache beside another one, and whether the cache is made anew.
 DEEDS = {
     "it is removed": (lambda cache, other: shutil.rmtree(cache), False),
@@ -91,6 +101,10 @@ DEEDS = {
     "its seal is cut": (lambda cache, other: cut(os.path.join(cache, "seal")), True),
     "a reference is none": (lambda cache, other: put(os.path.join(cache, "refs/heads/main"), "nothing\n"), True),
     "references are cut": (lambda cache, other: put(os.path.join(cache, "packed-refs"), "0123"), True),
+    "its packs are gone": (lambda cache, other: shutil.rmtree(os.path.join(cache, "objects", "pack")), True),
+    "its references are gone": (lambda cache, other: shutil.rmtree(os.path.join(cache, "refs")), True),
+    "a file is in its place": (file_in_place, True),
+    "a link is in its place": (link_in_place, True),
     "another repository's packs are beside its own": (with_packs, False),
     "another repository's packs are in the place of its own": (of_other_packs, True),
     "another repository's cache is in its place": (in_place, True),

@@ -38,6 +38,7 @@ def placed(world, text):
         "/usr/local/bin": CLIENTS,
         "/var/lib/forkhost/.ssh/authorized_keys": world.path("authorized_keys"),
         "/etc/forkhost/": place + "/",
+        "/var/lib/forkhost/uploads": place + "/uploads",
         "/var/cache/forkhost": world.path("page_caches"),
         "/var/log/forkhost/front": place + "/log",
         "forkhost@git.example.org": f"{pwd.getpwuid(os.getuid()).pw_name}@git.example.org",

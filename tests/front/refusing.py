@@ -1,7 +1,9 @@
 """What is refused, by the host and by Git's own check at the door: in which words, and that nothing comes of it."""
 import random
 
+from killed import great
 from making import commit, commit_of, hashed, line, tree_of
+from world import finished
 
 
 def pushed(world, tenant, *words):
@@ -74,6 +76,19 @@ def show_fsck(world, first):
         url = world.host.url("carol", "r")
         ran = world.git("source", "push", "-q", url, f"+{tip}:refs/heads/wrong")
         world.succeeds(f"{label}: the host takes it", ran)
+        show_served(world, label, tip)
+
+
+def show_served(world, label, tip):
+    """What the host has is served, and the cache is in doubt behind a fault, and found to be right."""
+    world.logged()
+    ran = world.git(world.repository("fetched"), "fetch", "-q", world.url("r", "carol"), "wrong")
+    world.succeeds(f"{label}: who fetches it", ran)
+    world.checks.same(f"{label}: has it", tip, world.name("fetched", "FETCH_HEAD"))
+    ran = world.git("fetched", "fetch", "-q", world.url("r", "carol"), "ab" * 32)
+    world.checks.same(f"{label}: what is not there", 128, ran.status)
+    world.succeeds(f"{label}: the next", world.git(None, "ls-remote", world.url("r", "carol")))
+    world.checks.same(f"{label}: nothing is made anew", [], [row for row in world.logged() if row[1] == "cache"])
 
 
 def show_mixed(world, first, second):
@@ -92,6 +107,46 @@ def show_mixed(world, first, second):
     world.checks.same("one with objects of its own", (1, {"refs/heads/main/x": text}), (ran.status, told))
     world.checks.same("the cache has what the host took", world.reached(world.cache()), world.in_cache())
     world.checks.same("and not the other's objects", False, orphan in world.in_cache())
+
+
+def show_counts(world):
+    """More references than one transaction changes, with and without all or none."""
+    checks = world.checks
+    world.init("alice", "r")
+    (tip,) = line(world, world.repository("source"), "one")
+    rows = [f"main:refs/heads/b{at:04}" for at in range(1500)]
+    ran, told = pushed(world, "alice", "--atomic", *rows)
+    text = {"[remote rejected] (the host changes at most 256 references at once)"}
+    checks.same("all or none", (1, 1500, text, []), (ran.status, len(told), set(told.values()), world.kept("r")))
+    ran, told = pushed(world, "alice", *rows)
+    checks.same("else in several", (0, {}, 1500), (ran.status, told, len(world.kept("r"))))
+    copy = world.cloned("a clone of many", "r", "--mirror")
+    checks.same("has all", world.kept("r"), world.references(copy))
+    ran, told = pushed(world, "alice", "--mirror")
+    checks.same("all but one go", (0, [f"{tip} refs/heads/main"]), (ran.status, world.kept("r")))
+    world.host.ends_well(checks, "after counts")
+
+
+def show_uploads(world):
+    """Pushes of one tenant to several repositories at once, each in several parts: one waits for the other."""
+    names = ["a", "b", "c"]
+    world.init("alice", *names)
+    world.repository("source")
+    for at, name in enumerate(names):
+        great(world, name, random.Random(at), count=3)
+    begun = [world.begun("git", "push", "-q", world.url(name), name, at="source") for name in names]
+    told = [finished(child) for child in begun]
+    world.checks.same("all are done", [(0, b"", b"")] * 3, told)
+    for name in names:
+        rows = [f"{world.name('source', name)} refs/heads/{name}"]
+        world.checks.same(f"{name} is there", rows, world.kept(name))
+    world.set(100_000)
+    wanted = (1, {"refs/heads/large": "[remote rejected] (unpacker error)"})
+    world.ask("alice", "init", "r")
+    ran, told = pushed(world, "alice", "a:refs/heads/large")
+    world.checks.same("more than a push may bring", wanted, (ran.status, told))
+    world.checks.same("is not there", [], world.kept("r"))
+    world.host.ends_well(world.checks, "after uploads")
 
 
 def show_pushers(world):

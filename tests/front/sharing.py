@@ -1,5 +1,6 @@
-"""A second tenant names what the first one has, by the front end, and is told what a host without the first would tell."""
-from making import line
+"""A second tenant names what the first has, by the front end, and is told what a host without the first would tell."""
+import os
+
 from program import Ran
 from tenants import BOTH, Bob, alice
 
@@ -24,6 +25,13 @@ class Neighbour(Bob):
             self.told.append((words, self.world.by_hand("bob", *words), self.world.kept("r", "bob")))
 
 
+def caches(world, tenant):
+    """The caches of a tenant, one of which is there at least."""
+    found = [entry.path for entry in os.scandir(os.path.join(world.caches, tenant)) if entry.is_dir()]
+    world.checks.same(f"{tenant} has a cache", True, found != [])
+    return found
+
+
 def show_sharing(world):
     """With alice beside him and without her, at one address: the same to the byte."""
     checks = world.checks
@@ -31,6 +39,8 @@ def show_sharing(world):
     world.succeeds("alice's cache has it", world.git(None, "ls-remote", world.url("secret")))
     checks.same("it has", True, names["commit"] in world.in_cache("secret"))
     beside = Neighbour(world, names).tries()
+    hers = set(names.values()) & {name for path in caches(world, "bob") for name in world.objects(path)}
+    checks.same("no cache of bob's has an object of hers", set(), hers)
     world.host.ends_well(checks, "with alice")
     world.remove("host")
     world.remove("caches")

@@ -4,6 +4,7 @@ from concurrent.futures import ProcessPoolExecutor
 from itertools import repeat
 
 from checks import Checks
+from packages import found
 from program import given_program
 
 
@@ -20,9 +21,21 @@ def counts(world_class, show):
     return checks.passed, checks.failed
 
 
+def lacking(name, package):
+    """Why a program is not there, before several subjects want it at once."""
+    try:
+        return found(name, package) and None
+    except ValueError as fault:
+        return str(fault)
+
+
 def main(world_class, subjects):
     chosen = [show for show in subjects if show.__name__ in sys.argv[2:] or not sys.argv[2:]]
     checks = Checks()
+    for name, package in world_class.PROGRAMS.items():
+        checks.holds(f"{name} is there", lacking(name, package))
+    if checks.failed:
+        checks.end()
     with ProcessPoolExecutor(3) as pool:
         for passed, failed in pool.map(counts, repeat(world_class), chosen):
             checks.passed, checks.failed = checks.passed + passed, checks.failed + failed

@@ -43,6 +43,8 @@ EMPTY = "/run/sshd"
 class SshWorld(FrontWorld):
     """The commands of a test share one connection for each key, which spares them the beginning of their own."""
 
+    PROGRAMS = {"sshd": "openssh-server", "ssh": "openssh-client", "ssh-keygen": "openssh-client", "flock": "util-linux"}
+
     def wait(self):
         super().wait()
         words = ["ssh", "-F", self.path("ssh_config"), "-N", "-o", "ControlMaster=yes"]
@@ -67,11 +69,11 @@ class SshWorld(FrontWorld):
 
     def command(self):
         """The server's command, once its files are there."""
-        server, maker = found("sshd", "openssh-server"), found("ssh-keygen", "openssh-client")
+        server = found("sshd", "openssh-server")
         if os.getuid() == 0:
             os.makedirs(EMPTY, mode=0o755, exist_ok=True)
         for name in ["host_key", *(f"key_{tenant}" for tenant in self.names)]:
-            subprocess.run([maker, "-q", "-t", "ed25519", "-N", "", "-C", name, "-f", self.path(name)], check=True)
+            self.make_key(name)
         self.write("authorized_keys", "".join(self.line(tenant) for tenant in self.names))
         self.write("known_hosts", f"forkhost {self.key('host_key')}\n")
         self.write("sshd_config", SERVER.format(port=self.port, folder=self.folder))
@@ -86,10 +88,13 @@ class SshWorld(FrontWorld):
         with open(self.path("ssh_config"), "a", encoding="utf-8") as file:
             file.write(CLIENT.format(host=host, key=key, port=self.port, folder=self.folder))
 
+    def make_key(self, name):
+        maker = found("ssh-keygen", "openssh-client")
+        subprocess.run([maker, "-q", "-t", "ed25519", "-N", "", "-C", name, "-f", self.path(name)], check=True)
+
     def add_plain(self):
         """A key that may run any command, for what Git does without a front end."""
-        maker = found("ssh-keygen", "openssh-client")
-        subprocess.run([maker, "-q", "-t", "ed25519", "-N", "", "-C", "plain", "-f", self.path("key_plain")], check=True)
+        self.make_key("key_plain")
         with open(self.path("authorized_keys"), "a", encoding="utf-8") as file:
             file.write(self.key("key_plain") + "\n")
         self.add_client("plain", "plain")

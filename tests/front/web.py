@@ -21,9 +21,10 @@ def hashed(user):
 class WebWorld(FrontWorld):
     """Users are called as their tenants, but in capitals; one of them has no tenant."""
 
+    PROGRAMS = {"lighttpd": "lighttpd", "git-http-backend": "git", "openssl": "openssl", "flock": "util-linux"}
+
     def command(self):
         server = found("lighttpd", "lighttpd")
-        found("git-http-backend", "git")
         for name in ("pages", "uploads"):
             os.mkdir(self.path(name))
         self.write("users", "".join(f"{tenant.upper()} {tenant}\n" for tenant in self.names))
@@ -34,7 +35,7 @@ class WebWorld(FrontWorld):
     def configured(self, place):
         """The configuration of docs/OPERATING.md, with the places of this test, run by whoever runs the test."""
         lines = configuration().replace("/etc/forkhost", place).replace("/usr/local/bin", CLIENTS)
-        for old, name in {"/var/empty": "pages", "/var/cache/lighttpd/uploads": "uploads"}.items():
+        for old, name in {"/var/empty": "pages", "/var/lib/forkhost/uploads": "uploads"}.items():
             lines = lines.replace(old, self.path(name))
         lines = lines.replace("/var/log/lighttpd/error.log", self.path("errors")).replace("8080", str(self.port))
         return "".join(row for row in lines.splitlines(True) if not row.startswith("server.username"))

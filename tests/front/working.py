@@ -1,4 +1,6 @@
 """Everyday work by a front end, beside the same work over a folder."""
+import os
+
 from cloning import EMPTY
 from making import commit, everything, line
 from pushing import PUSHES, Both, sources
@@ -28,8 +30,8 @@ def show_all(world):
     world.succeeds("a mirror is pushed", world.git(source, "push", "-q", "--mirror", world.url("r")))
     checks.same("the host has its references", world.references(source), world.kept("r"))
     world.same_clone("all of it")
-    told = world.git(None, "ls-remote", world.url("r"))
-    checks.same("ls-remote is as that of a folder", world.git(None, "ls-remote", world.path(source)).output, told.output)
+    wanted, told = (world.git(None, "ls-remote", url) for url in (world.path(source), world.url("r")))
+    checks.same("ls-remote is as that of a folder", wanted.output, told.output)
     copy = world.cloned("a plain clone", "r")
     checks.same("its branch", "refs/heads/main", world.output(copy, "symbolic-ref", "HEAD"))
     checks.same("its work tree", "", world.output(copy, "status", "--porcelain"))
@@ -41,6 +43,11 @@ def show_all(world):
 def show_fetches(world, source, copy):
     """What comes to the host by another way is in the next fetch, and what went is pruned."""
     checks = world.checks
+    odd = "refs/heads/\u0085\u2028\udcff"
+    world.output(source, "push", "-q", world.host.url("alice", "r"), f"main:{odd}")
+    ran = world.succeeds("an odd name is listed", world.git(None, "ls-remote", world.url("r")))
+    checks.same("as it is", True, os.fsencode(f"\t{odd}\n") in ran.output)
+    world.succeeds("it goes", world.git(source, "push", "-q", world.url("r"), f":{odd}"))
     tip = commit(world, source, "more", world.name(source, "main"))
     world.output(source, "tag", "-a", "-m", "x", "v2", tip)
     direct = world.host.url("alice", "r")

@@ -5,7 +5,8 @@ from typing import NamedTuple
 from .faults import Fatal
 
 SCHEME = "forkhost::"
-FORM = re.compile(r"(/.+)/([a-z0-9][a-z0-9_-]{0,31})/([a-z0-9][a-z0-9_-]{0,63})/?", re.DOTALL)
+TENANT, REPOSITORY = "[a-z0-9][a-z0-9_-]{0,31}", "[a-z0-9][a-z0-9_-]{0,63}"
+FORM = re.compile(rf"(/.+)/({TENANT})/({REPOSITORY})(?:\.git)?/?", re.DOTALL)
 
 
 class Address(NamedTuple):

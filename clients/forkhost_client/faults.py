@@ -9,6 +9,10 @@ class Lost(Fatal):
     """A reply was not read, so whether the request was carried out is not known."""
 
 
+class GitFailed(Fatal):
+    """A command of Git failed in the repository here."""
+
+
 class HostFault(Fatal):
     """The host failed at a request, and changed nothing by it."""
 

@@ -75,4 +75,4 @@ def fetch(
     with Pack(repository, Progress("Receiving objects", options.progress)) as pack:
         with remote:
             Fetch(repository, remote, listing, options, pack).carry_out(wanted)
-        return pack.keep()
+        return pack.keep(options.cloning)

@@ -4,19 +4,16 @@ from typing import BinaryIO, Iterable, Iterator, List, Mapping, Optional
 from .address import Address
 from .connection import Connection
 from .faults import Fatal, Refused
-from .fetching import fetch
 from .frames import bytes_of, text_of
 from .listing import Listing, read_listing
 from .options import Options
 from .progress import say
-from .pushing import Push, chosen
 from .remote import Remote
 from .repository import Repository
-from .updates import read_updates
-from .words import told
 
 CAPABILITIES = ["fetch", "push", "option", "object-format"]
 FORMAT = "sha256"
+AUTOCREATE = "forkhost.autocreate"
 EMPTY = (
     "the repository is empty, and Git makes a clone of it in the SHA-1 format, which can not push to it; "
     "clone by 'GIT_DEFAULT_HASH=sha256 git clone ..', or push from what 'git init --object-format=sha256' makes"
@@ -24,10 +21,14 @@ EMPTY = (
 
 
 class Helper:
+    """What a fetch and a push want is read when they are asked for: most calls are for a list alone."""
+
     def __init__(self, address: Address, outer: Mapping[str, str]):
         self.address, self.repository = address, Repository(outer)
         self.options = Options(self.warn)
         self.listing: Optional[Listing] = None
+        # Whether the repository is to be made by a push.
+        self.is_wanting = False
 
     def warn(self, text: str) -> None:
         if self.options.verbosity > 0:
@@ -59,14 +60,37 @@ class Helper:
         raise Fatal(f"Git asked for '{line}', which is not known here")
 
     def listed(self, for_push: bool) -> Listing:
-        with self.connect() as remote:
-            try:
+        try:
+            with self.connect() as remote:
                 return read_listing(remote, for_push)
-            except Refused as refusal:
-                hint = f"; '{self.address.init()}' makes it" if refusal.word == "no-repository" else ""
-                raise Fatal(told(refusal, self.address) + hint) from refusal
+        except Refused as refusal:
+            is_missing = refusal.word == "no-repository"
+            if is_missing and for_push and self.repository.setting(AUTOCREATE, kind="bool") == "true":
+                self.is_wanting = True
+                return Listing({}, {}, None, {})
+            hint = f"; '{self.address.init()}' makes it" if is_missing else ""
+            raise Fatal(self.told(refusal) + hint) from refusal
+
+    def told(self, refusal: Refused) -> str:
+        from .words import told
+
+        return told(refusal, self.address)
+
+    def make(self, remote: Remote) -> None:
+        """The repository, which another client may have made meanwhile."""
+        try:
+            remote.change(f"init {self.address.repository}")
+            self.warn(f"made repository '{self.address.repository}' of tenant '{self.address.tenant}'")
+        except Refused as refusal:
+            if refusal.word == "too-many":
+                text = f"tenant '{self.address.tenant}' has as many repositories as a tenant may have"
+                raise Fatal(text) from refusal
+            if refusal.word != "repository-exists":
+                raise Fatal(self.told(refusal)) from refusal
 
     def list(self, for_push: bool) -> Iterator[str]:
+        if for_push:
+            self.want_format()
         self.listing = self.listed(for_push)
         if not self.listing.refs and not for_push and self.repository.object_format() == "sha1":
             say(EMPTY)
@@ -84,23 +108,29 @@ class Helper:
             )
 
     def fetch(self, batch: List[str]) -> Iterator[str]:
+        from .fetching import fetch
+
         self.want_format()
         wanted = [line.split(" ")[1] for line in batch]
         listing = self.listing or self.listed(False)
         try:
             kept = fetch(self.repository, self.connect(), listing, wanted, self.options)
         except Refused as refusal:
-            raise Fatal(told(refusal, self.address)) from refusal
+            raise Fatal(self.told(refusal)) from refusal
         if kept:
             yield f"lock {kept}"
 
     def push(self, batch: List[str]) -> Iterator[str]:
-        self.want_format()
+        from .pushing import Push, chosen
+        from .updates import read_updates
+
         listing = self.listing or self.listed(True)
         updates = read_updates(batch, listing, self.options.leases, self.repository)
         good = chosen(updates, self.repository, self.options.atomic)
         if good:
             with self.connect() as remote:
+                if self.is_wanting and not self.options.dry_run:
+                    self.make(remote)
                 Push(self.address, self.repository, remote, listing, self.options).carry_out(good)
         yield from (update.row() for update in updates)
 

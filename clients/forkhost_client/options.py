@@ -1,8 +1,8 @@
 """What Git asks of the helper by `option` lines."""
-from typing import Callable, Dict, Set
+from typing import Callable, Set
 
 # Said by Git, and of no meaning here.
-PASSED_OVER = ("check-connectivity", "cloning", "family", "force", "servpath")
+PASSED_OVER = ("check-connectivity", "family", "force", "force-if-includes", "servpath")
 # Asked for by a person, whom it is told that they are not done.
 IGNORED = {
     "depth": "--depth is ignored",
@@ -11,7 +11,9 @@ IGNORED = {
     "deepen-relative": "--deepen is ignored",
     "filter": "--filter is ignored",
 }
-BOOLEANS = ("progress", "dry-run", "atomic", "followtags", "refetch")
+# The whole history, which Git asks for where it fetches tags behind all else.
+NO_DEPTH = "0"
+BOOLEANS = ("progress", "dry-run", "atomic", "followtags", "refetch", "cloning")
 TRUTHS = {"true": True, "false": False}
 
 
@@ -20,9 +22,10 @@ class Options:
         self.warn = warn
         self.verbosity, self.object_format = 1, False
         self.progress = self.dry_run = self.atomic = self.followtags = self.refetch = False
+        self.cloning = False
         self.ignored: Set[str] = set()
-        # Of each reference that is pushed with a lease, the target that it must have.
-        self.leases: Dict[str, str] = {}
+        # References that are pushed with a lease. Git has judged it by the list.
+        self.leases: Set[str] = set()
 
     def answer(self, line: str) -> str:
         """Takes `option NAME [VALUE]`, and gives what Git is told."""
@@ -35,12 +38,11 @@ class Options:
         elif name == "object-format" and value in ("", "true", "sha256"):
             self.object_format = True
         elif name == "cas":
-            ref, _, target = value.rpartition(":")
-            self.leases[ref] = target
-        elif name in IGNORED:
+            self.leases.add(value.rpartition(":")[0])
+        elif name in IGNORED and value != NO_DEPTH:
             self.ignore(name)
             return "unsupported"
-        elif name not in PASSED_OVER:
+        elif name not in PASSED_OVER and name not in IGNORED:
             return "unsupported"
         return "ok"
 

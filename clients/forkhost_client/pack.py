@@ -6,7 +6,7 @@ import tempfile
 import zlib
 from typing import Iterator, List, Optional, Set
 
-from .faults import Fatal
+from .faults import GitFailed
 from .progress import Progress
 from .records import Record
 from .repository import Repository
@@ -69,15 +69,17 @@ class Pack:
         self.file.flush()
         os.lseek(self.file.fileno(), 0, os.SEEK_SET)
 
-    def keep(self) -> Optional[str]:
-        """Brings the objects into the repository; the path of the file that holds a pack, if one is held."""
+    def keep(self, is_clone: bool) -> Optional[str]:
+        """Brings the objects into the repository; the path of the file that holds a pack, if one is held.
+
+        A clone keeps its pack, however few they are, as Git's own do."""
         self.progress.done()
         if not self.names:
             return None
         self.end()
         few = int(self.repository.setting("fetch.unpackLimit", "transfer.unpackLimit", kind="int") or FEW)
         strict = self.repository.setting("fetch.fsckObjects", "transfer.fsckObjects", kind="bool") == "true"
-        if len(self.names) < few:
+        if len(self.names) < few and not is_clone:
             self.taken("unpack-objects", ["-q", *(["--strict"] if strict else [])])
             return None
         words = ["--stdin", f"--keep=forkhost {os.getpid()}", *(["--strict"] if strict else [])]
@@ -86,8 +88,8 @@ class Pack:
         return os.path.join(self.folder, "pack", f"pack-{name}.keep") if word == "keep" else None
 
     def taken(self, command: str, words: List[str]) -> str:
-        environment = self.repository.environment
-        ran = subprocess.run(["git", command, *words], stdin=self.file, stdout=subprocess.PIPE, env=environment)
+        how = {"stdout": subprocess.PIPE, "stderr": self.repository.errors, "env": self.repository.environment}
+        ran = subprocess.run(["git", command, *words], stdin=self.file, **how)
         if ran.returncode:
-            raise Fatal("Git did not take the objects that were received")
+            raise GitFailed("Git did not take the objects that were received")
         return ran.stdout.decode()

@@ -1,4 +1,4 @@
-"""The programs: words and the standard streams in, an exit status out."""
+"""The programs: words and the standard streams in, an exit status out. Each reads the modules that it wants alone."""
 import os
 import re
 import signal
@@ -7,12 +7,9 @@ from typing import List
 
 from .address import read_address
 from .connection import Connection
-from .door import WHO, serve
 from .faults import Fatal, Refused
 from .frames import bytes_of
-from .helper import Helper
 from .progress import say
-from .repository import NESTED
 
 DOOR_USAGE = "usage: forkhost-door SOCKET TENANT, by a front end, with frames on standard input"
 ASK_USAGE = "usage: forkhost-ask SOCKET TENANT WORD [ARG ..] [-]"
@@ -39,6 +36,9 @@ def fatal(text: str) -> int:
 
 def remote_helper(words: List[str]) -> int:
     """`git-remote-forkhost REMOTE URL`."""
+    from .helper import Helper
+    from .repository import NESTED
+
     leave_signals()
     try:
         if len(words) != 2:
@@ -91,6 +91,8 @@ def ask(words: List[str]) -> int:
 
 def door(words: List[str]) -> int:
     """`forkhost-door SOCKET TENANT`: frames of one tenant from standard input, replies to standard output."""
+    from .door import WHO, serve
+
     leave_signals()
     try:
         if len(words) != 2 or not re.fullmatch(WHO, words[1]):

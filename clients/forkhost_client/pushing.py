@@ -64,22 +64,22 @@ class Push:
     def blame(self, refusal: Refused, sent: Plan, updates: List[Update]) -> None:
         text = told_of_push(refusal, self.address, self.repository, self.remote, sent)
         for update in blamed(updates, refusal.word, refusal.detail):
-            update.refusal = update.stale() if refusal.word == "stale" else text
+            update.refuse(update.stale() if refusal.word == "stale" else text, refusal.word)
 
 
-def refuse(updates: List[Update], text: str) -> None:
+def refuse(updates: List[Update], text: str, word: str = "failed") -> None:
     """All that were not carried out, and have not been told why, were refused for this."""
     for update in updates:
-        if not update.refusal and not update.is_done:
-            update.refusal = text
+        if update.is_due():
+            update.refuse(text, word)
 
 
 def chosen(updates: List[Update], repository: Repository, atomic: bool) -> List[Update]:
     """Those that the host is to be asked for."""
     judge(updates, repository)
-    good = [update for update in updates if not update.refusal]
-    if atomic and len(good) < len(updates):
+    good = [update for update in updates if update.is_due()]
+    if atomic and any(update.refusal for update in updates):
         refuse(good, ONE_FAILED)
     elif atomic and len(good) > MAX_COMMANDS:
         refuse(good, f"the host changes at most {MAX_COMMANDS} references at once")
-    return [update for update in good if not update.refusal]
+    return [update for update in good if update.is_due()]

@@ -3,9 +3,9 @@ import os
 import re
 import subprocess
 import threading
-from typing import BinaryIO, Dict, Iterable, Iterator, List, Mapping, Optional, Tuple
+from typing import BinaryIO, Dict, Iterable, Iterator, List, Mapping, Optional, Sequence, Tuple
 
-from .faults import Fatal
+from .faults import GitFailed
 from .frames import bytes_of, text_of
 from .records import Size
 
@@ -24,20 +24,25 @@ def lines(names: Iterable[str]) -> bytes:
 
 
 class Repository:
-    def __init__(self, outer: Mapping[str, str]):
+    def __init__(self, outer: Mapping[str, str], quiet: bool = False):
+        """Git's own words of a fault go to standard error, unless it is to be quiet."""
         self.environment = environment(outer)
+        self.errors = subprocess.DEVNULL if quiet else None
 
     def output(self, *words: str, given: bytes = b"") -> str:
         """What a command of Git prints; one that fails says so itself."""
-        ran = subprocess.run(["git", *words], input=given, stdout=subprocess.PIPE, env=self.environment)
+        ran = self.ran(words, given, self.errors)
         if ran.returncode:
-            raise Fatal(f"git {words[0]} failed")
+            raise GitFailed(f"git {words[0]} failed")
         return text_of(ran.stdout)
 
-    def answer(self, *words: str) -> Optional[str]:
+    def ran(self, words: Sequence[str], given: bytes, errors: Optional[int]) -> subprocess.CompletedProcess:
+        pipe = subprocess.PIPE
+        return subprocess.run(["git", *words], input=given, stdout=pipe, stderr=errors, env=self.environment)
+
+    def answer(self, *words: str, given: bytes = b"") -> Optional[str]:
         """What a command of Git prints, without the last line feed, or None where it fails, and then silently."""
-        null = subprocess.DEVNULL
-        ran = subprocess.run(["git", *words], stdin=null, stdout=subprocess.PIPE, stderr=null, env=self.environment)
+        ran = self.ran(words, given, subprocess.DEVNULL)
         return text_of(ran.stdout).rstrip("\n") if ran.returncode == 0 else None
 
     def object_format(self) -> Optional[str]:
@@ -120,7 +125,7 @@ class Batch:
         """So many bytes, all of which must be there."""
         data = self.child.stdout.read(count)
         if len(data) != count:
-            raise Fatal("git cat-file ended too early")
+            raise GitFailed("git cat-file ended too early")
         return data
 
     def contents(self) -> Iterator[Tuple[str, bytes]]:

@@ -1,8 +1,9 @@
 """Changes of references that Git asks for, and what stands against each before the host is asked."""
 import re
-from typing import List, Mapping, Optional
+from typing import Container, List, Optional
 
 from .listing import Listing
+from .progress import say
 from .repository import NAME, Repository
 
 ABSENT = "0" * 64
@@ -19,6 +20,12 @@ class Update:
         # Whether the host carried it out, or why it was not carried out, in words.
         self.is_done = False
         self.refusal: Optional[str] = None
+        # The host's word for it, or `failed` where it has none.
+        self.word = "ok"
+
+    def is_due(self) -> bool:
+        """Whether nothing has become of it yet."""
+        return not self.refusal and not self.is_done
 
     def command(self) -> str:
         if self.new == ABSENT:
@@ -29,21 +36,24 @@ class Update:
         """What Git is told where the reference is not as it was listed, in Git's own words."""
         return "stale info" if self.forced or self.new == ABSENT else "fetch first"
 
+    def refuse(self, text: str, word: str = "failed") -> None:
+        self.refusal, self.word = text, word
+
     def row(self) -> str:
         """What Git is told of it."""
         return f"error {self.ref} {self.refusal}" if self.refusal else f"ok {self.ref}"
 
 
-def read_updates(rows: List[str], listing: Listing, leases: Mapping[str, str], repository: Repository) -> List[Update]:
+def read_updates(rows: List[str], listing: Listing, leases: Container[str], repository: Repository) -> List[Update]:
     """The updates that lines `push [+]SOURCE:REF` ask for; with no source, deletions.
 
-    A lease is forced, and names the old target itself. A whole name stands for itself, wherever its object is."""
+    A lease is forced. A whole name stands for itself, wherever its object is."""
     parts = [FORM.fullmatch(row).groups() for row in rows]
     names = repository.resolve([source or ABSENT for _, source, _ in parts])
     updates = []
     for (sign, source, ref), name in zip(parts, names):
         new = (name or (source if NAME.fullmatch(source) else "")) if source else ABSENT
-        old = leases.get(ref, listing.refs.get(ref, ABSENT))
+        old = listing.refs.get(ref, ABSENT)
         updates.append(Update(ref, source, old, new, sign == "+" or ref in leases))
     return updates
 
@@ -52,24 +62,27 @@ def why_not(update: Update) -> Optional[str]:
     """What stands against an update by itself."""
     if len(update.ref.encode("utf-8", "surrogateescape")) > LONGEST_REF:
         return f"the host takes names of references of at most {LONGEST_REF} bytes"
-    if not update.new:
-        return f"'{update.source}' names nothing here"
-    return "remote ref does not exist" if update.new == update.old == ABSENT else None
+    return None if update.new else f"'{update.source}' names nothing here"
 
 
 def judge(updates: List[Update], repository: Repository) -> None:
     """Git has judged each update by the list, and leaves two of its answers to the helper, in words that it knows."""
     for update in updates:
-        update.refusal = why_not(update)
-    due = [one for one in updates if not one.refusal and not one.forced and ABSENT not in (one.old, one.new)]
+        why = why_not(update)
+        if why:
+            update.refuse(why)
+        elif update.new == update.old == ABSENT:
+            say("warning: deleting a non-existent ref")
+            update.is_done = True
+    due = [one for one in updates if one.is_due() and not one.forced and ABSENT not in (one.old, one.new)]
     due = [one for one in due if not one.ref.startswith("refs/tags/")]
     here = repository.present(one.old for one in due)
     commits = repository.resolve([f"{name}^{{commit}}" for one in due for name in (one.old, one.new)])
     for at, update in enumerate(due):
         if update.old not in here:
-            update.refusal = "fetch first"
+            update.refuse("fetch first")
         elif None in commits[2 * at : 2 * at + 2]:
-            update.refusal = "needs force"
+            update.refuse("needs force")
 
 
 def blamed(updates: List[Update], word: str, detail: str) -> List[Update]:

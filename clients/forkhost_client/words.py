@@ -3,9 +3,14 @@ from .address import Address
 from .explaining import explained, quoted
 from .faults import Refused
 from .plan import MAX_CONTENT, Plan
+from .progress import say
 from .remote import Remote
 from .repository import Repository
 
+LARGE = (
+    "take what is too large out of the commits that are pushed, by 'git rm --cached FILE' and 'git commit --amend', "
+    "or by git-filter-repo where it stands in older ones; and push again"
+)
 WORDS = {
     "bad-ref": "the host does not take this name of a reference",
     "ref-conflict": "{detail} and a name below it can not both be there",
@@ -29,6 +34,17 @@ def told(refusal: Refused, address: Address) -> str:
     return WORDS[refusal.word].format(detail=refusal.detail, address=address)
 
 
+def told_of_large(plan: Plan) -> str:
+    """The first object that is too large; a person is told of all of them, and what to do."""
+    large = [one for one in plan.objects if one.length > MAX_CONTENT]
+    rows = [f"{quoted(plan.paths.get(one.name) or one.name)} has {one.length} bytes" for one in large]
+    for row in rows:
+        say(f"{row}, which is too large")
+    say(LARGE)
+    others = f" (and {len(rows) - 1} more)" if rows[1:] else ""
+    return f"{rows[0]}{others}, and the host takes {MAX_CONTENT} at the most"
+
+
 def told_of_push(refusal: Refused, address: Address, repository: Repository, remote: Remote, plan: Plan) -> str:
     """A refusal of a push: with the tenant's use, or with the path of the object, or in words that Git knows."""
     name, path = refusal.detail, plan.paths.get(refusal.detail, "")
@@ -36,12 +52,11 @@ def told_of_push(refusal: Refused, address: Address, repository: Repository, rem
         used, limit = remote.quota()
         return f"over quota: {used} of {limit} bytes are used, and this push brings up to {plan.use()}"
     if refusal.word == "too-large":
-        length = repository.present([name])[name].length
-        return f"{quoted(path or name)} has {length} bytes, and the host takes {MAX_CONTENT} at the most"
+        return told_of_large(plan)
     if refusal.word == "bad-object":
         return explained(repository, name, path)
     if refusal.word == "missing" and repository.present([name]):
         return f"the host does not have object {name} any more; push again"
     if refusal.word == "missing":
-        return f"neither this repository nor the host has object {name}"
+        return f"missing necessary objects: neither this repository nor the host has object {name}"
     return told(refusal, address)

@@ -56,7 +56,7 @@ def show_empty(checks, program, folder):
     checks.same("its format", "sha1", world.output("copy", "rev-parse", "--show-object-format"))
     world.output("copy", "commit", "-q", "--allow-empty", "-m", "one")
     pushed = world.git("copy", "push", world.url("r"), "main")
-    checks.same("a push from it", (1, b""), pushed[:2])
+    checks.same("a push from it", (128, b""), pushed[:2])
     checks.same("says why", True, b"object format of this repository is sha1, and the host's is sha256" in pushed.fault)
     checks.same("and nothing is there", [], world.kept("r"))
     default = {"GIT_DEFAULT_HASH": "sha256"}
@@ -108,7 +108,13 @@ def show_ways(checks, program, folder):
     alias = f"url.forkhost::{world.host.socket}/alice/.insteadOf"
     world.succeeds("a push by an alias", world.git("source", "-c", f"{alias}=alice:", "push", "-q", "alice:r", "main"))
     world.succeeds("a clone by an alias", world.git(None, "-c", f"{alias}=alice:", "clone", "-q", "alice:r", "copy"))
-    checks.same("few objects are loose", "0", packs(world, "copy"))
+    checks.same("few objects are a pack in a clone", "1", packs(world, "copy"))
+    world.repository("fetched")
+    world.succeeds("few are fetched", world.git("fetched", "fetch", "-q", world.url("r")))
+    checks.same("and are loose", "0", packs(world, "fetched"))
+    for end in (".git", ".git/", "/"):
+        copy = world.cloned(f"an address that ends in {end}", "r" + end)
+        checks.same(f"an address that ends in {end} is that of r", tip, world.name(copy, "main"))
     imported(world, "long", history(60))
     world.succeeds("a long history is pushed", world.git("long", "push", "-q", "--mirror", world.url("many")))
     world.same_mirror("a long history", "long", "many")

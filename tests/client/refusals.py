@@ -69,10 +69,25 @@ def show_objects(world, here):
     large = hashed(world, "source", "blob", b"x" * 8_388_609)
     here.branch(tree_of(world, "source", ("40000", "dir", tree_of(world, "source", ("100644", "large", large)))))
     here.refused("a size", "'dir/large' has 8388609 bytes, and the host takes 8388608 at the most", wrong)
+    show_large(world, here, large)
     most = hashed(world, "source", "blob", b"x" * 8_388_608)
     here.branch(tree_of(world, "source", ("100644", "most", most)))
     world.succeeds("the greatest object", world.git("source", "push", "-q", world.url("r"), wrong))
     world.succeeds("it goes", world.git("source", "push", "-q", world.url("r"), ":refs/heads/wrong"))
+
+
+def show_large(world, here, large):
+    """All files that are too large are named at once, and what to do."""
+    second = hashed(world, "source", "blob", b"y" * 9_000_000)
+    here.branch(tree_of(world, "source", ("100644", "first", large), ("100644", "second", second)))
+    ran = world.git("source", "push", "--porcelain", world.url("r"), "wrong:refs/heads/wrong")
+    rows = sorted(row for row in ran.fault.decode().splitlines() if row.startswith("forkhost: "))
+    wanted = ["forkhost: 'first' has 8388609 bytes, which is too large"]
+    wanted += ["forkhost: 'second' has 9000000 bytes, which is too large"]
+    world.checks.same("two sizes: both are named", wanted, rows[:2])
+    told = rows[2] if rows[2:] else ""
+    world.checks.same("two sizes: what to do", (3, True), (len(rows), "git rm --cached FILE" in told))
+    world.checks.same("two sizes: what Git shows", True, b"(and 1 more), and the host takes 8388608" in ran.output)
 
 
 def show_references(world, here):
@@ -85,9 +100,9 @@ def show_references(world, here):
     long = "refs/heads/" + "x" * 245
     here.refused("a long name", "the host takes names of references of at most 255 bytes", f"main:{long}")
     world.succeeds("the longest", world.git("source", "push", "-q", world.url("r"), f"main:{long[:-1]}"))
-    here.refused("an absent one is deleted", "remote ref does not exist", ":refs/heads/nothing")
     absent = "ab" * 32
-    here.refused("what nobody has", f"neither this repository nor the host has object {absent}", f"{absent}:refs/x/y")
+    lacking = f"missing necessary objects: neither this repository nor the host has object {absent}"
+    here.refused("what nobody has", lacking, f"{absent}:refs/x/y")
     both = ["main:refs/heads/main/x", "main:refs/heads/y"]
     ran = world.git("source", "push", "--porcelain", "--atomic", world.url("r"), *both)
     rows = sorted(row.split("\t")[2] for row in ran.output.decode().splitlines() if row[:1] == "!")

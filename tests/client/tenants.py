@@ -116,10 +116,11 @@ def show_tenants(checks, program, folder):
 def show_refused(checks, name, told):
     """What bob was told is that there is nothing, each in the host's own answer."""
     said = b"".join(ran.fault + ran.output for ran in told).decode()
+    lacking = "missing necessary objects: neither this repository nor the host has object "
     for text in (
         f"fatal: forkhost: tenant 'bob' sees no object {name}\n",
-        f"{name}:refs/tags/commit\t[remote rejected] (neither this repository nor the host has object {name})\n",
-        f"top:refs/heads/top\t[remote rejected] (neither this repository nor the host has object {name})\n",
+        f"{name}:refs/tags/commit\t[remote rejected] ({lacking}{name})\n",
+        f"top:refs/heads/top\t[remote rejected] ({lacking}{name})\n",
         f"forkhost-ask: missing {name}\n",
         "fatal: forkhost: repository 'secret' of tenant 'bob' not found",
     ):

@@ -167,12 +167,21 @@ OFFERS = {
         FILES,
         "sound",
     ),
+    "an offer of what its giver does not see": (spelled([offering([B], UNSEEN)]), FILES, f"unsound {text(O)}"),
+    "an offer of what its receiver sees": (spelled([offering([B], UNSEEN), BOB]), FILES, f"unsound {text(O)}"),
+    "an offer of a branch at a blob": (spelled([offering([B], (b"refs/heads/b", B))]), FILES, f"unsound {text(B)}"),
     "an offer of what is lost": (spelled([offering(OBJECTS, MAIN)]), lacking(D), f"lost {text(D)}"),
     "a repository's references before those of an offer": (
         spelled([offering([B], UNSEEN, own=[(b"refs/tags/z", ABSENT)])]),
         FILES,
         f"unsound {text(ABSENT)}",
     ),
+    "those of an offer before the later tenant's": (
+        spelled([offering([B], UNSEEN), tenant(b"bob", [B], [(b"refs/tags/x", ABSENT)])]),
+        FILES,
+        f"unsound {text(O)}",
+    ),
+    "those of an offer before use": (spelled([offering([B], UNSEEN, limit=0)]), FILES, f"unsound {text(O)}"),
     "heads that are not there": (
         spelled([tenant(b"alice", [])._replace(repositories=[Repository(b"r", {}, b"refs/heads/none")])]),
         {},

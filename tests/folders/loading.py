@@ -44,8 +44,7 @@ def verdict(text, files):
             if found:
                 return f"{found} {name.decode()}"
     for tenant in tenants:
-        # A host keeps no offers, and does not judge them.
-        for repository in tenant.repositories:
+        for repository in [*tenant.repositories, *tenant.offers]:
             for reference, target in repository.references.items():
                 if not is_pointing(tenant, reference, target, files):
                     return f"unsound {target.decode()}"

@@ -6,13 +6,13 @@ pub mod ForkedLemmas
 pub mod GatherLemmas
 pub mod HandleLemmas
 pub mod KeepingLemmas
-mod MadeLemmas
+pub mod MadeLemmas
 pub mod ForkOfferLemmas
 pub mod MetLemmas
 pub mod NamesLemmas
 pub mod OpeningLemmas
 pub mod OwnLemmas
-mod PairLemmas
+pub mod PairLemmas
 pub mod PartLemmas
 pub mod PushLemmas
 pub mod QueryLemmas

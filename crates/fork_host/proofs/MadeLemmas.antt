@@ -4,7 +4,7 @@ use Rattle.std.proofs.lemmas.Bool.{lt-leb}
 use Rattle.std.specs.Option.{option_map}
 use Rattle.std.specs.Ordering.{eq_by_cmp}
 use Rattle.std.specs.List.{flat_map}
-use Rattle.std.specs.FinMap.{contains_key, empty, entries, get, get-remove, insert, keys, len, len-entries, remove, same_map, values}
+use Rattle.std.specs.FinMap.{contains_key, empty, entries, get, get-remove, insert, keys, len, len-entries, remove, same_entries_map, same_map, values}
 use Rattle.git_name.specs.Maps.{mapped}
 use Rattle.git_name.specs.Same.{same_name}
 use Rattle.git_name.proofs.MapLemmas.{entries_map_values, get_map_values, map_values_empty, map_values_insert}
@@ -20,7 +20,7 @@ use Rattle.fork_model.specs.declared.limits.TheConstants.{MAX_OFFERS}
 use Rattle.fork_model.specs.Answer.{named_receiver, offer_added, offer_row, offer_rows, offers_answer, targets_made, withdrawn}
 use Rattle.fork_model.specs.Context.{Context}
 use Rattle.fork_model.specs.Offer.{Offer, Offers, Pair, offered, pair_cmp}
-use Rattle.fork_model.specs.Sound.{IsRight}
+use Rattle.fork_model.specs.Sound.{IsReach, IsRight}
 use Rattle.fork_model.specs.View.{View}
 use Rattle.fork_model.proofs.EntryLemmas.{pair_exact, pair_total}
 use Rattle.state_text.specs.Kept.{offer_kept}
@@ -217,13 +217,26 @@ IsShown view = made_shown view.objects (made_of view.made) ≡ view.made
 pub shown_itself : (account : Account) (own : Private) → IsShown (seen_by account own)
 shown_itself account own = ap (made_shown own.visible) (made_again own.visible account.made)
 
-pub shown_right : (view : View) → IsRight view → IsShown view
-shown_right view right =
-    same_map pair_total pair_exact _ _ (λ pair. get_shown view.objects (made_of view.made) pair ∙ ap (option_map (offered view.objects)) (get_made view.made pair) ∙ by pair (get view.made pair) refl)
+pub shown_reach : (objects : Objects) (offers : Offers) → ((pair : Pair) (offer : Offer) → get offers pair ≡ Some offer → IsReach objects offer) → made_shown objects (made_of offers) ≡ offers
+shown_reach objects offers reach =
+    same_map pair_total pair_exact _ _ (λ pair. get_shown objects (made_of offers) pair ∙ ap (option_map (offered objects)) (get_made offers pair) ∙ by pair (get offers pair) refl)
   where
-    by : (pair : Pair) (o : Option Offer) → get view.made pair ≡ o → option_map (offered view.objects) (option_map repository_of o) ≡ o
+    by : (pair : Pair) (o : Option Offer) → get offers pair ≡ o → option_map (offered objects) (option_map repository_of o) ≡ o
     by pair None is = refl
-    by pair (Some offer) is = ap Some (λ i. record { repository = offer.repository; objects = sym (right.offered pair offer is).objects i })
+    by pair (Some offer) is = ap Some (λ i. record { repository = offer.repository; objects = sym (reach pair offer is).objects i })
+
+pub shown_right : (view : View) → IsRight view → IsShown view
+shown_right view right = shown_reach view.objects view.made right.offered
+
+entries_kept : (es : List (Pair × Offer)) → mapped repository_of es ≡ map entry_of (map offer_kept es)
+entries_kept [] = refl
+entries_kept (e ∷ es) = ap (λ rows. (e.0, e.1.repository) ∷ rows) (entries_kept es)
+
+-- offers that are told alike are of the same repositories
+pub same_told : (offers others : Offers) → map offer_kept (entries offers) ≡ map offer_kept (entries others) → made_of offers ≡ made_of others
+same_told offers others told =
+    same_entries_map (made_of offers) (made_of others)
+    (entries_map_values repository_of offers ∙ entries_kept (entries offers) ∙ ap (map entry_of) told ∙ sym (entries_kept (entries others)) ∙ sym (entries_map_values repository_of others))
 
 -- such views are equal by what is plain of them
 pub same_plain : (a b : View) → IsShown a → IsShown b → plain a ≡ plain b → a ≡ b

@@ -17,7 +17,7 @@ use Rattle.fork_request.specs.Names.{IsTenantName}
 use Rattle.fork_model.specs.Offer.{Pair, pair_cmp}
 use Rattle.fork_model.proofs.EntryLemmas.{each_made, pair_exact, pair_total}
 use Rattle.fork_model.proofs.KeptLemmas.{found_value}
-use Rattle.state_text.specs.Offer.{Offer, offer_words, words_of_offer}
+use Rattle.state_text.specs.Offer.{Offer, words_of_offer}
 use Rattle.state_text.specs.Adding.{AreBefore, with_offer}
 use Rattle.state_text.specs.States.{Ascend, IsOffer, TenantState}
 use Rattle.state_text.proofs.BehindLemmas.{map_behind, nothing_in}
@@ -52,7 +52,7 @@ pub offers_more : (list : List Offer) (old new : Made) (i : ℕ) (item : Offer) 
 offers_more list old new i item receiver name repository ascend inside is to called of set so_far =
     let parts = ap (map pair_of) (parts_at list i item inside is) ∙ map-append pair_of (take i list) (item ∷ drop (i + 1) list) in
     let before = subst (AllByRecursion (λ other. pair_cmp other (pair_of item) ≡ Less)) (sym (ap (map (λ e. e.0)) so_far ∙ keys_gathered (take i list)))
-        (ahead pair_cmp (map pair_of (take i list)) (pair_of item) (map pair_of (drop (i + 1) list)) (subst (IsStrictlySortedBy pair_cmp) parts ascend)) in
+    (ahead pair_cmp (map pair_of (take i list)) (pair_of item) (map pair_of (drop (i + 1) list)) (subst (IsStrictlySortedBy pair_cmp) parts ascend)) in
     let one : new ≡ insert old (pair_of item) item.repository = set ∙ (λ k. insert old (to k, called k) (of k)) in
     ap (λ (m : Made). entries m) one ∙ entries-insert pair_total old (pair_of item) item.repository ∙ put_last pair_total (entries old) (pair_of item) item.repository before
     ∙ ap (λ es. es ++ entry_of item ∷ []) so_far ∙ sym (map-append entry_of (take i list) (item ∷ [])) ∙ ap (map entry_of) (sym (taken_more list i item inside is))

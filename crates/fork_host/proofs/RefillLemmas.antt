@@ -1,5 +1,5 @@
 -- A tenant that is filled again: its view is in order and right, and the state stays whole.
-use Rattle.std.proofs.Common.{◌≡◌, ℕ, ◌≤◌, arith, Bool, true, false, cond, not, IsTrue, List, [], ◌∷◌, Option, None, Some, refl, sym, ap, subst, ◌∙◌, length, is_some, map}
+use Rattle.std.proofs.Common.{◌≡◌, ℕ, arith, Bool, true, false, cond, not, IsTrue, List, [], ◌∷◌, Option, None, Some, refl, sym, ap, subst, ◌∙◌, length, is_some, map}
 use Rattle.std.specs.Prelude.{Contains, ◌&&◌, ◌||◌, is_none}
 use Rattle.std.proofs.lemmas.List.{length-map}
 use Rattle.std.proofs.lemmas.List.Folds.{find-append}
@@ -208,8 +208,9 @@ right_refilled own state repositories made old new honest orderly restored =
 
 -- a tenant that saw nothing sees again what it saw
 pub refilled_in : (old new : HostState) (tenant : TenantState) (repositories : Repositories) (made : Made) → new.accounts ≡ insert old.accounts tenant.name (refilled repositories made tenant.limit) → entries repositories ≡ tenant.repositories
-    → entries made ≡ map entry_of tenant.offers → IsTrue old.vault.honest → IsRefilled tenant.name tenant old.vault new.vault → IsRefilledIn old.vault.files tenant (world_of old) (world_of new)
-refilled_in old new tenant repositories made set are offers honest restored =
+    → entries made ≡ map entry_of tenant.offers → IsTrue old.vault.honest → IsRight (shown (refilled repositories made tenant.limit) new.vault tenant.name) → IsRefilled tenant.name tenant old.vault new.vault
+    → IsRefilledIn old.vault.files tenant (world_of old) (world_of new)
+refilled_in old new tenant repositories made set are offers honest right restored =
     let own = own_of old.vault new.vault tenant.name restored.changes in
     let stored = restored.stored honest in
     record {
@@ -221,6 +222,7 @@ refilled_in old new tenant repositories made set are offers honest restored =
       upload = refl;
       stored = record { objects = stored.objects; stored = stored.stored; is = (stored.is.0 ∙ sym (seen_itself old.vault new.vault tenant.name restored.objects restored.changes honest), stored.is.1) };
       targets = restored.targets;
+      reach = right.offered;
       within = restored.within;
     }
 

@@ -14,6 +14,8 @@ use Rattle.loose_store.specs.Files.{Files}
 use Rattle.loose_store.specs.Stored.{Whole}
 use Rattle.fork_reach.specs.Objects.{use_of}
 use Rattle.fork_reach.specs.Source.{Objects}
+use Rattle.fork_model.specs.Offer.{Offer, Pair}
+use Rattle.fork_model.specs.Sound.{IsReach}
 use Rattle.fork_model.specs.View.{View}
 use Rattle.fork_model.specs.World.{World}
 use Rattle.state_text.specs.Adding.{AreBefore}
@@ -73,6 +75,7 @@ refilled_more files tenant old mid new view added refilled = record {
   upload = refilled.upload;
   stored = refilled.stored;
   targets = refilled.targets;
+  reach = refilled.reach;
   within = refilled.within;
 }
 
@@ -136,6 +139,7 @@ shown_more files states tenant old new before ascend shown r = record {
   states = ap states_of r.world ∙ ap (map state_kept) (entries_behind old tenant.name r.view before) ∙ map_behind state_kept (entries old) (tenant.name, r.view) ∙ (λ i. shown.states i ++ kept i ∷ []);
   quiet = λ name view here. quiet name view (eq_by_cmp name_cmp name tenant.name) (sym (get-insert name_total old tenant.name r.view name) ∙ ap (λ (w : World). get w name) (sym r.world) ∙ here);
   whole = λ name view key object here there. whole name view key object there (eq_by_cmp name_cmp name tenant.name) (sym (get-insert name_total old tenant.name r.view name) ∙ ap (λ (w : World). get w name) (sym r.world) ∙ here);
+  reach = λ name view pair offer here there. reach name view pair offer there (eq_by_cmp name_cmp name tenant.name) (sym (get-insert name_total old tenant.name r.view name) ∙ ap (λ (w : World). get w name) (sym r.world) ∙ here);
 }
   where
     seen : keys r.view.objects ≡ tenant.seen
@@ -153,6 +157,12 @@ shown_more files states tenant old new before ascend shown r = record {
         let same : r.view ≡ view = cc in
         r.stored.stored.whole key object (ap (λ (o : Objects). get o key) (r.stored.is.0 ∙ ap (λ v. v.objects) same) ∙ there)
     whole name view key object there false is = shown.whole name view key object is there
+
+    reach : (name : List ℕ) (view : View) (pair : Pair) (offer : Offer) → get view.made pair ≡ Some offer → (b : Bool) → cond b (Some r.view) (get old name) ≡ Some view → IsReach view.objects offer
+    reach name view pair offer there true is =
+        let same : r.view ≡ view = cc in
+        subst (λ (objects : Objects). IsReach objects offer) (ap (λ v. v.objects) same) (r.reach pair offer (ap (λ v. get v.made pair) same ∙ there))
+    reach name view pair offer there false is = shown.reach name view pair offer is there
 
 astray_more : (files : Files) (states : States) (last : TenantState) (target : List ℕ) → IsAstray files states target → IsAstray files (states ++ last ∷ []) target
 astray_more files states last target noted = record { tenant = noted.tenant; reference = noted.reference; first = first_more states noted.tenant last noted.first; astray = noted.astray }
@@ -231,6 +241,7 @@ going_none files state none same = record {
       states = ap states_of none ∙ no_states;
       quiet = λ tenant view here. nobody tenant view _ here;
       whole = λ tenant view name object here there. nobody tenant view _ here;
+      reach = λ tenant view pair offer here there. nobody tenant view _ here;
     };
   };
   same = same;

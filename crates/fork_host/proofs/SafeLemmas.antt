@@ -1,5 +1,5 @@
 -- What names, kinds and lengths decide of an answer.
-use Rattle.std.proofs.Common.{◌≡◌, ℕ, ◌≤◌, Bool, true, IsTrue, List, [], Option, None, Some, refl, sym, ap, subst, ◌∙◌}
+use Rattle.std.proofs.Common.{◌≡◌, ℕ, ◌≤◌, true, IsTrue, List, [], Option, None, Some, refl, sym, ap, subst, ◌∙◌}
 use Rattle.std.specs.Option.{option_map}
 use Rattle.std.specs.FinMap.{contains_key, get, insert, len, retain_keys}
 use Rattle.git_reftx.specs.Repository.{Repository}
@@ -147,6 +147,7 @@ safe_rest Within old repositories objects rest other limit reply alike safe = re
 pub safe_ended : (Within : Reply → Type 0) (old new : View) (reply : Reply) → IsSafe Within old reply new → IsSafe Within old reply (without_upload new)
 safe_ended Within old new reply safe = record {
   orderly = λ before. orderly_without new (safe.orderly before);
+  made = safe.made;
   kept = safe.kept;
   faults = safe.faults;
 }
@@ -204,4 +205,4 @@ read_safe Within account old new reply shape faults =
 
 -- an answer that leaves the view
 pub safe_still : (Within : Reply → Type 0) (view : View) (reply : Reply) → Within reply → IsSafe Within view reply view
-safe_still Within view reply within = record { orderly = λ before. before; made = λ pair there. there; kept = λ _. refl; faults = within }
+safe_still Within view reply within = record { orderly = λ before. before; kept = λ _. refl; faults = within }

@@ -1,7 +1,7 @@
 -- A tenant that sees again what it saw, on the way to a host that is restored.
 use Rattle.std.specs.Prelude.{◌≡◌, ℕ, ◌≤◌, ◌<◌, ◌++◌, ◌∷◌, [], IsTrue, Option, None, Some, Result, Ok, Err, List, Contains, map}
 use Rattle.std.specs.BTreeSet.{BTreeSet, contains}
-use Rattle.std.specs.FinMap.{entries, insert}
+use Rattle.std.specs.FinMap.{entries, get, insert}
 use Rattle.std.specs.List.{find}
 use Rattle.git_name.specs.Name.{name_cmp}
 use Rattle.fork_sound.specs.Sound.{is_bad}
@@ -11,7 +11,8 @@ use Rattle.loose_store.specs.Stored.{Whole}
 use Rattle.fork_reach.specs.Objects.{IsNamed, use_of, with_objects}
 use Rattle.fork_reach.specs.Source.{Objects}
 use Rattle.fork_ledger.specs.Tenants.{VaultState}
-use Rattle.fork_model.specs.Sound.{AreRight, IsClosed}
+use Rattle.fork_model.specs.Offer.{Offer, Pair}
+use Rattle.fork_model.specs.Sound.{AreRight, IsClosed, IsReach}
 use Rattle.fork_model.specs.View.{View}
 use Rattle.fork_model.specs.World.{World}
 use Rattle.state_text.specs.Kept.{offer_kept}
@@ -78,6 +79,7 @@ pub record IsRefilledIn (files : Files) (tenant : TenantState) (old new : World)
   pub upload : view.upload ≡ None
   pub stored : OnStore files tenant.seen (λ objects. (objects ≡ view.objects) × (first_bad tenant.seen objects ≡ None))
   pub targets : first_astray (repositories_in tenant) view.objects ≡ None
+  pub reach : (pair : Pair) (offer : Offer) → get view.made pair ≡ Some offer → IsReach view.objects offer
   pub within : use_of view.objects ≤ tenant.limit
 
 -- a tenant's state was judged: what it saw is seen again, or something stands against it

@@ -1,5 +1,5 @@
 -- What a host is restored to, and why it is not: states, judged by what stands on an honest store.
-use Rattle.std.specs.Prelude.{◌≡◌, ◌⊎◌, ℕ, ◌≤◌, ◌<◌, ◌++◌, [], ◌∷◌, Bool, None, Some, ◌&&◌, ◌||◌, not, is_none, List, Option, Contains, map, ⊤}
+use Rattle.std.specs.Prelude.{◌≡◌, ◌⊎◌, ℕ, ◌≤◌, ◌<◌, ◌++◌, ◌∷◌, Bool, None, Some, ◌&&◌, ◌||◌, not, is_none, List, Option, Contains, map, ⊤}
 use Rattle.std.specs.List.{AllByRecursion, find, flat_map}
 use Rattle.std.specs.FinMap.{entries, get}
 use Rattle.git_name.specs.Object.{Object}
@@ -13,6 +13,8 @@ use Rattle.fork_reach.specs.Objects.{use_of}
 use Rattle.fork_reach.specs.Source.{Objects, kind_in}
 use Rattle.fork_sound.specs.Sound.{is_bad}
 use Rattle.fork_ledger.specs.Store.{IsDamaged}
+use Rattle.fork_model.specs.Offer.{Offer as Made, Pair}
+use Rattle.fork_model.specs.Sound.{IsReach}
 use Rattle.fork_model.specs.View.{View}
 use Rattle.fork_model.specs.World.{World}
 use Rattle.state_text.specs.Kept.{states_of}
@@ -104,8 +106,13 @@ pub data AreRefused (files : Files) (states : States) : RestoreError → Type 0 
 abbrev pub HasWorld : Files → World → Type 0
 HasWorld files world = (tenant : List ℕ) (view : View) (name : List ℕ) (object : Object) → get world tenant ≡ Some view → get view.objects name ≡ Some object → Whole files name object
 
--- the world is the one that these states tell: no upload is open, and each object is the one on the store
+-- each offer of a world holds what its references reach among what its giver sees
+abbrev pub HoldsReach : World → Type 0
+HoldsReach world = (tenant : List ℕ) (view : View) (pair : Pair) (offer : Made) → get world tenant ≡ Some view → get view.made pair ≡ Some offer → IsReach view.objects offer
+
+-- the world is the one that these states tell: no upload is open, each object is the one on the store, and offers hold what they reach
 pub record IsShownAgain (files : Files) (told : States) (world : World) : Type 0 where
   pub states : states_of world ≡ told
   pub quiet : (tenant : List ℕ) (view : View) → get world tenant ≡ Some view → view.upload ≡ None
   pub whole : HasWorld files world
+  pub reach : HoldsReach world

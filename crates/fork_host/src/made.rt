@@ -151,10 +151,7 @@ impl Made {
     {
         for (pair, repository) in self.offers.iter() {
             let repository = repository.copy()?;
-            keep_offer(
-                state,
-                Offer::new(pair.0.copy(), pair.1.copy(), repository),
-            )?;
+            keep_offer(state, Offer::new(pair.0.copy(), pair.1.copy(), repository))?;
         }
         Ok(())
     }

@@ -1,13 +1,13 @@
 -- What a tenant's ledger shows that adopted what another one shows.
 use Rattle.std.proofs.Common.{◌≡◌, ℕ, List, [], ◌&&◌, Bool, true, false, Option, Some, None, cond, is_some, length, drop, refl, sym, ap, ◌∙◌}
-use Rattle.std.specs.Prelude.{if◌then◌else◌}
+use Rattle.std.specs.Prelude.{if◌then◌else◌, nat_le}
 use Rattle.std.specs.Option.{option_or, unwrap_or}
 use Rattle.std.specs.FinMap.{contains_key, get, retain_keys, same_map}
 use Rattle.git_name.specs.Maps.{joined}
 use Rattle.git_name.specs.Object.{Object, header}
 use Rattle.git_name.proofs.MapLemmas.{get_joined}
 use Rattle.git_name.proofs.Names.{name_total, name_exact}
-use Rattle.fork_reach.specs.Objects.{measures_of, use_of, use_of_object}
+use Rattle.fork_reach.specs.Objects.{Measures, measures_of, use_of, use_of_object}
 use Rattle.fork_reach.specs.Source.{Objects}
 use Rattle.ledgers.specs.Adopted.{Fits, IsAlike, adopted_words, offered_words, seen_if, seen_too, shown_beside}
 use Rattle.ledgers.specs.Ledgers.{AllWords, at_ledger, ledger_at}
@@ -22,9 +22,10 @@ use Rattle.ledgers.proofs.SumLemmas.{same_sums, worth}
 use Rattle.loose_store.specs.Files.{Files}
 use Rattle.fork_ledger.specs.Private.{AreAmong, Private, private_measures, with_adopted}
 use Rattle.fork_ledger.specs.Shown.{object_at, own_of, part, resized, tenants_of}
-use Rattle.fork_ledger.specs.Tenants.{at_tenant, private_of}
+use Rattle.fork_ledger.specs.Tenants.{Tenants, at_tenant, private_of}
 use Rattle.fork_ledger.proofs.BothLemmas.{same_both}
 use Rattle.fork_ledger.proofs.SeenLemmas.{get_kept}
+use Rattle.fork_ledger.proofs.ShapeLemmas.{measures_kept}
 use Rattle.fork_ledger.proofs.ShownLemmas.{alike, changed_here, get_part, private_shown, same_private, shown_at}
 use Rattle.fork_ledger.proofs.TenantLemmas.{private_at}
 use Rattle.fork_ledger.proofs.ToldLemmas.{use_at}
@@ -111,7 +112,7 @@ joined_at : (files : Files) (names : List ℕ → Bool) (shown own : Words) (q :
 joined_at files names shown own q =
     get_joined name_total (part is_visible files own) (offered_by files names shown) q ∙ (λ i. option_or (get_part is_visible files own q i) (offered_object files names shown q i))
 
-pub adopted_own : (files : Files) (names : List ℕ → Bool) (shown own : Words) → Fits (offered_words names shown) own
+adopted_own : (files : Files) (names : List ℕ → Bool) (shown own : Words) → Fits (offered_words names shown) own
     → own_of files (adopted_words (offered_words names shown) own) ≡ with_adopted (offered_by files names shown) (own_of files own)
 adopted_own files names shown own fits = same_private _ _
     (same_map name_total name_exact _ _ (λ q.
@@ -121,12 +122,16 @@ adopted_own files names shown own fits = same_private _ _
     get_part is_staged files (adopted_words (offered_words names shown) own) q ∙ ap (shown_at is_staged files q) (word_adopted names shown own q)
     ∙ staged_adopted files q (names q) (get shown q) (get own q) ∙ sym (get_part is_staged files own q)))
 
--- one tenant adopts of another
-pub adopted_shown : (files : Files) (m : AllWords) (to from : List ℕ) (names : List ℕ → Bool) → Fits (offered_words names (ledger_at m from)) (ledger_at m to)
+adopted_shown : (files : Files) (m : AllWords) (to from : List ℕ) (names : List ℕ → Bool) → Fits (offered_words names (ledger_at m from)) (ledger_at m to)
     → tenants_of files (at_ledger m to (adopted_words (offered_words names (ledger_at m from)))) ≡ at_tenant (tenants_of files m) to (with_adopted (retain_keys (private_of (tenants_of files m) from).visible names))
 adopted_shown files m to from names fits =
     changed_here files m to (adopted_words (offered_words names (ledger_at m from))) (with_adopted (offered_by files names (ledger_at m from))) (adopted_own files names (ledger_at m from) (ledger_at m to) fits)
     ∙ ap (λ (own : Private). at_tenant (tenants_of files m) to (with_adopted (retain_keys own.visible names))) (sym (private_shown files m from))
+
+-- one tenant adopts of another
+pub adopted_tenants : (files : Files) (m n : AllWords) (to from : List ℕ) (names : List ℕ → Bool) → Fits (offered_words names (ledger_at m from)) (ledger_at m to)
+    → n ≡ at_ledger m to (adopted_words (offered_words names (ledger_at m from))) → tenants_of files n ≡ at_tenant (tenants_of files m) to (with_adopted (retain_keys (private_of (tenants_of files m) from).visible names))
+adopted_tenants files m n to from names fits is = ap (tenants_of files) is ∙ adopted_shown files m to from names fits
 
 -- ---- what comes is seen
 seen_among : (files : Files) (q : List ℕ) (comes : Bool) (shown own : Option Word) (object : Object) → FitHere comes shown own → coming comes files q shown ≡ Some object
@@ -187,14 +192,28 @@ use_beside files q comes (Some word) (Some own) = by comes (is_visible word) (is
     by false true false = refl
     by false false false = refl
 
-pub room_shown : (files : Files) (names : List ℕ → Bool) (shown own : Words) → total_of (shown_beside (offered_words names shown) own) ≡ use_of (joined (part is_visible files own) (offered_by files names shown))
+room_shown : (files : Files) (names : List ℕ → Bool) (shown own : Words) → total_of (shown_beside (offered_words names shown) own) ≡ use_of (joined (part is_visible files own) (offered_by files names shown))
 unfolding total_of use_of
 room_shown files names shown own = same_sums name_total name_exact use_of_word use_of_object (shown_beside (offered_words names shown) own) (joined (part is_visible files own) (offered_by files names shown)) (λ q.
     ap (worth use_of_word) (beside_at names shown own q) ∙ use_beside files q (names q) (get shown q) (get own q) ∙ ap (worth use_of_object) (sym (joined_at files names shown own q)))
 
+room_tenants : (files : Files) (m : AllWords) (to from : List ℕ) (names : List ℕ → Bool)
+    → total_of (shown_beside (offered_words names (ledger_at m from)) (ledger_at m to)) ≡ use_of (joined (private_of (tenants_of files m) to).visible (retain_keys (private_of (tenants_of files m) from).visible names))
+room_tenants files m to from names =
+    room_shown files names (ledger_at m from) (ledger_at m to)
+    ∙ (λ i. use_of (joined (sym (private_shown files m to) i).visible (retain_keys (sym (private_shown files m from) i).visible names)))
+
+-- whether there is room, as the ledgers tell it
+pub room_told : (files : Files) (m : AllWords) (tenants : Tenants) (to from : List ℕ) (names : List ℕ → Bool) (limit : ℕ) (told : Bool) → tenants_of files m ≡ tenants
+    → told ≡ nat_le (total_of (shown_beside (offered_words names (ledger_at m from)) (ledger_at m to))) limit → told ≡ nat_le (use_of (joined (private_of tenants to).visible (retain_keys (private_of tenants from).visible names))) limit
+room_told files m tenants to from names limit told shown is =
+    is ∙ ap (λ n. nat_le n limit) (room_tenants files m to from names) ∙ ap (λ tenants. nat_le (use_of (joined (private_of tenants to).visible (retain_keys (private_of tenants from).visible names))) limit) shown
+
 -- ---- measures
--- adopted objects and private maps of the same measures
-pub measures_adopted : (objects others : Objects) (a b : Private) → measures_of objects ≡ measures_of others → private_measures a ≡ private_measures b → private_measures (with_adopted objects a) ≡ private_measures (with_adopted others b)
-measures_adopted objects others a b alike same =
-    let seen = same_both (record { visible = a.visible; staged = objects }) (record { visible = b.visible; staged = others }) (λ i. ((same i).0, alike i)) in
+-- what is adopted of objects of the same measures, by private maps of the same
+pub measures_adopted : (objects others : Objects) (names : List ℕ → Bool) (a b : Private) → measures_of objects ≡ measures_of others → private_measures a ≡ private_measures b
+    → private_measures (with_adopted (retain_keys objects names) a) ≡ private_measures (with_adopted (retain_keys others names) b)
+measures_adopted objects others names a b first same =
+    let comes = measures_kept objects names ∙ ap (λ (m : Measures). retain_keys m names) first ∙ sym (measures_kept others names) in
+    let seen = same_both (record { visible = a.visible; staged = retain_keys objects names }) (record { visible = b.visible; staged = retain_keys others names }) (λ i. ((same i).0, comes i)) in
     λ i. (seen i, (same i).1)

@@ -1,27 +1,28 @@
 -- What stands on the store of what a tenant adopts.
-use Rattle.std.proofs.Common.{◌≡◌, ◌⊎◌, inl, inr, ℕ, List, Bool, true, Some, None, length, refl, sym, ap, ◌∙◌}
+use Rattle.std.proofs.Common.{◌≡◌, ◌⊎◌, inl, inr, ℕ, List, Bool, Some, None, cond, length, sym, ap, ◌∙◌}
 use Rattle.std.specs.Prelude.{if◌then◌else◌}
+use Rattle.std.specs.Option.{option_map}
 use Rattle.std.specs.FinMap.{get, retain_keys}
+use Rattle.git_name.specs.declared.kind.Kind.{Kind}
 use Rattle.git_name.specs.Object.{Object}
 use Rattle.git_name.proofs.MapLemmas.{get_joined}
 use Rattle.git_name.proofs.Names.{name_total}
+use Rattle.fork_reach.specs.Objects.{measure_of}
 use Rattle.fork_reach.specs.Source.{Objects}
 use Rattle.ledgers.specs.Adopted.{Fits, IsAlike, offered_words}
 use Rattle.ledgers.specs.Ledgers.{AllWords, ledger_at}
-use Rattle.ledgers.specs.Words.{is_staged, is_visible, shows, waits}
-use Rattle.ledgers.specs.declared.word.Standing.{Standing}
-use Rattle.ledgers.specs.declared.word.Standing.TheVariants.{Visible, Staged, Both}
+use Rattle.ledgers.specs.Words.{is_visible, waits}
 use Rattle.ledgers.specs.declared.word.Word.{Word}
 use Rattle.ledgers.proofs.AdoptLemmas.{offered_at}
 use Rattle.ledgers.proofs.FitLemmas.{offered_word}
 use Rattle.loose_store.specs.Files.{Files}
 use Rattle.loose_store.specs.Stored.{Whole}
-use Rattle.fork_ledger.specs.Private.{Awaits, Holds, Private, Sees, with_adopted}
+use Rattle.fork_ledger.specs.Private.{AreAlike, Awaits, Holds, Private, Sees, both_of, with_adopted}
 use Rattle.fork_ledger.specs.Shown.{object_at, tenants_of}
 use Rattle.fork_ledger.specs.Store.{HoldOne, IsStored}
 use Rattle.fork_ledger.specs.Tenants.{Tenants, at_tenant, private_of}
 use Rattle.fork_ledger.proofs.SeenLemmas.{get_kept}
-use Rattle.fork_ledger.proofs.ShownLemmas.{kind_at, length_at, seen_at, shown_at, staged_at}
+use Rattle.fork_ledger.proofs.ShownLemmas.{both_shown, kind_at, private_shown, length_at, seen_at, shown_at}
 use Rattle.fork_ledger.proofs.StoreLemmas.{one_whole}
 use Rattle.fork_ledger.proofs.StoredLemmas.{either_side, holds_at, kept_was}
 
@@ -47,27 +48,34 @@ stored_adopted tenants to from files names stored = λ tenant name object holds.
     at name object (inl held) = stored to name object held
     at name object (inr comes) = stored from name object (Sees (kept_was (names name) (get (private_of tenants from).visible name) object (sym (get_kept (private_of tenants from).visible names name) ∙ comes)))
 
--- ---- over an honest store what comes fits
-word_holds : (files : Files) (m : AllWords) (t name : List ℕ) (word : Word) → get (ledger_at m t) name ≡ Some word → Holds (private_of (tenants_of files m) t) name (object_at files name word)
-word_holds files m t name word here = by word.standing refl
+-- ---- what comes fits, over an honest store
+held_both : (own : Private) (name : List ℕ) (object : Object) → get (both_of own) name ≡ Some object → Holds own name object
+held_both own name object is = by (either_side (get own.visible name) (get own.staged name) object (sym (get_joined name_total own.visible own.staged name) ∙ is))
   where
-    seen : (b : Bool) → is_visible word ≡ b → b ≡ true → Holds (private_of (tenants_of files m) t) name (object_at files name word)
-    seen b is yes_seen = Sees (seen_at files m t name ∙ ap (shown_at is_visible files name) here ∙ ap (λ b. if b then Some (object_at files name word) else None) (is ∙ yes_seen))
+    by : (get own.visible name ≡ Some object) ⊎ (get own.staged name ≡ Some object) → Holds own name object
+    by (inl seen) = Sees seen
+    by (inr waits) = Awaits waits
 
-    by : (s : Standing) → word.standing ≡ s → Holds (private_of (tenants_of files m) t) name (object_at files name word)
-    by Visible is = seen true (ap shows is) refl
-    by Staged is = Awaits (staged_at files m t name ∙ ap (shown_at is_staged files name) here ∙ ap (λ s. if waits s then Some (object_at files name word) else None) is)
-    by Both is = seen true (ap shows is) refl
-
-same_word : (files : Files) (name : List ℕ) (comes word : Word) → object_at files name word ≡ object_at files name comes → IsAlike comes word
-same_word files name comes word is = record {
-  kind = sym (kind_at files name word) ∙ ap (λ (o : Object). o.kind) is ∙ kind_at files name comes;
-  length = sym (length_at files name word) ∙ ap (λ (o : Object). length o.bytes) is ∙ length_at files name comes;
+same_word : (files : Files) (name : List ℕ) (comes word : Word) → (object_at files name word).kind ≡ (object_at files name comes).kind → length (object_at files name word).bytes ≡ length (object_at files name comes).bytes → IsAlike comes word
+same_word files name comes word kind long = record {
+  kind = sym (kind_at files name word) ∙ kind ∙ kind_at files name comes;
+  length = sym (length_at files name word) ∙ long ∙ length_at files name comes;
 }
 
-pub stored_fits : (files : Files) (m : AllWords) (to from : List ℕ) (names : List ℕ → Bool) → IsStored (tenants_of files m) files → Fits (offered_words names (ledger_at m from)) (ledger_at m to)
-stored_fits files m to from names stored name comes word here there =
+-- objects that are alike are of words that fit
+pub alike_fits : (files : Files) (m : AllWords) (to from : List ℕ) (names : List ℕ → Bool)
+    → AreAlike (retain_keys (private_of (tenants_of files m) from).visible names) (both_of (private_of (tenants_of files m) to)) → Fits (offered_words names (ledger_at m from)) (ledger_at m to)
+alike_fits files m to from names alike name comes word here there =
     let offered = offered_word (names name) (get (ledger_at m from) name) comes (sym (offered_at names (ledger_at m from) name) ∙ here) in
-    let one = hold_one (tenants_of files m) files stored from to name (object_at files name offered.0) (object_at files name word) (word_holds files m from name offered.0 offered.1) (word_holds files m to name word there) in
-    let alike = same_word files name offered.0 word one in
-    record { kind = alike.kind ∙ ap (λ (w : Word). w.kind) offered.4; length = alike.length ∙ ap (λ (w : Word). w.length) offered.4 }
+    let seen = seen_at files m from name ∙ ap (shown_at is_visible files name) offered.1 ∙ ap (λ b. if b then Some (object_at files name offered.0) else None) offered.3 in
+    let shown = get_kept (private_of (tenants_of files m) from).visible names name ∙ (λ i. cond (offered.2 i) (seen i) None) in
+    let own = ap (λ (own : Private). get (both_of own) name) (private_shown files m to) ∙ both_shown files (ledger_at m to) name ∙ ap (option_map (object_at files name)) there in
+    let same = alike name (object_at files name offered.0) (object_at files name word) shown own in
+    let is = same_word files name offered.0 word (ap (λ (p : Kind × ℕ). p.0) same) (ap (λ (p : Kind × ℕ). p.1) same) in
+    record { kind = is.kind ∙ ap (λ (w : Word). w.kind) offered.4; length = is.length ∙ ap (λ (w : Word). w.length) offered.4 }
+
+-- so do those of objects that stand whole
+pub stored_alike : (tenants : Tenants) (files : Files) (to from : List ℕ) (names : List ℕ → Bool) → IsStored tenants files → AreAlike (retain_keys (private_of tenants from).visible names) (both_of (private_of tenants to))
+stored_alike tenants files to from names stored name object other here there =
+    let seen = kept_was (names name) (get (private_of tenants from).visible name) object (sym (get_kept (private_of tenants from).visible names name) ∙ here) in
+    ap measure_of (hold_one tenants files stored from to name object other (Sees seen) (held_both (private_of tenants to) name other there))

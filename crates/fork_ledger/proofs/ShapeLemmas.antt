@@ -71,7 +71,7 @@ kept_mapped : (b : Bool) (o : Option Object) → option_map measure_of (cond b o
 kept_mapped true o = refl
 kept_mapped false o = refl
 
-measures_kept : (objects : Objects) (test : List ℕ → Bool) → measures_of (retain_keys objects test) ≡ retain_keys (measures_of objects) test
+pub measures_kept : (objects : Objects) (test : List ℕ → Bool) → measures_of (retain_keys objects test) ≡ retain_keys (measures_of objects) test
 measures_kept objects test = same_map name_total name_exact _ _ (λ q.
     get_map_values name_total measure_of (retain_keys objects test) q ∙ ap (option_map measure_of) (get_kept objects test q) ∙ kept_mapped (test q) (get objects q)
     ∙ ap (λ o. cond (test q) o None) (sym (get_map_values name_total measure_of objects q))

@@ -7,7 +7,7 @@ use Rattle.git_name.specs.declared.kind.Kind.{Kind}
 use Rattle.git_name.specs.Maps.{joined}
 use Rattle.git_name.specs.Object.{Object, object_name}
 use Rattle.git_name.specs.contracts.sealed.Sealed as sealed
-use Rattle.fork_reach.specs.Objects.{Measures, measures_of}
+use Rattle.fork_reach.specs.Objects.{Measures, measure_of, measures_of}
 use Rattle.fork_reach.specs.Source.{Objects}
 use Rattle.fork_ledger.specs.declared.held.Held.{Held}
 
@@ -55,6 +55,10 @@ with_adopted objects own = record { visible = joined own.visible objects; staged
 -- each of the first objects is among the others, under its name
 abbrev pub AreAmong : Objects → Objects → Type 0
 AreAmong some all = (name : List ℕ) (object : Object) → get some name ≡ Some object → get all name ≡ Some object
+
+-- objects that stand under one name in both are of one kind and length
+abbrev pub AreAlike : Objects → Objects → Type 0
+AreAlike objects others = (name : List ℕ) (object other : Object) → get objects name ≡ Some object → get others name ≡ Some other → measure_of other ≡ measure_of object
 
 -- whether the tenant has an object of this name
 abbrev pub is_held_by : Private → List ℕ → Bool

@@ -18,7 +18,7 @@ ghost use Rattle.fork_ledger.specs.AllStaged.{MeetsAmong, StoresAmong, with_all_
 ghost use Rattle.fork_ledger.specs.Checked.{WasAsked};
 ghost use Rattle.fork_ledger.specs.Harms.{AreFound};
 ghost use Rattle.fork_ledger.specs.Kept.{IsExact, TakesAway};
-ghost use Rattle.fork_ledger.specs.Private.{AreAmong, both_of, held_in, with_adopted, with_discarded, with_kept, with_published, with_staged};
+ghost use Rattle.fork_ledger.specs.Private.{AreAlike, AreAmong, both_of, held_in, with_adopted, with_discarded, with_kept, with_published, with_staged};
 ghost use Rattle.fork_ledger.specs.Store.{AsksStore, HoldOne, IsOver, LeavesStore, Meets, Recalls, StoresAlone};
 ghost use Rattle.fork_ledger.specs.Swept.{IsAccounted};
 ghost use Rattle.fork_ledger.specs.Taken.{is_taken};
@@ -245,15 +245,12 @@ impl<S: LooseFiles> Vault<S> {
         None
     }
 
-    /// The places of the parents of the commit at a place, in their order, if a tenant sees the commit.
+    /// The places of the parents of the commit at a place, which a tenant sees, in their order.
     pub fn parent_places(&self, tenant: &TenantName, place: usize) -> &[usize]
-        ensures names { is_some (seen_name (private_of self.now.tenants tenant.now).visible self.now.commits place) ≡ true → map_list (name_at self.now.commits) result.now ≡ parents_at self.now.commits place }
+        requires seen { is_some (seen_name (private_of self.now.tenants tenant.now).visible self.now.commits place) ≡ true }
+        ensures names { map_list (name_at self.now.commits) result.now ≡ parents_at self.now.commits place }
         ensures before { AllByRecursion (λ parent. parent < place) result.now }
-        ensures hidden { is_some (seen_name (private_of self.now.tenants tenant.now).visible self.now.commits place) ≡ false → result.now ≡ [] }
     {
-        let Some(_) = self.commit_at(tenant, place) else {
-            return &[];
-        };
         self.graph.parents(place)
     }
 
@@ -415,8 +412,9 @@ impl<S: LooseFiles> Vault<S> {
     }
 
     /// A tenant comes to see the objects of these names that another one sees, beside those that it sees.
-    /// What it has staged stays. All or none, in linear time of the names. It asks no store. Where the tenant
-    /// has an object of one of the names that is of another kind or length it is told as damaged.
+    /// What it has staged stays. All or none, in linear time of the names; it asks no store. Where the
+    /// tenant has an object of one of these names that is of another kind or length, that is told as
+    /// damaged.
     pub fn adopt(
         &mut self,
         alloc: Global,
@@ -432,6 +430,7 @@ impl<S: LooseFiles> Vault<S> {
         ensures err { OnErr result (self.new.tenants ≡ self.old.tenants) }
         ensures store { LeavesStore self.old self.new }
         ensures cause { IfErr result (λ fault. (fault ≡ VaultFault.Memory) ⊎ (fault ≡ VaultFault.Damaged)) }
+        ensures damaged { IfErr result (λ fault. fault ≡ VaultFault.Damaged → AreAlike (map.retain_keys (private_of self.old.tenants from.now).visible (contains same_name names.now)) (both_of (private_of self.old.tenants to.now)) → ⊥) }
     {
         if !self.holdings.fits(to, from, names) {
             return Err(VaultFault::Damaged);

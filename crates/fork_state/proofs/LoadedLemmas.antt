@@ -28,16 +28,21 @@ use Rattle.fork_reach.specs.Objects.{use_of}
 use Rattle.fork_reach.specs.Source.{Objects, kind_in}
 use Rattle.fork_reach.proofs.NameLemmas.{Contains-keys}
 use Rattle.fork_sound.specs.Sound.{is_bad, is_bad_found, is_other, is_unmet}
-use Rattle.fork_model.specs.Sound.{AreReferences, IsMet, IsSound, IsSoundWorld}
+use Rattle.fork_model.specs.Offer.{Offer as Made, Pair}
+use Rattle.fork_model.specs.Sound.{AreReferences, IsMet, IsReach, IsSound, IsSoundWorld}
 use Rattle.fork_model.specs.View.{View}
 use Rattle.fork_model.specs.World.{World}
 use Rattle.fork_model.specs.Answer.{without_upload}
-use Rattle.state_text.specs.Kept.{state_kept, states_of}
+use Rattle.fork_model.proofs.EntryLemmas.{each_made, pair_exact, pair_total}
+use Rattle.state_text.specs.Kept.{offer_kept, state_kept, states_of}
+use Rattle.state_text.specs.Offer.{Offer}
 use Rattle.state_text.specs.States.{States, TenantState}
 use Rattle.state_text.specs.Text.{IsStateText2}
 use Rattle.state_text.proofs.VersionLemmas.{one_value}
-use Rattle.fork_host.specs.Restored.{AreOnStore, ByLimit, ByObject, ByTarget, IsStoreOrMemory, AllBefore, AreRefused, IsShownAgain, WantsMemory, WantsStore, first_astray, first_bad, is_bad_target, references_in, without_offers, HasWorld}
+use Rattle.fork_host.specs.Restored.{AreOnStore, ByLimit, ByObject, ByTarget, IsStoreOrMemory, AllBefore, AreRefused, IsShownAgain, WantsMemory, WantsStore, first_astray, first_bad, is_bad_target, references_in, repositories_in, HasWorld}
 use Rattle.fork_host.specs.declared.restore_error.RestoreError.{RestoreError}
+use Rattle.fork_host.specs.Made.{made_shown}
+use Rattle.fork_host.proofs.MadeLemmas.{same_told, shown_reach}
 use Rattle.fork_host.proofs.RecallLemmas.{one_whole}
 use Rattle.fork_host.proofs.RestoreLemmas.{one_of}
 use Rattle.fork_host.specs.Uploads.{without_uploads}
@@ -67,6 +72,7 @@ record Fine (files : Files) (tenant : TenantState) : Type 0 where
   pub view : View
   pub seen : tenant.seen ≡ keys view.objects
   pub repositories : tenant.repositories ≡ entries view.repositories
+  pub offers : tenant.offers ≡ map offer_kept (entries view.made)
   pub limit : tenant.limit ≡ view.limit
   pub sound : IsSound view
   pub whole : (name : List ℕ) (object : Object) → get view.objects name ≡ Some object → Whole files name object
@@ -87,6 +93,7 @@ fine_world files world sound has =
       view = view;
       seen = refl;
       repositories = refl;
+      offers = refl;
       limit = refl;
       sound = record { orderly = sound.orderly.views name view here; right = sound.right name view here };
       whole = λ key object found. has name view key object here found;
@@ -150,11 +157,14 @@ none_bad files tenant fine =
     all_met (link ∷ links) met = (met_link fine.view.objects tenant.seen link fine.seen met.0, all_met links met.1)
 
 -- none of the references is astray
-none_in : (bad : List ℕ × List ℕ → Bool) (list : List (List ℕ × Repository)) → ((name : List ℕ) (repository : Repository) → Contains list (name, repository) → find bad (references_in (name, repository)) ≡ None) → find bad (flat_map references_in list) ≡ None
+none_in : (bad : List ℕ × List ℕ → Bool) (list : List Repository) → AllByRecursion (λ repository. find bad (references_in repository) ≡ None) list → find bad (flat_map references_in list) ≡ None
 none_in bad [] none = refl
 none_in bad (r ∷ list) none =
-    find-append bad (references_in r) (flat_map references_in list) ∙ ap (λ o. option_or o (find bad (flat_map references_in list))) (none r.0 r.1 (first r list))
-    ∙ none_in bad list (λ name repository is. none name repository (later r list (name, repository) is))
+    find-append bad (references_in r) (flat_map references_in list) ∙ ap (λ o. option_or o (find bad (flat_map references_in list))) none.0 ∙ none_in bad list none.1
+
+both_all : {A : Type 0} (P : A → Type 0) (xs ys : List A) → AllByRecursion P xs → AllByRecursion P ys → AllByRecursion P (xs ++ ys)
+both_all P [] ys all others = others
+both_all P (x ∷ xs) ys all others = (all.0, both_all P xs ys all.1 others)
 
 good_target : (objects : Objects) (references : References) (reference target : List ℕ) → AreReferences objects references → get references reference ≡ Some target → is_bad_target (kind_in objects) (reference, target) ≡ false
 good_target objects references reference target are here =
@@ -169,12 +179,28 @@ good_target objects references reference target are here =
     by true is commit = ap not (commit is)
     by false is commit = refl
 
-none_astray : (files : Files) (tenant : TenantState) (fine : Fine files tenant) → first_astray tenant.repositories fine.view.objects ≡ None
+-- of references that a repository may have
+none_of : (objects : Objects) (references : References) → AreReferences objects references → find (is_bad_target (kind_in objects)) (entries references) ≡ None
+none_of objects references are =
+    none_found (is_bad_target (kind_in objects)) (entries references) (λ entry among. good_target objects references entry.0 entry.1 are (of_entry references entry.0 entry.1 among))
+
+made_told : (made : List (Pair × Made)) → map (λ (offer : Offer). offer.repository) (map offer_kept made) ≡ map (λ e. e.1.repository) made
+made_told [] = refl
+made_told (e ∷ es) = ap (λ rs. e.1.repository ∷ rs) (made_told es)
+
+-- its references point at objects that are there, and branches at commits
+abbrev IsRightAt : Objects → Repository → Type 0
+IsRightAt objects repository = find (is_bad_target (kind_in objects)) (references_in repository) ≡ None
+
+none_astray : (files : Files) (tenant : TenantState) (fine : Fine files tenant) → first_astray (repositories_in tenant) fine.view.objects ≡ None
 none_astray files tenant fine =
-    none_in (is_bad_target (kind_in fine.view.objects)) tenant.repositories (λ name repository is.
-    let here = of_entry fine.view.repositories name repository (subst (λ es. Contains es (name, repository)) fine.repositories is) in
-    none_found (is_bad_target (kind_in fine.view.objects)) (entries repository.references)
-    (λ entry among. good_target fine.view.objects repository.references entry.0 entry.1 (fine.sound.orderly.references name repository here) (of_entry repository.references entry.0 entry.1 among)))
+    let objects = fine.view.objects in
+    let orderly = fine.sound.orderly in
+    none_in (is_bad_target (kind_in objects)) (repositories_in tenant)
+    (both_all (IsRightAt objects) (map (λ row. row.1) tenant.repositories) (map (λ (offer : Offer). offer.repository) tenant.offers)
+    (subst (λ rows. AllByRecursion (IsRightAt objects) (map (λ row. row.1) rows)) (sym fine.repositories) (each_made name_total name_exact (IsRightAt objects) (λ e. e.1) fine.view.repositories (λ name repository is. none_of objects repository.references (orderly.references name repository is))))
+    (subst (AllByRecursion (IsRightAt objects)) (sym (made_told (entries fine.view.made)) ∙ ap (map (λ (offer : Offer). offer.repository)) (sym fine.offers))
+    (each_made pair_total pair_exact (IsRightAt objects) (λ e. e.1.repository) fine.view.made (λ pair offer is. none_of objects offer.repository.references (orderly.offers pair offer is).references))))
 
 none_some : {A : Type 0} (o : Option A) (a : A) (G : Type 0) → o ≡ None → o ≡ Some a → G
 none_some o a G none some = absurd (cc (sym none ∙ some))
@@ -187,7 +213,7 @@ accepts world files error sound has (ByObject tenant name told at against tells)
 accepts world files error sound has (ByTarget tenant reference target all at against) =
     let fine = fine_at _ files (states_of world) tenant (fine_world files world sound has) at in
     let same = same_objects files against.objects fine.view.objects tenant.seen against.stored fine.seen fine.whole in
-    none_some (first_astray tenant.repositories fine.view.objects) (reference, target) _ (none_astray files tenant fine) (ap (first_astray tenant.repositories) (sym same) ∙ against.is)
+    none_some (first_astray (repositories_in tenant) fine.view.objects) (reference, target) _ (none_astray files tenant fine) (ap (first_astray (repositories_in tenant)) (sym same) ∙ against.is)
 accepts world files error sound has (ByLimit tenant all targets at against) =
     let fine = fine_at _ files (states_of world) tenant (fine_world files world sound has) at in
     let same = same_objects files against.objects fine.view.objects tenant.seen against.stored fine.seen fine.whole in
@@ -199,15 +225,19 @@ accepts world files error sound has (ByLimit tenant all targets at against) =
 accepts world files error sound has WantsMemory = inr refl
 accepts world files error sound has WantsStore = inl refl
 
+-- each offer holds what its references reach
+abbrev EachReach : View → Type 0
+EachReach view = (pair : Pair) (offer : Made) → get view.made pair ≡ Some offer → IsReach view.objects offer
+
 -- entries of the same states
 same_rows : (files : Files) (es fs : List (List ℕ × View)) → map state_kept es ≡ map state_kept fs → ((name : List ℕ) (view : View) → Contains es (name, view) → view.upload ≡ None)
     → ((name : List ℕ) (view : View) (key : List ℕ) (object : Object) → Contains es (name, view) → get view.objects key ≡ Some object → Whole files key object)
     → ((name : List ℕ) (view : View) (key : List ℕ) (object : Object) → Contains fs (name, view) → get view.objects key ≡ Some object → Whole files key object)
-    → es ≡ map (λ e. (e.0, without_upload e.1)) fs
-same_rows files [] [] same quiet left right = refl
-same_rows files [] (f ∷ fs) same quiet left right = absurd (cc)
-same_rows files (e ∷ es) [] same quiet left right = absurd (cc)
-same_rows files (e ∷ es) (f ∷ fs) same quiet left right =
+    → ((name : List ℕ) (view : View) → Contains es (name, view) → EachReach view) → ((name : List ℕ) (view : View) → Contains fs (name, view) → EachReach view) → es ≡ map (λ e. (e.0, without_upload e.1)) fs
+same_rows files [] [] same quiet left right reach reaches = refl
+same_rows files [] (f ∷ fs) same quiet left right reach reaches = absurd (cc)
+same_rows files (e ∷ es) [] same quiet left right reach reaches = absurd (cc)
+same_rows files (e ∷ es) (f ∷ fs) same quiet left right reach reaches =
     let head : state_kept e ≡ state_kept f = cc in
     let tail : map state_kept es ≡ map state_kept fs = cc in
     let names = ap (λ t. t.name) head in
@@ -215,9 +245,11 @@ same_rows files (e ∷ es) (f ∷ fs) same quiet left right =
     let repositories = same_entries_map e.1.repositories f.1.repositories (ap (λ t. t.repositories) head) in
     let seen = ap (λ t. t.seen) head in
     let objects = same_objects files e.1.objects f.1.objects (keys e.1.objects) (itself e.1.objects (λ key object. left e.0 e.1 key object (first e es))) seen (λ key object. right f.0 f.1 key object (first f fs)) in
+    let made = sym (shown_reach e.1.objects e.1.made (reach e.0 e.1 (first e es))) ∙ (λ i. made_shown (objects i) (same_told e.1.made f.1.made (ap (λ t. t.offers) head) i)) ∙ shown_reach f.1.objects f.1.made (reaches f.0 f.1 (first f fs)) in
     let upload = quiet e.0 e.1 (first e es) in
-    (λ i. (names i, record { repositories = repositories i; objects = objects i; upload = upload i; limit = limits i })
-    ∷ same_rows files es fs tail (λ name view is. quiet name view (later e es (name, view) is)) (λ name view key object is. left name view key object (later e es (name, view) is)) (λ name view key object is. right name view key object (later f fs (name, view) is)) i)
+    (λ i. (names i, record { repositories = repositories i; made = made i; objects = objects i; upload = upload i; limit = limits i })
+    ∷ same_rows files es fs tail (λ name view is. quiet name view (later e es (name, view) is)) (λ name view key object is. left name view key object (later e es (name, view) is)) (λ name view key object is. right name view key object (later f fs (name, view) is))
+    (λ name view is. reach name view (later e es (name, view) is)) (λ name view is. reaches name view (later f fs (name, view) is)) i)
   where
     itself : (objects : Objects) → ((key : List ℕ) (object : Object) → get objects key ≡ Some object → Whole files key object) → AreOnStore files (keys objects) objects
     itself objects whole = record {
@@ -226,18 +258,15 @@ same_rows files (e ∷ es) (f ∷ fs) same quiet left right =
       all = λ name object is stored. let found = there objects name is in found.1 ∙ ap Some (one_whole files name found.0 object (whole name found.0 found.1) stored);
     }
 
--- a world has no offers that could be left out
-all_told : (es : List (List ℕ × View)) → map without_offers (map state_kept es) ≡ map state_kept es
-all_told [] = refl
-all_told (e ∷ es) = ap (λ states. state_kept e ∷ states) (all_told es)
-
 pub shows : (world new : World) (files : Files) → IsSoundWorld world → HasWorld files world → IsShownAgain files (states_of world) new → new ≡ without_uploads world
 shows world new files sound has shown =
     same_entries_map new (without_uploads world)
-    (same_rows files (entries new) (entries world) (shown.states ∙ all_told (entries world))
+    (same_rows files (entries new) (entries world) shown.states
     (λ name view is. shown.quiet name view (of_entry new name view is))
     (λ name view key object is. shown.whole name view key object (of_entry new name view is))
     (λ name view key object is. has name view key object (of_entry world name view is))
+    (λ name view is pair offer. shown.reach name view pair offer (of_entry new name view is))
+    (λ name view is. (sound.right name view (of_entry world name view is)).offered)
     ∙ sym (entries_map_values without_upload world))
 
 -- its text tells of that world alone

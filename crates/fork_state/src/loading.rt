@@ -10,7 +10,7 @@ use state_text::{StateFault, read};
 use std::alloc::Global;
 
 /// The host of this state, over the store that holds its objects. The text is of either version, and is
-/// judged first, whatever the store does, then what it tells. Offers are not kept yet.
+/// judged first, whatever the store does, then what it tells.
 pub fn load<S: LooseFiles + Drop>(
     alloc: Global,
     text: &[u8],

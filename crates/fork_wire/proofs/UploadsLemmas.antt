@@ -113,13 +113,13 @@ served_both old mid new frames first others parts replies run fine other = recor
 
 -- a view of which no upload is open
 closed_still : (view : View) → view.upload ≡ None → without_upload view ≡ view
-closed_still view none = λ i. (let is = sym none in record { repositories = view.repositories; objects = view.objects; upload = is i; limit = view.limit })
+closed_still view none = λ i. (let is = sym none in record view { upload = is i })
 
 -- and one of which one is, as it was opened
 opened_view : (view : View) (upload : UploadValue) (bytes : List ℕ) → view.upload ≡ Some upload → upload_of bytes ≡ upload → with_upload (without_upload view) bytes ≡ view
 opened_view view upload bytes open_is stands =
     let is = ap Some stands ∙ sym open_is in
-    λ i. record { repositories = view.repositories; objects = view.objects; upload = is i; limit = view.limit }
+    λ i. record view { upload = is i }
 
 -- the next tenant has no open upload, or its upload is opened first; those behind it are opened then
 one_more : (world now : World) (t : List ℕ) (view : View) (names : List (List ℕ)) (uploads : List (List ℕ × UploadValue)) (frames : List Frame) (o : Option UploadValue) → view.upload ≡ o → get world t ≡ Some view

@@ -17,7 +17,8 @@ use git_name::{Hashing, Name};
 use indexmap::IndexSet;
 use std::alloc::{AllocError, Global};
 
-// Whether what another tenant sees under these names is of the kinds and lengths that a tenant knows of them.
+// Whether what another tenant sees under these names is of the kinds and lengths that a tenant knows of
+// them.
 pub(crate) fn fits_in(
     ledgers: &Ledgers,
     to: &TenantName,

@@ -28,7 +28,8 @@ fn put(words: &mut IndexMap<Name, Word, Hashing>, name: Name, word: Word)
     };
 }
 
-// What a word adds to the totals of what is seen and of all, where its ledger said this of its name before.
+// What a word adds to the totals of what is seen and of all, where the ledger said this of its name
+// before.
 fn count(used: &mut u128, total: &mut u128, before: Option<Word>, word: Word)
     ensures used { used.new ≡ capped (used.old + shown_more before word) }
     ensures total { total.new ≡ capped (total.old + held_more before word) }
@@ -44,7 +45,8 @@ fn if_not(counted: bool, size: u128) -> u128
     if counted { 0 } else { size }
 }
 
-// The object of an entry comes to be seen, and its ledger is counted among the holders where it had no word of it. It takes no memory.
+// The object of an entry comes to be seen, and the ledger is counted among the holders where it had no
+// word of it. It takes no memory.
 fn see_one(
     words: &mut IndexMap<Name, Word, Hashing>,
     catalogue: &mut Catalogue,

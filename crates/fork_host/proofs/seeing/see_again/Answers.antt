@@ -69,7 +69,7 @@ returns-in-Ok-judge_seen-clause-ok g c =
     let tenant = c.recall_all.ensures.same.tenant in
     let stored = stored_of first mid state.seen told in
     let none = λ (h : IsTrue first.vault.now.honest). sym (bad_by set state.seen objects keys) ∙ ap (bad_in set) (sym (seen_of first mid state.seen c.requires.nothing tenant told h))
-        ∙ judged.sound (read_of first mid state.seen set c.args.readings.now c.requires.nothing tenant told keys c.requires.read h) in
+    ∙ judged.sound (read_of first mid state.seen set c.args.readings.now c.requires.nothing tenant told keys c.requires.read h) in
     record {
       objects = objects;
       changes = changes;

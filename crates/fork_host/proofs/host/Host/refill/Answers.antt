@@ -106,10 +106,18 @@ invariant_of-self-in-Err-see_in g c =
 
 pub returns-in-Ok-see_in-clause-judged : goal.returns-in-Ok-see_in-clause-judged
 returns-in-Ok-see_in-clause-judged g c = λ trusted.
+    let tenant = c.args.state.now in
     let old = state_of c.self.inside.accounts c.self.inside.vault in
     let new = state_of c.settle.new.self c.see_in.new.vault in
-    subst (λ (s : HostState). IsRefilledIn s.vault.files c.args.state.now (world_of s) (world_of new)) c.self.view_is
-    (refilled_in old new c.args.state.now c.in-Ok.gathered c.in-Ok-gather.made (set_to g c) (c.in-Ok.ensures ∙ c.repositories.ensures) (c.in-Ok-gather.ensures ∙ ap (mapped entry_of) c.offers.ensures) (ap (λ s. s.vault.honest) c.self.view_is ∙ trusted) (restored_to g c))
+    let repositories = c.in-Ok.gathered in
+    let made = c.in-Ok-gather.made in
+    let gathered = c.in-Ok.ensures ∙ c.repositories.ensures in
+    let offers = c.in-Ok-gather.ensures ∙ ap (mapped entry_of) c.offers.ensures in
+    let honest = ap (λ s. s.vault.honest) c.self.view_is ∙ trusted in
+    let restored = restored_to g c in
+    let orderly = orderly_refilled tenant.name tenant repositories made old.vault new.vault c.name-name.ensures.sound gathered offers restored in
+    subst (λ (s : HostState). IsRefilledIn s.vault.files tenant (world_of s) (world_of new)) c.self.view_is
+    (refilled_in old new tenant repositories made (set_to g c) gathered offers honest (right_refilled tenant.name tenant repositories made old.vault new.vault honest orderly restored) restored)
 
 pub returns-in-Ok-see_in-clause-keys : goal.returns-in-Ok-see_in-clause-keys
 returns-in-Ok-see_in-clause-keys g c =

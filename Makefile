@@ -1,0 +1,43 @@
+# Installs what .ci/run built: make install [PREFIX=/usr/local] [DESTDIR=] [PROGRAM=PATH] [PYTHON=/usr/bin/python3].
+PREFIX ?= /usr/local
+PROGRAM ?= crates/forkhost/out/forkhost
+PYTHON ?= /usr/bin/python3
+
+BINDIR = $(PREFIX)/bin
+LIBDIR = $(PREFIX)/lib/forkhost
+MANDIR = $(PREFIX)/share/man
+UNITDIR = $(PREFIX)/lib/systemd/system
+USERDIR = $(PREFIX)/lib/sysusers.d
+COMPLETIONS = $(PREFIX)/share/bash-completion/completions
+CLIENTS = forkhost-ask forkhost-door forkhost-shell forkhost-http git-remote-forkhost
+MODULES = forkhost_client forkhost_front
+HOOKS = forkhost_front/hooks
+
+.PHONY: all install uninstall
+
+all:
+	@echo "build by .ci/run or rt, and then: make install"
+
+install:
+	@test -x "$(PROGRAM)" || { echo "$(PROGRAM) is not there; build it, or name another one by PROGRAM=" >&2; exit 1; }
+	install -d "$(DESTDIR)$(BINDIR)" "$(DESTDIR)$(LIBDIR)/$(HOOKS)" $(MODULES:%="$(DESTDIR)$(LIBDIR)/%")
+	install -m 755 "$(PROGRAM)" "$(DESTDIR)$(BINDIR)/forkhost"
+	for module in $(MODULES); do install -m 644 clients/$$module/*.py "$(DESTDIR)$(LIBDIR)/$$module/" || exit 1; done
+	install -m 755 $(CLIENTS:%=clients/%) "$(DESTDIR)$(LIBDIR)/"
+	install -m 755 clients/$(HOOKS)/* "$(DESTDIR)$(LIBDIR)/$(HOOKS)/"
+	sed -i '1s|^#!/usr/bin/python3|#!$(PYTHON)|' $(CLIENTS:%="$(DESTDIR)$(LIBDIR)/%") "$(DESTDIR)$(LIBDIR)/$(HOOKS)/proc-receive"
+	for client in $(CLIENTS); do ln -sf ../lib/forkhost/$$client "$(DESTDIR)$(BINDIR)/$$client" || exit 1; done
+	$(PYTHON) -m compileall -q -s "$(DESTDIR)" "$(DESTDIR)$(LIBDIR)"
+	$(PYTHON) install/manual "$(DESTDIR)$(MANDIR)"
+	install -d "$(DESTDIR)$(UNITDIR)" "$(DESTDIR)$(USERDIR)" "$(DESTDIR)$(COMPLETIONS)"
+	sed 's|@BINDIR@|$(BINDIR)|' install/forkhost.service > "$(DESTDIR)$(UNITDIR)/forkhost.service"
+	install -m 644 install/forkhost.sysusers "$(DESTDIR)$(USERDIR)/forkhost.conf"
+	install -m 644 install/completion "$(DESTDIR)$(COMPLETIONS)/forkhost"
+	ln -sf forkhost "$(DESTDIR)$(COMPLETIONS)/forkhost-ask"
+
+uninstall:
+	rm -rf "$(DESTDIR)$(LIBDIR)"
+	rm -f "$(DESTDIR)$(BINDIR)/forkhost" $(CLIENTS:%="$(DESTDIR)$(BINDIR)/%")
+	rm -f "$(DESTDIR)$(UNITDIR)/forkhost.service" "$(DESTDIR)$(USERDIR)/forkhost.conf"
+	rm -f "$(DESTDIR)$(COMPLETIONS)/forkhost" "$(DESTDIR)$(COMPLETIONS)/forkhost-ask"
+	rm -f "$(DESTDIR)$(MANDIR)"/man1/forkhost*.1 "$(DESTDIR)$(MANDIR)/man1/git-remote-forkhost.1" "$(DESTDIR)$(MANDIR)"/man7/forkhost*.7

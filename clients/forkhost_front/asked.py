@@ -1,0 +1,67 @@
+"""What a user asks for over SSH: a program of Git's and a repository, or words of one request."""
+import re
+import shlex
+from typing import List, NamedTuple, Optional
+
+from forkhost_client.address import REPOSITORY
+from forkhost_client.faults import Fatal
+
+# Git's server programs, and their words behind `git`.
+READ, WRITE, ARCHIVE = "git-upload-pack", "git-receive-pack", "git-upload-archive"
+PROGRAMS = {READ: "upload-pack", WRITE: "receive-pack"}
+# Requests that are asked by hand, with the number of their words; none stands for one or more.
+BY_HAND = {"init": 1, "drop": 1, "fork": 2, "head": 1, "set-head": 2, "quota": 0, "prune": 0, "for-each-ref": None}
+BY_HAND |= {"cat-file": 1, "ls-tree": 1, "rev-list": None, "merge-base": 3}
+# Their words begin with an object.
+OF_OBJECTS = ("cat-file", "ls-tree")
+NAME = re.compile(rf"/*({REPOSITORY})(?:\.git)?/*")
+USAGE = "ask by 'git clone', 'git fetch' or 'git push', or for one of: " + ", ".join(BY_HAND)
+
+
+class Asked(NamedTuple):
+    word: str
+    rest: List[str]
+
+    def is_git(self) -> bool:
+        return self.word in PROGRAMS
+
+    def repository(self) -> Optional[str]:
+        """The repository that the words begin with, as far as it is a name."""
+        found = NAME.fullmatch(self.rest[0]) if self.rest and self.word not in OF_OBJECTS else None
+        return found[1] if found else None
+
+
+def read_asked(text: str) -> Asked:
+    """`git upload-pack` is `git-upload-pack`. Raises `Fatal` where it is nothing that is done here."""
+    try:
+        words = shlex.split(text)
+    except ValueError as fault:
+        raise Fatal("the command's quotes do not end") from fault
+    if words[:1] == ["git"] and words[1:]:
+        words[:2] = ["git-" + words[1]]
+    if not words:
+        raise Fatal(f"there is no shell here; {USAGE}")
+    asked = Asked(words[0], words[1:])
+    if asked.word == ARCHIVE:
+        raise Fatal(f"{ARCHIVE} is not served; clone the repository, and run 'git archive' there")
+    if asked.is_git():
+        judge_repository(asked)
+    else:
+        judge_by_hand(asked)
+    return asked
+
+
+def judge_repository(asked: Asked) -> None:
+    if len(asked.rest) != 1 or not asked.repository():
+        shown = " ".join(asked.rest)
+        raise Fatal(f"'{shown}' is no repository's name, which has letters a to z, digits, '-' and '_'")
+
+
+def judge_by_hand(asked: Asked) -> None:
+    if asked.word not in BY_HAND:
+        raise Fatal(f"'{asked.word}' is not done here; {USAGE}")
+    count = BY_HAND[asked.word]
+    if count is not None and len(asked.rest) != count:
+        raise Fatal(f"'{asked.word}' takes {count} words")
+    if any(not word or " " in word or "\n" in word for word in asked.rest):
+        raise Fatal("no word holds a space or a line feed")

@@ -1,0 +1,31 @@
+"""One request of a tenant by hand, and what becomes of its caches by it."""
+from typing import BinaryIO
+
+from forkhost_client.connection import Connection
+
+from .asked import Asked
+from .cache import waiting
+from .caches import places_of, remove
+from .log import Entry
+from .settings import Settings
+
+PIECE = 1 << 16
+
+
+def ask(settings: Settings, asked: Asked, entry: Entry, sink: BinaryIO) -> None:
+    """The data of the reply goes to the sink."""
+    with Connection(settings.socket, entry.tenant, waiting) as connection:
+        data = connection.ask(" ".join([asked.word, *asked.rest]))
+        while data.left:
+            piece = data.read(min(data.left, PIECE))
+            sink.write(piece)
+            entry.bytes += len(piece)
+    sink.flush()
+    forget(settings, asked, entry.tenant)
+
+
+def forget(settings: Settings, asked: Asked, tenant: str) -> None:
+    """What is dropped has no cache any more; what was pruned may be in any."""
+    for place in places_of(settings, tenant):
+        if asked.word == "prune" or (asked.word == "drop" and place.name == asked.rest[0]):
+            remove(settings, place, asked.word)

@@ -1,0 +1,54 @@
+"""All caches of a front end: together they have a bound in bytes, and those that were used least recently go."""
+import os
+from typing import Iterator, NamedTuple
+
+from . import seal
+from .cache import Cache
+from .settings import Settings
+
+USED = ".use"
+
+
+class Place(NamedTuple):
+    # Nanoseconds since 1970.
+    used: int
+    tenant: str
+    name: str
+
+
+def places(settings: Settings) -> Iterator[Place]:
+    for tenant in os.scandir(settings.caches):
+        if tenant.is_dir():
+            yield from places_of(settings, tenant.name)
+
+
+def places_of(settings: Settings, tenant: str) -> Iterator[Place]:
+    folder = os.path.join(settings.caches, tenant)
+    for entry in os.scandir(folder) if os.path.isdir(folder) else ():
+        if entry.name.endswith(USED):
+            yield Place(entry.stat().st_mtime_ns, tenant, entry.name[: -len(USED)])
+
+
+def size(settings: Settings, place: Place) -> int:
+    return seal.size(os.path.join(settings.caches, place.tenant, place.name))
+
+
+def remove(settings: Settings, place: Place, why: str) -> bool:
+    """Whether it is gone; one that somebody uses stays."""
+    cache = Cache(settings, place.tenant, place.name)
+    is_gone = cache.try_remove()
+    if is_gone:
+        cache.tell("removed", why)
+    return is_gone
+
+
+def make_room(settings: Settings) -> None:
+    """Removes what was used least recently, until the rest keeps within the bound."""
+    found = sorted(places(settings))
+    sizes = {place: size(settings, place) for place in found}
+    total = sum(sizes.values())
+    for place in found:
+        if total <= settings.bytes:
+            return
+        if remove(settings, place, f"all caches have {total} bytes, of {settings.bytes}"):
+            total -= sizes[place]

@@ -1,0 +1,19 @@
+"""The folders of the caches: one for each tenant, open to nobody else."""
+import os
+
+from forkhost_client.faults import Fatal
+
+OPEN_TO_OTHERS = 0o077
+
+
+def own_folder(path: str) -> str:
+    """Makes the folder where it is not there."""
+    try:
+        os.mkdir(path, 0o700)
+    except FileExistsError:
+        pass
+    except OSError as fault:
+        raise Fatal(f"can not make the folder '{path}': {fault.strerror or fault}") from fault
+    if os.stat(path).st_mode & OPEN_TO_OTHERS:
+        raise Fatal(f"the folder '{path}' is open to others")
+    return path

@@ -1,0 +1,47 @@
+"""The log: one line a request, and one for what becomes of a cache. It never has an object's content."""
+import os
+import time
+
+from forkhost_client.progress import say
+
+# What stands where there is nothing to tell.
+NOTHING = "-"
+
+
+def now() -> str:
+    return time.strftime("%Y-%m-%dT%H:%M:%SZ", time.gmtime())
+
+
+class Log:
+    """Lines at the end of a file, each written at once; nothing where no file is set."""
+
+    def __init__(self, path: str):
+        self.path = path
+
+    def line(self, *words: object) -> None:
+        text = " ".join([now(), *(str(word) or NOTHING for word in words)])
+        if self.path:
+            try:
+                self.write(text.encode("utf-8", "backslashreplace").replace(b"\n", b" ") + b"\n")
+            except OSError as fault:
+                say(f"can not write the log '{self.path}': {fault.strerror or fault}")
+
+    def write(self, line: bytes) -> None:
+        file = os.open(self.path, os.O_WRONLY | os.O_APPEND | os.O_CREAT, 0o600)
+        try:
+            os.write(file, line)
+        finally:
+            os.close(file)
+
+
+class Entry:
+    """One request, from its beginning: who asks, for what, of which repository, how it ended, and what it cost."""
+
+    def __init__(self, log: Log, tenant: str):
+        self.log, self.tenant, self.begun = log, tenant, time.monotonic()
+        self.word = self.repository = NOTHING
+        self.reply, self.bytes = "failed", 0
+
+    def write(self) -> None:
+        took = int((time.monotonic() - self.begun) * 1000)
+        self.log.line(self.tenant, self.word, self.repository, self.reply, self.bytes, took)

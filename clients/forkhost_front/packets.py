@@ -1,0 +1,26 @@
+"""Lines as Git gives them to a hook, and takes them from it (gitprotocol-common(5), pkt-line)."""
+from typing import BinaryIO, Iterable, List
+
+from forkhost_client.faults import Fatal
+
+FLUSH = b"0000"
+HEAD = 4
+
+
+def read_lines(source: BinaryIO) -> List[bytes]:
+    """The lines up to a flush."""
+    found = []
+    while head := source.read(HEAD):
+        if head == FLUSH:
+            return found
+        length = int(head, 16) - HEAD
+        found.append(source.read(length).rstrip(b"\n"))
+    raise Fatal("git receive-pack ended too early")
+
+
+def write_lines(sink: BinaryIO, lines: Iterable[bytes]) -> None:
+    """Lines, and a flush."""
+    for line in lines:
+        sink.write(b"%04x%s" % (HEAD + len(line), line))
+    sink.write(FLUSH)
+    sink.flush()

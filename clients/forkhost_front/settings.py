@@ -1,0 +1,56 @@
+"""What whoever runs a front end has set: lines `NAME VALUE` of a file."""
+from typing import Dict, NamedTuple
+
+from forkhost_client.faults import Fatal
+
+PLACE = "/etc/forkhost/front"
+NEEDED = ("socket", "caches")
+# Bytes of all caches together, where nothing is set.
+BYTES = "10000000000"
+OPTIONAL = {"log": "", "users": "", "bytes": BYTES}
+
+
+class Settings(NamedTuple):
+    # Where they were read.
+    place: str
+    # The host's socket.
+    socket: str
+    # The folder of the caches.
+    caches: str
+    # The file of the log, or nothing where there is none.
+    log: str
+    # The file that gives users of a web server their tenants.
+    users: str
+    # So many bytes all caches have at the most.
+    bytes: int
+
+
+def rows(path: str) -> Dict[str, str]:
+    """Each name with its value. A line that is empty or begins with `#` says nothing."""
+    try:
+        with open(path, encoding="utf-8", errors="surrogateescape") as file:
+            lines = [line.strip() for line in file]
+    except OSError as fault:
+        raise Fatal(f"can not read '{path}': {fault.strerror or fault}") from fault
+    found = {}
+    for number, line in enumerate(lines, 1):
+        if line and not line.startswith("#"):
+            name, *value = line.split(None, 1)
+            if not value or name in found:
+                raise Fatal(f"line {number} of '{path}' is no name with a value, or a name that was there before")
+            found[name] = value[0]
+    return found
+
+
+def read_settings(path: str) -> Settings:
+    found = rows(path)
+    for name in NEEDED:
+        if name not in found:
+            raise Fatal(f"'{path}' does not set {name}")
+    for name in found:
+        if name not in (*NEEDED, *OPTIONAL):
+            raise Fatal(f"'{path}' sets {name}, which is not known")
+    values = {**OPTIONAL, **found}
+    if not values["bytes"].isdecimal():
+        raise Fatal(f"'{path}' sets bytes to what is no number")
+    return Settings(path, **{**values, "bytes": int(values["bytes"])})

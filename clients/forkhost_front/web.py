@@ -1,0 +1,136 @@
+"""`forkhost-http`: a CGI (RFC 3875) for a web server that knows its users. Git's own http-backend serves the caches."""
+import os
+import re
+import signal
+import sys
+from typing import Dict, List, NamedTuple, Optional
+
+from forkhost_client.address import REPOSITORY, TENANT
+from forkhost_client.faults import Fatal, HostFault, Refused
+from forkhost_client.progress import say
+
+from .asked import READ, WRITE
+from .log import NOTHING, Entry, Log
+from .service import Service
+from .settings import PLACE, Settings, read_settings, rows
+
+SETTINGS = "FORKHOST_SETTINGS"
+LIST = "info/refs"
+FORM = re.compile(rf"/({REPOSITORY})(?:\.git)?/({LIST}|{READ}|{WRITE})")
+SERVICE = re.compile(f"service=({READ}|{WRITE})")
+# What http-backend wants to know of the request (git-http-backend(1)).
+KEPT = ("REQUEST_METHOD", "QUERY_STRING", "CONTENT_TYPE", "CONTENT_LENGTH", "REMOTE_ADDR")
+KEPT += ("HTTP_CONTENT_ENCODING", "HTTP_GIT_PROTOCOL")
+MISSING, FORBIDDEN, FAILED = "404 Not Found", "403 Forbidden", "503 Service Unavailable"
+
+
+class Answered(Exception):
+    """The request is answered by a status and a line, and Git is not asked."""
+
+    def __init__(self, status: str, text: str):
+        self.status, self.text = status, text
+        super().__init__(text)
+
+
+class Asked(NamedTuple):
+    repository: str
+    # What of it: its references, or a program of Git's.
+    what: str
+    service: str
+
+
+def read_asked() -> Asked:
+    """By Git's smart protocol alone; files of a repository are not served."""
+    found = FORM.fullmatch(os.environ.get("PATH_INFO", ""))
+    if not found:
+        raise Answered(MISSING, "there is no such page; a repository's address ends in its name")
+    repository, what = found.groups()
+    service = SERVICE.fullmatch(os.environ.get("QUERY_STRING", "")) if what == LIST else None
+    if what == LIST and not service:
+        raise Answered(FORBIDDEN, "Git's smart protocol alone is served")
+    return Asked(repository, what, service[1] if service else what)
+
+
+def tenant_of(settings: Settings) -> str:
+    """The tenant of the user whom the web server knows."""
+    user = os.environ.get("REMOTE_USER", "")
+    if not settings.users:
+        raise Fatal(f"'{settings.place}' does not set users")
+    tenant = rows(settings.users).get(user, "") if user else ""
+    if not re.fullmatch(TENANT, tenant):
+        raise Answered(FORBIDDEN, f"user '{user}' has no tenant here")
+    return tenant
+
+
+def outer(settings: Settings, tenant: str, asked: Asked) -> Dict[str, str]:
+    """What http-backend is told: the folder of the tenant's caches, and what the web server says of the request."""
+    found = {name: os.environ[name] for name in KEPT if name in os.environ}
+    found |= {"GIT_PROJECT_ROOT": os.path.join(settings.caches, tenant), "GIT_HTTP_EXPORT_ALL": "1"}
+    return found | {"PATH_INFO": f"/{asked.repository}/{asked.what}", "REMOTE_USER": tenant}
+
+
+def serve(settings: Settings, entry: Entry) -> None:
+    asked = read_asked()
+    entry.word, entry.repository = asked.what.replace("/", "-"), asked.repository
+    service = Service(settings, entry.tenant, asked.repository, asked.what == WRITE)
+    try:
+        served = service.serve(["git", "http-backend"], outer(settings, entry.tenant, asked))
+    except Refused as refusal:
+        entry.reply = refusal.word
+        raise Answered(MISSING, service.told(refusal)) from refusal
+    entry.reply, entry.bytes = served.word(), served.bytes
+
+
+def answer(status: str, text: str) -> None:
+    """A line for a person, which Git shows."""
+    shown = f"forkhost: {text}\n".encode("utf-8", "backslashreplace")
+    head = f"Status: {status}\r\nContent-Type: text/plain; charset=utf-8\r\nContent-Length: {len(shown)}\r\n\r\n"
+    sys.stdout.buffer.write(head.encode() + shown)
+    sys.stdout.buffer.flush()
+
+
+class ClientGone(BaseException):
+    """The web server ends the program, as its client is gone."""
+
+
+def end(*_) -> None:
+    raise ClientGone
+
+
+def judged(settings: Settings, entry: Entry) -> Optional[Answered]:
+    """Serves the request; or what it is answered."""
+    try:
+        entry.tenant = tenant_of(settings)
+        serve(settings, entry)
+        return None
+    except Answered as answered:
+        entry.reply = "refused" if entry.reply == "failed" else entry.reply
+        return answered
+    except HostFault as fault:
+        entry.reply = f"host-{fault.word}"
+        return Answered(FAILED, str(fault))
+    except (Fatal, OSError) as fault:
+        say(str(fault))
+        return Answered(FAILED, "the host can not be asked now")
+    except ClientGone:
+        entry.reply = "client-gone"
+        return None
+
+
+def main(words: List[str]) -> int:
+    """The settings' file is named by FORKHOST_SETTINGS, which the web server sets."""
+    signal.signal(signal.SIGTERM, end)
+    try:
+        settings = read_settings(os.environ.get(SETTINGS, PLACE))
+    except Fatal as fault:
+        say(str(fault))
+        answer(FAILED, "the host can not be asked now")
+        return 0
+    entry = Entry(Log(settings.log), NOTHING)
+    answered = judged(settings, entry)
+    signal.signal(signal.SIGTERM, signal.SIG_IGN)
+    # A web server may end the program once it has the whole answer.
+    entry.write()
+    if answered:
+        answer(answered.status, answered.text)
+    return 0

@@ -1,0 +1,171 @@
+"""Words for hand over SSH, what is no command here, the log, and the bound of all caches."""
+import os
+import re
+import subprocess
+import time
+
+from making import imported, history, line
+from program import Ran, done
+
+LINE = re.compile(r"\d{4}-\d\d-\d\dT\d\d:\d\d:\d\dZ [a-z]+ [a-z-]+ [a-z0-9_-]+ [a-z,-]+ \d+ \d+\n")
+
+
+def show_words(world):
+    """Requests of one tenant, told as the host tells them; each is a line of the log."""
+    checks = world.checks
+    told = lambda *words: world.by_hand("alice", *words)
+    no = lambda text: Ran(1, b"", f"forkhost: {text}\n".encode())
+    checks.same("init", done(), told("init", "r"))
+    checks.same("init again", no("repository-exists r"), told("init", "r"))
+    checks.same("head", done(b"refs/heads/main\n"), told("head", "r"))
+    checks.same("set-head", done(), told("set-head", "r", "refs/heads/x"))
+    checks.same("head again", done(b"refs/heads/x\n"), told("head", "r"))
+    checks.same("set-head of no branch", no("bad-ref refs/tags/v"), told("set-head", "r", "refs/tags/v"))
+    line(world, world.repository("source"), "one")
+    world.succeeds("a push", world.git("source", "push", "-q", world.url("r"), "main:x", "main"))
+    checks.same("fork", done(), told("fork", "r", "s"))
+    checks.same("the fork has the references", world.kept("r"), world.kept("s"))
+    world.cloned("the fork", "s")
+    used = world.ask("alice", "quota").output
+    checks.same("quota", done(used), told("quota"))
+    row = world.ask("alice", "for-each-ref", "r").output
+    checks.same("for-each-ref", done(row), told("for-each-ref", "r"))
+    checks.same("the cache of s is there", True, os.path.isdir(world.cache("s")))
+    checks.same("drop", done(), told("drop", "s"))
+    checks.same("the cache of s is gone", [False] * 3, [os.path.exists(world.cache("s") + end) for end in ENDS])
+    checks.same("prune", done(), told("prune"))
+    checks.same("and all others", [False] * 3, [os.path.exists(world.cache("r") + end) for end in ENDS])
+    ran = world.git(None, "ls-remote", world.url("s"))
+    said = b"forkhost: repository 's' of tenant 'alice' not found"
+    checks.same("s is not found", (128, True), (ran.status, ran.fault.startswith(said)))
+    checks.same("and leaves no file", [False] * 3, [os.path.exists(world.cache("s") + end) for end in ENDS])
+    show_log(world)
+    show_no_commands(world)
+    world.host.ends_well(checks, "after words")
+
+
+ENDS = ("", ".lock", ".use")
+
+
+def show_log(world):
+    checks = world.checks
+    with open(world.path("log"), encoding="utf-8") as file:
+        lines = file.readlines()
+    requests = [text for text in lines if " cache " not in text]
+    checks.same("each request is a line of one form", [], [text for text in requests if not LINE.fullmatch(text)])
+    words = [" ".join(text.split()[1:5]) for text in requests]
+    for wanted in ("alice init r ok", "alice init r repository-exists", "alice git-receive-pack r ok"):
+        checks.same(f"the log has: {wanted}", 1, words.count(wanted))
+    checks.same("the log has: a repository that is not there", "alice git-upload-pack s no-repository", words[-1])
+    checks.same("nobody else reads it", 0, os.stat(world.path("log")).st_mode & 0o077)
+    for folder in (world.caches, os.path.join(world.caches, "alice")):
+        checks.same("nor the caches", 0o700, os.stat(folder).st_mode & 0o777)
+
+
+def show_no_log(world):
+    """A log that can not be written is told, and serving goes on."""
+    rows = f"socket {world.host.socket}\ncaches {world.caches}\nlog {world.path('no', 'log')}\n"
+    world.write("unlogged", rows)
+    more = {"SSH_ORIGINAL_COMMAND": "quota"}
+    ran = world.ran(world.shell(), "--settings", world.path("unlogged"), "alice", more=more)
+    said = b"forkhost: can not write the log '%s'" % world.path("no", "log").encode()
+    wanted = (0, world.ask("alice", "quota").output, True)
+    world.checks.same("without a log", wanted, (ran.status, ran.output, ran.fault.startswith(said)))
+
+
+NO_COMMANDS = {
+    "": "there is no shell here",
+    "sh": "'sh' is not done here",
+    "git-upload-archive 'r.git'": "git-upload-archive is not served",
+    "git upload-archive r": "git-upload-archive is not served",
+    "git-upload-pack '../bob/r'": "is no repository's name",
+    "git-upload-pack '/etc'x": "repository 'etcx' of tenant 'alice' not found",
+    "git-upload-pack r --help": "is no repository's name",
+    "git-upload-pack 'r'; touch GOT": "is no repository's name",
+    "git-upload-pack '$(touch GOT)'": "is no repository's name",
+    "git-upload-pack 'R'": "is no repository's name",
+    "git-upload-pack": "is no repository's name",
+    "git-receive-pack 'r": "quotes do not end",
+    "git-shell": "'git-shell' is not done here",
+    "git gc": "'git-gc' is not done here",
+    "push r -": "'push' is not done here",
+    "init": "'init' takes 1 words",
+    "init 'a b'": "no word holds a space",
+    "init 'a\nb'": "no word holds a space",
+    "collect": "'collect' is not done here",
+}
+
+
+def show_no_commands(world):
+    """What is no command here is told, and nothing is run."""
+    for command, text in NO_COMMANDS.items():
+        ran = world.by_hand("alice", *([command.replace("GOT", world.path("got"))] if command else []))
+        wanted = (128, b"", True, False)
+        told = (ran.status, ran.output, text.encode() in ran.fault, b"Traceback" in ran.fault)
+        world.checks.same(f"no command: {command!r}", wanted, told)
+    told = {" ".join(row[:4]) for row in world.logged()[-len(NO_COMMANDS) :]}
+    world.checks.same("the log tells none of it", {"alice - - refused", "alice git-upload-pack etcx no-repository"}, told)
+    world.checks.same("nothing was run", False, os.path.exists(world.path("got")))
+    for words in ([], ["alice", "bob"], ["@host"], ["Alice"], ["--settings", world.path("front")]):
+        ran = world.ran(world.shell(), *words)
+        world.checks.same(f"no tenant: {words}", (128, True), (ran.status, b"usage: forkhost-shell" in ran.fault))
+    show_no_log(world)
+    wrong = {"socket /x\n": "does not set caches", "socket /x\nsocket /y\n": "line 2 of", "what\n": "line 1 of"}
+    wrong |= {"socket /x\ncaches /y\nbytes few\n": "no number", "socket /x\ncaches /y\nelse z\n": "sets else"}
+    for text, said in wrong.items():
+        world.write("wrong", text)
+        ran = world.ran(world.shell(), "--settings", world.path("wrong"), "alice")
+        world.checks.same(f"wrong settings: {text!r}", (128, True), (ran.status, said.encode() in ran.fault))
+
+
+def show_bound(world):
+    """What was used least recently goes where all caches have more bytes than they may; what is in use stays."""
+    checks = world.checks
+    world.repository("source")
+    imported(world, "long", history(40, size=400))
+    names = ["a", "b", "c"]
+    world.init("alice", *names)
+    for name in names:
+        world.succeeds(f"{name} is pushed", world.git("long", "push", "-q", world.url(name), "main"))
+    checks.same("all are there", names, there(world))
+    most = bytes_of(world.cache("a")) * 5 // 2
+    world.set(most)
+    world.succeeds("a is used", world.git(None, "ls-remote", world.url("a")))
+    checks.same("nothing grew, and nothing goes", names, there(world))
+    child = holder(world, "b")
+    line(world, "long", "more", parent=world.name("long", "main"))
+    world.succeeds("c grows", world.git("long", "push", "-q", world.url("c"), "main"))
+    checks.same("b is in use, so a goes", ["b", "c"], there(world))
+    child.kill()
+    child.wait()
+    world.succeeds("a is used", world.git(None, "ls-remote", world.url("a")))
+    checks.same("and b goes, which was used before c", ["a", "c"], there(world))
+    told = [row[2:4] for row in world.logged() if row[1] == "cache"]
+    checks.same("the log tells both", [["a", "removed"], ["b", "removed"]], told)
+    world.cloned("what went comes again", "b")
+    world.set(1)
+    world.remove(world.cache("a"))
+    world.cloned("one that is above the bound by itself is served", "a")
+    checks.same("and goes behind its request, as all others", [], there(world))
+    os.chmod(world.path("caches", "alice"), 0o755)
+    ran = world.git(None, "ls-remote", world.url("a"))
+    told = (ran.status, b"open to others" in ran.fault)
+    checks.same("a folder that is open to others is not used", (128, True), told)
+    world.host.ends_well(checks, "after the bound")
+
+
+def there(world):
+    return [name for name in ("a", "b", "c") if os.path.isdir(world.cache(name))]
+
+
+def bytes_of(cache):
+    return sum(os.path.getsize(os.path.join(at, name)) for at, _, names in os.walk(cache) for name in names)
+
+
+def holder(world, name):
+    """A process that uses a cache, as one that serves a slow client."""
+    path = world.cache(name) + ".use"
+    child = subprocess.Popen(["flock", "--no-fork", "-s", path, "sleep", "60"])
+    while subprocess.run(["flock", "-n", "-x", path, "true"]).returncode == 0:
+        time.sleep(0.01)
+    return child

@@ -1,9 +1,9 @@
 -- Offers as they are kept, as they are shown, and as a state tells them.
-use Rattle.std.proofs.Common.{◌≡◌, ◌≢◌, ℕ, Bool, true, false, List, [], ◌∷◌, ◌++◌, Option, None, Some, refl, sym, ap, subst, ◌∙◌, is_some, length, map, suc}
+use Rattle.std.proofs.Common.{◌≡◌, List, [], ◌∷◌, ◌++◌, Option, None, Some, refl, sym, ap, ◌∙◌, is_some, length, map, suc}
 use Rattle.std.specs.Option.{option_map}
 use Rattle.std.specs.List.{flat_map}
-use Rattle.std.specs.FinMap.{contains_key, empty, entries, get, get-empty, len, len-entries, same_map, values}
-use Rattle.git_name.specs.Maps.{map_values, mapped}
+use Rattle.std.specs.FinMap.{contains_key, empty, entries, get, len, len-entries, same_map, values}
+use Rattle.git_name.specs.Maps.{mapped}
 use Rattle.git_name.proofs.MapLemmas.{entries_map_values, get_map_values, map_values_empty}
 use Rattle.git_reftx.specs.Repository.{Repository}
 use Rattle.fork_reach.specs.Source.{Objects}

@@ -1,5 +1,5 @@
 -- What names, kinds and lengths decide of an answer.
-use Rattle.std.proofs.Common.{◌≡◌, ℕ, ◌≤◌, Bool, true, IsTrue, List, [], Option, None, Some, refl, sym, ap, subst, ◌∙◌}
+use Rattle.std.proofs.Common.{◌≡◌, ℕ, ◌≤◌, true, IsTrue, List, [], Option, None, Some, refl, sym, ap, subst, ◌∙◌}
 use Rattle.std.specs.Option.{option_map}
 use Rattle.std.specs.FinMap.{contains_key, get, insert, len, retain_keys}
 use Rattle.git_reftx.specs.Repository.{Repository}
@@ -40,7 +40,7 @@ use Rattle.fork_host.specs.Rows.{Gives, Given, Wanting, IsPruned, Pruned, Unprun
 use Rattle.fork_host.specs.Safe.{IsSafe}
 use Rattle.fork_host.specs.Shape.{view_shape}
 use Rattle.fork_host.specs.Shown.{Account, seen_by, shown}
-use Rattle.fork_host.proofs.MadeLemmas.{found_made, len_made, same_made, still_made}
+use Rattle.fork_host.proofs.MadeLemmas.{found_made, len_made, same_made}
 use Rattle.fork_host.proofs.OwnLemmas.{own_read, staged_read}
 use Rattle.fork_host.proofs.ShapeLemmas.{shape_but_upload}
 
@@ -204,4 +204,4 @@ read_safe Within account old new reply shape faults =
 
 -- an answer that leaves the view
 pub safe_still : (Within : Reply → Type 0) (view : View) (reply : Reply) → Within reply → IsSafe Within view reply view
-safe_still Within view reply within = record { orderly = λ before. before; made = λ pair there. there; kept = λ _. refl; faults = within }
+safe_still Within view reply within = record { orderly = λ before. before; kept = λ _. refl; faults = within }

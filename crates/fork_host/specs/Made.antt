@@ -1,5 +1,5 @@
 -- Offers that a tenant has made, as a host keeps them (own): of each the repository alone.
-use Rattle.std.specs.Prelude.{◌≡◌, ◌≢◌, ℕ, List, [], codes, if◌then◌else◌}
+use Rattle.std.specs.Prelude.{◌≢◌, ℕ, List, [], codes, if◌then◌else◌}
 use Rattle.std.specs.Coded.{Coded}
 use Rattle.std.specs.FinMap.{FinMap, code, keys, values}
 use Rattle.std.specs.List.{flat_map}

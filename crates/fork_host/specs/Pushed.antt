@@ -1,5 +1,5 @@
 -- What a push is given: the parts of a view, and what a stream holds.
-use Rattle.std.specs.Prelude.{◌≡◌, ℕ, List, [], Option, Result, Ok, Err, ⊤}
+use Rattle.std.specs.Prelude.{◌≡◌, ℕ, List, [], Result, Ok, Err, ⊤}
 use Rattle.git_name.specs.Object.{Object}
 use Rattle.fork_reach.specs.Source.{Objects}
 use Rattle.push_stream.specs.declared.body.Body.{Body}

@@ -1,5 +1,5 @@
 -- What a host is restored to, and why it is not: states, judged by what stands on an honest store.
-use Rattle.std.specs.Prelude.{◌≡◌, ◌⊎◌, ℕ, ◌≤◌, ◌<◌, ◌++◌, [], ◌∷◌, Bool, None, Some, ◌&&◌, ◌||◌, not, is_none, List, Option, Contains, map, ⊤}
+use Rattle.std.specs.Prelude.{◌≡◌, ◌⊎◌, ℕ, ◌≤◌, ◌<◌, ◌++◌, ◌∷◌, Bool, None, Some, ◌&&◌, ◌||◌, not, is_none, List, Option, Contains, map, ⊤}
 use Rattle.std.specs.List.{AllByRecursion, find, flat_map}
 use Rattle.std.specs.FinMap.{entries, get}
 use Rattle.git_name.specs.Object.{Object}

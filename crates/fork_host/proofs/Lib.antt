@@ -7,6 +7,7 @@ pub mod GatherLemmas
 pub mod HandleLemmas
 pub mod KeepingLemmas
 mod MadeLemmas
+pub mod ForkOfferLemmas
 pub mod MetLemmas
 pub mod NamesLemmas
 pub mod OpeningLemmas

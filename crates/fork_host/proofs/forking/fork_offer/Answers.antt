@@ -10,7 +10,7 @@ use Rattle.fork_host.specs.Own.{visible_in}
 use Rattle.fork_host.specs.Rows.{YieldsOver}
 use Rattle.fork_host.specs.Shown.{shown}
 use Rattle.fork_host.proofs.ForkedLemmas.{bad_quiet, copy_unnamed, giver_unnamed, safe_quiet, word_unnamed, yields_bad, yields_refused}
-use Rattle.fork_host.proofs.MetLemmas.{none_offered, nothing_met, offer_met}
+use Rattle.fork_host.proofs.ForkOfferLemmas.{none_offered, nothing_met, offer_met}
 use Rattle.fork_host.proofs.forking.fork_offer.Goals as goal
 
 pub returns-in_default-clause-row : goal.returns-in_default-clause-row

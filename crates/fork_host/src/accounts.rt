@@ -337,7 +337,7 @@ fn look<S: LooseFiles>(
 ) -> Reply
     requires ready { IsReady vault.old name.now tenant.old.limit }
     requires staged { IsStaged vault.old.honest tenant.old.upload (staged_in vault.old name.now) }
-    requires looks { looks_at_offers (ask_of request.entry) ≡ true }
+    requires looks { looks_at_offers (ask_of request) ≡ true }
     ensures row { (context : Context) → IsMet vault.old context (ask_of request.entry) met
         → YieldsOver vault.old.honest (answer context (shown tenant.old vault.old name.now) (ask_of request.entry)) (shown tenant.old vault.old name.now) result (shown tenant.new vault.new name.now) }
     ensures safe { (context : Context) → IsMet vault.old context (ask_of request.entry) met
@@ -377,7 +377,7 @@ fn answer_from<S: LooseFiles>(
 ) -> Reply
     requires ready { IsReady vault.old name.now tenant.old.limit }
     requires staged { IsStaged vault.old.honest tenant.old.upload (staged_in vault.old name.now) }
-    requires alone { looks_at_offers (ask_of request.entry) ≡ false }
+    requires alone { looks_at_offers (ask_of request) ≡ false }
     ensures row { YieldsOver vault.old.honest (answer (nothing_offered name.now) (shown tenant.old vault.old name.now) (ask_of request.entry)) (shown tenant.old vault.old name.now) result (shown tenant.new vault.new name.now) }
     ensures safe { IsSafe (IsBounded (sent_by (shown tenant.old vault.old name.now) (ask_of request.entry)) vault.old vault.new) (shown tenant.old vault.old name.now) result (shown tenant.new vault.new name.now) }
     ensures others { AreToOthers name.now (shown tenant.old vault.old name.now) → AreToOthers name.now (shown tenant.new vault.new name.now) }

@@ -86,7 +86,7 @@ impl Tenant {
     ) -> Reply
         requires ready { Ready own.old self.old.limit }
         requires staged { IsStaged own.old.vault.now.honest self.old.upload (staged_by own.old) }
-        requires alone { looks_at_offers (ask_of request.entry) ≡ false }
+        requires alone { looks_at_offers (ask_of request) ≡ false }
         ensures row { YieldsOver own.old.vault.now.honest (answer (nothing_offered own.old.tenant.now) (shown_by self.old own.old) (ask_of request.entry)) (shown_by self.old own.old) result (shown self.new own.new.vault.now own.old.tenant.now) }
         ensures safe { IsSafe (IsBounded (sent_by (shown_by self.old own.old) (ask_of request.entry)) own.old.vault.now own.new.vault.now) (shown_by self.old own.old) result (shown self.new own.new.vault.now own.old.tenant.now) }
         ensures others { AreToOthers own.old.tenant.now (shown_by self.old own.old) → AreToOthers own.old.tenant.now (shown self.new own.new.vault.now own.old.tenant.now) }

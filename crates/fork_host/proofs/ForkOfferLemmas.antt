@@ -27,7 +27,7 @@ offer_met context view giver word copy vault who taken repository one two three 
 pub nothing_met : (vault : VaultState) (context : Context) (giver word copy : List ℕ) (met : Met) → ((who : List ℕ) (repository : Repository) → met ≡ Offered who repository → ⊥) → IsMet vault context (ForksOffer giver word copy) met → get context.offered (giver, word) ≡ None
 nothing_met vault context giver word copy Nothing apart is = is
 nothing_met vault context giver word copy (Rows rows) apart is = absurd is
-nothing_met vault context giver word copy (Offered who repository) apart is = absurd (apart who repository refl)
+nothing_met vault context giver word copy (Offered who repository) apart is = absurd (apart who repository (λ i. Offered who repository))
 
 pub none_offered : (context : Context) (view : View) (giver word copy who of : List ℕ) → is_plain_name MAX_TENANT_NAME giver ≡ true → is_plain_name MAX_REPOSITORY_NAME word ≡ true → is_plain_name MAX_REPOSITORY_NAME copy ≡ true
     → who ≡ giver → of ≡ word → get context.offered (giver, word) ≡ None → fork_offer_answer context view giver word copy ≡ (Refused (NoOffer who of), view)

@@ -40,7 +40,7 @@ use Rattle.fork_host.specs.Rows.{Gives, Given, Wanting, IsPruned, Pruned, Unprun
 use Rattle.fork_host.specs.Safe.{IsSafe}
 use Rattle.fork_host.specs.Shape.{view_shape}
 use Rattle.fork_host.specs.Shown.{Account, seen_by, shown}
-use Rattle.fork_host.proofs.MadeLemmas.{found_made, len_made, same_made, still_made}
+use Rattle.fork_host.proofs.MadeLemmas.{found_made, len_made, same_made}
 use Rattle.fork_host.proofs.OwnLemmas.{own_read, staged_read}
 use Rattle.fork_host.proofs.ShapeLemmas.{shape_but_upload}
 

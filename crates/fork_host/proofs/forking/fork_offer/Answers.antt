@@ -1,6 +1,5 @@
-use Rattle.std.proofs.Common.{ap, refl, subst, sym, inl}
+use Rattle.std.proofs.Common.{refl, subst, sym, inl}
 use Rattle.fork_request.specs.Asked.{ForksOffer}
-use Rattle.fork_request.specs.Told.{is_host_fault}
 use Rattle.fork_request.specs.declared.refusal.Refusal.TheVariants.{NoOffer}
 use Rattle.fork_request.specs.declared.reply.Reply.TheVariants.{Refused}
 use Rattle.fork_model.specs.Answer.{fork_offer_answer}

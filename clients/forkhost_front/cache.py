@@ -1,7 +1,7 @@
 """A cache: a bare repository of Git's that has what one repository of one tenant has at the host, and nothing else."""
 import os
 import shutil
-from typing import Dict, List, Optional
+from typing import Dict, List, Optional, Set
 
 from forkhost_client.address import Address
 from forkhost_client.connection import Connection
@@ -182,10 +182,12 @@ class Cache:
         seal.write(self.path)
         self.has_grown = True
 
-    def take(self, names: List[str]) -> None:
-        """Of what a push brought, what these names lead to belongs there, and all else goes."""
+    def take(self, names: List[str], before: Set[str]) -> None:
+        """Of what a push brought, what these names lead to belongs there, and all else goes.
+
+        What the names before lead to is there."""
         folder = os.path.join(self.path, "objects", "pack")
-        given = lines(names) + lines("^" + name for name in set(self.references().values()))
+        given = lines(names) + lines("^" + name for name in before)
         words = ["pack-objects", "--revs", "--non-empty", "-q", "--window=0", "--delta-base-offset"]
         pack = self.repository.output(*words, os.path.join(folder, "pack"), given=given).strip() if names else ""
         belongs = seal.read(self.path) or {}

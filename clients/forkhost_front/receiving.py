@@ -46,7 +46,7 @@ def settle(cache: Cache, updates: List[Update]) -> None:
     done = {update.ref: update.new for update in updates if update.is_done}
     try:
         before = cache.references()
-        cache.take([name for name in dict.fromkeys(done.values()) if name != ABSENT])
+        cache.take([name for name in dict.fromkeys(done.values()) if name != ABSENT], set(before.values()))
         after = {ref: name for ref, name in {**before, **done}.items() if name != ABSENT}
         cache.set_references(before, after)
         cache.end_change()

@@ -104,7 +104,8 @@ def show_no_commands(world):
         told = (ran.status, ran.output, text.encode() in ran.fault, b"Traceback" in ran.fault)
         world.checks.same(f"no command: {command!r}", wanted, told)
     told = {" ".join(row[:4]) for row in world.logged()[-len(NO_COMMANDS) :]}
-    world.checks.same("the log tells none of it", {"alice - - refused", "alice git-upload-pack etcx no-repository"}, told)
+    wanted = {"alice - - refused", "alice git-upload-pack etcx no-repository"}
+    world.checks.same("the log tells none of it", wanted, told)
     world.checks.same("nothing was run", False, os.path.exists(world.path("got")))
     for words in ([], ["alice", "bob"], ["@host"], ["Alice"], ["--settings", world.path("front")]):
         ran = world.ran(world.shell(), *words)

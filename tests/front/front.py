@@ -28,8 +28,10 @@ class FrontWorld(World):
         self.server = subprocess.Popen(self.command(), stdin=subprocess.DEVNULL, stderr=subprocess.PIPE)
         self.wait()
 
-    def set(self, bound):
-        rows = {"socket": self.host.socket, "caches": self.caches, "log": self.path("log"), "users": self.path("users")}
+    def set(self, bound, socket=None):
+        """Settings anew; `socket` is one that stands before the host's."""
+        rows = {"socket": socket or self.host.socket, "caches": self.caches}
+        rows |= {name: self.path(name) for name in ("log", "users")}
         self.write("front", "".join(f"{name} {value}\n" for name, value in rows.items()) + f"bytes {bound}\n")
 
     def write(self, name, text):

@@ -2,10 +2,13 @@
 import os
 import random
 import shutil
+import signal
 import time
 
+from front import BYTES
 from killed import anew, great
 from making import everything, line
+from watching import Watcher
 from world import killed
 
 KILLS = 20
@@ -38,6 +41,66 @@ def show_killed(world):
     left = [name for name in os.listdir(world.path(world.cache(), "objects")) if name.startswith("tmp")]
     checks.same("no quarantine is left", [], left)
     world.host.ends_well(checks, "after kills")
+
+
+def hook_of(world):
+    """The process of this test that asks the host for what was pushed, or nothing."""
+    place = f"FORKHOST_SETTINGS={world.path('front')}".encode()
+    for name in filter(str.isdigit, os.listdir("/proc")):
+        try:
+            with open(f"/proc/{name}/cmdline", "rb") as words, open(f"/proc/{name}/environ", "rb") as outer:
+                if b"proc-receive" in words.read() and place in outer.read().split(b"\0"):
+                    return int(name)
+        except OSError:
+            pass
+    return None
+
+
+def show_hook_killed(world):
+    """What asks the host is killed behind each of its requests: the push may be done, and the next call is right."""
+    checks = world.checks
+    world.init("alice", "r")
+    first, second, third = line(world, world.repository("source"), "one", "two", "three")
+    world.succeeds("a first push", world.git("source", "push", "-q", world.url("r"), f"{first}:refs/heads/main"))
+    moments = {"for-each-ref": (second, False), "part-drop": (second, False), "push": (second, True)}
+    for word, (tip, is_done) in moments.items():
+        killed_at = []
+
+        def meddle(asked, reply):
+            hook = hook_of(world)
+            if hook and asked.split(" ")[0] == word:
+                os.kill(hook, signal.SIGKILL)
+                killed_at.append(asked)
+            return reply
+
+        world.set(BYTES, Watcher(world.path(f"watched_{word}"), world.host.socket, meddle).path)
+        ran = world.git("source", "push", "--porcelain", world.url("r"), f"{tip}:refs/heads/main")
+        checks.same(f"killed behind {word}: it is", (1, 1), (ran.status, len(killed_at)))
+        world.set(BYTES)
+        wanted = [f"{tip if is_done else first} refs/heads/main"]
+        checks.same(f"killed behind {word}: the host", wanted, world.kept("r"))
+        copy = world.cloned(f"killed behind {word}: a clone", "r")
+        checks.same(f"killed behind {word}: what it has", wanted[0].split()[0], world.name(copy, "origin/main"))
+        checks.same(f"killed behind {word}: the cache", world.reached(world.cache()), world.in_cache())
+    world.succeeds("the next push", world.git("source", "push", "-q", world.url("r"), f"{third}:refs/heads/main"))
+    world.same_clone("after a hook was killed")
+    world.host.ends_well(checks, "after a hook was killed")
+
+
+def show_packs(world):
+    """Each push brings a pack: when they are many they are made fewer, and nothing is made anew."""
+    checks = world.checks
+    world.init("alice", "r")
+    names = line(world, world.repository("source"), *(f"c{at}" for at in range(52)))
+    most = 0
+    for name in names:
+        world.output("source", "push", "-q", world.url("r"), f"{name}:refs/heads/main")
+        most = max(most, len(packs(world.cache(), ".pack")))
+    checks.same("they were many", True, most > 40)
+    checks.same("and are few", True, len(packs(world.cache(), ".pack")) < 20)
+    world.same_clone("after many packs")
+    checks.same("nothing was made anew", [], [row for row in world.logged() if row[1] == "cache"])
+    world.host.ends_well(checks, "after many packs")
 
 
 def packs(cache, ending):

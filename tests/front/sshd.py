@@ -43,7 +43,8 @@ EMPTY = "/run/sshd"
 class SshWorld(FrontWorld):
     """The commands of a test share one connection for each key, which spares them the beginning of their own."""
 
-    PROGRAMS = {"sshd": "openssh-server", "ssh": "openssh-client", "ssh-keygen": "openssh-client", "flock": "util-linux"}
+    PROGRAMS = {"sshd": "openssh-server", "ssh": "openssh-client", "ssh-keygen": "openssh-client"}
+    PROGRAMS |= {"flock": "util-linux"}
 
     def wait(self):
         super().wait()

@@ -4,6 +4,7 @@ use Rattle.std.specs.Option.{option_map, unwrap_or}
 use Rattle.std.specs.Cmp.{eq_by_cmp_equiv}
 use Rattle.std.specs.Ordering.{eq_by_cmp}
 use Rattle.std.specs.FinMap.{contains_key, empty, get, get-empty, get-insert, insert, len, len-insert, same_map}
+use Rattle.git_name.specs.Object.{Object}
 use Rattle.git_name.specs.Name.{name_cmp}
 use Rattle.git_name.proofs.Names.{name_total, name_exact}
 use Rattle.fork_reach.proofs.KeptObjects.{at_key, tied_names}
@@ -24,7 +25,7 @@ use Rattle.fork_model.specs.Runs.{Asks, Unknown}
 use Rattle.fork_request.specs.Names.{IsTenantName}
 use Rattle.fork_model.specs.Offer.{Pair}
 use Rattle.fork_model.specs.Context.{met_by, nothing_offered}
-use Rattle.fork_model.specs.Sound.{AreToOthers, IsAlike, IsOrderly, IsOrderlyWorld, IsSoundWorld}
+use Rattle.fork_model.specs.Sound.{AreToOthers, IsAlike, IsOrderly, IsOrderlyWorld, IsRightWorld, IsSoundWorld}
 use Rattle.fork_model.specs.View.{View}
 use Rattle.fork_model.specs.World.{HostSays, Steps}
 use Rattle.fork_model.proofs.AlikeLemmas.{sound_beside}
@@ -33,7 +34,8 @@ use Rattle.fork_model.proofs.SoundWorlds.{right_step}
 use Rattle.fork_model.proofs.Worlds.{answered}
 use Rattle.fork_host.specs.Adding.{new_account, new_view}
 use Rattle.fork_host.specs.Own.{IsOwn, IsReady, staged_in, visible_in}
-use Rattle.fork_host.specs.Rows.{Yields}
+use Rattle.fork_host.specs.Made.{made_shown}
+use Rattle.fork_host.specs.Rows.{Gives, Given, Wanting, Yields}
 use Rattle.fork_host.specs.Safe.{IsSafe}
 use Rattle.fork_host.specs.Sent.{seen_in_world, seen_of, sent_by, sent_in_world, brought_by}
 use Rattle.fork_host.specs.Shape.{SameShape, view_shape}
@@ -43,7 +45,7 @@ use Rattle.fork_host.proofs.AddingLemmas.{orderly_more, orderly_none, right_more
 use Rattle.fork_host.proofs.RowLemmas.{answers_of}
 use Rattle.fork_host.proofs.WorldLemmas.{distinct, get_world, known_world, len_world, world_set}
 use Rattle.fork_host.proofs.SafeLemmas.{alike_shown, orderly_measured, shape_measured}
-use Rattle.fork_host.proofs.MadeLemmas.{none_shown, same_made, shown_itself, still_made}
+use Rattle.fork_host.proofs.MadeLemmas.{made_again, none_shown, same_made, shown_itself, still_made}
 use Rattle.fork_host.proofs.UpdateLemmas.{found}
 use Rattle.fork_host.proofs.StagedLemmas.{staged_still}
 

@@ -19,9 +19,9 @@ use Rattle.fork_host.proofs.BoundLemmas.{bounded_still}
 use Rattle.fork_host.proofs.WholeLemmas.{alike_of, all_stay, answered_step, others_stay, ready, seen_here, sent_here, unknown_step, whole_after}
 use Rattle.fork_host.proofs.accounts.Accounts.answer.Goals as goal
 
-pub returns-in_default-2-clause-explained : goal.returns-in_default-2-clause-explained
-returns-in_default-2-clause-explained g c trusted =
-    let none = ap (λ m. map.get m c.args.name.now) (sym c.self.view_is) ∙ get_of_entries name_total c.self.inside.tenants.entries c.args.name.now ∙ sym c.in_default-2.ensures.value in
+pub returns-in_default-get_mut-clause-explained : goal.returns-in_default-get_mut-clause-explained
+returns-in_default-get_mut-clause-explained g c trusted =
+    let none = ap (λ m. map.get m c.args.name.now) (sym c.self.view_is) ∙ get_of_entries name_total c.self.inside.tenants.entries c.args.name.now ∙ sym c.in_default-get_mut.ensures.value in
     let stays = ap map.from_entries (ap (λ t. t.entries) c.get_mut.follows.holds-at-none) ∙ c.self.view_is in
     subst (λ accounts. Steps (world_of (state_of c.args.self.now c.args.vault.now)) (Asks c.args.name.now (ask_of c.args.request)) (Refused UnknownTenant) (world_of (state_of accounts c.args.vault.now))) (sym stays)
     (unknown_step (state_of c.args.self.now c.args.vault.now) c.args.name.now (ask_of c.args.request) none)
@@ -75,8 +75,8 @@ returns-clause-others g c =
 pub returns-in_default-clause-faults : goal.returns-in_default-clause-faults
 returns-in_default-clause-faults g c = bounded_still (sent_in_world (world_of (state_of c.args.self.now c.args.vault.now)) c.args.name.now (ask_of c.args.request)) c.args.vault.now _ (inr refl)
 
-pub returns-in_default-2-clause-faults : goal.returns-in_default-2-clause-faults
-returns-in_default-2-clause-faults g c = bounded_still (sent_in_world (world_of (state_of c.args.self.now c.args.vault.now)) c.args.name.now (ask_of c.args.request)) c.args.vault.now (Refused UnknownTenant) (inl refl)
+pub returns-in_default-get_mut-clause-faults : goal.returns-in_default-get_mut-clause-faults
+returns-in_default-get_mut-clause-faults g c = bounded_still (sent_in_world (world_of (state_of c.args.self.now c.args.vault.now)) c.args.name.now (ask_of c.args.request)) c.args.vault.now (Refused UnknownTenant) (inl refl)
 
 pub returns-clause-faults : goal.returns-clause-faults
 returns-clause-faults g c =
@@ -93,8 +93,8 @@ returns-clause-seen g c =
 pub returns-in_default-clause-grows : goal.returns-in_default-clause-grows
 returns-in_default-clause-grows g c = grows_none (sent_names (sent_in_world (world_of (state_of c.args.self.now c.args.vault.now)) c.args.name.now (ask_of c.args.request))) c.args.vault.now.places
 
-pub returns-in_default-2-clause-grows : goal.returns-in_default-2-clause-grows
-returns-in_default-2-clause-grows g c = grows_none (sent_names (sent_in_world (world_of (state_of c.args.self.now c.args.vault.now)) c.args.name.now (ask_of c.args.request))) c.args.vault.now.places
+pub returns-in_default-get_mut-clause-grows : goal.returns-in_default-get_mut-clause-grows
+returns-in_default-get_mut-clause-grows g c = grows_none (sent_names (sent_in_world (world_of (state_of c.args.self.now c.args.vault.now)) c.args.name.now (ask_of c.args.request))) c.args.vault.now.places
 
 pub returns-clause-grows : goal.returns-clause-grows
 returns-clause-grows g c =

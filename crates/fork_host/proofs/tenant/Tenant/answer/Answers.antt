@@ -337,13 +337,13 @@ returns-in-PartEnd-clause-others g c = others_made c.args.own.now.tenant.now c.a
 
 pub returns-in-Offer-clause-row : goal.returns-in-Offer-clause-row
 unfolding answer
-returns-in-Offer-clause-row g c = record { yields = λ honest. yields_of _ _ _ _ (rw c.in-Offer.is (subst (λ t. Gives (offer_answer (nothing_offered t) (shown_by c.args.self.now c.args.own.now) c.in-Offer.0.now c.in-Offer.1.now) (shown_by c.args.self.now c.args.own.now) c.offer.result (shown c.offer.new.self c.args.own.now.vault.now c.args.own.now.tenant.now)) (ap (λ t. t.now) c.tenant.ensures) (c.offer.ensures.row (private_by c.args.own.now)))) }
+returns-in-Offer-clause-row g c = record { yields = λ honest. yields_of _ _ _ _ (rw c.in-Offer.is (subst (λ t. Gives (offer_answer (nothing_offered t) (shown_by c.args.self.now c.args.own.now) c.in-Offer.word.now c.in-Offer.receiver.now) (shown_by c.args.self.now c.args.own.now) c.offer.result (shown c.offer.new.self c.args.own.now.vault.now c.args.own.now.tenant.now)) (ap (λ t. t.now) c.tenant.ensures) (c.offer.ensures.row (private_by c.args.own.now)))) }
 
 pub returns-in-Offer-clause-others : goal.returns-in-Offer-clause-others
 unfolding answer
 returns-in-Offer-clause-others g c =
     let view = shown_by c.args.self.now c.args.own.now in
-    let gives : Gives (answer (nothing_offered c.args.own.now.tenant.now) view (ask_of c.args.request)) view c.offer.result (shown c.offer.new.self c.args.own.now.vault.now c.args.own.now.tenant.now) = rw c.in-Offer.is (subst (λ t. Gives (offer_answer (nothing_offered t) (shown_by c.args.self.now c.args.own.now) c.in-Offer.0.now c.in-Offer.1.now) (shown_by c.args.self.now c.args.own.now) c.offer.result (shown c.offer.new.self c.args.own.now.vault.now c.args.own.now.tenant.now)) (ap (λ t. t.now) c.tenant.ensures) (c.offer.ensures.row (private_by c.args.own.now))) in
+    let gives : Gives (answer (nothing_offered c.args.own.now.tenant.now) view (ask_of c.args.request)) view c.offer.result (shown c.offer.new.self c.args.own.now.vault.now c.args.own.now.tenant.now) = rw c.in-Offer.is (subst (λ t. Gives (offer_answer (nothing_offered t) (shown_by c.args.self.now c.args.own.now) c.in-Offer.word.now c.in-Offer.receiver.now) (shown_by c.args.self.now c.args.own.now) c.offer.result (shown c.offer.new.self c.args.own.now.vault.now c.args.own.now.tenant.now)) (ap (λ t. t.now) c.tenant.ensures) (c.offer.ensures.row (private_by c.args.own.now))) in
     others_gives c.args.own.now.tenant.now view _ (ask_of c.args.request) c.offer.result gives
 
 pub returns-in-Offer-clause-safe : goal.returns-in-Offer-clause-safe
@@ -351,18 +351,18 @@ unfolding answer
 returns-in-Offer-clause-safe g c =
     let view = shown_by c.args.self.now c.args.own.now in
     let new = shown c.offer.new.self c.args.own.now.vault.now c.args.own.now.tenant.now in
-    let gives : Gives (answer (nothing_offered c.args.own.now.tenant.now) view (ask_of c.args.request)) view c.offer.result new = rw c.in-Offer.is (subst (λ t. Gives (offer_answer (nothing_offered t) (shown_by c.args.self.now c.args.own.now) c.in-Offer.0.now c.in-Offer.1.now) (shown_by c.args.self.now c.args.own.now) c.offer.result (shown c.offer.new.self c.args.own.now.vault.now c.args.own.now.tenant.now)) (ap (λ t. t.now) c.tenant.ensures) (c.offer.ensures.row (private_by c.args.own.now))) in
+    let gives : Gives (answer (nothing_offered c.args.own.now.tenant.now) view (ask_of c.args.request)) view c.offer.result new = rw c.in-Offer.is (subst (λ t. Gives (offer_answer (nothing_offered t) (shown_by c.args.self.now c.args.own.now) c.in-Offer.word.now c.in-Offer.receiver.now) (shown_by c.args.self.now c.args.own.now) c.offer.result (shown c.offer.new.self c.args.own.now.vault.now c.args.own.now.tenant.now)) (ap (λ t. t.now) c.tenant.ensures) (c.offer.ensures.row (private_by c.args.own.now))) in
     safe_gives _ c.args.own.now.tenant.now view new (ask_of c.args.request) c.offer.result (bounded_still (sent_by view (ask_of c.args.request)) c.args.own.now.vault.now c.offer.result (quiet_row (nothing_offered c.args.own.now.tenant.now) view new (ask_of c.args.request) c.offer.result gives)) gives
 
 pub returns-in-Withdraw-clause-row : goal.returns-in-Withdraw-clause-row
 unfolding answer
-returns-in-Withdraw-clause-row g c = record { yields = λ honest. yields_of _ _ _ _ (rw c.in-Withdraw.is (subst (λ t. Gives (withdraw_answer (nothing_offered t) (shown_by c.args.self.now c.args.own.now) c.in-Withdraw.0.now c.in-Withdraw.1.now) (shown_by c.args.self.now c.args.own.now) c.withdraw.result (shown c.withdraw.new.self c.args.own.now.vault.now c.args.own.now.tenant.now)) (ap (λ t. t.now) c.tenant.ensures) (c.withdraw.ensures.row (private_by c.args.own.now)))) }
+returns-in-Withdraw-clause-row g c = record { yields = λ honest. yields_of _ _ _ _ (rw c.in-Withdraw.is (subst (λ t. Gives (withdraw_answer (nothing_offered t) (shown_by c.args.self.now c.args.own.now) c.in-Withdraw.word.now c.in-Withdraw.receiver.now) (shown_by c.args.self.now c.args.own.now) c.withdraw.result (shown c.withdraw.new.self c.args.own.now.vault.now c.args.own.now.tenant.now)) (ap (λ t. t.now) c.tenant-in-Withdraw.ensures) (c.withdraw.ensures.row (private_by c.args.own.now)))) }
 
 pub returns-in-Withdraw-clause-others : goal.returns-in-Withdraw-clause-others
 unfolding answer
 returns-in-Withdraw-clause-others g c =
     let view = shown_by c.args.self.now c.args.own.now in
-    let gives : Gives (answer (nothing_offered c.args.own.now.tenant.now) view (ask_of c.args.request)) view c.withdraw.result (shown c.withdraw.new.self c.args.own.now.vault.now c.args.own.now.tenant.now) = rw c.in-Withdraw.is (subst (λ t. Gives (withdraw_answer (nothing_offered t) (shown_by c.args.self.now c.args.own.now) c.in-Withdraw.0.now c.in-Withdraw.1.now) (shown_by c.args.self.now c.args.own.now) c.withdraw.result (shown c.withdraw.new.self c.args.own.now.vault.now c.args.own.now.tenant.now)) (ap (λ t. t.now) c.tenant.ensures) (c.withdraw.ensures.row (private_by c.args.own.now))) in
+    let gives : Gives (answer (nothing_offered c.args.own.now.tenant.now) view (ask_of c.args.request)) view c.withdraw.result (shown c.withdraw.new.self c.args.own.now.vault.now c.args.own.now.tenant.now) = rw c.in-Withdraw.is (subst (λ t. Gives (withdraw_answer (nothing_offered t) (shown_by c.args.self.now c.args.own.now) c.in-Withdraw.word.now c.in-Withdraw.receiver.now) (shown_by c.args.self.now c.args.own.now) c.withdraw.result (shown c.withdraw.new.self c.args.own.now.vault.now c.args.own.now.tenant.now)) (ap (λ t. t.now) c.tenant-in-Withdraw.ensures) (c.withdraw.ensures.row (private_by c.args.own.now))) in
     others_gives c.args.own.now.tenant.now view _ (ask_of c.args.request) c.withdraw.result gives
 
 pub returns-in-Withdraw-clause-safe : goal.returns-in-Withdraw-clause-safe
@@ -370,5 +370,5 @@ unfolding answer
 returns-in-Withdraw-clause-safe g c =
     let view = shown_by c.args.self.now c.args.own.now in
     let new = shown c.withdraw.new.self c.args.own.now.vault.now c.args.own.now.tenant.now in
-    let gives : Gives (answer (nothing_offered c.args.own.now.tenant.now) view (ask_of c.args.request)) view c.withdraw.result new = rw c.in-Withdraw.is (subst (λ t. Gives (withdraw_answer (nothing_offered t) (shown_by c.args.self.now c.args.own.now) c.in-Withdraw.0.now c.in-Withdraw.1.now) (shown_by c.args.self.now c.args.own.now) c.withdraw.result (shown c.withdraw.new.self c.args.own.now.vault.now c.args.own.now.tenant.now)) (ap (λ t. t.now) c.tenant.ensures) (c.withdraw.ensures.row (private_by c.args.own.now))) in
+    let gives : Gives (answer (nothing_offered c.args.own.now.tenant.now) view (ask_of c.args.request)) view c.withdraw.result new = rw c.in-Withdraw.is (subst (λ t. Gives (withdraw_answer (nothing_offered t) (shown_by c.args.self.now c.args.own.now) c.in-Withdraw.word.now c.in-Withdraw.receiver.now) (shown_by c.args.self.now c.args.own.now) c.withdraw.result (shown c.withdraw.new.self c.args.own.now.vault.now c.args.own.now.tenant.now)) (ap (λ t. t.now) c.tenant-in-Withdraw.ensures) (c.withdraw.ensures.row (private_by c.args.own.now))) in
     safe_gives _ c.args.own.now.tenant.now view new (ask_of c.args.request) c.withdraw.result (bounded_still (sent_by view (ask_of c.args.request)) c.args.own.now.vault.now c.withdraw.result (quiet_row (nothing_offered c.args.own.now.tenant.now) view new (ask_of c.args.request) c.withdraw.result gives)) gives

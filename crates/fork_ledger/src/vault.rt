@@ -245,12 +245,15 @@ impl<S: LooseFiles> Vault<S> {
         None
     }
 
-    /// The places of the parents of the commit at a place, which a tenant sees, in their order.
+    /// The places of the parents of the commit at a place, in their order, if a tenant sees the commit.
     pub fn parent_places(&self, tenant: &TenantName, place: usize) -> &[usize]
-        requires seen { is_some (seen_name (private_of self.now.tenants tenant.now).visible self.now.commits place) ≡ true }
-        ensures names { map_list (name_at self.now.commits) result.now ≡ parents_at self.now.commits place }
+        ensures names { is_some (seen_name (private_of self.now.tenants tenant.now).visible self.now.commits place) ≡ true → map_list (name_at self.now.commits) result.now ≡ parents_at self.now.commits place }
         ensures before { AllByRecursion (λ parent. parent < place) result.now }
+        ensures hidden { is_some (seen_name (private_of self.now.tenants tenant.now).visible self.now.commits place) ≡ false → result.now ≡ [] }
     {
+        let Some(_) = self.commit_at(tenant, place) else {
+            return &[];
+        };
         self.graph.parents(place)
     }
 

@@ -42,9 +42,9 @@ pub trait Ancestry: Source {
     fn commit_at(&self, place: usize) -> Option<Name>
         ensures { result ≡ seen_name (Self.state self.now).objects (commits self.now) place };
 
-    /// The places of the parents of the commit at this place, which is found, in their order.
+    /// The places of the parents of the commit at this place, in their order.
     fn parent_places(&self, place: usize) -> &[usize]
-        requires { is_some (seen_name (Self.state self.now).objects (commits self.now) place) ≡ true }
-        ensures names { mapped (name_at (commits self.now)) result.now ≡ parents_at (commits self.now) place }
-        ensures before { AllByRecursion (λ parent. parent < place) result.now };
+        ensures names { is_some (seen_name (Self.state self.now).objects (commits self.now) place) ≡ true → mapped (name_at (commits self.now)) result.now ≡ parents_at (commits self.now) place }
+        ensures before { AllByRecursion (λ parent. parent < place) result.now }
+        ensures hidden { is_some (seen_name (Self.state self.now).objects (commits self.now) place) ≡ false → result.now ≡ [] };
 }

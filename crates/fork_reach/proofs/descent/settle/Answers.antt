@@ -10,7 +10,4 @@ returns g c =
     let objects = (g.S.Source.state c.args.source.now).objects in
     on_ok_weaker c.put_all.result (λ puts.
     subst (λ gives. SettlesPlace (IsParent graph objects) c.args.at gives (has c.args.places.now) (has c.put_all.new.places)) (sym c.if-not-gives.false)
-    (settles_given graph c.invariant.ensures.graph objects c.args.at c.parent_places.result.now (has c.args.places.now) (has c.remove.new.self) (has c.put_all.new.places) c.requires.inside c.parent_places.ensures.before c.parent_places.ensures.names c.remove.ensures.updates.0 puts)) c.put_all.ensures
-
-pub parent_places-requires : goal.parent_places-requires
-parent_places-requires g c = seen_told (g.S.Ancestry.commits c.args.source.now) (g.S.Source.state c.args.source.now).objects c.args.at c.requires.inside c.requires.seen
+    (settles_given graph c.invariant.ensures.graph objects c.args.at c.parent_places.result.now (has c.args.places.now) (has c.remove.new.self) (has c.put_all.new.places) c.requires.inside c.parent_places.ensures.before (c.parent_places.ensures.names (seen_told graph objects c.args.at c.requires.inside c.requires.seen)) c.remove.ensures.updates.0 puts)) c.put_all.ensures

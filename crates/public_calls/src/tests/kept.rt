@@ -18,8 +18,6 @@ pub struct Kept {
     pub fails_at: u64,
     pub failures: u64,
     pub lost: Option<Name>,
-    /// The one commit whose parents are known: it has none.
-    root: Name,
 }
 
 impl Kept {
@@ -30,7 +28,6 @@ impl Kept {
             fails_at: 0,
             failures: 0,
             lost: None,
-            root: Name::new([0; 32]),
         }
     }
 
@@ -89,33 +86,28 @@ impl Source for Kept {
     }
 }
 
+// No parents are known.
 impl Ancestry for Kept {
-    ghost use Rattle.std.specs.Prelude.{[], ◌∷◌};
+    ghost use Rattle.std.specs.Prelude.{[]};
 
-    ghost commits = { λ kept. (kept.root, []) ∷ [] };
+    ghost commits = { λ kept. [] };
 
     fn learn(&mut self, _alloc: Global, _commit: Name) -> Result<(), SourceFault> {
         Ok(())
     }
 
     fn commit_count(&self) -> usize {
-        1
+        0
     }
 
     fn invariant(&self) {}
 
-    fn place_of(&self, name: Name) -> Option<usize> {
-        match self.find(name) {
-            Some(_) if name == self.root => Some(0),
-            _ => None,
-        }
+    fn place_of(&self, _name: Name) -> Option<usize> {
+        None
     }
 
-    fn commit_at(&self, place: usize) -> Option<Name> {
-        match self.find(self.root) {
-            Some(_) if place == 0 => Some(self.root),
-            _ => None,
-        }
+    fn commit_at(&self, _place: usize) -> Option<Name> {
+        None
     }
 
     fn parent_places(&self, _place: usize) -> &[usize] {

@@ -50,10 +50,10 @@ class History:
 
 
 class Requests:
-    """What two tenants ask, by chance."""
+    """What tenants ask, by chance. Where there are peers, offers to these names and from them are among it."""
 
-    def __init__(self, chance, history):
-        self.chance, self.history = chance, history
+    def __init__(self, chance, history, peers=()):
+        self.chance, self.history, self.peers, self.offers = chance, history, peers, []
 
     def command(self, target):
         reference = self.chance.choice(HEADS)
@@ -72,11 +72,11 @@ class Requests:
         sign = b"^" * (self.chance.random() < 0.2)
         return sign + self.chance.choice([*self.history.tips, *HEADS, *self.history.tags, b"HEAD"])
 
-    def payloads(self):
-        """The payloads of one request, or of an upload in parts."""
+    def payloads(self, who=None):
+        """The payloads of one request, or of a few that go together; of this tenant, where there are peers."""
         pick, place = self.chance.choice, self.chance.choice(REPOSITORIES)
         changes = [b"part", b"update-refs", b"init", b"fork", b"drop", b"prune", b"quota", b"set-head"]
-        kind = pick([b"push"] * 4 + changes + [b"ask"] * 4)
+        kind = pick([b"push"] * 4 + changes + [b"ask"] * 4 + [b"offer"] * (5 if self.peers else 0))
         if kind == b"push":
             return [b"push %s\n%s" % (place, self.push())]
         if kind == b"part":
@@ -94,6 +94,8 @@ class Requests:
             return [b"fork %s %s\n" % (place, pick(REPOSITORIES))]
         if kind == b"drop":
             return [b"drop %s\n" % place] * (self.chance.random() < 0.3)
+        if kind == b"offer":
+            return self.offering(who, place)
         if kind in (b"prune", b"quota"):
             return [kind + b"\n"]
         return [
@@ -110,12 +112,26 @@ class Requests:
             )
         ]
 
+    def offering(self, who, place):
+        """An offer that is made, withdrawn or forked in the place of a repository, or a look at all. Mostly it is one that
+        was asked for before."""
+        pick = self.chance.choice
+        asked = [one for one in self.offers if who in (one[0], one[2])]
+        giver, source, receiver = pick([*asked, (who, place, pick(self.peers))])
+        if pick([False, False, True]):
+            self.offers.append((who, place, pick(self.peers)))
+            return [b"offer %s %s\n" % self.offers[-1][1:]]
+        if giver == who:
+            return pick([[b"withdraw %s %s\n" % (source, receiver)], [b"offers\n"]])
+        copy = pick(REPOSITORIES)
+        return [b"drop %s\n" % copy, b"fork-offer %s %s %s\n" % (giver, source, copy)][pick([0, 0, 1]) :]
+
     def turns(self, count):
         """So many requests, of which the last may be an upload that stays open."""
         asked = []
         for _ in range(count):
             who = self.chance.choice([b"alice", b"alice", b"bob"])
-            asked += ((who, payload) for payload in self.payloads())
+            asked += ((who, payload) for payload in self.payloads(who))
         if self.chance.random() < 0.3:
             asked.append((b"bob", b"part\n" + self.push()))
         return asked
@@ -123,6 +139,7 @@ class Requests:
 
 def looks(history):
     """Requests that show all that a tenant has."""
-    asks = [b"%s %s\n" % (word, place) for word in (b"for-each-ref", b"head") for place in REPOSITORIES] + [b"quota\n"]
+    asks = [b"%s %s\n" % (word, place) for word in (b"for-each-ref", b"head") for place in REPOSITORIES]
+    asks += (b"quota\n", b"offers\n")
     asks += (b"cat-file %s\n" % name for name in history.names)
     return [(who, payload) for who in (b"alice", b"bob") for payload in asks]

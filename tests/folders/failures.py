@@ -43,6 +43,19 @@ ROWS = {
         *((who, PUSH) for who in (ALICE, BOB)),
         *(turn for who in (ALICE, BOB) for turn in ((who, GONE), (who, b"prune\n"), (BOB, cat(C)), COLLECT, CENSUS)),
     ],
+    "an offer": [
+        *INITS,
+        *((ALICE, asked) for asked in (PUSH, b"offer r bob\n", GONE, b"prune\n")),
+        COLLECT,
+        (BOB, b"fork-offer alice r s\n"),
+        *((who, cat(C)) for who in (ALICE, BOB)),
+        *((ALICE, asked) for asked in (b"offer r zoe\n", b"withdraw r bob\n", b"prune\n")),
+        COLLECT,
+        (BOB, b"fork-offer alice r t\n"),
+        *((BOB, asked) for asked in (cat(D), b"drop s\n", b"prune\n", cat(B))),
+        COLLECT,
+        CENSUS,
+    ],
     "pushes": [
         *INITS,
         (ALICE, b"push r\n\n" + record(*LONG)),
@@ -60,8 +73,8 @@ ROWS = {
 
 
 def shown(live):
-    """What both tenants see: use, references, objects, and whether an upload is open."""
-    asks = [b"quota\n", b"for-each-ref r\n", *map(cat, NAMES), b"push r\n\n"]
+    """What both tenants see: use, references, offers, objects, and whether an upload is open."""
+    asks = [b"quota\n", b"for-each-ref r\n", b"for-each-ref s\n", b"offers\n", *map(cat, NAMES), b"push r\n\n"]
     return [live.asked(who, ask) for who in (ALICE, BOB) for ask in asks]
 
 

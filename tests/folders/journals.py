@@ -27,7 +27,7 @@ def killed(live):
 def show_journal(checks, program, work):
     """When a reply is there, the journal has its request, where that changed something, and nothing else."""
     folder, chance = Folder(os.path.join(work, "kept")), random.Random(5)
-    requests = Requests(chance, History(chance, 8))
+    requests = Requests(chance, History(chance, 8), [ALICE, BOB])
     live = Live(program, "--dir", folder.path, "alice=60000", "bob=60000")
     checks.same("init", b"ok\n", live.asked(*INIT))
     checks.same("the state was saved before the first request", True, folder.state() is not None)

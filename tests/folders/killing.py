@@ -20,6 +20,7 @@ GRANTS = ["alice=60000", "bob=60000", "carol=4000000", "dave=5000"]
 LIVES, KILLS = 10, 10
 FULL = 60
 CHANGING = (b"init", b"drop", b"fork", b"push", b"part", b"part-drop", b"update-refs", b"set-head", b"prune")
+CHANGING += (b"offer", b"withdraw", b"fork-offer")
 GREAT = 150_000
 ENDS = (b"forkhost: journal not written\n", b"forkhost: state not saved\n")
 
@@ -32,7 +33,8 @@ def changes(payload, reply):
 
 def looks(history):
     """Requests that show all that the tenants have, and that change nothing."""
-    asks = [b"%s %s\n" % (word, place) for word in (b"for-each-ref", b"head") for place in REPOSITORIES] + [b"quota\n"]
+    asks = [b"%s %s\n" % (word, place) for word in (b"for-each-ref", b"head") for place in REPOSITORIES]
+    asks += (b"quota\n", b"offers\n")
     asks += (b"push %s\n\n" % place for place in REPOSITORIES)
     asks += (b"cat-file %s\n" % name for name in history.names)
     return [(who, payload) for who in TENANTS for payload in asks]
@@ -151,7 +153,7 @@ class Life:
             for number in range(4):
                 self.history.add(b"blob", self.chance.randbytes(GREAT))
             self.history.names = sorted(self.history.objects)
-        self.requests = Requests(self.chance, self.history)
+        self.requests = Requests(self.chance, self.history, TENANTS)
         self.folder = Folder(os.path.join(work, f"life{seed}"))
         self.path = os.path.join(work, "socket")
         self.told = Told(checks, program, self.history)
@@ -165,7 +167,7 @@ class Life:
         asked = [(who, b"init %s\n" % self.chance.choice(REPOSITORIES)) for who in TENANTS]
         while len(asked) < count:
             who = self.chance.choice(TENANTS)
-            asked += ((who, payload) for payload in self.requests.payloads())
+            asked += ((who, payload) for payload in self.requests.payloads(who))
             if self.seed % 2 and self.chance.random() < 0.3:
                 asked += ((b"carol", payload) for payload in self.great())
         return list(with_sweeps(self.chance, asked))

@@ -19,6 +19,7 @@ use Rattle.fork_ledger.specs.declared.fault.VaultFault.TheVariants as ledger
 use Rattle.fork_ledger.specs.Store.{AsksStore, LeavesStore}
 use Rattle.fork_ledger.specs.Tenants.{VaultState}
 use Rattle.fork_model.specs.Answer.{answer}
+use Rattle.fork_model.specs.Context.{Context}
 use Rattle.fork_model.specs.View.{View}
 use Rattle.fork_model.proofs.StepLemmas.{answer_tells}
 use Rattle.fork_host.specs.Bounds.{CountsReply, Gains, IsBounded, IsCollision, ReadsStore}
@@ -84,9 +85,9 @@ pub bounded_still : (sent : List Object) (vault : VaultState) (reply : Reply) �
 bounded_still sent vault reply quiet = bounded_gains sent vault vault reply (gains_none sent vault) quiet
 
 -- a row that does not ask the store
-pub quiet_row : (view new : View) (ask : Ask) (reply : Reply) → Gives (answer view ask) view reply new → IsQuiet reply
-quiet_row view new ask reply (Given told is) = inl (ap is_host_fault told ∙ answer_tells view ask)
-quiet_row view new ask reply (Wanting wanting stays) = inr wanting
+pub quiet_row : (context : Context) (view new : View) (ask : Ask) (reply : Reply) → Gives (answer context view ask) view reply new → IsQuiet reply
+quiet_row context view new ask reply (Given told is) = inl (ap is_host_fault told ∙ answer_tells context view ask)
+quiet_row context view new ask reply (Wanting wanting stays) = inr wanting
 
 -- what came before the call that was answered so
 pub bounded_after : (sent : List Object) (a b c : VaultState) (reply : Reply) → Gains sent a b → IsBounded sent b c reply → IsBounded sent a c reply

@@ -2,10 +2,13 @@ pub mod AddingLemmas
 pub mod BetweenLemmas
 pub mod BoundLemmas
 pub mod FaultLemmas
+pub mod ForkOfferLemmas
+pub mod ForkedLemmas
 pub mod GatherLemmas
 pub mod HandleLemmas
 pub mod KeepingLemmas
 pub mod MadeLemmas
+pub mod MetLemmas
 pub mod NamesLemmas
 pub mod OpeningLemmas
 pub mod OwnLemmas

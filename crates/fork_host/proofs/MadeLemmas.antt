@@ -1,22 +1,32 @@
 -- Offers as they are kept, as they are shown, and as a state tells them.
-use Rattle.std.proofs.Common.{◌≡◌, List, [], ◌∷◌, ◌++◌, Option, None, Some, refl, sym, ap, ◌∙◌, is_some, length, map, suc}
+use Rattle.std.proofs.Common.{◌≡◌, ℕ, Bool, true, false, cond, List, [], ◌∷◌, ◌++◌, Option, None, Some, refl, sym, ap, ◌∙◌, is_some, length, map, suc, codes, nat_le, not, ◌&&◌, ◌<◌, ◌≤◌, le-leb}
+use Rattle.std.proofs.lemmas.Bool.{lt-leb}
 use Rattle.std.specs.Option.{option_map}
+use Rattle.std.specs.Ordering.{eq_by_cmp}
 use Rattle.std.specs.List.{flat_map}
-use Rattle.std.specs.FinMap.{contains_key, empty, entries, get, len, len-entries, same_entries_map, same_map, values}
+use Rattle.std.specs.FinMap.{contains_key, empty, entries, get, get-remove, insert, keys, len, len-entries, remove, same_entries_map, same_map, values}
 use Rattle.git_name.specs.Maps.{mapped}
-use Rattle.git_name.proofs.MapLemmas.{entries_map_values, get_map_values, map_values_empty}
+use Rattle.git_name.specs.Same.{same_name}
+use Rattle.git_name.proofs.MapLemmas.{entries_map_values, get_map_values, map_values_empty, map_values_insert}
 use Rattle.git_reftx.specs.Repository.{Repository}
 use Rattle.fork_reach.specs.Source.{Objects}
 use Rattle.fork_ledger.specs.Private.{Private}
-use Rattle.fork_model.specs.Answer.{targets_made}
-use Rattle.fork_model.specs.Offer.{Offer, Offers, Pair, offered}
+use Rattle.fork_request.specs.declared.name.TheConstants.{MAX_TENANT_NAME}
+use Rattle.fork_request.specs.declared.refusal.Refusal.TheVariants.{BadName, NoOffer, OfferExists, TooMany}
+use Rattle.fork_request.specs.declared.reply.Reply.{Reply}
+use Rattle.fork_request.specs.declared.reply.Reply.TheVariants.{Done, Refused}
+use Rattle.fork_request.specs.Names.{is_plain_name}
+use Rattle.fork_model.specs.declared.limits.TheConstants.{MAX_OFFERS}
+use Rattle.fork_model.specs.Answer.{named_receiver, offer_added, offer_row, offer_rows, offers_answer, targets_made, withdrawn}
+use Rattle.fork_model.specs.Context.{Context}
+use Rattle.fork_model.specs.Offer.{Offer, Offers, Pair, offered, pair_cmp}
 use Rattle.fork_model.specs.Sound.{IsReach, IsRight}
 use Rattle.fork_model.specs.View.{View}
 use Rattle.fork_model.proofs.EntryLemmas.{pair_exact, pair_total}
 use Rattle.state_text.specs.Kept.{offer_kept}
 use Rattle.state_text.specs.Offer as text
 use Rattle.fork_host.specs.Made.{Made, entry_of, made_of, made_shown, offer_told, targets_kept}
-use Rattle.fork_host.specs.Rows.{plain}
+use Rattle.fork_host.specs.Rows.{Gives, Given, plain}
 use Rattle.fork_host.specs.Shown.{Account, seen_by}
 
 -- ---- what is shown, and the repositories of it
@@ -26,7 +36,7 @@ repository_of offer = offer.repository
 pub get_made : (offers : Offers) (pair : Pair) → get (made_of offers) pair ≡ option_map repository_of (get offers pair)
 get_made offers pair = get_map_values pair_total repository_of offers pair
 
-get_shown : (objects : Objects) (made : Made) (pair : Pair) → get (made_shown objects made) pair ≡ option_map (offered objects) (get made pair)
+pub get_shown : (objects : Objects) (made : Made) (pair : Pair) → get (made_shown objects made) pair ≡ option_map (offered objects) (get made pair)
 get_shown objects made pair = get_map_values pair_total (offered objects) made pair
 
 -- offers that are shown have the repositories that are kept
@@ -71,6 +81,34 @@ shown_kept objects made pair offer is = by (get made pair) refl (sym (get_shown 
 -- and one that is kept is shown
 pub kept_shown : (objects : Objects) (made : Made) (pair : Pair) (repository : Repository) → get made pair ≡ Some repository → get (made_shown objects made) pair ≡ Some (offered objects repository)
 kept_shown objects made pair repository is = get_shown objects made pair ∙ ap (option_map (offered objects)) is
+
+-- one more, and one that goes
+pub shown_insert : (objects : Objects) (made : Made) (pair : Pair) (repository : Repository) → made_shown objects (insert made pair repository) ≡ insert (made_shown objects made) pair (offered objects repository)
+shown_insert objects made pair repository = map_values_insert pair_total pair_exact (offered objects) made pair repository
+
+pub shown_remove : (objects : Objects) (made : Made) (pair : Pair) → made_shown objects (remove made pair) ≡ remove (made_shown objects made) pair
+shown_remove objects made pair = same_map pair_total pair_exact _ _ (λ key.
+    get_shown objects (remove made pair) key ∙ ap (option_map (offered objects)) (get-remove pair_total made pair key) ∙ none_at (eq_by_cmp pair_cmp key pair) (get made key)
+    ∙ ap (cond (eq_by_cmp pair_cmp key pair) None) (sym (get_shown objects made key)) ∙ sym (get-remove pair_total (made_shown objects made) pair key))
+  where
+    none_at : (b : Bool) (o : Option Repository) → option_map (offered objects) (cond b None o) ≡ cond b None (option_map (offered objects) o)
+    none_at true o = refl
+    none_at false o = refl
+
+same_keys : {K X Y : Type 0} (f : X → Y) (es : List (K × X)) → map (λ e. e.0) (mapped f es) ≡ map (λ e. e.0) es
+same_keys f [] = refl
+same_keys f (e ∷ es) = ap (λ ks. e.0 ∷ ks) (same_keys f es)
+
+-- they stand under the same pairs
+pub keys_shown : (objects : Objects) (made : Made) → keys (made_shown objects made) ≡ keys made
+keys_shown objects made = ap (map (λ e. e.0)) (entries_map_values (offered objects) made) ∙ same_keys (offered objects) (entries made)
+
+pub known_shown : (objects : Objects) (made : Made) (pair : Pair) → contains_key (made_shown objects made) pair ≡ contains_key made pair
+known_shown objects made pair = ap is_some (get_shown objects made pair) ∙ by (get made pair)
+  where
+    by : (o : Option Repository) → is_some (option_map (offered objects) o) ≡ is_some o
+    by None = refl
+    by (Some repository) = refl
 
 -- an offer among others of the same repositories
 pub found_made : (offers others : Offers) (pair : Pair) (offer : Offer) → made_of others ≡ made_of offers → get others pair ≡ Some offer → (was : Offer) × (get offers pair ≡ Some was) × (was.repository ≡ offer.repository)
@@ -117,6 +155,59 @@ told_shown objects made = ap (map offer_kept) (entries_map_values (offered objec
 pub told_again : (offers : List text.Offer) → map offer_told (map entry_of offers) ≡ offers
 told_again [] = refl
 told_again (offer ∷ offers) = ap (λ os. offer ∷ os) (told_again offers)
+
+-- ---- rows about offers
+-- a row that is told as it stands
+pub given_as : (row : Reply × View) (old : View) (reply : Reply) (new : View) → row ≡ (reply, new) → Gives row old reply new
+given_as row old reply new is = Given (ap (λ r. r.0) (sym is)) (ap (λ r. r.1) (sym is))
+
+-- what becomes of an offer where none stands of it, and where there is room for it
+abbrev offer_put_in : Account → Private → Pair → Repository → Reply × View
+offer_put_in account own pair repository = (Done [], record (seen_by account own) { made = insert (made_shown own.visible account.made) pair (offered own.visible repository) })
+
+abbrev offer_beside : Account → Private → Pair → Repository → Reply × View
+offer_beside account own pair repository = cond (nat_le MAX_OFFERS (len (made_shown own.visible account.made))) (Refused TooMany, seen_by account own) (offer_put_in account own pair repository)
+
+-- an offer that stands is not made again
+pub offer_stands : (account : Account) (own : Private) (pair : Pair) (repository : Repository) → contains_key account.made pair ≡ true
+    → offer_added (seen_by account own) pair repository ≡ (Refused (OfferExists pair.0 pair.1), seen_by account own)
+offer_stands account own pair repository there =
+    ap (λ b. cond {A = Reply × View} b (Refused (OfferExists pair.0 pair.1), seen_by account own) (offer_beside account own pair repository)) (known_shown own.visible account.made pair ∙ there)
+
+-- nor one more than a tenant may have
+pub offers_full : (account : Account) (own : Private) (pair : Pair) (repository : Repository) → contains_key account.made pair ≡ false → MAX_OFFERS ≤ len account.made
+    → offer_added (seen_by account own) pair repository ≡ (Refused TooMany, seen_by account own)
+offers_full account own pair repository none full =
+    ap (λ b. cond {A = Reply × View} b (Refused (OfferExists pair.0 pair.1), seen_by account own) (offer_beside account own pair repository)) (known_shown own.visible account.made pair ∙ none)
+    ∙ ap (λ b. cond {A = Reply × View} b (Refused TooMany, seen_by account own) (offer_put_in account own pair repository)) (ap (nat_le MAX_OFFERS) (len_shown own.visible account.made) ∙ le-leb MAX_OFFERS (len account.made) full)
+
+pub offer_made : (account : Account) (own : Private) (pair : Pair) (repository : Repository) → contains_key account.made pair ≡ false → len account.made < MAX_OFFERS
+    → offer_added (seen_by account own) pair repository ≡ (Done [], seen_by (record account { made = insert account.made pair repository }) own)
+offer_made account own pair repository none room =
+    ap (λ b. cond {A = Reply × View} b (Refused (OfferExists pair.0 pair.1), seen_by account own) (offer_beside account own pair repository)) (known_shown own.visible account.made pair ∙ none)
+    ∙ ap (λ b. cond {A = Reply × View} b (Refused TooMany, seen_by account own) (offer_put_in account own pair repository)) (ap (nat_le MAX_OFFERS) (len_shown own.visible account.made) ∙ lt-leb MAX_OFFERS (len account.made) room)
+    ∙ ap (λ (offers : Offers). (Done [], record (seen_by account own) { made = offers })) (sym (shown_insert own.visible account.made pair repository))
+
+-- a word in a receiver's place that names another tenant
+pub receiver_is : (context : Context) (view : View) (word : List ℕ) (row : Reply × View) → (is_plain_name MAX_TENANT_NAME word && not (same_name word context.own)) ≡ true → named_receiver context view word row ≡ row
+receiver_is context view word row is = ap (λ b. cond b row (Refused (BadName word), view)) is
+
+-- an offer that does not stand can't go
+pub no_such_offer : (account : Account) (own : Private) (pair : Pair) → contains_key account.made pair ≡ false → withdrawn (seen_by account own) pair ≡ (Refused (NoOffer pair.0 pair.1), seen_by account own)
+no_such_offer account own pair none =
+    ap (λ b. cond {A = Reply × View} b (Done [], record (seen_by account own) { made = remove (made_shown own.visible account.made) pair }) (Refused (NoOffer pair.0 pair.1), seen_by account own)) (known_shown own.visible account.made pair ∙ none)
+
+pub offer_gone : (account : Account) (own : Private) (pair : Pair) → contains_key account.made pair ≡ true → withdrawn (seen_by account own) pair ≡ (Done [], seen_by (record account { made = remove account.made pair }) own)
+offer_gone account own pair there =
+    ap (λ b. cond {A = Reply × View} b (Done [], record (seen_by account own) { made = remove (made_shown own.visible account.made) pair }) (Refused (NoOffer pair.0 pair.1), seen_by account own)) (known_shown own.visible account.made pair ∙ there)
+    ∙ ap (λ (offers : Offers). (Done [], record (seen_by account own) { made = offers })) (sym (shown_remove own.visible account.made pair))
+
+-- offers as they are listed
+pub offers_told : (context : Context) (account : Account) (own : Private) (text : List ℕ) → text ≡ offer_rows (codes "from ") context.offered ++ flat_map (offer_row (codes "to ")) (keys account.made)
+    → Gives (offers_answer context (seen_by account own)) (seen_by account own) (Done text) (seen_by account own)
+unfolding offers_answer
+offers_told context account own text is =
+    Given (ap Done (is ∙ ap (λ pairs. offer_rows (codes "from ") context.offered ++ flat_map (offer_row (codes "to ")) pairs) (sym (keys_shown own.visible account.made)))) refl
 
 -- ---- views by what is plain of them
 -- each offer holds what its references reach among what is seen

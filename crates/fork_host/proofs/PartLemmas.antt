@@ -205,7 +205,6 @@ part_safe Within account own waits now old new body before after reply within se
           orderly_opened (record last { upload = first.upload }) last.upload
           (counted_among (staged_in after own) now MAX_UPLOAD (part_few own waits now old new body before after reply part (counts_among (staged_in before own) waits MAX_UPLOAD orderly.upload)))
           (orderly_measured account.repositories (visible_in before own) (visible_in after own) first (record last { upload = first.upload }) account.limit seen.shape (record { counted = refl; made = made }) orderly);
-      made = λ pair there. sym (still_made first.made last.made pair made) ∙ there;
       kept = λ _. shape_measured account.repositories (visible_in before own) (visible_in after own) first last account.limit seen.shape made;
       faults = within;
     }

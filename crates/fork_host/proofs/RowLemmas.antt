@@ -7,7 +7,8 @@ use Rattle.fork_request.specs.declared.reply.Reply.{Reply}
 use Rattle.fork_request.specs.declared.reply.Reply.TheVariants.{Done}
 use Rattle.fork_model.specs.Answer.{answer}
 use Rattle.fork_model.specs.Runs.{Told, Failed}
-use Rattle.fork_model.specs.Sound.{IsRight}
+use Rattle.fork_model.specs.Context.{Context}
+use Rattle.fork_model.specs.Sound.{IsSound, IsSoundBeside}
 use Rattle.fork_model.specs.View.{View}
 use Rattle.fork_model.specs.World.{Answers}
 use Rattle.fork_model.proofs.SoundLemmas.{right_answer}
@@ -15,10 +16,10 @@ use Rattle.fork_host.specs.Rows.{plain, KeepsObjects, Kept, Unkept, Gives, Given
 use Rattle.fork_host.proofs.MadeLemmas.{IsShown, same_plain, shown_right}
 
 -- what is plain of the new view decides it, as answers keep views right
-pub answers_of : (view new : View) (ask : Ask) (reply : Reply) → IsRight view → IsShown new → Yields (answer view ask) view reply new → Answers view ask reply new
-answers_of view new ask reply right shown (Yielded told is) = Told told (same_plain new (answer view ask).1 shown (shown_right (answer view ask).1 (right_answer view ask right)) is)
-answers_of view new ask reply right shown (Lacking wanting stays) = Failed (ap is_host_fault wanting) (same_plain new view shown (shown_right view right) stays)
-answers_of view new ask reply right shown (Faulted fault failed stays) = Failed (ap is_host_fault failed) (same_plain new view shown (shown_right view right) stays)
+pub answers_of : (context : Context) (view new : View) (ask : Ask) (reply : Reply) → IsSoundBeside context view.objects → IsSound view → IsShown new → Yields (answer context view ask) view reply new → Answers context view ask reply new
+answers_of context view new ask reply beside sound shown (Yielded told is) = Told told (same_plain new (answer context view ask).1 shown (shown_right (answer context view ask).1 (right_answer context view ask beside sound)) is)
+answers_of context view new ask reply beside sound shown (Lacking wanting stays) = Failed (ap is_host_fault wanting) (same_plain new view shown (shown_right view sound.right) stays)
+answers_of context view new ask reply beside sound shown (Faulted fault failed stays) = Failed (ap is_host_fault failed) (same_plain new view shown (shown_right view sound.right) stays)
 
 -- a row that does not ask the store
 pub yields_of : (row : Reply × View) (old new : View) (reply : Reply) → Gives row old reply new → Yields row old reply new

@@ -21,9 +21,11 @@ use Rattle.fork_model.specs.Offer.{Offer, Pair}
 use Rattle.fork_model.specs.Sound.{AreReferences, IsOffer, IsOrderly}
 use Rattle.fork_model.specs.declared.limits.TheConstants.{MAX_OFFERS}
 use Rattle.fork_model.specs.Uploads.{upload_among}
+use Rattle.fork_model.specs.Context.{nothing_offered}
+use Rattle.fork_model.proofs.AlikeLemmas.{none_taken}
 use Rattle.fork_model.specs.View.{View, Repositories}
 use Rattle.fork_model.proofs.Rows.{orderly_kept, orderly_pushed, orderly_without}
-use Rattle.fork_model.proofs.SoundLemmas.{made_answer, orderly_answer}
+use Rattle.fork_model.proofs.SoundLemmas.{orderly_answer}
 use Rattle.fork_model.proofs.StepLemmas.{left_but_upload, undone}
 use Rattle.fork_ledger.specs.Private.{Private}
 use Rattle.fork_ledger.specs.Tenants.{private_of, shape_of as vault_shape}
@@ -38,7 +40,7 @@ use Rattle.fork_host.specs.Rows.{Gives, Given, Wanting, IsPruned, Pruned, Unprun
 use Rattle.fork_host.specs.Safe.{IsSafe}
 use Rattle.fork_host.specs.Shape.{view_shape}
 use Rattle.fork_host.specs.Shown.{Account, seen_by, shown}
-use Rattle.fork_host.proofs.MadeLemmas.{found_made, len_made, same_made, still_made}
+use Rattle.fork_host.proofs.MadeLemmas.{found_made, len_made, same_made}
 use Rattle.fork_host.proofs.OwnLemmas.{own_read, staged_read}
 use Rattle.fork_host.proofs.ShapeLemmas.{shape_but_upload}
 
@@ -119,7 +121,6 @@ pub safe_left : (Within : Reply → Type 0) (repositories now : Repositories) (s
 safe_left Within repositories now seen objects rest other limit reply stays same alike faults =
     subst (λ r. IsSafe Within (view_of rest repositories seen limit) reply (view_of other r objects limit)) (sym stays) (record {
       orderly = orderly_measured repositories seen objects rest other limit same alike;
-      made = λ pair there. sym (still_made rest.made other.made pair alike.made) ∙ there;
       kept = λ _. shape_measured repositories seen objects rest other limit same alike.made;
       faults = faults;
     })
@@ -129,7 +130,6 @@ pub safe_from : (Within Over : Reply → Type 0) (repositories : Repositories) (
     → IsSafe Over (view_of rest repositories objects limit) reply new → IsSafe Within (view_of rest repositories seen limit) reply new
 safe_from Within Over repositories seen objects rest limit reply new same within safe = record {
   orderly = λ before. safe.orderly (orderly_measured repositories seen objects rest rest limit same (alike_itself rest) before);
-  made = safe.made;
   kept = λ not_done. safe.kept not_done ∙ shape_measured repositories seen objects rest rest limit same refl;
   faults = within safe.faults;
 }
@@ -139,7 +139,6 @@ pub safe_rest : (Within : Reply → Type 0) (old : View) (repositories : Reposit
     → IsSafe Within old reply (view_of other repositories objects limit)
 safe_rest Within old repositories objects rest other limit reply alike safe = record {
   orderly = λ before. orderly_measured repositories objects objects rest other limit refl alike (safe.orderly before);
-  made = λ pair there. safe.made pair (sym (still_made rest.made other.made pair alike.made) ∙ there);
   kept = λ not_done. shape_measured repositories objects objects rest other limit refl alike.made ∙ safe.kept not_done;
   faults = safe.faults;
 }
@@ -153,17 +152,15 @@ safe_ended Within old new reply safe = record {
   faults = safe.faults;
 }
 
--- an answer of the model is safe, and so is want of memory
-pub safe_gives : (Within : Reply → Type 0) (view new : View) (ask : Ask) (reply : Reply) → Within reply → Gives (answer view ask) view reply new → IsSafe Within view reply new
-safe_gives Within view new ask reply within (Given told is) = record {
-  orderly = λ before. subst IsOrderly (sym is) (orderly_answer view ask before);
-  made = λ pair there. ap (λ m. contains_key m pair) (sym (made_answer view ask) ∙ ap (λ (v : View). v.made) (sym is)) ∙ there;
-  kept = λ not_done. ap view_shape (is ∙ undone view ask reply told not_done) ∙ shape_but_upload (left_by view ask) view (left_but_upload view ask);
+-- an answer of the model that looks at nothing offered is safe, and so is want of memory
+pub safe_gives : (Within : Reply → Type 0) (tenant : List ℕ) (view new : View) (ask : Ask) (reply : Reply) → Within reply → Gives (answer (nothing_offered tenant) view ask) view reply new → IsSafe Within view reply new
+safe_gives Within tenant view new ask reply within (Given told is) = record {
+  orderly = λ before. subst IsOrderly (sym is) (orderly_answer (nothing_offered tenant) view ask (none_taken tenant view.objects) before);
+  kept = λ not_done. ap view_shape (is ∙ undone (nothing_offered tenant) view ask reply told not_done) ∙ shape_but_upload (left_by view ask) view (left_but_upload view ask);
   faults = within;
 }
-safe_gives Within view new ask reply within (Wanting wanting stays) = record {
+safe_gives Within tenant view new ask reply within (Wanting wanting stays) = record {
   orderly = λ before. subst IsOrderly (sym stays) before;
-  made = λ pair there. ap (λ (v : View). contains_key v.made pair) (sym stays) ∙ there;
   kept = λ _. ap view_shape stays;
   faults = within;
 }
@@ -172,7 +169,6 @@ pub safe_pruned : (Within : Reply → Type 0) (view : View) (objects : Objects) 
     → IsSafe Within view reply (view_of other view.repositories objects view.limit)
 safe_pruned Within view objects other reply alike within (Pruned kept done same rooted) = record {
   orderly = λ before. orderly_measured view.repositories (retain_keys view.objects kept) objects view other view.limit same alike (orderly_kept view kept rooted before);
-  made = λ pair there. sym (still_made view.made other.made pair alike.made) ∙ there;
   kept = λ not_done. (let differs : ⊥ = cc (ap is_done done) in absurd differs);
   faults = within;
 }
@@ -187,7 +183,6 @@ safe_taken Within repositories now seen both objects rest limit name old new rep
       orderly = λ before.
           orderly_measured (insert repositories name (record old { references = new })) both objects rest rest limit measured (alike_itself rest)
           (orderly_pushed (view_of rest repositories seen limit) name old new accepted.commands both grown here (before.repositories name old here) accepted.carried accepted.within before);
-      made = λ pair there. there;
       kept = λ not_done. (let differs : ⊥ = cc (ap is_done done) in absurd differs);
       faults = within;
     })
@@ -210,4 +205,4 @@ read_safe Within account old new reply shape faults =
 
 -- an answer that leaves the view
 pub safe_still : (Within : Reply → Type 0) (view : View) (reply : Reply) → Within reply → IsSafe Within view reply view
-safe_still Within view reply within = record { orderly = λ before. before; made = λ pair there. there; kept = λ _. refl; faults = within }
+safe_still Within view reply within = record { orderly = λ before. before; kept = λ _. refl; faults = within }

@@ -4,6 +4,7 @@ use Rattle.std.specs.Option.{option_map, unwrap_or}
 use Rattle.std.specs.Cmp.{eq_by_cmp_equiv}
 use Rattle.std.specs.Ordering.{eq_by_cmp}
 use Rattle.std.specs.FinMap.{contains_key, empty, get, get-empty, get-insert, insert, len, len-insert, same_map}
+use Rattle.git_name.specs.Object.{Object}
 use Rattle.git_name.specs.Name.{name_cmp}
 use Rattle.git_name.proofs.Names.{name_total, name_exact}
 use Rattle.fork_reach.proofs.KeptObjects.{at_key, tied_names}
@@ -14,6 +15,8 @@ use Rattle.fork_request.specs.declared.reply.Reply.{Reply}
 use Rattle.fork_request.specs.declared.reply.Reply.TheVariants.{Refused}
 use Rattle.fork_ledger.specs.Private.{Private, nothing}
 use Rattle.fork_ledger.specs.Store.{LeavesStore}
+use Rattle.fork_ledger.specs.Private.{Sees}
+use Rattle.fork_ledger.specs.Store.{HoldOne}
 use Rattle.fork_ledger.specs.Tenants.{VaultState, private_of, with_tenant}
 use Rattle.fork_reach.specs.Objects.{Measures, measures_of}
 use Rattle.fork_ledger.proofs.TenantLemmas.{private_new, there_new, there_others}
@@ -21,14 +24,18 @@ use Rattle.fork_model.specs.Answer.{answer}
 use Rattle.fork_model.specs.Runs.{Asks, Unknown}
 use Rattle.fork_request.specs.Names.{IsTenantName}
 use Rattle.fork_model.specs.Offer.{Pair}
-use Rattle.fork_model.specs.Sound.{AreToOthers, IsOrderly, IsOrderlyWorld, IsRightWorld}
+use Rattle.fork_model.specs.Context.{met_by, nothing_offered}
+use Rattle.fork_model.specs.Sound.{AreToOthers, IsAlike, IsOrderly, IsOrderlyWorld, IsRightWorld, IsSoundWorld}
 use Rattle.fork_model.specs.View.{View}
-use Rattle.fork_model.specs.World.{HostSays, Steps, nothing_met}
+use Rattle.fork_model.specs.World.{HostSays, Steps}
+use Rattle.fork_model.proofs.AlikeLemmas.{sound_beside}
+use Rattle.fork_model.proofs.MadeLemmas.{to_others_answer}
 use Rattle.fork_model.proofs.SoundWorlds.{right_step}
 use Rattle.fork_model.proofs.Worlds.{answered}
 use Rattle.fork_host.specs.Adding.{new_account, new_view}
 use Rattle.fork_host.specs.Own.{IsOwn, IsReady, staged_in, visible_in}
-use Rattle.fork_host.specs.Rows.{Yields}
+use Rattle.fork_host.specs.Made.{made_shown}
+use Rattle.fork_host.specs.Rows.{Gives, Given, Wanting, Yields}
 use Rattle.fork_host.specs.Safe.{IsSafe}
 use Rattle.fork_host.specs.Sent.{seen_in_world, seen_of, sent_by, sent_in_world, brought_by}
 use Rattle.fork_host.specs.Shape.{SameShape, view_shape}
@@ -38,7 +45,7 @@ use Rattle.fork_host.proofs.AddingLemmas.{orderly_more, orderly_none, right_more
 use Rattle.fork_host.proofs.RowLemmas.{answers_of}
 use Rattle.fork_host.proofs.WorldLemmas.{distinct, get_world, known_world, len_world, world_set}
 use Rattle.fork_host.proofs.SafeLemmas.{alike_shown, orderly_measured, shape_measured}
-use Rattle.fork_host.proofs.MadeLemmas.{none_shown, same_made, shown_itself, still_made}
+use Rattle.fork_host.proofs.MadeLemmas.{made_again, none_shown, same_made, shown_itself, still_made}
 use Rattle.fork_host.proofs.UpdateLemmas.{found}
 use Rattle.fork_host.proofs.StagedLemmas.{staged_still}
 
@@ -120,13 +127,15 @@ ready state t account whole here =
       within = (whole.orderly.views t (shown account state.vault t) view_is).within_limit;
     }
 
--- it is answered from its account and its own part of the vault, which alone change
-pub answered_step : (old new : HostState) (t : List ℕ) (ask : Ask) (account after : Account) (reply : Reply) → IsRightWorld (world_of old) → get old.accounts t ≡ Some account → new.accounts ≡ insert old.accounts t after
-    → Yields (answer (shown account old.vault t) ask) (shown account old.vault t) reply (shown after new.vault t) → IsOwn t old.vault new.vault → Trusted old → Steps (world_of old) (Asks t ask) reply (world_of new)
-answered_step old new t ask account after reply right here set gives own trusted =
+-- it is answered from its account, its own part of the vault, and what is offered to it; the first two alone change
+pub answered_step : (old new : HostState) (t : List ℕ) (ask : Ask) (account after : Account) (reply : Reply) → IsSoundWorld (world_of old) → IsAlike (world_of old) → get old.accounts t ≡ Some account → new.accounts ≡ insert old.accounts t after
+    → Yields (answer (met_by (world_of old) t) (shown account old.vault t) ask) (shown account old.vault t) reply (shown after new.vault t) → IsOwn t old.vault new.vault → Trusted old → Steps (world_of old) (Asks t ask) reply (world_of new)
+answered_step old new t ask account after reply sound alike here set gives own trusted =
+    let view = shown account old.vault t in
     let view_is = get_world old t ∙ ap (option_map (λ a. shown a old.vault t)) here in
-    answered name_cmp name_total name_exact nothing_met (λ _. answer) (Refused UnknownTenant) is_host_fault HostSays (world_of old) (world_of new) t ask (shown account old.vault t) reply (shown after new.vault t)
-    view_is (answers_of (shown account old.vault t) (shown after new.vault t) ask reply (right t (shown account old.vault t) view_is) (shown_itself after (private_of new.vault.tenants t)) gives)
+    answered name_cmp name_total name_exact met_by answer (Refused UnknownTenant) is_host_fault HostSays (world_of old) (world_of new) t ask view reply (shown after new.vault t)
+    view_is (answers_of (met_by (world_of old) t) view (shown after new.vault t) ask reply (sound_beside (world_of old) t view sound alike view_is) (record { orderly = sound.orderly.views t view view_is; right = sound.right t view view_is })
+    (shown_itself after (private_of new.vault.tenants t)) gives)
     (world_set old new t after set (own.others trusted))
 
 pub unknown_step : (state : HostState) (t : List ℕ) (ask : Ask) → get state.accounts t ≡ None → Steps (world_of state) (Asks t ask) (Refused UnknownTenant) (world_of state)
@@ -171,6 +180,19 @@ orderly_still old new t q (Some a) view same is each =
 -- of whom offers are made stays too, where the offers do
 others_alike : (t : List ℕ) (old new : View) → ((pair : Pair) → contains_key new.made pair ≡ true → contains_key old.made pair ≡ true) → AreToOthers t old → AreToOthers t new
 others_alike t old new made others pair offer is = (let was = found (get old.made pair) (made pair (ap is_some is)) in others pair was.0 was.1)
+
+-- and of an account that has made the same offers
+pub others_made : (t : List ℕ) (account after : Account) (own now : Private) → after.made ≡ account.made → AreToOthers t (seen_by account own) → AreToOthers t (seen_by after now)
+others_made t account after own now same others =
+    let before = made_shown own.visible account.made in
+    let behind = made_shown now.visible after.made in
+    others_alike t (seen_by account own) (seen_by after now)
+    (λ pair there. sym (still_made before behind pair (made_again now.visible after.made ∙ same ∙ sym (made_again own.visible account.made))) ∙ there) others
+
+-- and where an answer of the model makes them
+pub others_gives : (t : List ℕ) (view new : View) (ask : Ask) (reply : Reply) → Gives (answer (nothing_offered t) view ask) view reply new → AreToOthers t view → AreToOthers t new
+others_gives t view new ask reply (Given told is) others = subst (AreToOthers t) (sym is) (to_others_answer (nothing_offered t) view others ask)
+others_gives t view new ask reply (Wanting wanting stays) others = subst (AreToOthers t) (sym stays) others
 
 pub others_still : (old new : HostState) (t q : List ℕ) (o : Option Account) (view : View) → option_map (λ a. shown a new.vault q) o ≡ Some view → ((other : View) → option_map (λ a. shown a old.vault q) o ≡ Some other → AreToOthers t other) → AreToOthers t view
 others_still old new t q None view is each = absurd (cc)
@@ -257,10 +279,10 @@ staged_after old new t after set own before came q other is = subst (λ h. IsSta
 
 -- and the state stays whole
 pub whole_after : (Within : Reply → Type 0) (old new : HostState) (t : List ℕ) (ask : Ask) (account after : Account) (reply : Reply) → IsWhole old → get old.accounts t ≡ Some account → new.accounts ≡ insert old.accounts t after
-    → (Trusted old → Steps (world_of old) (Asks t ask) reply (world_of new)) → IsSafe Within (shown account old.vault t) reply (shown after new.vault t) → IsOwn t old.vault new.vault → IsStaged old.vault.honest after.upload (staged_in new.vault t) → IsWhole new
-whole_after Within old new t ask account after reply whole here set step safe own came = record {
-  orderly = orderly_after old new t account after whole.orderly here set own safe.orderly (others_alike t (shown account old.vault t) (shown after new.vault t) safe.made);
-  right = λ trusted. (let before = sym own.honest ∙ trusted in right_step (world_of old) (world_of new) (Asks t ask) reply (whole.right before) (step before));
+    → (Trusted old → IsAlike (world_of old)) → (Trusted old → Steps (world_of old) (Asks t ask) reply (world_of new)) → IsSafe Within (shown account old.vault t) reply (shown after new.vault t) → (AreToOthers t (shown account old.vault t) → AreToOthers t (shown after new.vault t)) → IsOwn t old.vault new.vault → IsStaged old.vault.honest after.upload (staged_in new.vault t) → IsWhole new
+whole_after Within old new t ask account after reply whole here set alike step safe others own came = record {
+  orderly = orderly_after old new t account after whole.orderly here set own safe.orderly others;
+  right = λ trusted. (let before = sym own.honest ∙ trusted in right_step (world_of old) (world_of new) (Asks t ask) reply (λ _. alike before) (record { orderly = whole.orderly; right = whole.right before }) (step before));
   there = λ q. own.there q ∙ whole.there q ∙ sym (known_still old new t q account after here set);
   staged = staged_after old new t after set own (λ q other is. whole.staged q other is) came;
 }
@@ -271,3 +293,17 @@ seen_here state t account here = ap seen_of (get_world state t ∙ ap (option_ma
 
 pub sent_here : (state : HostState) (t : List ℕ) (ask : Ask) (account : Account) → get state.accounts t ≡ Some account → sent_in_world (world_of state) t ask ≡ sent_by (shown account state.vault t) ask
 sent_here state t ask account here = ap (λ o. brought_by o ask) (get_world state t ∙ ap (option_map (λ a. shown a state.vault t)) here)
+
+-- what tenants hold under one name is one object, so a world has one object a name
+pub alike_of : (state : HostState) → HoldOne state.vault.tenants → IsAlike (world_of state)
+alike_of state one tenant other name view another object same here there is held =
+    let seen = seen_in_vault state tenant view here name object is in
+    let seen_too = seen_in_vault state other another there name same held in
+    sym (one tenant other name object same (Sees seen) (Sees seen_too))
+  where
+    seen_in_vault : (state : HostState) (t : List ℕ) (view : View) → get (world_of state) t ≡ Some view → (name : List ℕ) (object : Object) → get view.objects name ≡ Some object → get (private_of state.vault.tenants t).visible name ≡ Some object
+    seen_in_vault state t view here name object is = by (get state.accounts t) (sym (get_world state t) ∙ here)
+      where
+        by : (o : Option Account) → option_map (λ a. shown a state.vault t) o ≡ Some view → get (private_of state.vault.tenants t).visible name ≡ Some object
+        by None found = absurd (cc)
+        by (Some a) found = subst (λ (v : View). get v.objects name ≡ Some object) (sym (some_same (shown a state.vault t) view found)) is

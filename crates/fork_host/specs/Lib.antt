@@ -4,10 +4,12 @@ pub mod Bounds
 pub mod Causes
 pub mod Faults
 pub mod Fed
+pub mod Forked
 pub mod Given
 pub mod Handle
 pub mod Keeping
 pub mod Made
+pub mod Meeting
 pub mod Opening
 pub mod Own
 pub mod Pushed

@@ -1,12 +1,14 @@
 -- Offers that a tenant has made, as a host keeps them (own): of each the repository alone.
-use Rattle.std.specs.Prelude.{◌≢◌, ℕ, List}
+use Rattle.std.specs.Prelude.{◌≢◌, ℕ, List, [], codes, if◌then◌else◌}
 use Rattle.std.specs.Coded.{Coded}
-use Rattle.std.specs.FinMap.{FinMap, code, values}
+use Rattle.std.specs.FinMap.{FinMap, code, keys, values}
 use Rattle.std.specs.List.{flat_map}
 use Rattle.git_name.specs.Maps.{map_values}
+use Rattle.git_name.specs.Same.{same_name}
 use Rattle.git_reftx.specs.Repository.{Repository, repository_code}
 use Rattle.fork_reach.specs.Source.{Objects}
 use Rattle.fork_request.specs.Names.{IsTenantName}
+use Rattle.fork_model.specs.Answer.{offer_row}
 use Rattle.fork_model.specs.Offer.{Offer as Shown, Offers, Pair, offered, pair_cmp, pair_code}
 use Rattle.state_text.specs.Offer.{Offer}
 
@@ -45,3 +47,7 @@ pub record IsToAnother (giver : List ℕ) (pair : Pair) : Type 0 where
 -- offers have a code, so that they can be part of a model's value
 abbrev pub made_code : Coded Made
 made_code = code pair_code repository_code
+
+-- a row for each offer of a giver to this receiver
+abbrev pub rows_from : List ℕ → List ℕ → Made → List ℕ
+rows_from giver receiver made = flat_map (λ key. if same_name key.0 receiver then offer_row (codes "from ") (giver, key.1) else []) (keys made)

@@ -5,7 +5,7 @@ use Rattle.git_name.specs.Object.{Object, object_name}
 use Rattle.push_stream.specs.Stream.{sent_in, stream_of}
 use Rattle.push_stream.specs.Upload.{continued}
 use Rattle.fork_reach.specs.Source.{Objects}
-use Rattle.fork_request.specs.Asked.{Ask, Inits, Drops, Forks, Pushes, SendsPart, EndsParts, DropsParts, Updates, SetsHead, AsksObject, AsksTree, AsksRevisions, AsksBases, AsksReferences, AsksHead, Fetches, AsksUse, Prunes, NoRequest}
+use Rattle.fork_request.specs.Asked.{Ask, Inits, Drops, Forks, Pushes, SendsPart, EndsParts, DropsParts, Updates, SetsHead, MakesOffer, Withdraws, ForksOffer, AsksObject, AsksTree, AsksRevisions, AsksBases, AsksReferences, AsksHead, AsksOffers, Fetches, AsksUse, Prunes, NoRequest}
 use Rattle.fork_model.specs.Answer.{open_upload}
 use Rattle.fork_model.specs.View.{View}
 use Rattle.fork_model.specs.World.{World}
@@ -21,12 +21,16 @@ sent_by view (EndsParts repository) = sent_in (open_upload view.upload).stream
 sent_by view DropsParts = []
 sent_by view (Updates repository body) = []
 sent_by view (SetsHead repository reference) = []
+sent_by view (MakesOffer repository receiver) = []
+sent_by view (Withdraws repository receiver) = []
+sent_by view (ForksOffer giver repository copy) = []
 sent_by view (AsksObject name) = []
 sent_by view (AsksTree name) = []
 sent_by view (AsksRevisions repository items) = []
 sent_by view (AsksBases repository first second) = []
 sent_by view (AsksReferences repository prefix) = []
 sent_by view (AsksHead repository) = []
+sent_by view AsksOffers = []
 sent_by view (Fetches repository items) = []
 sent_by view AsksUse = []
 sent_by view Prunes = []

@@ -1,4 +1,4 @@
-ghost use Rattle.std.specs.Prelude.{◌≡◌, ◌≢◌, [], IfOk, IsTrue, List, ℕ, OnOk, OnErr, Some, None, false, option_map};
+ghost use Rattle.std.specs.Prelude.{◌≡◌, ◌≢◌, [], IfOk, IsTrue, List, ℕ, OnOk, OnErr, Some, None, false, true, option_map};
 ghost use Rattle.push_stream.specs.Upload.{upload_of};
 ghost use Rattle.std.specs.FinMap as map;
 ghost use Rattle.std.specs.BTreeMap.{IsUnchanged, Updates};
@@ -13,7 +13,18 @@ ghost use Rattle.looks.specs.Growth.{GrowsAmong};
 ghost use Rattle.fork_ledger.specs.Tenants.{shape_of};
 ghost use Rattle.fork_host.specs.Adding.{new_account};
 ghost use Rattle.fork_host.specs.Bounds.{IsBounded};
-ghost use Rattle.fork_model.specs.Answer.{answer};
+ghost use Rattle.std.specs.List.{flat_map};
+ghost use Rattle.fork_ledger.specs.Private.{Private};
+ghost use Rattle.fork_ledger.specs.Tenants.{VaultState};
+ghost use Rattle.fork_request.specs.Asked.{AsksOffers, ForksOffer};
+ghost use Rattle.fork_model.specs.Answer.{answer, offers_answer};
+ghost use Rattle.fork_model.specs.Context.{Context, met_by, nothing_offered};
+ghost use Rattle.fork_model.specs.Disclosure.{looks_at_offers};
+ghost use Rattle.fork_model.specs.Sound.{AreToOthers};
+ghost use Rattle.fork_host.specs.Made.{rows_from};
+ghost use Rattle.fork_host.specs.Meeting.{IsMet};
+ghost use Rattle.fork_host.specs.Rows.{Gives};
+ghost use Rattle.fork_host.specs.Shown.{seen_by};
 ghost use Rattle.fork_host.specs.Opening.{reading_told};
 ghost use Rattle.fork_host.specs.Own.{IsOwn, IsReady, staged_in, visible_in};
 ghost use Rattle.fork_host.specs.Rows.{YieldsOver};
@@ -24,14 +35,16 @@ ghost use Rattle.fork_host.specs.Uploads.{upload_at, uploading_in};
 ghost use Rattle.fork_host.specs.Shown.{Account, IsWhole, Trusted, shown, state_of, world_of};
 ghost use Rattle.fork_host.specs.Staged.{Came, IsStaged};
 
+use crate::forking::fork_offer;
 use crate::keeping::keep_tenant;
+use crate::meeting::Met;
 use crate::made::Made;
 use crate::opening::bytes_of;
 use crate::own::Own;
 use crate::repositories::Repositories;
 use crate::tenant::Tenant;
 use fork_ledger::Vault;
-use fork_request::{HostFault, Refusal, Reply, Request, TenantName};
+use fork_request::{HostFault, Refusal, Reply, RepositoryName, Request, TenantName};
 use loose_store::LooseFiles;
 use push_stream::Incoming;
 use state_text::States;
@@ -186,10 +199,73 @@ impl Accounts {
         ensures faults { IsBounded (sent_in_world (world_of (state_of self.old vault.old)) name.now (ask_of request.entry)) vault.old vault.new result }
         ensures grows { GrowsAmong (sent_names (sent_in_world (world_of (state_of self.old vault.old)) name.now (ask_of request.entry))) vault.old.places vault.new.places }
     {
+        vault.invariant();
+        let Ok(met) = self.meet(alloc, vault, name, request) else {
+            return Reply::Failed(HostFault::Memory);
+        };
         let Some(tenant) = self.tenants.get_mut(name) else {
             return Reply::Refused(Refusal::UnknownTenant);
         };
-        answer_from(alloc, tenant, vault, name, request)
+        answer_met(alloc, tenant, vault, name, request, met)
+    }
+
+    // What a request of this tenant meets of what others have offered to it.
+    fn meet<S: LooseFiles>(
+        &self,
+        alloc: Global,
+        vault: &Vault<S>,
+        name: &TenantName,
+        request: Request<'_>,
+    ) -> Result<Met, AllocError>
+        requires orderly { IsOrderlyWorld (world_of (state_of self.now vault.now)) }
+        ensures { IfOk result (IsMet vault.now (met_by (world_of (state_of self.now vault.now)) name.now) (ask_of request.entry)) }
+    {
+        match request {
+            Request::Offers => {
+                let rows = self.rows_to(alloc, name)?;
+                Ok(Met::Rows(rows))
+            }
+            Request::ForkOffer(giver, word, _) => self.offer_from(vault, giver, word, name),
+            _ => Ok(Met::Nothing),
+        }
+    }
+
+    // A row for each offer to this receiver.
+    fn rows_to(&self, alloc: Global, receiver: &TenantName) -> Result<Vec<u8>, AllocError>
+        ensures { IfOk result (λ rows. rows.items ≡ flat_map (λ entry. rows_from entry.0 receiver.now entry.1.made) (map.entries self.now)) }
+    {
+        let mut rows = Vec::new(alloc);
+        for (name, tenant) in self.tenants.iter() {
+            tenant.add_rows_to(name, receiver, &mut rows)?;
+        }
+        Ok(rows)
+    }
+
+    // The offer of this giver to this receiver of the repository that a word names, as a copy.
+    fn offer_from<S: LooseFiles>(
+        &self,
+        vault: &Vault<S>,
+        giver: &[u8],
+        word: &[u8],
+        receiver: &TenantName,
+    ) -> Result<Met, AllocError>
+        requires orderly { IsOrderlyWorld (world_of (state_of self.now vault.now)) }
+        ensures { (copy : List ℕ) → IfOk result (IsMet vault.now (met_by (world_of (state_of self.now vault.now)) receiver.now) (ForksOffer giver.now word.now copy)) }
+    {
+        let Some(giver) = TenantName::read(giver) else {
+            return Ok(Met::Nothing);
+        };
+        let Some(name) = RepositoryName::read(word) else {
+            return Ok(Met::Nothing);
+        };
+        let Some(tenant) = self.tenants.get(&giver) else {
+            return Ok(Met::Nothing);
+        };
+        let Some(repository) = tenant.offered_to(receiver, &name) else {
+            return Ok(Met::Nothing);
+        };
+        let copy = repository.copy()?;
+        Ok(Met::Offer(giver, copy))
     }
 }
 
@@ -210,7 +286,88 @@ fn read_upload<S: LooseFiles>(
     bytes_of(alloc, &mut own, upload)
 }
 
-// Answers a request from a tenant's account and its own part of the vault.
+// Answers a request from a tenant's account, its own part of the vault, and what the request meets of what
+// others have offered to it.
+fn answer_met<S: LooseFiles>(
+    alloc: Global,
+    tenant: &mut Tenant,
+    vault: &mut Vault<S>,
+    name: &TenantName,
+    request: Request<'_>,
+    met: Met,
+) -> Reply
+    requires ready { IsReady vault.old name.now tenant.old.limit }
+    requires staged { IsStaged vault.old.honest tenant.old.upload (staged_in vault.old name.now) }
+    ensures row { (context : Context) → context.own ≡ name.now → IsMet vault.old context (ask_of request.entry) met
+        → YieldsOver vault.old.honest (answer context (shown tenant.old vault.old name.now) (ask_of request.entry)) (shown tenant.old vault.old name.now) result (shown tenant.new vault.new name.now) }
+    ensures safe { (context : Context) → IsMet vault.old context (ask_of request.entry) met
+        → IsSafe (IsBounded (sent_by (shown tenant.old vault.old name.now) (ask_of request.entry)) vault.old vault.new) (shown tenant.old vault.old name.now) result (shown tenant.new vault.new name.now) }
+    ensures others { AreToOthers name.now (shown tenant.old vault.old name.now) → AreToOthers name.now (shown tenant.new vault.new name.now) }
+    ensures named { IsNamedReply (ask_of request.entry) result }
+    ensures seen { TellsSeen (visible_in vault.old name.now) (ask_of request.entry) result }
+    ensures own { IsOwn name.now vault.old vault.new }
+    ensures grows { GrowsAmong (sent_names (sent_by (shown tenant.old vault.old name.now) (ask_of request.entry))) vault.old.places vault.new.places }
+    ensures staged { IsStaged vault.old.honest tenant.new.upload (staged_in vault.new name.now) }
+{
+    if looks_at_offers(request) {
+        return look(alloc, tenant, vault, name, request, met);
+    }
+    answer_from(alloc, tenant, vault, name, request)
+}
+
+// Whether a request looks at what others have offered to its tenant.
+fn looks_at_offers(request: Request<'_>) -> bool
+    ensures { result ≡ looks_at_offers (ask_of request.entry) }
+{
+    match request {
+        Request::Offers => true,
+        Request::ForkOffer(_, _, _) => true,
+        _ => false,
+    }
+}
+
+// The same as `answer_met`, of a request that looks at it.
+fn look<S: LooseFiles>(
+    alloc: Global,
+    tenant: &mut Tenant,
+    vault: &mut Vault<S>,
+    name: &TenantName,
+    request: Request<'_>,
+    met: Met,
+) -> Reply
+    requires ready { IsReady vault.old name.now tenant.old.limit }
+    requires staged { IsStaged vault.old.honest tenant.old.upload (staged_in vault.old name.now) }
+    requires looks { looks_at_offers (ask_of request) ≡ true }
+    ensures row { (context : Context) → IsMet vault.old context (ask_of request.entry) met
+        → YieldsOver vault.old.honest (answer context (shown tenant.old vault.old name.now) (ask_of request.entry)) (shown tenant.old vault.old name.now) result (shown tenant.new vault.new name.now) }
+    ensures safe { (context : Context) → IsMet vault.old context (ask_of request.entry) met
+        → IsSafe (IsBounded [] vault.old vault.new) (shown tenant.old vault.old name.now) result (shown tenant.new vault.new name.now) }
+    ensures made { tenant.new.made ≡ tenant.old.made }
+    ensures own { IsOwn name.now vault.old vault.new }
+    ensures grows { GrowsAmong [] vault.old.places vault.new.places }
+    ensures staged { IsStaged vault.old.honest tenant.new.upload (staged_in vault.new name.now) }
+{
+    match request {
+        Request::Offers => list_offers(tenant, met),
+        Request::ForkOffer(giver, word, copy) => {
+            fork_offer(alloc, tenant, vault, name, met, (giver, word, copy))
+        }
+        _ => unreachable!(),
+    }
+}
+
+// The offers to the tenant, which are met, then those that it has made.
+fn list_offers(tenant: &Tenant, met: Met) -> Reply
+    ensures { (vault : VaultState) (context : Context) (own : Private) → IsMet vault context AsksOffers met → Gives (offers_answer context (seen_by tenant.now own)) (seen_by tenant.now own) result (seen_by tenant.now own) }
+{
+    match met {
+        Met::Rows(rows) => tenant.offers(rows),
+        _ => Reply::Failed(HostFault::Memory),
+    }
+}
+
+// Answers a request that looks at nothing that others have offered, from a tenant's account and its own
+// part of the vault.
 fn answer_from<S: LooseFiles>(
     alloc: Global,
     tenant: &mut Tenant,
@@ -220,8 +377,10 @@ fn answer_from<S: LooseFiles>(
 ) -> Reply
     requires ready { IsReady vault.old name.now tenant.old.limit }
     requires staged { IsStaged vault.old.honest tenant.old.upload (staged_in vault.old name.now) }
-    ensures row { YieldsOver vault.old.honest (answer (shown tenant.old vault.old name.now) (ask_of request.entry)) (shown tenant.old vault.old name.now) result (shown tenant.new vault.new name.now) }
+    requires alone { looks_at_offers (ask_of request) ≡ false }
+    ensures row { YieldsOver vault.old.honest (answer (nothing_offered name.now) (shown tenant.old vault.old name.now) (ask_of request.entry)) (shown tenant.old vault.old name.now) result (shown tenant.new vault.new name.now) }
     ensures safe { IsSafe (IsBounded (sent_by (shown tenant.old vault.old name.now) (ask_of request.entry)) vault.old vault.new) (shown tenant.old vault.old name.now) result (shown tenant.new vault.new name.now) }
+    ensures others { AreToOthers name.now (shown tenant.old vault.old name.now) → AreToOthers name.now (shown tenant.new vault.new name.now) }
     ensures named { IsNamedReply (ask_of request.entry) result }
     ensures seen { TellsSeen (visible_in vault.old name.now) (ask_of request.entry) result }
     ensures own { IsOwn name.now vault.old vault.new }

@@ -4,11 +4,12 @@ ghost use Rattle.fork_host.specs.Uploads.{upload_at, uploads_of};
 ghost use Rattle.std.specs.FinMap as map;
 ghost use Rattle.fork_request.specs.Asked.{ask_of};
 ghost use Rattle.git_name.specs.Object.{Object};
-ghost use Rattle.fork_model.specs.Provenance.{WasSent};
+ghost use Rattle.fork_model.specs.Context.{met_by};
+ghost use Rattle.fork_model.specs.Provenance.{WasOffered, WasSent};
 ghost use Rattle.fork_model.specs.Runs.{Asks, HostAsks};
 ghost use Rattle.fork_model.specs.Sound.{IsOrderlyWorld, IsRightWorld};
 ghost use Rattle.fork_model.specs.View.{View};
-ghost use Rattle.fork_model.specs.World.{IsUnfaulted, alone, exchanges, own, told};
+ghost use Rattle.fork_model.specs.World.{Explains, IsUnfaulted, LeavesOffers, alone, exchanges, meeting, met, own, told};
 ghost use Rattle.state_text.specs.Kept.{states_of};
 ghost use Rattle.fork_ledger.specs.Store.{IsOver, LeavesStore};
 ghost use Rattle.fork_ledger.specs.Tenants.{with_tenant};
@@ -218,20 +219,28 @@ impl<S: LooseFiles> Host<S> {
         // store has files of just the names of which some tenant has an object.
         ensures sharp { Trusted self.old → IfOk result (λ replies. SharpAfterSweeps self.old.vault (events_given steps.now) replies.items self.new.vault) }
 
-        // To each tenant that no host fault answered, the replies are those of a private host.
+        // To each tenant that no host fault answered, the replies are those of a private host that meets
+        // the same offers; where no offer to it is made or withdrawn, those that stood at first.
         ensures private_replies { Trusted self.old → IfOk result (λ replies. (tenant : List ℕ) (view : View)
             → map.get (world_of self.old) tenant ≡ Some view
-            → IsUnfaulted tenant (events_given steps.now) replies.items
-            → told tenant (events_given steps.now) replies.items ≡ (alone view (own tenant (events_given steps.now))).0) }
+            → IsUnfaulted tenant (events_given steps.now) replies.items → LeavesOffers tenant (events_given steps.now) replies.items
+            → told tenant (events_given steps.now) replies.items ≡ (alone view (meeting (met_by (world_of self.old) tenant) (own tenant (events_given steps.now)))).0) }
         ensures private_view { Trusted self.old → IfOk result (λ replies. (tenant : List ℕ) (view : View)
             → map.get (world_of self.old) tenant ≡ Some view
+            → IsUnfaulted tenant (events_given steps.now) replies.items → LeavesOffers tenant (events_given steps.now) replies.items
+            → map.get (world_of self.new) tenant ≡ Some (alone view (meeting (met_by (world_of self.old) tenant) (own tenant (events_given steps.now)))).1) }
+        ensures private_met { IfOk result (λ replies. (tenant : List ℕ) (view : View) (run : Explains (world_of self.old) (events_given steps.now) replies.items (world_of self.new))
+            → map.get (world_of self.old) tenant ≡ Some view
             → IsUnfaulted tenant (events_given steps.now) replies.items
-            → map.get (world_of self.new) tenant ≡ Some (alone view (own tenant (events_given steps.now))).1) }
+            → (told tenant (events_given steps.now) replies.items ≡ (alone view (met tenant (world_of self.old) (events_given steps.now) replies.items (world_of self.new) run)).0)
+            × (map.get (world_of self.new) tenant ≡ Some (alone view (met tenant (world_of self.old) (events_given steps.now) replies.items (world_of self.new) run)).1)) }
 
-        // What a tenant sees at the end, it saw at the start, or sent itself.
-        ensures provenance { Trusted self.old → IfOk result (λ replies. (tenant : List ℕ) (view last : View) (name : List ℕ) (object : Object)
+        // What a tenant sees at the end, it saw at the start, or sent itself, or it stood in an offer that
+        // the tenant forked.
+        ensures provenance { IfOk result (λ replies. (tenant : List ℕ) (view last : View) (name : List ℕ) (object : Object) (run : Explains (world_of self.old) (events_given steps.now) replies.items (world_of self.new))
             → map.get (world_of self.old) tenant ≡ Some view → map.get (world_of self.new) tenant ≡ Some last → map.get last.objects name ≡ Some object
-            → (map.get view.objects name ≡ Some object) ⊎ WasSent view (exchanges tenant (events_given steps.now) replies.items) name object) }
+            → (map.get view.objects name ≡ Some object) ⊎ (WasSent view (exchanges tenant (events_given steps.now) replies.items) name object
+            ⊎ WasOffered (met tenant (world_of self.old) (events_given steps.now) replies.items (world_of self.new) run) (told tenant (events_given steps.now) replies.items) name object)) }
     {
         let _before = self.vault.invariant();
         let Ok(mut replies) = Vec::with_capacity(alloc, steps.len()) else {

@@ -7,12 +7,14 @@
 mod accounts;
 mod add_error;
 mod both;
+mod forking;
 mod host;
 mod items;
 mod keeping;
 mod later;
 mod laws;
 mod made;
+mod meeting;
 mod open_error;
 mod opening;
 mod own;

@@ -1,4 +1,7 @@
-ghost use Rattle.std.specs.Prelude.{◌≡◌, ◌≤◌, ◌++◌, List, [], map as mapped, OnOk, OnErr, IfOk, Some};
+ghost use Rattle.std.specs.Prelude.{◌≡◌, ◌≤◌, ◌++◌, List, [], codes, map as mapped, OnOk, OnErr, IfOk, None, Some};
+ghost use Rattle.std.specs.List.{flat_map};
+ghost use Rattle.std.specs.Option.{option_copied};
+ghost use Rattle.fork_model.specs.Answer.{offer_row};
 ghost use Rattle.std.specs.FinMap as map;
 ghost use Rattle.std.specs.List.Sorted.{IsStrictlySortedBy};
 ghost use Rattle.std.specs.BTreeMap.{IsUnchanged, Updates};
@@ -6,7 +9,7 @@ ghost use Rattle.fork_model.specs.Offer.{Pair, pair_cmp};
 ghost use Rattle.fork_model.specs.declared.limits.TheConstants.{MAX_OFFERS};
 ghost use Rattle.git_reftx.specs.Repository.{Repository as Shown};
 ghost use Rattle.fork_host.specs.Keeping.{with_offers};
-ghost use Rattle.fork_host.specs.Made.{IsToAnother, entry_of, offer_told, pair_of, targets_kept};
+ghost use Rattle.fork_host.specs.Made.{IsToAnother, entry_of, offer_told, pair_of, rows_from, targets_kept};
 
 use crate::keeping::keep_offer;
 use crate::targets::add_targets;
@@ -59,6 +62,62 @@ impl Made {
         Ok(made)
     }
 
+    // How many there are.
+    pub(crate) fn len(&self) -> usize
+        ensures { result ≡ map.len self.now }
+    {
+        self.offers.len()
+    }
+
+    // The one to this receiver of the repository of this name.
+    pub(crate) fn get(&self, receiver: &TenantName, name: &RepositoryName) -> Option<&Repository>
+        ensures { option_copied result ≡ map.get self.now (receiver.now, name.now) }
+    {
+        self.offers.get(&(receiver.copy(), name.copy()))
+    }
+
+    // Whether there is one.
+    pub(crate) fn contains(&self, receiver: &TenantName, name: &RepositoryName) -> bool
+        ensures { result ≡ map.contains_key self.now (receiver.now, name.now) }
+    {
+        self.offers
+            .contains_key(&(receiver.copy(), name.copy()))
+    }
+
+    // Takes out the one to this receiver of the repository of this name, if it is there. It takes no memory.
+    pub(crate) fn remove(&mut self, receiver: &TenantName, name: &RepositoryName)
+        ensures { self.new ≡ map.remove self.old (receiver.now, name.now) }
+    {
+        take_out(&mut self.offers, receiver, name)
+    }
+
+    // Adds a row for each offer: a word, the receiver, the repository.
+    pub(crate) fn add_rows(&self, rows: &mut Vec<u8>) -> Result<(), AllocError>
+        ensures { OnOk result (rows.new.items ≡ rows.old.items ++ flat_map (offer_row (codes "to ")) (map.keys self.now)) }
+    {
+        for (pair, _) in self.offers.iter() {
+            add_row(rows, b"to ", &pair.0, &pair.1)?;
+        }
+        Ok(())
+    }
+
+    // Adds a row for each offer of this giver to this receiver.
+    pub(crate) fn add_rows_to(
+        &self,
+        giver: &TenantName,
+        receiver: &TenantName,
+        rows: &mut Vec<u8>,
+    ) -> Result<(), AllocError>
+        ensures { OnOk result (rows.new.items ≡ rows.old.items ++ rows_from giver.now receiver.now self.now) }
+    {
+        for (pair, _) in self.offers.iter() {
+            if pair.0 == *receiver {
+                add_row(rows, b"from ", giver, &pair.1)?;
+            }
+        }
+        Ok(())
+    }
+
     // Puts one under a receiver and a name.
     pub(crate) fn insert(
         &mut self,
@@ -109,4 +168,30 @@ fn put(
 {
     offers.insert((receiver, name), repository)?;
     Ok(())
+}
+
+fn take_out(
+    offers: &mut BTreeMap<(TenantName, RepositoryName), Repository>,
+    receiver: &TenantName,
+    name: &RepositoryName,
+)
+    ensures { Updates pair_cmp offers.old offers.new (receiver.now, name.now) None }
+{
+    offers.remove(&(receiver.copy(), name.copy()));
+}
+
+// Adds a row: a word, a tenant, a repository.
+fn add_row(
+    rows: &mut Vec<u8>,
+    word: &[u8],
+    tenant: &TenantName,
+    name: &RepositoryName,
+) -> Result<(), AllocError>
+    ensures { OnOk result (rows.new.items ≡ rows.old.items ++ offer_row word.now (tenant.now, name.now)) }
+{
+    rows.extend_from_slice(word)?;
+    rows.extend_from_slice(tenant.as_bytes())?;
+    rows.extend_from_slice(b" ")?;
+    rows.extend_from_slice(name.as_bytes())?;
+    rows.extend_from_slice(b"\n")
 }

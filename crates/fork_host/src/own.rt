@@ -59,6 +59,13 @@ impl<'a, S: LooseFiles> Own<'a, S> {
         self.vault.hashing()
     }
 
+    // Whose part it is.
+    pub(crate) fn tenant(&self) -> &'a TenantName
+        ensures { result ≡ self.now.tenant }
+    {
+        self.tenant
+    }
+
     // The kind of an object that the tenant sees, without a read.
     pub(crate) fn kind_seen(&self, name: Name) -> Option<Kind>
         ensures { result ≡ kind_in (visible_by self.now) name }

@@ -1,6 +1,9 @@
-ghost use Rattle.std.specs.Prelude.{◌≡◌, IsTrue};
+ghost use Rattle.std.specs.Prelude.{◌≡◌, IsTrue, false};
 ghost use Rattle.fork_request.specs.Asked.{ask_of};
 ghost use Rattle.fork_model.specs.Answer.{answer};
+ghost use Rattle.fork_model.specs.Context.{nothing_offered};
+ghost use Rattle.fork_model.specs.Disclosure.{looks_at_offers};
+ghost use Rattle.fork_model.specs.Sound.{AreToOthers};
 ghost use Rattle.fork_host.specs.Adding.{new_account};
 ghost use Rattle.fork_host.specs.Bounds.{IsBounded};
 ghost use Rattle.fork_host.specs.Handle.{Ready, Touches, shown_by, staged_by};
@@ -15,6 +18,7 @@ ghost use Rattle.fork_host.specs.Staged.{IsStaged};
 mod heads;
 mod keeping;
 mod objects;
+mod offers;
 mod pushes;
 mod queries;
 mod references;
@@ -73,7 +77,7 @@ impl Tenant {
 
     #[tactic(auto, unfolding(fork_model::specs::Answer::answer))]
     // Answers a request from the tenant's account and its own part of the vault: a row of the answer a
-    // method, each in the file of its subject.
+    // method, each in the file of its subject. It looks at nothing that others have offered.
     pub(crate) fn answer<S: LooseFiles>(
         &mut self,
         alloc: Global,
@@ -82,8 +86,10 @@ impl Tenant {
     ) -> Reply
         requires ready { Ready own.old self.old.limit }
         requires staged { IsStaged own.old.vault.now.honest self.old.upload (staged_by own.old) }
-        ensures row { YieldsOver own.old.vault.now.honest (answer (shown_by self.old own.old) (ask_of request.entry)) (shown_by self.old own.old) result (shown self.new own.new.vault.now own.old.tenant.now) }
+        requires alone { looks_at_offers (ask_of request) ≡ false }
+        ensures row { YieldsOver own.old.vault.now.honest (answer (nothing_offered own.old.tenant.now) (shown_by self.old own.old) (ask_of request.entry)) (shown_by self.old own.old) result (shown self.new own.new.vault.now own.old.tenant.now) }
         ensures safe { IsSafe (IsBounded (sent_by (shown_by self.old own.old) (ask_of request.entry)) own.old.vault.now own.new.vault.now) (shown_by self.old own.old) result (shown self.new own.new.vault.now own.old.tenant.now) }
+        ensures others { AreToOthers own.old.tenant.now (shown_by self.old own.old) → AreToOthers own.old.tenant.now (shown self.new own.new.vault.now own.old.tenant.now) }
         ensures named { IsNamedReply (ask_of request.entry) result }
         ensures seen { TellsSeen (visible_by own.old) (ask_of request.entry) result }
         ensures own { Touches (sent_names (sent_by (shown_by self.old own.old) (ask_of request.entry))) own.old own.new }
@@ -99,6 +105,8 @@ impl Tenant {
             Request::PartDrop => self.part_drop(alloc, own),
             Request::UpdateRefs(word, body) => self.update_refs(alloc, own, word, body),
             Request::SetHead(word, reference) => self.set_head(alloc, word, reference),
+            Request::Offer(word, receiver) => self.offer(alloc, own.tenant(), word, receiver),
+            Request::Withdraw(word, receiver) => self.withdraw(alloc, own.tenant(), word, receiver),
             Request::CatFile(name) => self.cat_file(alloc, own, Name::new(name)),
             Request::LsTree(name) => self.ls_tree(alloc, own, Name::new(name)),
             Request::RevList(word, items) => self.rev_list(alloc, own, word, items),
@@ -108,6 +116,8 @@ impl Tenant {
             Request::Fetch(word, items) => self.fetch(alloc, own, word, items),
             Request::Quota => self.quota(alloc, own),
             Request::Prune => self.prune(alloc, own),
+            Request::Offers => unreachable!(),
+            Request::ForkOffer(_, _, _) => unreachable!(),
             Request::Bad => Reply::Refused(Refusal::BadRequest),
         }
     }

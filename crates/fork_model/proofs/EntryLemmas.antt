@@ -13,7 +13,7 @@ use Rattle.git_name.proofs.Names.{name_exact, name_total}
 use Rattle.git_name.proofs.SortedNames.{sorted_entries}
 use Rattle.fork_model.specs.Offer.{Pair, pair_cmp}
 
-is_equal : (order : Ordering) → is_eq order ≡ true → order ≡ Equal
+pub is_equal : (order : Ordering) → is_eq order ≡ true → order ≡ Equal
 is_equal Less is = cc
 is_equal Equal is = refl
 is_equal Greater is = cc

@@ -4,11 +4,12 @@ use Rattle.std.specs.FinMap.{empty, get, get-empty}
 use Rattle.git_name.specs.Name.{name_cmp}
 use Rattle.git_name.specs.Object.{Object}
 use Rattle.fork_reach.specs.Source.{Objects}
-use Rattle.fork_request.specs.Asked.{DropsParts, EndsParts, Prunes, Pushes, SendsPart}
+use Rattle.fork_request.specs.Asked.{ForksOffer, DropsParts, EndsParts, Prunes, Pushes, SendsPart}
 use Rattle.fork_request.specs.declared.host_fault.HostFault.TheVariants.{Memory}
 use Rattle.fork_request.specs.declared.reply.Reply.{Reply}
 use Rattle.fork_request.specs.declared.reply.Reply.TheVariants.{Done, Failed}
-use Rattle.fork_model.specs.Provenance.{AreParts, IsFrom, Seen, Pushed, Uploaded}
+use Rattle.fork_model.specs.Context.{Context}
+use Rattle.fork_model.specs.Provenance.{AreParts, IsFrom, Seen, Pushed, Uploaded, Taken}
 use Rattle.fork_model.specs.Transfer.{HasPrerequisites}
 use Rattle.fork_model.specs.View.{View}
 use Rattle.fork_model.specs.World.{Exchange}
@@ -26,10 +27,11 @@ parts_are_in_order = record {
 }
 
 -- a prune shows nothing that was not seen
-a_prune_sends_nothing : (view : View) (reply : Reply) (name : List ℕ) (object : Object) → IsFrom view (Prunes, reply) name object → get view.objects name ≡ Some object
-a_prune_sends_nothing view reply name object (Seen is) = is
-a_prune_sends_nothing view reply name object (Pushed repository body asked among) = (let same : Prunes ≡ Pushes repository body = ap (λ (x : Exchange). x.0) asked in absurd (cc))
-a_prune_sends_nothing view reply name object (Uploaded repository upload asked is among) = (let same : Prunes ≡ EndsParts repository = ap (λ (x : Exchange). x.0) asked in absurd (cc))
+a_prune_sends_nothing : (context : Context) (view : View) (reply : Reply) (name : List ℕ) (object : Object) → IsFrom context view (Prunes, reply) name object → get view.objects name ≡ Some object
+a_prune_sends_nothing context view reply name object (Seen is) = is
+a_prune_sends_nothing context view reply name object (Pushed repository body asked among) = (let same : Prunes ≡ Pushes repository body = ap (λ (x : Exchange). x.0) asked in absurd (cc))
+a_prune_sends_nothing context view reply name object (Uploaded repository upload asked is among) = (let same : Prunes ≡ EndsParts repository = ap (λ (x : Exchange). x.0) asked in absurd (cc))
+a_prune_sends_nothing context view reply name object (Taken giver repository copy asked offered) = (let same : Prunes ≡ ForksOffer giver repository copy = ap (λ (x : Exchange). x.0) asked in absurd (cc))
 
 none_absent : (object : Object) → None ≡ Some object → ⊥
 none_absent object is = cc

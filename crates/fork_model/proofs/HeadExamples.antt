@@ -19,7 +19,12 @@ use Rattle.fork_request.specs.declared.refusal.Refusal.TheVariants.{BadName, Bad
 use Rattle.fork_request.specs.declared.reply.Reply.{Reply}
 use Rattle.fork_request.specs.declared.reply.Reply.TheVariants.{Done, Refused}
 use Rattle.fork_model.specs.Answer.{answer, repository_added, copied, few_items, head_answer, named_repository, rev_list_answer, set_head_answer, set_head_in, reply_of, told_over}
+use Rattle.fork_model.specs.Context.{Context, nothing_offered}
 use Rattle.fork_model.specs.View.{View}
+
+-- a tenant that nobody offers anything
+abbrev anyone : Context
+anyone = nothing_offered (codes "alice")
 
 -- a view without objects, and with this repository `r`
 abbrev nothing : Objects
@@ -53,7 +58,7 @@ absent repository = get-insert name_total empty (codes "r") repository (codes "s
 no_branch : get new_repository.references main_branch ≡ None
 no_branch = get-empty {X = List ℕ} name_cmp main_branch
 
-a_new_repository_has_head_main : answer (having new_repository) (AsksHead (codes "r")) ≡ (Done (codes "refs/heads/main\n"), having new_repository)
+a_new_repository_has_head_main : answer anyone (having new_repository) (AsksHead (codes "r")) ≡ (Done (codes "refs/heads/main\n"), having new_repository)
 unfolding answer head_answer head_told
 a_new_repository_has_head_main =
     over new_repository (λ o. (told_over (codes "r") (λ repository. Ok (head_told repository)) o, having new_repository))
@@ -64,14 +69,14 @@ abbrev with_main : References → Repository
 with_main references = record { head = main_branch; references = references }
 
 a_branch_that_is_there_is_told_with_its_target : (references : References) (target : List ℕ) → get references main_branch ≡ Some target
-    → answer (having (with_main references)) (AsksHead (codes "r")) ≡ (Done (codes "refs/heads/main " ++ encode_lower target ++ codes "\n"), having (with_main references))
+    → answer anyone (having (with_main references)) (AsksHead (codes "r")) ≡ (Done (codes "refs/heads/main " ++ encode_lower target ++ codes "\n"), having (with_main references))
 unfolding answer head_answer head_told
 a_branch_that_is_there_is_told_with_its_target references target there =
     over (with_main references) (λ o. (told_over (codes "r") (λ repository. Ok (head_told repository)) o, having (with_main references)))
     ∙ ap (λ o. (Done (head_line main_branch o), having (with_main references))) there
 
 -- before a push `HEAD` is no reference, and is told so
-a_head_before_a_push_is_no_reference : answer (having new_repository) (AsksRevisions (codes "r") (codes "HEAD" ∷ [])) ≡ (Refused (NoRef (codes "HEAD")), having new_repository)
+a_head_before_a_push_is_no_reference : answer anyone (having new_repository) (AsksRevisions (codes "r") (codes "HEAD" ∷ [])) ≡ (Refused (NoRef (codes "HEAD")), having new_repository)
 unfolding answer rev_list_answer revisions_told name_in
 a_head_before_a_push_is_no_reference =
     over new_repository (λ o. (few_items (codes "HEAD" ∷ []) (told_over (codes "r") (λ repository. revisions_told nothing repository (codes "HEAD" ∷ [])) o), having new_repository))
@@ -84,26 +89,26 @@ unfolding name_in
 a_head_behind_a_push_is_its_branch objects references target there =
     ap (λ o. commit_behind objects (found_name objects (codes "HEAD") o)) there ∙ ap (λ o. commit_behind objects (found_name objects main_branch o)) (sym there)
 
-a_tag_is_no_head : answer (having new_repository) (SetsHead (codes "r") (codes "refs/tags/v")) ≡ (Refused (BadRef (codes "refs/tags/v")), having new_repository)
+a_tag_is_no_head : answer anyone (having new_repository) (SetsHead (codes "r") (codes "refs/tags/v")) ≡ (Refused (BadRef (codes "refs/tags/v")), having new_repository)
 unfolding answer set_head_answer least_broken_rule
 a_tag_is_no_head = over new_repository (set_head_in (having new_repository) (codes "r") (codes "refs/tags/v"))
 
-head_itself_is_no_head : answer (having new_repository) (SetsHead (codes "r") (codes "HEAD")) ≡ (Refused (BadRef (codes "HEAD")), having new_repository)
+head_itself_is_no_head : answer anyone (having new_repository) (SetsHead (codes "r") (codes "HEAD")) ≡ (Refused (BadRef (codes "HEAD")), having new_repository)
 unfolding answer set_head_answer least_broken_rule
 head_itself_is_no_head = over new_repository (set_head_in (having new_repository) (codes "r") (codes "HEAD"))
 
-a_branch_that_is_not_there_is_taken : answer (having new_repository) (SetsHead (codes "r") (codes "refs/heads/x"))
+a_branch_that_is_not_there_is_taken : answer anyone (having new_repository) (SetsHead (codes "r") (codes "refs/heads/x"))
     ≡ (Done [], record (having new_repository) { repositories = insert (having new_repository).repositories (codes "r") (record new_repository { head = codes "refs/heads/x" }) })
 unfolding answer set_head_answer least_broken_rule
 a_branch_that_is_not_there_is_taken = over new_repository (set_head_in (having new_repository) (codes "r") (codes "refs/heads/x"))
 
 -- refusals in their order: the name, the repository, the branch
-a_bad_name_is_told_first : answer (having new_repository) (SetsHead (codes "R") (codes "refs/tags/v")) ≡ (Refused (BadName (codes "R")), having new_repository)
+a_bad_name_is_told_first : answer anyone (having new_repository) (SetsHead (codes "R") (codes "refs/tags/v")) ≡ (Refused (BadName (codes "R")), having new_repository)
 unfolding answer set_head_answer
 a_bad_name_is_told_first =
     ap (λ b. cond {A = Reply × View} b (set_head_in (having new_repository) (codes "R") (codes "refs/tags/v") (get (having new_repository).repositories (codes "R"))) (Refused (BadName (codes "R")), having new_repository)) no_capitals
 
-no_repository_is_told_before_a_bad_branch : answer (having new_repository) (SetsHead (codes "s") (codes "refs/tags/v")) ≡ (Refused (NoRepository (codes "s")), having new_repository)
+no_repository_is_told_before_a_bad_branch : answer anyone (having new_repository) (SetsHead (codes "s") (codes "refs/tags/v")) ≡ (Refused (NoRepository (codes "s")), having new_repository)
 unfolding answer set_head_answer
 no_repository_is_told_before_a_bad_branch =
     ap (λ b. cond {A = Reply × View} b (set_head_in (having new_repository) (codes "s") (codes "refs/tags/v") (get (having new_repository).repositories (codes "s"))) (Refused (BadName (codes "s")), having new_repository)) plain_too

@@ -13,16 +13,17 @@ use Rattle.fork_request.specs.declared.refusal.Refusal.TheVariants.{UnknownTenan
 use Rattle.fork_request.specs.declared.reply.Reply.{Reply}
 use Rattle.fork_request.specs.declared.reply.Reply.TheVariants.{Refused}
 use Rattle.fork_model.specs.Answer.{answer}
+use Rattle.fork_model.specs.Context.{met_by}
 use Rattle.fork_model.specs.Runs.{Asks, Unknown}
 use Rattle.fork_model.specs.View.{View}
-use Rattle.fork_model.specs.World.{World, HostSays, Event, Answers, Steps, Explains, nothing_met}
+use Rattle.fork_model.specs.World.{World, HostSays, Event, Answers, Steps, Explains}
 use Rattle.fork_model.proofs.Worlds.{answered, explains_more}
 
 -- the tenant is found, answers, and is written back
-pub step_answered : (old new : World) (es fs : List (List ℕ × View)) (t : List ℕ) (ask : Ask) (view : View) (reply : Reply) (view' : View) → from_entries es ≡ old → from_entries fs ≡ new → Some view ≡ lookup (is_at (name_cmp t)) es → Answers view ask reply view'
+pub step_answered : (old new : World) (es fs : List (List ℕ × View)) (t : List ℕ) (ask : Ask) (view : View) (reply : Reply) (view' : View) → from_entries es ≡ old → from_entries fs ≡ new → Some view ≡ lookup (is_at (name_cmp t)) es → Answers (met_by old t) view ask reply view'
     → ((q : List ℕ) → lookup (is_at (name_cmp q)) fs ≡ cond (is_at (name_cmp t) q) (Some view') (lookup (is_at (name_cmp q)) es)) → Steps old (Asks t ask) reply new
 step_answered old new es fs t ask view reply view' is_old is_new here told set =
-    answered name_cmp name_total name_exact nothing_met (λ _. answer) (Refused UnknownTenant) is_host_fault HostSays old new t ask view reply view'
+    answered name_cmp name_total name_exact met_by answer (Refused UnknownTenant) is_host_fault HostSays old new t ask view reply view'
     (ap (λ w. get w t) (sym is_old) ∙ (get_of_entries name_total es t ∙ sym here)) told
     (sym is_new ∙ (entries_after_insert name_total name_exact es fs t view' set ∙ ap (λ w. insert w t view') is_old))
 
@@ -34,7 +35,7 @@ step_unknown old new es t ask is_old none stays =
 -- a run goes on by one step
 pub run_more : (old mid new : World) (steps : List Event) (replies : List Reply) (step : Event) (reply : Reply) → Explains old steps replies mid → Steps mid step reply new → Explains old (steps ++ step ∷ []) (replies ++ reply ∷ []) new
 run_more old mid new steps replies step reply run more =
-    explains_more name_cmp name_total name_exact nothing_met (λ _. answer) (Refused UnknownTenant) is_host_fault HostSays old mid new steps replies step reply run more
+    explains_more name_cmp name_total name_exact met_by answer (Refused UnknownTenant) is_host_fault HostSays old mid new steps replies step reply run more
 
 -- the world has a tenant's view where the entries have it
 pub get_is : (w : World) (es : List (List ℕ × View)) (t : List ℕ) → from_entries es ≡ w → get w t ≡ lookup (is_at (name_cmp t)) es

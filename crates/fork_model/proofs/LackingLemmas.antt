@@ -26,13 +26,14 @@ use Rattle.fork_query.specs.RevList.{revisions_of, revisions_told}
 use Rattle.fork_query.specs.Sides.{bare, is_excluded, selected, with_item, with_rest}
 use Rattle.fork_query.specs.Trees.{entries_at_end, rows_or, tree_told}
 use Rattle.fork_query.specs.Peel.{peeled}
-use Rattle.fork_request.specs.Asked.{Ask, Inits, Drops, Forks, Pushes, SendsPart, EndsParts, DropsParts, Updates, SetsHead, AsksObject, AsksTree, AsksRevisions, AsksBases, AsksReferences, AsksHead, Fetches, AsksUse, Prunes, NoRequest}
+use Rattle.fork_request.specs.Asked.{Ask, Inits, Drops, Forks, Pushes, SendsPart, EndsParts, DropsParts, Updates, SetsHead, MakesOffer, Withdraws, ForksOffer, AsksObject, AsksTree, AsksRevisions, AsksBases, AsksReferences, AsksHead, AsksOffers, Fetches, AsksUse, Prunes, NoRequest}
 use Rattle.fork_request.specs.Told.{is_host_fault}
 use Rattle.fork_request.specs.declared.refusal.Refusal.{Refusal}
 use Rattle.fork_request.specs.declared.refusal.Refusal.TheVariants.{BadName, Missing, TooMany, UploadOpen}
 use Rattle.fork_request.specs.declared.reply.Reply.{Reply}
 use Rattle.fork_request.specs.declared.reply.Reply.TheVariants.{Refused}
 use Rattle.fork_model.specs.Answer.{answer, left_by, ls_tree_answer, rev_list_answer, merge_base_answer, fetch_answer, push_answer, part_end_answer, update_answer, carried_out, end_in, few_items, named_repository, push_into, push_refusal, pushed, taken, reply_of, told_over, update_in, upload_ended, upload_into, with_references}
+use Rattle.fork_model.specs.Context.{Context, met_by}
 use Rattle.fork_model.specs.Missing.{InRepository, IsLacking, IsMissing, LacksInStream, LacksItem, LacksSent, Linked, Pointed, LacksTarget, links_sent}
 use Rattle.fork_model.specs.Runs.{Asks, Answered, Unknown, Faulted}
 use Rattle.fork_model.specs.View.{View}
@@ -210,45 +211,49 @@ pushed_lacking view word old s name lacks =
     ap (pushed view word old) lacks.whole ∙ ap (taken view word old (with_objects view.objects lacks.sent)) verdict.is ∙ ap (λ r. (Refused r, view)) verdict.told
 
 -- by each way of naming
-pub lacking_answer : (view : View) (name : List ℕ) (ask : Ask) → IsMissing view name ask → answer view ask ≡ (Refused (Missing name), left_by view ask)
+pub lacking_answer : (context : Context) (view : View) (name : List ℕ) (ask : Ask) → IsMissing view name ask → answer context view ask ≡ (Refused (Missing name), left_by view ask)
 unfolding answer ls_tree_answer rev_list_answer merge_base_answer fetch_answer push_answer part_end_answer update_answer tree_told revisions_told fetch_told
-lacking_answer view name (AsksObject asked) is = ap (λ n. answer view (AsksObject n)) is.0 ∙ unheld_answer view name is.1
-lacking_answer view name (AsksTree asked) is =
-    ap (λ n. answer view (AsksTree n)) is.0
+lacking_answer context view name (AsksObject asked) is = ap (λ n. answer context view (AsksObject n)) is.0 ∙ unheld_answer context view name is.1
+lacking_answer context view name (AsksTree asked) is =
+    ap (λ n. answer context view (AsksTree n)) is.0
     ∙ ap (λ o. (reply_of (cond (is_some o) (rows_or name (entries_at_end view.objects (peeled view.objects name))) (Err (Missing name))), view)) is.1
-lacking_answer view name (AsksRevisions repository items) is =
+lacking_answer context view name (AsksRevisions repository items) is =
     in_repository view repository _ (λ o. (few_items items (told_over repository (λ r. revisions_told view.objects r items) o), view)) _ is
     (ap (λ reply. (reply, view)) (few_asked items _ is.holds.0
     ∙ ap (λ r. reply_of (revisions_of view.objects r)) (first_item (commit_of_item view.objects is.repository) items is.holds.1.first.before is.holds.1.first.behind is.holds.1.item (Missing name) is.holds.1.first.parts is.holds.1.first.passed
     (unseen_commit view.objects is.repository is.holds.1.item name is.holds.1.named is.holds.1.unseen))))
-lacking_answer view name (AsksBases repository first second) is =
+lacking_answer context view name (AsksBases repository first second) is =
     in_repository view repository _ (λ o. (told_over repository (λ r. bases_told view.objects r first second) o, view)) _ is
     (ap (λ r. (reply_of r, view)) (bases_lack view.objects is.repository first second name is.holds))
-lacking_answer view name (Fetches repository items) is =
+lacking_answer context view name (Fetches repository items) is =
     in_repository view repository _ (λ o. (few_items items (told_over repository (λ r. fetch_told view.objects r items) o), view)) _ is
     (ap (λ reply. (reply, view)) (few_asked items _ is.holds.0
     ∙ ap (λ r. reply_of (fetched_of view.objects r)) (first_item (object_of_item view.objects is.repository) items is.holds.1.first.before is.holds.1.first.behind is.holds.1.item (Missing name) is.holds.1.first.parts is.holds.1.first.passed
     (unseen_item view.objects is.repository is.holds.1.item name is.holds.1.named is.holds.1.unseen))))
-lacking_answer view name (Updates repository body) is =
+lacking_answer context view name (Updates repository body) is =
     in_repository view repository _ (update_in view repository body) _ is
     (ap (carried_out view repository is.repository) is.holds.read ∙ ap (with_references view repository is.repository) (target_lacking view.objects [] is.repository.references is.holds.commands name is.holds.lacks))
-lacking_answer view name (Pushes repository body) is =
+lacking_answer context view name (Pushes repository body) is =
     in_repository view repository _ (push_into view repository body) _ is
     (ap (λ o. cond (is_some o) (Refused UploadOpen, view) (pushed view repository is.repository (finished (stream_of body)))) is.holds.0 ∙ pushed_lacking view repository is.repository (stream_of body) name is.holds.1)
-lacking_answer view name (EndsParts repository) is =
+lacking_answer context view name (EndsParts repository) is =
     ap upload_ended (in_repository view repository _ (end_in view repository) (Refused (Missing name), view) is
     (ap (upload_into view repository is.repository) is.holds.opened ∙ pushed_lacking view repository is.repository is.holds.upload.stream name is.holds.lacks))
-lacking_answer view name (Inits repository) is = absurd is
-lacking_answer view name (Drops repository) is = absurd is
-lacking_answer view name (Forks source copy) is = absurd is
-lacking_answer view name (SendsPart body) is = absurd is
-lacking_answer view name DropsParts is = absurd is
-lacking_answer view name (SetsHead repository reference) is = absurd is
-lacking_answer view name (AsksReferences repository prefix) is = absurd is
-lacking_answer view name (AsksHead repository) is = absurd is
-lacking_answer view name AsksUse is = absurd is
-lacking_answer view name Prunes is = absurd is
-lacking_answer view name NoRequest is = absurd is
+lacking_answer context view name (Inits repository) is = absurd is
+lacking_answer context view name (Drops repository) is = absurd is
+lacking_answer context view name (Forks source copy) is = absurd is
+lacking_answer context view name (SendsPart body) is = absurd is
+lacking_answer context view name DropsParts is = absurd is
+lacking_answer context view name (SetsHead repository reference) is = absurd is
+lacking_answer context view name (AsksReferences repository prefix) is = absurd is
+lacking_answer context view name (AsksHead repository) is = absurd is
+lacking_answer context view name (MakesOffer repository receiver) is = absurd is
+lacking_answer context view name (Withdraws repository receiver) is = absurd is
+lacking_answer context view name (ForksOffer giver repository copy) is = absurd is
+lacking_answer context view name AsksOffers is = absurd is
+lacking_answer context view name AsksUse is = absurd is
+lacking_answer context view name Prunes is = absurd is
+lacking_answer context view name NoRequest is = absurd is
 
 some_same : (a b : View) → Some a ≡ Some b → a ≡ b
 some_same a b is = cc
@@ -256,13 +261,13 @@ some_same a b is = cc
 -- in a step of any world that has this view for the tenant
 pub lacking_step : (old new : World) (t : List ℕ) (view : View) (name : List ℕ) (ask : Ask) (reply : Reply) → get old t ≡ Some view → IsMissing view name ask → Steps old (Asks t ask) reply new → is_host_fault reply ≡ false → reply ≡ Refused (Missing name)
 lacking_step old new t view name ask reply here lacks (Answered other there told set) fine =
-    told ∙ ap (λ v. (answer v ask).0) (some_same other view (sym there ∙ here)) ∙ ap (λ row. row.0) (lacking_answer view name ask lacks)
+    told ∙ ap (λ v. (answer (met_by old t) v ask).0) (some_same other view (sym there ∙ here)) ∙ ap (λ row. row.0) (lacking_answer (met_by old t) view name ask lacks)
 lacking_step old new t view name ask reply here lacks (Unknown absent told stays) fine = (let differs : ⊥ = cc (sym absent ∙ here) in absurd differs)
 lacking_step old new t view name ask reply here lacks (Faulted bad stays) fine = (let differs : ⊥ = cc (sym fine ∙ bad) in absurd differs)
 
 -- which leaves the world but for the upload that a refused end takes away
 pub lacking_world : (old new : World) (t : List ℕ) (view : View) (name : List ℕ) (ask : Ask) (reply : Reply) → get old t ≡ Some view → IsMissing view name ask → Steps old (Asks t ask) reply new → is_host_fault reply ≡ false → new ≡ insert old t (left_by view ask)
 lacking_world old new t view name ask reply here lacks (Answered other there told set) fine =
-    set ∙ ap (λ v. insert old t (answer v ask).1) (some_same other view (sym there ∙ here)) ∙ ap (λ row. insert old t row.1) (lacking_answer view name ask lacks)
+    set ∙ ap (λ v. insert old t (answer (met_by old t) v ask).1) (some_same other view (sym there ∙ here)) ∙ ap (λ row. insert old t row.1) (lacking_answer (met_by old t) view name ask lacks)
 lacking_world old new t view name ask reply here lacks (Unknown absent told stays) fine = (let differs : ⊥ = cc (sym absent ∙ here) in absurd differs)
 lacking_world old new t view name ask reply here lacks (Faulted bad stays) fine = (let differs : ⊥ = cc (sym fine ∙ bad) in absurd differs)

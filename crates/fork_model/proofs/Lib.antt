@@ -1,4 +1,6 @@
+pub mod AlikeLemmas
 pub mod ClosedLemmas
+pub mod DisclosureLemmas
 pub mod EntryLemmas
 pub mod Examples
 pub mod FetchLemmas
@@ -9,10 +11,12 @@ pub mod Hosts
 pub mod Isolation
 pub mod KeptLemmas
 pub mod LackingLemmas
+pub mod MadeLemmas
 pub mod Meetings
 pub mod MissingExamples
 pub mod MissingLemmas
 pub mod OfferLemmas
+pub mod OfferedLemmas
 pub mod PartLemmas
 pub mod PrerequisiteLemmas
 pub mod ProvenanceLemmas

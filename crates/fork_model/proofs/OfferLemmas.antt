@@ -1,20 +1,26 @@
 -- What references reach among closed objects stays, where objects come, or where what is reached is kept.
-use Rattle.std.proofs.Common.{◌≡◌, ℕ, Bool, true, false, cond, List, Option, Some, None, refl, sym, ap, subst, ◌∙◌, is_some}
+use Rattle.std.proofs.Common.{◌≡◌, ◌≢◌, ℕ, Bool, true, false, cond, List, Option, Some, None, refl, sym, ap, subst, ◌∙◌, is_some}
 use Rattle.std.specs.Prelude.{map, Contains}
-use Rattle.std.specs.FinMap.{get, retain_keys, contains_key, same_map, values}
+use Rattle.std.specs.Option.{option_or}
+use Rattle.std.specs.Ordering.{eq_by_cmp}
+use Rattle.std.specs.FinMap.{entries, get, get-entries, get-insert, get-remove, insert, remove, retain_keys, contains_key, same_map, values}
+use Rattle.git_name.specs.Name.{name_cmp}
+use Rattle.git_name.specs.Maps.{joined}
 use Rattle.git_name.specs.Object.{Object}
+use Rattle.git_name.proofs.MapLemmas.{get_joined}
 use Rattle.git_name.proofs.Names.{name_exact, name_total}
 use Rattle.git_object.specs.ObjectIn.{links_in}
+use Rattle.git_reftx.specs.Repository.{Repository}
 use Rattle.git_reftx.specs.Transaction.{References}
 use Rattle.fork_reach.specs.Reach.{IsReached, Root, Next, is_reached, linked_names, links_of_found}
 use Rattle.fork_reach.specs.Source.{Objects}
-use Rattle.fork_reach.proofs.ReachLemmas.{led_to_reached, reached_led_to}
+use Rattle.fork_reach.proofs.ReachLemmas.{led_to_reached, reached_led_to, root_reached}
 use Rattle.fork_reach.proofs.NameLemmas.{same_tests}
-use Rattle.fork_model.specs.Offer.{Offer, reached_by}
+use Rattle.fork_model.specs.Offer.{Offer, Offers, Pair, offered, pair_cmp, reached_by}
 use Rattle.fork_model.specs.Sound.{IsClosed, IsReach}
 use Rattle.fork_model.proofs.ClosedLemmas.{each_of}
-use Rattle.fork_model.proofs.EntryLemmas.{each_made}
-use Rattle.fork_model.proofs.KeptLemmas.{found_kept, kept_at, stays_at, there_by_link}
+use Rattle.fork_model.proofs.EntryLemmas.{each_made, is_equal, pair_exact, pair_total}
+use Rattle.fork_model.proofs.KeptLemmas.{found_kept, found_value, kept_at, stays_at, there_by_link}
 
 -- what is found among some objects is found among others
 abbrev pub AreAmong : Objects → Objects → Type 0
@@ -101,3 +107,53 @@ reach_kept objects kept offer closed rooted reach = record {
       (λ name here. let found = found_in (get (retain_keys objects kept) name) here in (found_kept objects kept name found.0 found.1).1 ∙ sym found.1)
       (λ reference target points. let there = reach_targets objects offer reach reference target points in ap is_some (stays_at objects kept target (rooted reference target points there)) ∙ there);
 }
+
+-- a repository as it is holds, offered, what its references reach
+pub new_reach : (objects : Objects) (repository : Repository) → HaveTargets objects repository.references → IsReach objects (offered objects repository)
+new_reach objects repository have = record {
+  targets = λ reference target points.
+      let there = have reference target points in
+      let among : Contains (values repository.references) target = found_value name_cmp reference target (entries repository.references) (sym (get-entries repository.references reference) ∙ points) in
+      ap is_some (stays_at objects (is_reached (linked_names objects) objects (values repository.references)) target (root_reached (linked_names objects) objects (values repository.references) target among there)) ∙ there;
+  objects = refl;
+}
+
+-- what is seen is found among what is joined with it
+pub among_joined : (objects others : Objects) → AreAmong objects (joined objects others)
+among_joined objects others name there = get_joined name_total objects others name ∙ by (get objects name) there
+  where
+    by : (o : Option Object) → is_some o ≡ true → option_or o (get others name) ≡ o
+    by (Some object) is = refl
+    by None is = absurd (let no : ⊥ = cc in no)
+
+-- ---- offers under their keys
+pub tied_pairs : (a b : Pair) → eq_by_cmp pair_cmp a b ≡ true → a ≡ b
+tied_pairs a b is = pair_exact a b (is_equal (pair_cmp a b) is)
+
+apart_pairs : (a b : Pair) → a ≢ b → eq_by_cmp pair_cmp a b ≡ false
+apart_pairs a b apart = by (eq_by_cmp pair_cmp a b) refl
+  where
+    by : (t : Bool) → eq_by_cmp pair_cmp a b ≡ t → t ≡ false
+    by true is = absurd (apart (tied_pairs a b is))
+    by false is = refl
+
+-- what holds of one that comes and of each that was there holds of all
+pub offer_inserted : (P : Pair → Offer → Type 0) (made : Offers) (key : Pair) (new : Offer) → P key new → ((other : Pair) (offer : Offer) → get made other ≡ Some offer → P other offer) → (other : Pair) (offer : Offer) → get (insert made key new) other ≡ Some offer → P other offer
+offer_inserted P made key new one others other offer is = by (eq_by_cmp pair_cmp other key) refl (sym (get-insert pair_total made key new other) ∙ is)
+  where
+    by : (t : Bool) → eq_by_cmp pair_cmp other key ≡ t → cond t (Some new) (get made other) ≡ Some offer → P other offer
+    by true tied found = subst (λ k. P k offer) (sym (tied_pairs other key tied)) (subst (P key) (cc) one)
+    by false apart found = others other offer found
+
+pub other_inserted : (made : Offers) (key : Pair) (new : Offer) (other : Pair) → other ≢ key → get (insert made key new) other ≡ get made other
+other_inserted made key new other apart = get-insert pair_total made key new other ∙ ap (λ t. cond t (Some new) (get made other)) (apart_pairs other key apart)
+
+pub other_removed : (made : Offers) (key other : Pair) → other ≢ key → get (remove made key) other ≡ get made other
+other_removed made key other apart = get-remove pair_total made key other ∙ ap (λ t. cond t None (get made other)) (apart_pairs other key apart)
+
+pub left_before : (made : Offers) (key other : Pair) (offer : Offer) → get (remove made key) other ≡ Some offer → get made other ≡ Some offer
+left_before made key other offer is = by (eq_by_cmp pair_cmp other key) (sym (get-remove pair_total made key other) ∙ is)
+  where
+    by : (t : Bool) → cond t None (get made other) ≡ Some offer → get made other ≡ Some offer
+    by true found = absurd (let no : ⊥ = cc in no)
+    by false found = found

@@ -1,11 +1,14 @@
 -- How each row of the answer goes: it refuses and leaves what a refusal leaves, or it is done and leaves a sound view sound.
-use Rattle.std.proofs.Common.{◌≡◌, ℕ, ◌+◌, ◌≤◌, Bool, true, false, cond, List, [], Option, Some, None, Result, Ok, Err, refl, sym, ap, subst, ◌∙◌, arith, is_some, inl, inr, ◌∷◌, length, ◌-◌}
+use Rattle.std.proofs.Common.{◌≡◌, ℕ, ◌+◌, ◌≤◌, Bool, true, false, cond, List, [], Option, Some, None, Result, Ok, Err, refl, sym, ap, subst, ◌∙◌, arith, is_some, inl, inr, ◌∷◌, ◌&&◌, ◌≢◌, not, length, ◌-◌}
 use Rattle.std.specs.Prelude.{Contains, nat_le, nat_lt, map}
 use Rattle.std.specs.Option.{option_map}
 use Rattle.std.specs.Ordering.{eq_by_cmp}
 use Rattle.std.specs.FinMap.{get, get-insert, get-remove, get-empty, insert, remove, retain_keys, contains_key, len, len-insert, len-remove, len-empty, len-entries, entries, empty}
 use Rattle.std.proofs.lemmas.Bool.Decides.{nat_tests}
+use Rattle.git_name.specs.Maps.{joined}
 use Rattle.git_name.specs.Object.{Object, object_name}
+use Rattle.git_name.specs.Same.{same_name}
+use Rattle.std.proofs.lemmas.Bool.{and_parts}
 use Rattle.git_name.specs.Name.{name_cmp}
 use Rattle.git_name.proofs.Names.{name_total}
 use Rattle.git_reftx.specs.declared.command.Command.{Command}
@@ -33,45 +36,30 @@ use Rattle.fork_query.specs.Objects.{object_told}
 use Rattle.fork_query.specs.References.{listing}
 use Rattle.fork_query.specs.RevList.{revisions_told}
 use Rattle.fork_query.specs.Trees.{tree_told}
-use Rattle.fork_request.specs.Asked.{Ask, Inits, Drops, Forks, Pushes, SendsPart, EndsParts, DropsParts, Updates, SetsHead, AsksObject, AsksTree, AsksRevisions, AsksBases, AsksReferences, AsksHead, Fetches, AsksUse, Prunes, NoRequest}
-use Rattle.fork_request.specs.Names.{IsRepositoryName, is_plain_name}
+use Rattle.fork_request.specs.Asked.{Ask, Inits, Drops, Forks, Pushes, SendsPart, EndsParts, DropsParts, Updates, SetsHead, MakesOffer, Withdraws, ForksOffer, AsksObject, AsksTree, AsksRevisions, AsksBases, AsksReferences, AsksHead, AsksOffers, Fetches, AsksUse, Prunes, NoRequest}
+use Rattle.fork_request.specs.Names.{IsRepositoryName, IsTenantName, is_plain_name}
 use Rattle.fork_request.proofs.NameLemmas.{plain_name}
 use Rattle.fork_request.specs.declared.refusal.Refusal.{Refusal}
-use Rattle.fork_request.specs.declared.refusal.Refusal.TheVariants.{BadName, BadRef, BadRequest, NoRepository, NoUpload, RepositoryExists, StagedTooLong, TooMany, UploadOpen}
+use Rattle.fork_request.specs.declared.refusal.Refusal.TheVariants.{BadName, BadRef, BadRequest, NoOffer, NoRepository, NoUpload, OfferExists, OverQuota, RepositoryExists, StagedTooLong, TooMany, UploadOpen}
 use Rattle.fork_request.specs.declared.reply.Reply.{Reply}
 use Rattle.fork_request.specs.declared.reply.Reply.TheVariants.{Done, Refused}
-use Rattle.fork_model.specs.Answer.{Finished, answer, left_by, without_upload, init_answer, drop_answer, fork_answer, push_answer, part_answer, part_end_answer, part_drop_answer, update_answer, set_head_answer, cat_file_answer, ls_tree_answer, rev_list_answer, merge_base_answer, fetch_answer, references_answer, head_answer, quota_answer, prune_answer, pruned, roots_of, named_repository, repository_added, dropped, copied, push_into, pushed, taken, open_upload, upload_into, end_in, upload_ended, update_in, carried_out, with_references, with_head, set_head_in, reply_of, told_over, told_references, transaction_refusal, command_refusal, push_refusal}
-use Rattle.fork_model.specs.Offer.{Offer, Pair}
-use Rattle.fork_model.specs.Sound.{AreReferences, IsOffer, IsOrderly, IsRight}
+use Rattle.fork_model.specs.Answer.{Finished, answer, fork_offer_answer, fork_offered, named_receiver, offer_added, offer_answer, offer_in, offer_taken, offers_answer, withdraw_answer, withdrawn, left_by, without_upload, init_answer, drop_answer, fork_answer, push_answer, part_answer, part_end_answer, part_drop_answer, update_answer, set_head_answer, cat_file_answer, ls_tree_answer, rev_list_answer, merge_base_answer, fetch_answer, references_answer, head_answer, quota_answer, prune_answer, pruned, roots_of, named_repository, repository_added, dropped, copied, push_into, pushed, taken, open_upload, upload_into, end_in, upload_ended, update_in, carried_out, with_references, with_head, set_head_in, reply_of, told_over, told_references, transaction_refusal, command_refusal, push_refusal}
+use Rattle.fork_model.specs.Context.{Context}
+use Rattle.fork_model.specs.Offer.{Offer, Offers, Pair, offered}
+use Rattle.fork_model.specs.Sound.{AreReferences, IsOffer, IsOrderly, IsReach, IsRight, IsSound, IsSoundBeside, MayTake}
 use Rattle.fork_model.specs.View.{View, Repositories}
 use Rattle.fork_reach.proofs.KeptObjects.{at_key, kept_all, named_all, tied_names}
 use Rattle.fork_model.proofs.ClosedLemmas.{closed_both, right_both}
 use Rattle.fork_model.proofs.KeptLemmas.{closed_kept, named_kept, offer_rooted, references_right, right_kept, target_rooted, use_of-kept}
-use Rattle.fork_model.proofs.OfferLemmas.{reach_grows, reach_kept}
+use Rattle.fork_model.proofs.EntryLemmas.{pair_total}
+use Rattle.fork_model.proofs.OfferLemmas.{AreAmong, among_joined, left_before, new_reach, offer_inserted, other_inserted, other_removed, reach_grows, reach_kept}
 use Rattle.fork_model.proofs.PushLemmas.{AreHeld, IsAccepted, accepted, held_right}
 use Rattle.fork_model.proofs.TransactionLemmas.{sound_transacted}
 
-pub data GoesTo (view left : View) (row : Reply × View) : Type 0 where
-  -- a refusal, which leaves this
-  Refuses : (refusal : Refusal) → row.0 ≡ Refused refusal → row.1 ≡ left → GoesTo view left row
-  -- data, the same offers, and a view that is in order and right where the view was
-  Does : (text : List ℕ) → row.0 ≡ Done text → row.1.made ≡ view.made → (IsOrderly view → IsOrderly row.1) → (IsRight view → IsRight row.1) → GoesTo view left row
-
--- a row whose refusal leaves the view
-abbrev IsRow : View → Reply × View → Type 0
-IsRow view row = GoesTo view view row
-
-refuses : (view : View) (refusal : Refusal) → IsRow view (Refused refusal, view)
-refuses view refusal = Refuses refusal refl refl
-
--- by a test
-either : (view : View) (b : Bool) (x y : Reply × View) → (b ≡ true → IsRow view x) → (b ≡ false → IsRow view y) → IsRow view (cond b x y)
-either view true x y left right = left refl
-either view false x y left right = right refl
-
--- a row about a repository of a right name
-named_row : (view : View) (word : List ℕ) (row : Reply × View) → (IsRepositoryName word → IsRow view row) → IsRow view (named_repository view word row)
-named_row view word row right = either view (is_plain_name 64 word) row (Refused (BadName word), view) (λ is. right (plain_name 64 word is)) (λ _. refuses view (BadName word))
+-- offers are as they were, but for that under a key, if one is given
+abbrev pub SameBut : Option Pair → Offers → Offers → Type 0
+SameBut None old new = new ≡ old
+SameBut (Some key) old new = (other : Pair) → other ≢ key → get new other ≡ get old other
 
 -- a repository that a tenant with these objects may have under this name
 record MayStand (objects : Objects) (name : List ℕ) (repository : Repository) : Type 0 where
@@ -125,15 +113,6 @@ few_more : (here : Bool) (n : ℕ) → nat_le 256 n ≡ false → n ≤ 256 → 
 few_more true n room few = few
 few_more false n room few = grind (arith, nat_tests)
 
-added_row : (view : View) (word : List ℕ) (repository : Repository) → (IsOrderly view → MayStand view.objects word repository) → IsRow view (repository_added view word repository)
-added_row view word repository right =
-    either view (contains_key view.repositories word) (Refused (RepositoryExists word), view) _ (λ _. refuses view (RepositoryExists word)) (λ _.
-    either view (nat_le 256 (len view.repositories)) (Refused TooMany, view) (Done [], record view { repositories = insert view.repositories word repository }) (λ _. refuses view TooMany) (λ room.
-    Does [] refl refl (λ sound. with_repositories view (insert view.repositories word repository) sound
-    (subst (λ n. n ≤ 256) (sym (len-insert name_total view.repositories word repository)) (few_more (contains_key view.repositories word) (len view.repositories) room sound.few_repositories))
-    (each_inserted view.objects view.repositories word repository (right sound) (sound_each view sound)))
-    (still_right view (insert view.repositories word repository))))
-
 some_absent : {X : Type 0} (x : X) → None ≡ Some x → ⊥
 some_absent x is = cc
 
@@ -163,27 +142,12 @@ found_before : {X : Type 0} (b : Bool) (o : Option X) (x : X) → cond b None o 
 found_before true o x is = absurd (cc)
 found_before false o x is = is
 
-dropped_row : (view : View) (word : List ℕ) → IsRow view (dropped view word)
-dropped_row view word =
-    either view (contains_key view.repositories word) (Done [], record view { repositories = remove view.repositories word }) (Refused (NoRepository word), view) (λ _.
-    Does [] refl refl (λ sound. with_repositories view (remove view.repositories word) sound
-    (subst (λ n. n ≤ 256) (sym (len-remove name_total view.repositories word)) (fewer (contains_key view.repositories word) (len view.repositories) sound.few_repositories))
-    (λ name repository is.
-    sound_each view sound name repository (found_before (eq_by_cmp name_cmp name word) (get view.repositories name) repository (sym (get-remove name_total view.repositories word name) ∙ is))))
-    (still_right view (remove view.repositories word)))
-    (λ _. refuses view (NoRepository word))
-
 -- a new repository may stand
 new_stands : (objects : Objects) (word : List ℕ) → IsRepositoryName word → MayStand objects word new_repository
 new_stands objects word right = record { word = right; branch = main_right; sound = none_right objects }
 
--- the same repository under another name
-copied_row : (view : View) (source copy : List ℕ) (o : Option Repository) → get view.repositories source ≡ o → IsRepositoryName copy → IsRow view (copied view source copy o)
-copied_row view source copy None is right = refuses view (NoRepository source)
-copied_row view source copy (Some repository) is right = added_row view copy repository (λ sound. record { word = right; branch = sound.heads source repository is; sound = sound.references source repository is })
-
 -- references stay right where objects come
-references_kept : (objects both : Objects) (references : References) → ((name : List ℕ) → contains_key objects name ≡ true → get both name ≡ get objects name) → AreReferences objects references → AreReferences both references
+pub references_kept : (objects both : Objects) (references : References) → ((name : List ℕ) → contains_key objects name ≡ true → get both name ≡ get objects name) → AreReferences objects references → AreReferences both references
 references_kept objects both references grown right = record {
   each = λ reference target is.
       let at = right.each reference target is in
@@ -238,31 +202,6 @@ right_pushed view word old new held are accepted right = record {
   upload = right.upload;
 }
 
-taken_row : (view : View) (word : List ℕ) (old : Repository) (objects : Objects) (value : Result References PushRefusal)
-    → ((new : References) → value ≡ Ok new → IsOrderly view → IsOrderly (record view { repositories = insert view.repositories word (record old { references = new }); objects = objects }))
-    → ((new : References) → value ≡ Ok new → IsRight view → IsRight (record view { repositories = insert view.repositories word (record old { references = new }); objects = objects })) → IsRow view (taken view word old objects value)
-taken_row view word old objects (Ok new) orderly right = Does [] refl refl (orderly new refl) (right new refl)
-taken_row view word old objects (Err refusal) orderly right = refuses view (push_refusal refusal)
-
-faulty_row : (view : View) (word : List ℕ) (old : Repository) (fault : StreamFault) → IsRow view (pushed view word old (Err fault))
-unfolding judged
-faulty_row view word old fault = refuses view (push_refusal (Stream fault))
-
-pushed_row : (view : View) (word : List ℕ) (old : Repository) (held : Finished) → get view.repositories word ≡ Some old → IsRepositoryName word → (IsRight view → AreHeld held) → IsRow view (pushed view word old held)
-pushed_row view word old (Ok held) there right are =
-    taken_row view word old (with_objects view.objects held.1) (judged (with_objects view.objects held.1) old.references view.limit (Ok (held.0, map object_name held.1)))
-    (λ new is orderly.
-    let told = accepted (with_objects view.objects held.1) old.references view.limit (held.0, map object_name held.1) new is in
-    orderly_pushed view word old new held.0 (with_objects view.objects held.1) (λ name seen. kept_all view.objects held.1 name seen) there right told.carried told.within orderly)
-    (λ new is was. right_pushed view word old new held (are was) (accepted (with_objects view.objects held.1) old.references view.limit (held.0, map object_name held.1) new is) was)
-pushed_row view word old (Err fault) there right are = faulty_row view word old fault
-
-into_row : (view : View) (word body : List ℕ) (o : Option Repository) → get view.repositories word ≡ o → IsRepositoryName word → IsRow view (push_into view word body o)
-into_row view word body None there right = refuses view (NoRepository word)
-into_row view word body (Some old) there right =
-    either view (is_some view.upload) (Refused UploadOpen, view) (pushed view word old (finished (stream_of body))) (λ _. refuses view UploadOpen)
-    (λ _. pushed_row view word old (finished (stream_of body)) there right (λ _. held_right (stream_of body) (stream_right body)))
-
 -- a view with another upload, or none
 orderly_upload : (view : View) (upload : Option UploadValue) → ((value : UploadValue) → upload ≡ Some value → value.count ≤ 33554432) → IsOrderly view → IsOrderly (record view { upload = upload })
 orderly_upload view upload few orderly = record {
@@ -293,85 +232,6 @@ open_right None right = stream_right []
 counted : (upload : UploadValue) (piece : List ℕ) → nat_lt 33554432 (upload.count + length piece) ≡ false → (continued upload piece).count ≤ 33554432
 unfolding continued
 counted upload piece fits = grind (arith, nat_tests)
-
-part_row : (view : View) (body : List ℕ) → IsRow view (part_answer view body)
-unfolding part_answer
-part_row view body =
-    either view (nat_lt 33554432 ((open_upload view.upload).count + length body)) (Refused StagedTooLong, view) _ (λ _. refuses view StagedTooLong)
-    (λ fits. Does [] refl refl
-    (orderly_upload view (Some (continued (open_upload view.upload) body)) (λ value is. subst (λ (u : UploadValue). u.count ≤ 33554432) (some_same (continued (open_upload view.upload) body) value is) (counted (open_upload view.upload) body fits)))
-    (λ right. right_upload view (Some (continued (open_upload view.upload) body)) (λ value is.
-    subst (λ (u : UploadValue). AreObjects (sent_in u.stream)) (some_same (continued (open_upload view.upload) body) value is) (continued_right (open_upload view.upload) body (open_right view.upload right.upload))) right))
-
-upload_row : (view : View) (word : List ℕ) (old : Repository) (o : Option UploadValue) → view.upload ≡ o → get view.repositories word ≡ Some old → IsRepositoryName word → IsRow view (upload_into view word old o)
-upload_row view word old None is there right = refuses view NoUpload
-upload_row view word old (Some upload) is there right =
-    pushed_row view word old (finished upload.stream) there right (λ was. held_right upload.stream (was.upload upload is))
-
-end_row : (view : View) (word : List ℕ) (o : Option Repository) → get view.repositories word ≡ o → IsRepositoryName word → IsRow view (end_in view word o)
-end_row view word None there right = refuses view (NoRepository word)
-end_row view word (Some old) there right = upload_row view word old view.upload refl there right
-
--- a row that ends the upload whatever it answers
-ended_row : (view : View) (row : Reply × View) → IsRow view row → GoesTo view (without_upload view) (upload_ended row)
-ended_row view row (Refuses refusal told kept) = Refuses refusal told (ap without_upload kept)
-ended_row view row (Does text told made orderly right) = Does text told made (λ before. orderly_without row.1 (orderly before)) (λ before. right_without row.1 (right before))
-
-dropped_upload_row : (view : View) → IsRow view (part_drop_answer view)
-unfolding part_drop_answer
-dropped_upload_row view =
-    either view (is_some view.upload) (Done [], without_upload view) (Refused NoUpload, view) (λ _. Does [] refl refl (orderly_without view) (right_without view)) (λ _. refuses view NoUpload)
-
--- another repository stands in the place of one that is there
-replaced_row : (view : View) (word : List ℕ) (old new : Repository) → get view.repositories word ≡ Some old → (IsOrderly view → MayStand view.objects word new) → IsRow view (Done [], record view { repositories = insert view.repositories word new })
-replaced_row view word old new there right_new =
-    Does [] refl refl (λ sound. with_repositories view (insert view.repositories word new) sound (still_few view word old new there sound.few_repositories)
-    (each_inserted view.objects view.repositories word new (right_new sound) (sound_each view sound)))
-    (still_right view (insert view.repositories word new))
-
--- a repository that is there has other references
-with_references_row : (view : View) (word : List ℕ) (old : Repository) (value : Result References TxRefusal) → get view.repositories word ≡ Some old
-    → ((new : References) → value ≡ Ok new → IsOrderly view → AreReferences view.objects new) → IsRow view (with_references view word old value)
-with_references_row view word old (Err refusal) there right_new = refuses view (transaction_refusal refusal)
-with_references_row view word old (Ok new) there right_new =
-    replaced_row view word old (record old { references = new }) there (λ sound. other_references view word old new sound there view.objects (right_new new refl sound))
-
-carried_row : (view : View) (word : List ℕ) (old : Repository) (value : Result (List Command) CommandFault) → get view.repositories word ≡ Some old → IsRow view (carried_out view word old value)
-carried_row view word old (Err fault) there = refuses view (command_refusal fault)
-carried_row view word old (Ok commands) there =
-    with_references_row view word old (transacted old.references commands (kind_in view.objects)) there
-    (λ new is sound. sound_transacted view.objects old.references new commands (sound.references word old there) is)
-
-update_row : (view : View) (word body : List ℕ) (o : Option Repository) → get view.repositories word ≡ o → IsRow view (update_in view word body o)
-update_row view word body None there = refuses view (NoRepository word)
-update_row view word body (Some old) there = carried_row view word old (commands_of body) there
-
--- a repository that is there has another head
-with_head_row : (view : View) (word : List ℕ) (old : Repository) (reference : List ℕ) (o : Option (List ℕ)) → branch_in reference ≡ o → get view.repositories word ≡ Some old → IsRow view (with_head view word old reference o)
-with_head_row view word old reference None is there = refuses view (BadRef reference)
-with_head_row view word old reference (Some branch) is there =
-    replaced_row view word old (record old { head = branch }) there (λ sound. other_head view word old branch sound there (branch_right reference branch is))
-
-set_head_row : (view : View) (word reference : List ℕ) (o : Option Repository) → get view.repositories word ≡ o → IsRow view (set_head_in view word reference o)
-set_head_row view word reference None there = refuses view (NoRepository word)
-set_head_row view word reference (Some old) there = with_head_row view word old reference (branch_in reference) refl there
-
--- a row that tells what was found, and leaves the view
-told_row : (view : View) (found : Result (List ℕ) Refusal) → IsRow view (reply_of found, view)
-told_row view (Ok text) = Does text refl refl (λ was. was) (λ was. was)
-told_row view (Err refusal) = refuses view refusal
-
-over_row : (view : View) (word : List ℕ) (query : Repository → Result (List ℕ) Refusal) (o : Option Repository) → IsRow view (told_over word query o, view)
-over_row view word query None = refuses view (NoRepository word)
-over_row view word query (Some repository) = told_row view (query repository)
-
-few_row : (view : View) (many : Bool) (reply : Reply) → IsRow view (reply, view) → IsRow view (cond many (Refused TooMany) reply, view)
-few_row view true reply row = refuses view TooMany
-few_row view false reply row = row
-
-listing_row : (view : View) (word : List ℕ) (prefix : Option (List ℕ)) (o : Option Repository) → IsRow view (told_references view word prefix o, view)
-listing_row view word prefix None = refuses view (NoRepository word)
-listing_row view word prefix (Some repository) = Does (listing view.objects repository.references prefix) refl refl (λ was. was) (λ was. was)
 
 -- what is kept of objects has the roots that are there
 abbrev pub HasRoots : View → (List ℕ → Bool) → Type 0
@@ -415,32 +275,301 @@ right_pruned view right =
       upload = right.upload;
     }
 
--- each answer is such a row
-pub answer_row : (view : View) (ask : Ask) → GoesTo view (left_by view ask) (answer view ask)
-unfolding answer init_answer drop_answer fork_answer push_answer part_end_answer update_answer set_head_answer cat_file_answer ls_tree_answer rev_list_answer merge_base_answer fetch_answer references_answer head_answer quota_answer prune_answer
-answer_row view (Inits word) = named_row view word (repository_added view word new_repository) (λ right. added_row view word new_repository (λ _. new_stands view.objects word right))
-answer_row view (Drops word) = named_row view word (dropped view word) (λ _. dropped_row view word)
-answer_row view (Forks source copy) =
-    named_row view source (named_repository view copy (copied view source copy (get view.repositories source))) (λ _.
-    named_row view copy (copied view source copy (get view.repositories source)) (λ right. copied_row view source copy (get view.repositories source) refl right))
-answer_row view (Pushes word body) = named_row view word (push_into view word body (get view.repositories word)) (λ right. into_row view word body (get view.repositories word) refl right)
-answer_row view (SendsPart body) = part_row view body
-answer_row view (EndsParts word) =
-    ended_row view (named_repository view word (end_in view word (get view.repositories word)))
-    (named_row view word (end_in view word (get view.repositories word)) (λ right. end_row view word (get view.repositories word) refl right))
-answer_row view DropsParts = dropped_upload_row view
-answer_row view (Updates word body) = named_row view word (update_in view word body (get view.repositories word)) (λ _. update_row view word body (get view.repositories word) refl)
-answer_row view (SetsHead word reference) = named_row view word (set_head_in view word reference (get view.repositories word)) (λ _. set_head_row view word reference (get view.repositories word) refl)
-answer_row view (AsksObject name) = told_row view (object_told view.objects name)
-answer_row view (AsksTree name) = told_row view (tree_told view.objects name)
-answer_row view (AsksRevisions word items) =
-    named_row view word _ (λ _. few_row view (nat_lt 64 (length items)) _ (over_row view word (λ repository. revisions_told view.objects repository items) (get view.repositories word)))
-answer_row view (AsksBases word first second) = named_row view word _ (λ _. over_row view word (λ repository. bases_told view.objects repository first second) (get view.repositories word))
-answer_row view (Fetches word items) =
-    named_row view word _ (λ _. few_row view (nat_lt 64 (length items)) _ (over_row view word (λ repository. fetch_told view.objects repository items) (get view.repositories word)))
-answer_row view (AsksReferences word prefix) =
-    named_row view word (told_references view word prefix (get view.repositories word), view) (λ _. listing_row view word prefix (get view.repositories word))
-answer_row view (AsksHead word) = named_row view word _ (λ _. over_row view word (λ repository. Ok (head_told repository)) (get view.repositories word))
-answer_row view AsksUse = Does _ refl refl (λ was. was) (λ was. was)
-answer_row view Prunes = Does [] refl refl (orderly_pruned view) (right_pruned view)
-answer_row view NoRequest = refuses view BadRequest
+-- other offers make an orderly view, where each may have been made
+with_offers : (view : View) (made : Offers) → IsOrderly view → len made ≤ 256 → ((key : Pair) (offer : Offer) → get made key ≡ Some offer → IsOffer view.objects key offer) → IsOrderly (record view { made = made })
+with_offers view made orderly few each = record {
+  upload = orderly.upload;
+  within_limit = orderly.within_limit;
+  limit = orderly.limit;
+  few_repositories = orderly.few_repositories;
+  repositories = orderly.repositories;
+  heads = orderly.heads;
+  references = orderly.references;
+  few_offers = few;
+  offers = each;
+}
+
+-- and a right one, where each holds what its references reach
+right_offers : (view : View) (made : Offers) → IsRight view → ((key : Pair) (offer : Offer) → get made key ≡ Some offer → IsReach view.objects offer) → IsRight (record view { made = made })
+right_offers view made right each = record { named = right.named; right = right.right; closed = right.closed; offered = each; upload = right.upload }
+
+-- the key of the offer that a request changes
+abbrev pub changed_by : Ask → Option Pair
+changed_by (MakesOffer repository receiver) = Some (receiver, repository)
+changed_by (Withdraws repository receiver) = Some (receiver, repository)
+changed_by ask = None
+
+pub data GoesTo (context : Context) (view left : View) (changed : Option Pair) (row : Reply × View) : Type 0 where
+  -- a refusal, which leaves this
+  Refuses : (refusal : Refusal) → row.0 ≡ Refused refusal → row.1 ≡ left → GoesTo context view left changed row
+  -- data, the same offers but for one, and a view that is in order and right where the view was, and where what is offered may be taken
+  Does : (text : List ℕ) → row.0 ≡ Done text → SameBut changed view.made row.1.made
+      → (MayTake context view.objects → IsOrderly view → IsOrderly row.1) → (IsSoundBeside context view.objects → IsSound view → IsRight row.1) → GoesTo context view left changed row
+
+module _ (context : Context) where
+  -- a row whose refusal leaves the view, and which leaves the offers
+  abbrev IsRow : View → Reply × View → Type 0
+  IsRow view row = GoesTo context view view None row
+
+  -- where what is offered is not asked for
+  does : {view left : View} {changed : Option Pair} {row : Reply × View} → (text : List ℕ) → row.0 ≡ Done text → SameBut changed view.made row.1.made → (IsOrderly view → IsOrderly row.1) → (IsRight view → IsRight row.1) → GoesTo context view left changed row
+  does text told made orderly right = Does text told made (λ may. orderly) (λ beside sound. right sound.right)
+
+  refuses : (view : View) (refusal : Refusal) → IsRow view (Refused refusal, view)
+  refuses view refusal = Refuses refusal refl refl
+
+  -- by a test
+  either : (view : View) (b : Bool) (x y : Reply × View) → (b ≡ true → IsRow view x) → (b ≡ false → IsRow view y) → IsRow view (cond b x y)
+  either view true x y left right = left refl
+  either view false x y left right = right refl
+
+  -- a row about a repository of a right name
+  named_row : (view : View) (word : List ℕ) (row : Reply × View) → (IsRepositoryName word → IsRow view row) → IsRow view (named_repository view word row)
+  named_row view word row right = either view (is_plain_name 64 word) row (Refused (BadName word), view) (λ is. right (plain_name 64 word is)) (λ _. refuses view (BadName word))
+
+  added_row : (view : View) (word : List ℕ) (repository : Repository) → (IsOrderly view → MayStand view.objects word repository) → IsRow view (repository_added view word repository)
+  added_row view word repository right =
+      either view (contains_key view.repositories word) (Refused (RepositoryExists word), view) _ (λ _. refuses view (RepositoryExists word)) (λ _.
+      either view (nat_le 256 (len view.repositories)) (Refused TooMany, view) (Done [], record view { repositories = insert view.repositories word repository }) (λ _. refuses view TooMany) (λ room.
+      does [] refl refl (λ sound. with_repositories view (insert view.repositories word repository) sound
+      (subst (λ n. n ≤ 256) (sym (len-insert name_total view.repositories word repository)) (few_more (contains_key view.repositories word) (len view.repositories) room sound.few_repositories))
+      (each_inserted view.objects view.repositories word repository (right sound) (sound_each view sound)))
+      (still_right view (insert view.repositories word repository))))
+
+  dropped_row : (view : View) (word : List ℕ) → IsRow view (dropped view word)
+  dropped_row view word =
+      either view (contains_key view.repositories word) (Done [], record view { repositories = remove view.repositories word }) (Refused (NoRepository word), view) (λ _.
+      does [] refl refl (λ sound. with_repositories view (remove view.repositories word) sound
+      (subst (λ n. n ≤ 256) (sym (len-remove name_total view.repositories word)) (fewer (contains_key view.repositories word) (len view.repositories) sound.few_repositories))
+      (λ name repository is.
+      sound_each view sound name repository (found_before (eq_by_cmp name_cmp name word) (get view.repositories name) repository (sym (get-remove name_total view.repositories word name) ∙ is))))
+      (still_right view (remove view.repositories word)))
+      (λ _. refuses view (NoRepository word))
+
+  -- the same repository under another name
+  copied_row : (view : View) (source copy : List ℕ) (o : Option Repository) → get view.repositories source ≡ o → IsRepositoryName copy → IsRow view (copied view source copy o)
+  copied_row view source copy None is right = refuses view (NoRepository source)
+  copied_row view source copy (Some repository) is right = added_row view copy repository (λ sound. record { word = right; branch = sound.heads source repository is; sound = sound.references source repository is })
+
+  taken_row : (view : View) (word : List ℕ) (old : Repository) (objects : Objects) (value : Result References PushRefusal)
+      → ((new : References) → value ≡ Ok new → IsOrderly view → IsOrderly (record view { repositories = insert view.repositories word (record old { references = new }); objects = objects }))
+      → ((new : References) → value ≡ Ok new → IsRight view → IsRight (record view { repositories = insert view.repositories word (record old { references = new }); objects = objects })) → IsRow view (taken view word old objects value)
+  taken_row view word old objects (Ok new) orderly right = does [] refl refl (orderly new refl) (right new refl)
+  taken_row view word old objects (Err refusal) orderly right = refuses view (push_refusal refusal)
+
+  faulty_row : (view : View) (word : List ℕ) (old : Repository) (fault : StreamFault) → IsRow view (pushed view word old (Err fault))
+  unfolding judged
+  faulty_row view word old fault = refuses view (push_refusal (Stream fault))
+
+  pushed_row : (view : View) (word : List ℕ) (old : Repository) (held : Finished) → get view.repositories word ≡ Some old → IsRepositoryName word → (IsRight view → AreHeld held) → IsRow view (pushed view word old held)
+  pushed_row view word old (Ok held) there right are =
+      taken_row view word old (with_objects view.objects held.1) (judged (with_objects view.objects held.1) old.references view.limit (Ok (held.0, map object_name held.1)))
+      (λ new is orderly.
+      let told = accepted (with_objects view.objects held.1) old.references view.limit (held.0, map object_name held.1) new is in
+      orderly_pushed view word old new held.0 (with_objects view.objects held.1) (λ name seen. kept_all view.objects held.1 name seen) there right told.carried told.within orderly)
+      (λ new is was. right_pushed view word old new held (are was) (accepted (with_objects view.objects held.1) old.references view.limit (held.0, map object_name held.1) new is) was)
+  pushed_row view word old (Err fault) there right are = faulty_row view word old fault
+
+  into_row : (view : View) (word body : List ℕ) (o : Option Repository) → get view.repositories word ≡ o → IsRepositoryName word → IsRow view (push_into view word body o)
+  into_row view word body None there right = refuses view (NoRepository word)
+  into_row view word body (Some old) there right =
+      either view (is_some view.upload) (Refused UploadOpen, view) (pushed view word old (finished (stream_of body))) (λ _. refuses view UploadOpen)
+      (λ _. pushed_row view word old (finished (stream_of body)) there right (λ _. held_right (stream_of body) (stream_right body)))
+
+  part_row : (view : View) (body : List ℕ) → IsRow view (part_answer view body)
+  unfolding part_answer
+  part_row view body =
+      either view (nat_lt 33554432 ((open_upload view.upload).count + length body)) (Refused StagedTooLong, view) _ (λ _. refuses view StagedTooLong)
+      (λ fits. does [] refl refl
+      (orderly_upload view (Some (continued (open_upload view.upload) body)) (λ value is. subst (λ (u : UploadValue). u.count ≤ 33554432) (some_same (continued (open_upload view.upload) body) value is) (counted (open_upload view.upload) body fits)))
+      (λ right. right_upload view (Some (continued (open_upload view.upload) body)) (λ value is.
+      subst (λ (u : UploadValue). AreObjects (sent_in u.stream)) (some_same (continued (open_upload view.upload) body) value is) (continued_right (open_upload view.upload) body (open_right view.upload right.upload))) right))
+
+  upload_row : (view : View) (word : List ℕ) (old : Repository) (o : Option UploadValue) → view.upload ≡ o → get view.repositories word ≡ Some old → IsRepositoryName word → IsRow view (upload_into view word old o)
+  upload_row view word old None is there right = refuses view NoUpload
+  upload_row view word old (Some upload) is there right =
+      pushed_row view word old (finished upload.stream) there right (λ was. held_right upload.stream (was.upload upload is))
+
+  end_row : (view : View) (word : List ℕ) (o : Option Repository) → get view.repositories word ≡ o → IsRepositoryName word → IsRow view (end_in view word o)
+  end_row view word None there right = refuses view (NoRepository word)
+  end_row view word (Some old) there right = upload_row view word old view.upload refl there right
+
+  -- a row that ends the upload whatever it answers
+  ended_row : (view : View) (row : Reply × View) → IsRow view row → GoesTo context view (without_upload view) None (upload_ended row)
+  ended_row view row (Refuses refusal told kept) = Refuses refusal told (ap without_upload kept)
+  ended_row view row (Does text told made orderly right) = Does text told made (λ may before. orderly_without row.1 (orderly may before)) (λ beside before. right_without row.1 (right beside before))
+
+  dropped_upload_row : (view : View) → IsRow view (part_drop_answer view)
+  unfolding part_drop_answer
+  dropped_upload_row view =
+      either view (is_some view.upload) (Done [], without_upload view) (Refused NoUpload, view) (λ _. does [] refl refl (orderly_without view) (right_without view)) (λ _. refuses view NoUpload)
+
+  -- another repository stands in the place of one that is there
+  replaced_row : (view : View) (word : List ℕ) (old new : Repository) → get view.repositories word ≡ Some old → (IsOrderly view → MayStand view.objects word new) → IsRow view (Done [], record view { repositories = insert view.repositories word new })
+  replaced_row view word old new there right_new =
+      does [] refl refl (λ sound. with_repositories view (insert view.repositories word new) sound (still_few view word old new there sound.few_repositories)
+      (each_inserted view.objects view.repositories word new (right_new sound) (sound_each view sound)))
+      (still_right view (insert view.repositories word new))
+
+  -- a repository that is there has other references
+  with_references_row : (view : View) (word : List ℕ) (old : Repository) (value : Result References TxRefusal) → get view.repositories word ≡ Some old
+      → ((new : References) → value ≡ Ok new → IsOrderly view → AreReferences view.objects new) → IsRow view (with_references view word old value)
+  with_references_row view word old (Err refusal) there right_new = refuses view (transaction_refusal refusal)
+  with_references_row view word old (Ok new) there right_new =
+      replaced_row view word old (record old { references = new }) there (λ sound. other_references view word old new sound there view.objects (right_new new refl sound))
+
+  carried_row : (view : View) (word : List ℕ) (old : Repository) (value : Result (List Command) CommandFault) → get view.repositories word ≡ Some old → IsRow view (carried_out view word old value)
+  carried_row view word old (Err fault) there = refuses view (command_refusal fault)
+  carried_row view word old (Ok commands) there =
+      with_references_row view word old (transacted old.references commands (kind_in view.objects)) there
+      (λ new is sound. sound_transacted view.objects old.references new commands (sound.references word old there) is)
+
+  update_row : (view : View) (word body : List ℕ) (o : Option Repository) → get view.repositories word ≡ o → IsRow view (update_in view word body o)
+  update_row view word body None there = refuses view (NoRepository word)
+  update_row view word body (Some old) there = carried_row view word old (commands_of body) there
+
+  -- a repository that is there has another head
+  with_head_row : (view : View) (word : List ℕ) (old : Repository) (reference : List ℕ) (o : Option (List ℕ)) → branch_in reference ≡ o → get view.repositories word ≡ Some old → IsRow view (with_head view word old reference o)
+  with_head_row view word old reference None is there = refuses view (BadRef reference)
+  with_head_row view word old reference (Some branch) is there =
+      replaced_row view word old (record old { head = branch }) there (λ sound. other_head view word old branch sound there (branch_right reference branch is))
+
+  set_head_row : (view : View) (word reference : List ℕ) (o : Option Repository) → get view.repositories word ≡ o → IsRow view (set_head_in view word reference o)
+  set_head_row view word reference None there = refuses view (NoRepository word)
+  set_head_row view word reference (Some old) there = with_head_row view word old reference (branch_in reference) refl there
+
+  -- a row that tells what was found, and leaves the view
+  told_row : (view : View) (found : Result (List ℕ) Refusal) → IsRow view (reply_of found, view)
+  told_row view (Ok text) = does text refl refl (λ was. was) (λ was. was)
+  told_row view (Err refusal) = refuses view refusal
+
+  over_row : (view : View) (word : List ℕ) (query : Repository → Result (List ℕ) Refusal) (o : Option Repository) → IsRow view (told_over word query o, view)
+  over_row view word query None = refuses view (NoRepository word)
+  over_row view word query (Some repository) = told_row view (query repository)
+
+  few_row : (view : View) (many : Bool) (reply : Reply) → IsRow view (reply, view) → IsRow view (cond many (Refused TooMany) reply, view)
+  few_row view true reply row = refuses view TooMany
+  few_row view false reply row = row
+
+  listing_row : (view : View) (word : List ℕ) (prefix : Option (List ℕ)) (o : Option Repository) → IsRow view (told_references view word prefix o, view)
+  listing_row view word prefix None = refuses view (NoRepository word)
+  listing_row view word prefix (Some repository) = does (listing view.objects repository.references prefix) refl refl (λ was. was) (λ was. was)
+
+  -- a row by a test, whatever offer it changes
+  either_to : (view : View) (changed : Option Pair) (b : Bool) (x y : Reply × View) → (b ≡ true → GoesTo context view view changed x) → (b ≡ false → GoesTo context view view changed y) → GoesTo context view view changed (cond b x y)
+  either_to view changed true x y left right = left refl
+  either_to view changed false x y left right = right refl
+
+  refuses_to : (view : View) (changed : Option Pair) (refusal : Refusal) → GoesTo context view view changed (Refused refusal, view)
+  refuses_to view changed refusal = Refuses refusal refl refl
+
+  named_to : (view : View) (changed : Option Pair) (word : List ℕ) (row : Reply × View) → (IsRepositoryName word → GoesTo context view view changed row) → GoesTo context view view changed (named_repository view word row)
+  named_to view changed word row right = either_to view changed (is_plain_name 64 word) row (Refused (BadName word), view) (λ is. right (plain_name 64 word is)) (λ _. refuses_to view changed (BadName word))
+
+  receiver_to : (view : View) (changed : Option Pair) (word : List ℕ) (row : Reply × View) → (IsTenantName word → GoesTo context view view changed row) → GoesTo context view view changed (named_receiver context view word row)
+  receiver_to view changed word row right =
+      either_to view changed (is_plain_name 32 word && not (same_name word context.own)) row (Refused (BadName word), view)
+      (λ is. right (plain_name 32 word (and_parts (is_plain_name 32 word) (not (same_name word context.own)) is).0)) (λ _. refuses_to view changed (BadName word))
+
+  offer_added_row : (view : View) (word receiver : List ℕ) (repository : Repository) → get view.repositories word ≡ Some repository → IsRepositoryName word → IsTenantName receiver → GoesTo context view view (Some (receiver, word)) (offer_added view (receiver, word) repository)
+  offer_added_row view word receiver repository there named receiver_named =
+      let key : Pair = (receiver, word) in
+      let new = offered view.objects repository in
+      either_to view (Some key) (contains_key view.made key) (Refused (OfferExists receiver word), view) _ (λ _. refuses_to view (Some key) (OfferExists receiver word)) (λ _.
+      either_to view (Some key) (nat_le 256 (len view.made)) (Refused TooMany, view) (Done [], record view { made = insert view.made key new }) (λ _. refuses_to view (Some key) TooMany) (λ room.
+      Does [] refl (other_inserted view.made key new)
+      (λ may orderly. with_offers view (insert view.made key new) orderly
+      (subst (λ n. n ≤ 256) (sym (len-insert pair_total view.made key new)) (few_more (contains_key view.made key) (len view.made) room orderly.few_offers))
+      (offer_inserted (IsOffer view.objects) view.made key new (record { receiver = receiver_named; named = named; head = orderly.heads word repository there; references = orderly.references word repository there }) orderly.offers))
+      (λ beside sound. right_offers view (insert view.made key new) sound.right
+      (offer_inserted (λ k o. IsReach view.objects o) view.made key new (new_reach view.objects repository (λ reference target points. ((sound.orderly.references word repository there).each reference target points).there)) sound.right.offered))))
+
+  offer_row : (view : View) (word receiver : List ℕ) (o : Option Repository) → get view.repositories word ≡ o → IsRepositoryName word → IsTenantName receiver → GoesTo context view view (Some (receiver, word)) (offer_in view word receiver o)
+  offer_row view word receiver None there named receiver_named = refuses_to view (Some (receiver, word)) (NoRepository word)
+  offer_row view word receiver (Some repository) there named receiver_named = offer_added_row view word receiver repository there named receiver_named
+
+  withdrawn_row : (view : View) (key : Pair) → GoesTo context view view (Some key) (withdrawn view key)
+  withdrawn_row view key =
+      either_to view (Some key) (contains_key view.made key) (Done [], record view { made = remove view.made key }) (Refused (NoOffer key.0 key.1), view) (λ _.
+      does [] refl (other_removed view.made key)
+      (λ orderly. with_offers view (remove view.made key) orderly
+      (subst (λ n. n ≤ 256) (sym (len-remove pair_total view.made key)) (fewer (contains_key view.made key) (len view.made) orderly.few_offers))
+      (λ other offer is. orderly.offers other offer (left_before view.made key other offer is)))
+      (λ right. right_offers view (remove view.made key) right (λ other offer is. right.offered other offer (left_before view.made key other offer is))))
+      (λ _. refuses_to view (Some key) (NoOffer key.0 key.1))
+
+  -- what is offered is taken
+  offer_taken_row : (view : View) (key : Pair) (copy : List ℕ) (offer : Offer) → get context.offered key ≡ Some offer → IsRepositoryName copy → IsRow view (offer_taken view copy offer)
+  offer_taken_row view key copy offer stands named =
+      let objects = joined view.objects offer.objects in
+      let grown : AreAmong view.objects objects = among_joined view.objects offer.objects in
+      either view (contains_key view.repositories copy) (Refused (RepositoryExists copy), view) _ (λ _. refuses view (RepositoryExists copy)) (λ _.
+      either view (nat_le 256 (len view.repositories)) (Refused TooMany, view) _ (λ _. refuses view TooMany) (λ room.
+      either view (nat_lt view.limit (use_of objects)) (Refused OverQuota, view) _ (λ _. refuses view OverQuota) (λ fits.
+      Does [] refl refl
+      (λ may orderly.
+      let each = each_inserted objects view.repositories copy offer.repository (record { word = named; branch = (may key offer stands).0; sound = (may key offer stands).1 })
+      (λ name repository is. record { word = orderly.repositories name repository is; branch = orderly.heads name repository is; sound = references_kept view.objects objects repository.references grown (orderly.references name repository is) }) in
+      record {
+        upload = orderly.upload;
+        within_limit = grind (arith, nat_tests);
+        limit = orderly.limit;
+        few_repositories = subst (λ n. n ≤ 256) (sym (len-insert name_total view.repositories copy offer.repository)) (few_more (contains_key view.repositories copy) (len view.repositories) room orderly.few_repositories);
+        repositories = λ name repository is. (each name repository is).word;
+        heads = λ name repository is. (each name repository is).branch;
+        references = λ name repository is. (each name repository is).sound;
+        few_offers = orderly.few_offers;
+        offers = λ other made is. with_other_objects view.objects objects other made (references_kept view.objects objects made.repository.references grown) (orderly.offers other made is);
+      })
+      (λ beside sound. record {
+        named = (beside key offer stands).named;
+        right = (beside key offer stands).right;
+        closed = (beside key offer stands).closed;
+        offered = λ other made is. reach_grows view.objects objects made sound.right.closed grown (sound.right.offered other made is);
+        upload = sound.right.upload;
+      }))))
+
+  fork_offered_row : (view : View) (key : Pair) (copy : List ℕ) (o : Option Offer) → get context.offered key ≡ o → IsRepositoryName copy → IsRow view (fork_offered view key copy o)
+  fork_offered_row view key copy None stands named = refuses view (NoOffer key.0 key.1)
+  fork_offered_row view key copy (Some offer) stands named = offer_taken_row view key copy offer stands named
+
+  -- each answer is such a row
+  pub answer_row : (view : View) (ask : Ask) → GoesTo context view (left_by view ask) (changed_by ask) (answer context view ask)
+  unfolding answer offer_answer withdraw_answer fork_offer_answer offers_answer init_answer drop_answer fork_answer push_answer part_end_answer update_answer set_head_answer cat_file_answer ls_tree_answer rev_list_answer merge_base_answer fetch_answer references_answer head_answer quota_answer prune_answer
+  answer_row view (Inits word) = named_row view word (repository_added view word new_repository) (λ right. added_row view word new_repository (λ _. new_stands view.objects word right))
+  answer_row view (Drops word) = named_row view word (dropped view word) (λ _. dropped_row view word)
+  answer_row view (Forks source copy) =
+      named_row view source (named_repository view copy (copied view source copy (get view.repositories source))) (λ _.
+      named_row view copy (copied view source copy (get view.repositories source)) (λ right. copied_row view source copy (get view.repositories source) refl right))
+  answer_row view (Pushes word body) = named_row view word (push_into view word body (get view.repositories word)) (λ right. into_row view word body (get view.repositories word) refl right)
+  answer_row view (SendsPart body) = part_row view body
+  answer_row view (EndsParts word) =
+      ended_row view (named_repository view word (end_in view word (get view.repositories word)))
+      (named_row view word (end_in view word (get view.repositories word)) (λ right. end_row view word (get view.repositories word) refl right))
+  answer_row view DropsParts = dropped_upload_row view
+  answer_row view (Updates word body) = named_row view word (update_in view word body (get view.repositories word)) (λ _. update_row view word body (get view.repositories word) refl)
+  answer_row view (SetsHead word reference) = named_row view word (set_head_in view word reference (get view.repositories word)) (λ _. set_head_row view word reference (get view.repositories word) refl)
+  answer_row view (MakesOffer word receiver) =
+      named_to view (Some (receiver, word)) word (named_receiver context view receiver (offer_in view word receiver (get view.repositories word))) (λ named.
+      receiver_to view (Some (receiver, word)) receiver (offer_in view word receiver (get view.repositories word)) (λ receiver_named. offer_row view word receiver (get view.repositories word) refl named receiver_named))
+  answer_row view (Withdraws word receiver) =
+      named_to view (Some (receiver, word)) word (named_receiver context view receiver (withdrawn view (receiver, word))) (λ named.
+      receiver_to view (Some (receiver, word)) receiver (withdrawn view (receiver, word)) (λ receiver_named. withdrawn_row view (receiver, word)))
+  answer_row view (ForksOffer giver word copy) =
+      either view (is_plain_name 32 giver) _ (Refused (BadName giver), view) (λ _.
+      named_row view word _ (λ _. named_row view copy (fork_offered view (giver, word) copy (get context.offered (giver, word))) (λ named. fork_offered_row view (giver, word) copy (get context.offered (giver, word)) refl named)))
+      (λ _. refuses view (BadName giver))
+  answer_row view (AsksObject name) = told_row view (object_told view.objects name)
+  answer_row view (AsksTree name) = told_row view (tree_told view.objects name)
+  answer_row view (AsksRevisions word items) =
+      named_row view word _ (λ _. few_row view (nat_lt 64 (length items)) _ (over_row view word (λ repository. revisions_told view.objects repository items) (get view.repositories word)))
+  answer_row view (AsksBases word first second) = named_row view word _ (λ _. over_row view word (λ repository. bases_told view.objects repository first second) (get view.repositories word))
+  answer_row view (Fetches word items) =
+      named_row view word _ (λ _. few_row view (nat_lt 64 (length items)) _ (over_row view word (λ repository. fetch_told view.objects repository items) (get view.repositories word)))
+  answer_row view (AsksReferences word prefix) =
+      named_row view word (told_references view word prefix (get view.repositories word), view) (λ _. listing_row view word prefix (get view.repositories word))
+  answer_row view (AsksHead word) = named_row view word _ (λ _. over_row view word (λ repository. Ok (head_told repository)) (get view.repositories word))
+  answer_row view AsksOffers = does _ refl refl (λ was. was) (λ was. was)
+  answer_row view AsksUse = does _ refl refl (λ was. was) (λ was. was)
+  answer_row view Prunes = does [] refl refl (orderly_pruned view) (right_pruned view)
+  answer_row view NoRequest = refuses view BadRequest

@@ -19,9 +19,10 @@ use Rattle.fork_request.specs.declared.refusal.Refusal.TheVariants.{BadName, Upl
 use Rattle.fork_request.specs.declared.reply.Reply.{Reply}
 use Rattle.fork_request.specs.declared.reply.Reply.TheVariants.{Done, Refused}
 use Rattle.fork_model.specs.Answer.{answer, end_in, named_repository, open_upload, part_end_answer, push_answer, push_into, pushed, taken, upload_into}
+use Rattle.fork_model.specs.Context.{Context}
 use Rattle.fork_model.specs.Provenance.{AreParts, InParts, InPush, InUpload, IsAmong, IsUploadFrom, Stays, Ends, GoesOn, WasSent, WasShown, ends_upload, part_in, parts_in}
 use Rattle.fork_model.specs.View.{View}
-use Rattle.fork_model.specs.World.{Exchange, exchanges_alone}
+use Rattle.fork_model.specs.World.{Exchange, Meeting, exchanges_alone}
 use Rattle.fork_model.proofs.PartLemmas.{head_is, part_or_end, tail_is}
 use Rattle.fork_model.proofs.ProvenanceLemmas.{upload_from}
 use Rattle.fork_model.proofs.TransferLemmas.{came}
@@ -64,33 +65,33 @@ end_shows : (view : View) (word : List ℕ) (o : Option Repository) (name : List
 end_shows view word None name object among = λ is. absurd (cc)
 end_shows view word (Some old) name object among = upload_shows view word old view.upload name object among
 
-push_shows : (view : View) (word body : List ℕ) (name : List ℕ) (object : Object) → IsAmong (sent_in (stream_of body)) name object → Shows name (answer view (Pushes word body))
+push_shows : (context : Context) (view : View) (word body : List ℕ) (name : List ℕ) (object : Object) → IsAmong (sent_in (stream_of body)) name object → Shows name (answer context view (Pushes word body))
 unfolding answer push_answer
-push_shows view word body name object among = named_shows view name word _ (into_shows view word body (get view.repositories word) name object among)
+push_shows context view word body name object among = named_shows view name word _ (into_shows view word body (get view.repositories word) name object among)
 
-part_end_shows : (view : View) (word : List ℕ) (name : List ℕ) (object : Object) → IsAmong (sent_in (open_upload view.upload).stream) name object → Shows name (answer view (EndsParts word))
+part_end_shows : (context : Context) (view : View) (word : List ℕ) (name : List ℕ) (object : Object) → IsAmong (sent_in (open_upload view.upload).stream) name object → Shows name (answer context view (EndsParts word))
 unfolding answer part_end_answer
-part_end_shows view word name object among = named_shows view name word (end_in view word (get view.repositories word)) (end_shows view word (get view.repositories word) name object among)
+part_end_shows context view word name object among = named_shows view name word (end_in view word (get view.repositories word)) (end_shows view word (get view.repositories word) name object among)
 
-further : (view : View) (ask : Ask) (asks : List Ask) (name : List ℕ) → WasShown (answer view ask).1 asks name → WasShown view (ask ∷ asks) name
-further view ask asks name shown = (ask ∷ shown.0, shown.1, ap (λ all. ask ∷ all) shown.2, shown.3)
+further : (context : Context) (view : View) (ask : Ask) (asked : List Meeting) (name : List ℕ) → WasShown (answer context view ask).1 asked name → WasShown view ((context, ask) ∷ asked) name
+further context view ask asked name shown = ((context, ask) ∷ shown.0, shown.1, ap (λ all. (context, ask) ∷ all) shown.2, shown.3)
 
 -- the push that is answered here
-pushed_here : (view : View) (ask : Ask) (asks : List Ask) (repository body name : List ℕ) (object : Object) → ◌≡◌ {A = Exchange} (ask, (answer view ask).0) (Pushes repository body, Done []) → IsAmong (sent_in (stream_of body)) name object → WasShown view (ask ∷ asks) name
-pushed_here view ask asks repository body name object is among = (
-  ask ∷ [],
-  asks,
+pushed_here : (context : Context) (view : View) (ask : Ask) (asked : List Meeting) (repository body name : List ℕ) (object : Object) → ◌≡◌ {A = Exchange} (ask, (answer context view ask).0) (Pushes repository body, Done []) → IsAmong (sent_in (stream_of body)) name object → WasShown view ((context, ask) ∷ asked) name
+pushed_here context view ask asked repository body name object is among = (
+  (context, ask) ∷ [],
+  asked,
   refl,
-  subst (λ a. Shows name (answer view a)) (ap (λ (x : Exchange). x.0) (sym is)) (push_shows view repository body name object among) (ap (λ (x : Exchange). x.1) is),
+  subst (λ a. Shows name (answer context view a)) (ap (λ (x : Exchange). x.0) (sym is)) (push_shows context view repository body name object among) (ap (λ (x : Exchange). x.1) is),
 )
 
 -- the end of an upload that is answered here
-ended_here : (view : View) (ask : Ask) (asks : List Ask) (repository name : List ℕ) (object : Object) → ◌≡◌ {A = Exchange} (ask, (answer view ask).0) (EndsParts repository, Done []) → IsAmong (sent_in (open_upload view.upload).stream) name object → WasShown view (ask ∷ asks) name
-ended_here view ask asks repository name object is among = (
-  ask ∷ [],
-  asks,
+ended_here : (context : Context) (view : View) (ask : Ask) (asked : List Meeting) (repository name : List ℕ) (object : Object) → ◌≡◌ {A = Exchange} (ask, (answer context view ask).0) (EndsParts repository, Done []) → IsAmong (sent_in (open_upload view.upload).stream) name object → WasShown view ((context, ask) ∷ asked) name
+ended_here context view ask asked repository name object is among = (
+  (context, ask) ∷ [],
+  asked,
   refl,
-  subst (λ a. Shows name (answer view a)) (ap (λ (x : Exchange). x.0) (sym is)) (part_end_shows view repository name object among) (ap (λ (x : Exchange). x.1) is),
+  subst (λ a. Shows name (answer context view a)) (ap (λ (x : Exchange). x.0) (sym is)) (part_end_shows context view repository name object among) (ap (λ (x : Exchange). x.1) is),
 )
 
 -- what was sent into an upload that began behind this end
@@ -113,31 +114,31 @@ gone_on_here view exchange after bodies later name object (GoesOn body part goes
     (ap (fed (open_upload view.upload)) (whole ∙ ap (λ front. front ++ later) part) ∙ ap (λ o. fed (open_upload o) later) (sym goes)) among
 
 -- behind the first answer, or later
-shown_next : (view : View) (ask : Ask) (asks : List Ask) (exchanges : List Exchange) (name : List ℕ) (object : Object) → (WasSent (answer view ask).1 exchanges name object → WasShown (answer view ask).1 asks name)
-    → WasSent view ((ask, (answer view ask).0) ∷ exchanges) name object → WasShown view (ask ∷ asks) name
-shown_next view ask asks exchanges name object later (InPush repository body (zero, few, is) among) = pushed_here view ask asks repository body name object is among
-shown_next view ask asks exchanges name object later (InPush repository body (suc k, few, is) among) = further view ask asks name (later (InPush repository body (k, omega arith, is) among))
-shown_next view ask asks exchanges name object later (InParts [] behind end bodies is ended are among) =
-    further view ask asks name (later (InUpload bodies (subst (λ all. AreParts all bodies) (sym (tail_is (ask, (answer view ask).0) end exchanges behind is)) are)
-    (begun_here view (ask, (answer view ask).0) exchanges (answer view ask).1.upload bodies name object (upload_from view ask) (ap ends_upload (head_is (ask, (answer view ask).0) end exchanges behind is) ∙ ended) among)))
-shown_next view ask asks exchanges name object later (InParts (x ∷ front) behind end bodies is ended are among) =
-    further view ask asks name (later (InParts front behind end bodies (tail_is (ask, (answer view ask).0) x exchanges (front ++ end ∷ behind) is) ended are among))
-shown_next view ask asks exchanges name object later (InUpload bodies are among) = by are.during are.no_end are.parts are.whole
+shown_next : (context : Context) (view : View) (ask : Ask) (asked : List Meeting) (exchanges : List Exchange) (name : List ℕ) (object : Object) → (WasSent (answer context view ask).1 exchanges name object → WasShown (answer context view ask).1 asked name)
+    → WasSent view ((ask, (answer context view ask).0) ∷ exchanges) name object → WasShown view ((context, ask) ∷ asked) name
+shown_next context view ask asked exchanges name object later (InPush repository body (zero, few, is) among) = pushed_here context view ask asked repository body name object is among
+shown_next context view ask asked exchanges name object later (InPush repository body (suc k, few, is) among) = further context view ask asked name (later (InPush repository body (k, omega arith, is) among))
+shown_next context view ask asked exchanges name object later (InParts [] behind end bodies is ended are among) =
+    further context view ask asked name (later (InUpload bodies (subst (λ all. AreParts all bodies) (sym (tail_is (ask, (answer context view ask).0) end exchanges behind is)) are)
+    (begun_here view (ask, (answer context view ask).0) exchanges (answer context view ask).1.upload bodies name object (upload_from context view ask) (ap ends_upload (head_is (ask, (answer context view ask).0) end exchanges behind is) ∙ ended) among)))
+shown_next context view ask asked exchanges name object later (InParts (x ∷ front) behind end bodies is ended are among) =
+    further context view ask asked name (later (InParts front behind end bodies (tail_is (ask, (answer context view ask).0) x exchanges (front ++ end ∷ behind) is) ended are among))
+shown_next context view ask asked exchanges name object later (InUpload bodies are among) = by are.during are.no_end are.parts are.whole
   where
-    by : (during : List Exchange) → AllByRecursion (λ exchange. ends_upload exchange ≡ false) during → (ask, (answer view ask).0) ∷ exchanges ≡ during ++ (EndsParts are.repository, Done []) ∷ are.behind → bodies ≡ parts_in during → WasShown view (ask ∷ asks) name
+    by : (during : List Exchange) → AllByRecursion (λ exchange. ends_upload exchange ≡ false) during → (ask, (answer context view ask).0) ∷ exchanges ≡ during ++ (EndsParts are.repository, Done []) ∷ are.behind → bodies ≡ parts_in during → WasShown view ((context, ask) ∷ asked) name
     by [] no_end is whole =
-        ended_here view ask asks are.repository name object (head_is (ask, (answer view ask).0) (EndsParts are.repository, Done []) exchanges are.behind is)
+        ended_here context view ask asked are.repository name object (head_is (ask, (answer context view ask).0) (EndsParts are.repository, Done []) exchanges are.behind is)
         (subst (λ all. IsAmong (sent_in (fed (open_upload view.upload) all).stream) name object) whole among)
     by (x ∷ during) no_end is whole =
-        let same = head_is (ask, (answer view ask).0) x exchanges (during ++ (EndsParts are.repository, Done []) ∷ are.behind) is in
-        further view ask asks name (later (InUpload (parts_in during) (record {
+        let same = head_is (ask, (answer context view ask).0) x exchanges (during ++ (EndsParts are.repository, Done []) ∷ are.behind) is in
+        further context view ask asked name (later (InUpload (parts_in during) (record {
           during = during;
           behind = are.behind;
           repository = are.repository;
-          parts = tail_is (ask, (answer view ask).0) x exchanges (during ++ (EndsParts are.repository, Done []) ∷ are.behind) is;
+          parts = tail_is (ask, (answer context view ask).0) x exchanges (during ++ (EndsParts are.repository, Done []) ∷ are.behind) is;
           no_end = no_end.1;
           whole = refl;
-        }) (gone_on_here view (ask, (answer view ask).0) (answer view ask).1.upload bodies (parts_in during) name object (upload_from view ask) (ap ends_upload same ∙ no_end.0) (whole ∙ ap (λ y. part_in y ++ parts_in during) (sym same)) among)))
+        }) (gone_on_here view (ask, (answer context view ask).0) (answer context view ask).1.upload bodies (parts_in during) name object (upload_from context view ask) (ap ends_upload same ∙ no_end.0) (whole ∙ ap (λ y. part_in y ++ parts_in during) (sym same)) among)))
 
 no_exchange : (front behind : List Exchange) (exchange : Exchange) → [] ≡ front ++ exchange ∷ behind → ⊥
 no_exchange [] behind exchange is = cc
@@ -150,7 +151,7 @@ silence_sends_nothing view name object (InParts front behind end bodies is ended
 silence_sends_nothing view name object (InUpload bodies are among) = no_exchange are.during are.behind (EndsParts are.repository, Done []) are.parts
 
 -- what was sent was seen at some moment
-pub sent_shown : (view : View) (asks : List Ask) (name : List ℕ) (object : Object) → WasSent view (exchanges_alone view asks) name object → WasShown view asks name
+pub sent_shown : (view : View) (asked : List Meeting) (name : List ℕ) (object : Object) → WasSent view (exchanges_alone view asked) name object → WasShown view asked name
 sent_shown view [] name object sent = absurd (silence_sends_nothing view name object sent)
-sent_shown view (ask ∷ asks) name object sent =
-    shown_next view ask asks (exchanges_alone (answer view ask).1 asks) name object (sent_shown (answer view ask).1 asks name object) sent
+sent_shown view (met ∷ asked) name object sent =
+    shown_next met.0 view met.1 asked (exchanges_alone (answer met.0 view met.1).1 asked) name object (sent_shown (answer met.0 view met.1).1 asked name object) sent

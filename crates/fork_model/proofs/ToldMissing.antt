@@ -12,12 +12,16 @@ use Rattle.fork_query.specs.Objects.{object_told}
 use Rattle.fork_query.specs.RevList.{revisions_told}
 use Rattle.fork_query.specs.Trees.{entries_at_end, tree_told}
 use Rattle.fork_query.specs.Peel.{peeled}
-use Rattle.fork_request.specs.Asked.{Ask, Inits, Drops, Forks, Pushes, SendsPart, EndsParts, DropsParts, Updates, SetsHead, AsksObject, AsksTree, AsksRevisions, AsksBases, AsksReferences, AsksHead, Fetches, AsksUse, Prunes, NoRequest}
+use Rattle.fork_request.specs.Asked.{Ask, Inits, Drops, Forks, Pushes, SendsPart, EndsParts, DropsParts, Updates, SetsHead, MakesOffer, Withdraws, ForksOffer, AsksObject, AsksTree, AsksRevisions, AsksBases, AsksReferences, AsksHead, AsksOffers, Fetches, AsksUse, Prunes, NoRequest}
 use Rattle.fork_request.specs.Names.{is_plain_name}
-use Rattle.fork_request.specs.declared.refusal.Refusal.TheVariants.{BadName, Missing, NoRepository, NoUpload, RepositoryExists, StagedTooLong, TooMany}
+use Rattle.fork_request.specs.declared.refusal.Refusal.TheVariants.{BadName, Missing, NoRepository, NoUpload, RepositoryExists, StagedTooLong, TooMany, NoOffer, OfferExists, OverQuota}
 use Rattle.fork_request.specs.declared.reply.Reply.{Reply}
 use Rattle.fork_request.specs.declared.reply.Reply.TheVariants.{Done, Refused}
-use Rattle.fork_model.specs.Answer.{answer, init_answer, drop_answer, fork_answer, push_answer, part_answer, part_end_answer, part_drop_answer, update_answer, set_head_answer, cat_file_answer, ls_tree_answer, rev_list_answer, merge_base_answer, fetch_answer, references_answer, head_answer, quota_answer, prune_answer, copied, end_in, few_items, named_repository, repository_added, open_upload, push_into, told_over, told_references, update_in, without_upload, set_head_in, with_head}
+use Rattle.git_name.specs.Maps.{joined}
+use Rattle.fork_reach.specs.Objects.{use_of}
+use Rattle.fork_model.specs.Answer.{fork_offer_answer, fork_offered, offer_answer, offer_in, offers_answer, withdraw_answer, answer, init_answer, drop_answer, fork_answer, push_answer, part_answer, part_end_answer, part_drop_answer, update_answer, set_head_answer, cat_file_answer, ls_tree_answer, rev_list_answer, merge_base_answer, fetch_answer, references_answer, head_answer, quota_answer, prune_answer, copied, end_in, few_items, named_repository, repository_added, open_upload, push_into, told_over, told_references, update_in, without_upload, set_head_in, with_head}
+use Rattle.fork_model.specs.Offer.{Offer, Pair}
+use Rattle.fork_model.specs.Context.{Context, met_by}
 use Rattle.fork_model.specs.Missing.{IsMissing}
 use Rattle.fork_model.specs.Runs.{Asks, Answered, Unknown, Faulted}
 use Rattle.fork_model.specs.View.{View}
@@ -70,12 +74,24 @@ part_drop_row : (view : View) (name : List ℕ) → Never name (part_drop_answer
 unfolding part_drop_answer
 part_drop_row view name = either name (is_some view.upload) (Done [], without_upload view) (Refused NoUpload, view) (λ is. cc) (λ is. cc)
 
+offer_row : (view : View) (name word receiver : List ℕ) (o : Option Repository) → Never name (offer_in view word receiver o)
+offer_row view name word receiver None = λ tells. cc
+offer_row view name word receiver (Some repository) =
+    either name (contains_key view.made (receiver, word)) (Refused (OfferExists receiver word), view) _ (λ tells. cc) (either name (nat_le 256 (len view.made)) (Refused TooMany, view) _ (λ tells. cc) (λ tells. cc))
+
+fork_offered_row : (view : View) (name : List ℕ) (key : Pair) (copy : List ℕ) (o : Option Offer) → Never name (fork_offered view key copy o)
+fork_offered_row view name key copy None = λ tells. cc
+fork_offered_row view name key copy (Some offer) =
+    either name (contains_key view.repositories copy) (Refused (RepositoryExists copy), view) _ (λ tells. cc)
+    (either name (nat_le 256 (len view.repositories)) (Refused TooMany, view) _ (λ tells. cc)
+    (either name (nat_lt view.limit (use_of (joined view.objects offer.objects))) (Refused OverQuota, view) _ (λ tells. cc) (λ tells. cc)))
+
 -- request by request
-pub missing_of : (view : View) (name : List ℕ) (ask : Ask) → (answer view ask).0 ≡ Refused (Missing name) → IsMissing view name ask
-unfolding answer init_answer drop_answer fork_answer push_answer part_end_answer update_answer set_head_answer cat_file_answer ls_tree_answer rev_list_answer merge_base_answer fetch_answer references_answer head_answer quota_answer prune_answer object_told tree_told revisions_told fetch_told
-missing_of view name (AsksObject asked) is = object_of view.objects asked name (get view.objects asked) refl is
-missing_of view name (AsksTree asked) is = tree_of view.objects asked name (entries_at_end view.objects (peeled view.objects asked)) (get view.objects asked) refl is
-missing_of view name (AsksRevisions repository items) is =
+pub missing_of : (context : Context) (view : View) (name : List ℕ) (ask : Ask) → (answer context view ask).0 ≡ Refused (Missing name) → IsMissing view name ask
+unfolding answer offer_answer withdraw_answer fork_offer_answer offers_answer init_answer drop_answer fork_answer push_answer part_end_answer update_answer set_head_answer cat_file_answer ls_tree_answer rev_list_answer merge_base_answer fetch_answer references_answer head_answer quota_answer prune_answer object_told tree_told revisions_told fetch_told
+missing_of context view name (AsksObject asked) is = object_of view.objects asked name (get view.objects asked) refl is
+missing_of context view name (AsksTree asked) is = tree_of view.objects asked name (entries_at_end view.objects (peeled view.objects asked)) (get view.objects asked) refl is
+missing_of context view name (AsksRevisions repository items) is =
     in_repository_of view repository name _ (λ o. (few_items items (told_over repository (λ r. revisions_told view.objects r items) o), view)) (λ tells. absent_few items _ tells)
     (λ references tells. (
     let few = few_of items _ name tells in (
@@ -86,10 +102,10 @@ missing_of view name (AsksRevisions repository items) is =
   where
     absent_few : (xs : List (List ℕ)) (word : List ℕ) → few_items xs (Refused (NoRepository word)) ≡ Refused (Missing name) → ⊥
     absent_few xs word tells = (let few = few_of xs (Refused (NoRepository word)) name tells in let words = few.1 in cc)
-missing_of view name (AsksBases repository first second) is =
+missing_of context view name (AsksBases repository first second) is =
     in_repository_of view repository name _ (λ o. (told_over repository (λ r. bases_told view.objects r first second) o, view)) (λ tells. cc)
     (λ references tells. bases_lack_of view.objects references first second name (refused_of _ (Missing name) tells)) is
-missing_of view name (Fetches repository items) is =
+missing_of context view name (Fetches repository items) is =
     in_repository_of view repository name _ (λ o. (few_items items (told_over repository (λ r. fetch_told view.objects r items) o), view)) (λ tells. absent_few items _ tells)
     (λ references tells. (
     let few = few_of items _ name tells in (
@@ -100,21 +116,28 @@ missing_of view name (Fetches repository items) is =
   where
     absent_few : (xs : List (List ℕ)) (word : List ℕ) → few_items xs (Refused (NoRepository word)) ≡ Refused (Missing name) → ⊥
     absent_few xs word tells = (let few = few_of xs (Refused (NoRepository word)) name tells in let words = few.1 in cc)
-missing_of view name (Updates repository body) is = in_repository_of view repository name _ (update_in view repository body) (λ tells. cc) (λ references tells. moved_of view repository references body name tells) is
-missing_of view name (Pushes repository body) is = in_repository_of view repository name _ (push_into view repository body) (λ tells. cc) (λ references tells. push_of view repository references body name tells) is
-missing_of view name (EndsParts repository) is = in_repository_of view repository name _ (end_in view repository) (λ tells. cc) (λ references tells. upload_of_end view repository references name tells) is
-missing_of view name (Inits word) is = named_never view name word _ (added_row view name word new_repository) is
-missing_of view name (Drops word) is =
+missing_of context view name (Updates repository body) is = in_repository_of view repository name _ (update_in view repository body) (λ tells. cc) (λ references tells. moved_of view repository references body name tells) is
+missing_of context view name (Pushes repository body) is = in_repository_of view repository name _ (push_into view repository body) (λ tells. cc) (λ references tells. push_of view repository references body name tells) is
+missing_of context view name (EndsParts repository) is = in_repository_of view repository name _ (end_in view repository) (λ tells. cc) (λ references tells. upload_of_end view repository references name tells) is
+missing_of context view name (Inits word) is = named_never view name word _ (added_row view name word new_repository) is
+missing_of context view name (Drops word) is =
     named_never view name word _ (either name (contains_key view.repositories word) (Done [], record view { repositories = remove view.repositories word }) (Refused (NoRepository word), view) (λ tells. cc) (λ tells. cc)) is
-missing_of view name (Forks source copy) is = named_never view name source _ (named_never view name copy _ (copied_row view name source copy (get view.repositories source))) is
-missing_of view name (SendsPart body) is = part_row view name body is
-missing_of view name DropsParts is = part_drop_row view name is
-missing_of view name (AsksReferences word prefix) is = named_never view name word _ (references_row view name word prefix (get view.repositories word)) is
-missing_of view name (SetsHead word reference) is = named_never view name word _ (set_head_row view name word reference (get view.repositories word)) is
-missing_of view name (AsksHead word) is = named_never view name word _ (head_row name word (get view.repositories word)) is
-missing_of view name AsksUse is = cc
-missing_of view name Prunes is = cc
-missing_of view name NoRequest is = cc
+missing_of context view name (Forks source copy) is = named_never view name source _ (named_never view name copy _ (copied_row view name source copy (get view.repositories source))) is
+missing_of context view name (SendsPart body) is = part_row view name body is
+missing_of context view name DropsParts is = part_drop_row view name is
+missing_of context view name (AsksReferences word prefix) is = named_never view name word _ (references_row view name word prefix (get view.repositories word)) is
+missing_of context view name (SetsHead word reference) is = named_never view name word _ (set_head_row view name word reference (get view.repositories word)) is
+missing_of context view name (AsksHead word) is = named_never view name word _ (head_row name word (get view.repositories word)) is
+missing_of context view name (MakesOffer word receiver) is =
+    named_never view name word _ (either name _ _ (Refused (BadName receiver), view) (offer_row view name word receiver (get view.repositories word)) (λ tells. cc)) is
+missing_of context view name (Withdraws word receiver) is =
+    named_never view name word _ (either name _ _ (Refused (BadName receiver), view) (either name (contains_key view.made (receiver, word)) _ (Refused (NoOffer receiver word), view) (λ tells. cc) (λ tells. cc)) (λ tells. cc)) is
+missing_of context view name (ForksOffer giver word copy) is =
+    either name _ _ (Refused (BadName giver), view) (named_never view name word _ (named_never view name copy _ (fork_offered_row view name (giver, word) copy (get context.offered (giver, word))))) (λ tells. cc) is
+missing_of context view name AsksOffers is = cc
+missing_of context view name AsksUse is = cc
+missing_of context view name Prunes is = cc
+missing_of context view name NoRequest is = cc
 
 some_same : (a b : View) → Some a ≡ Some b → a ≡ b
 some_same a b is = cc
@@ -122,6 +145,6 @@ some_same a b is = cc
 -- in a step of any world that has this view for the tenant
 pub missing_step : (old new : World) (t : List ℕ) (view : View) (name : List ℕ) (ask : Ask) → get old t ≡ Some view → Steps old (Asks t ask) (Refused (Missing name)) new → IsMissing view name ask
 missing_step old new t view name ask here (Answered other there tells set) =
-    missing_of view name ask (ap (λ v. (answer v ask).0) (some_same view other (sym here ∙ there)) ∙ sym tells)
+    missing_of (met_by old t) view name ask (ap (λ v. (answer (met_by old t) v ask).0) (some_same view other (sym here ∙ there)) ∙ sym tells)
 missing_step old new t view name ask here (Unknown absent tells stays) = (let differs : ⊥ = cc (sym absent ∙ here) in absurd differs)
 missing_step old new t view name ask here (Faulted bad stays) = (let differs : ⊥ = cc bad in absurd differs)

@@ -1,11 +1,13 @@
 -- The answer to each request: the reply, and the view afterwards. Refusals stand in the order in which they are judged.
-use Rattle.std.specs.Prelude.{ℕ, ◌+◌, nat_le, nat_lt, List, [], ◌++◌, length, codes, decimal, Option, Some, None, is_some, Result, Ok, Err, if◌then◌else◌}
-use Rattle.fork_request.specs.declared.name.TheConstants.{MAX_REPOSITORY_NAME}
+use Rattle.std.specs.Prelude.{ℕ, ◌+◌, nat_le, nat_lt, List, [], ◌++◌, ◌&&◌, not, length, codes, decimal, Option, Some, None, is_some, Result, Ok, Err, if◌then◌else◌}
+use Rattle.fork_request.specs.declared.name.TheConstants.{MAX_REPOSITORY_NAME, MAX_TENANT_NAME}
 use Rattle.push_stream.specs.declared.upload.TheConstants.{MAX_UPLOAD}
-use Rattle.fork_model.specs.declared.limits.TheConstants.{MAX_ITEMS, MAX_REPOSITORIES}
+use Rattle.fork_model.specs.declared.limits.TheConstants.{MAX_ITEMS, MAX_OFFERS, MAX_REPOSITORIES}
 use Rattle.std.specs.List.{flat_map}
-use Rattle.std.specs.FinMap.{get, insert, remove, contains_key, len, retain_keys, values}
+use Rattle.std.specs.FinMap.{get, insert, remove, contains_key, keys, len, retain_keys, values}
+use Rattle.git_name.specs.Maps.{joined}
 use Rattle.git_name.specs.Object.{Object}
+use Rattle.git_name.specs.Same.{same_name}
 use Rattle.git_reftx.specs.declared.command.Command.{Command}
 use Rattle.git_reftx.specs.declared.fault.CommandFault.{CommandFault}
 use Rattle.git_reftx.specs.declared.fault.CommandFault.TheVariants as command
@@ -32,13 +34,14 @@ use Rattle.fork_query.specs.Objects.{object_told}
 use Rattle.fork_query.specs.References.{listing}
 use Rattle.fork_query.specs.RevList.{revisions_told}
 use Rattle.fork_query.specs.Trees.{tree_told}
-use Rattle.fork_request.specs.Asked.{Ask, Inits, Drops, Forks, Pushes, SendsPart, EndsParts, DropsParts, Updates, SetsHead, AsksObject, AsksTree, AsksRevisions, AsksBases, AsksReferences, AsksHead, Fetches, AsksUse, Prunes, NoRequest}
+use Rattle.fork_request.specs.Asked.{Ask, Inits, Drops, Forks, Pushes, SendsPart, EndsParts, DropsParts, Updates, SetsHead, MakesOffer, Withdraws, ForksOffer, AsksObject, AsksTree, AsksRevisions, AsksBases, AsksReferences, AsksHead, AsksOffers, Fetches, AsksUse, Prunes, NoRequest}
 use Rattle.fork_request.specs.Names.{is_plain_name}
 use Rattle.fork_request.specs.declared.refusal.Refusal.{Refusal}
-use Rattle.fork_request.specs.declared.refusal.Refusal.TheVariants.{BadRequest, BadName, RepositoryExists, NoRepository, BadRef, RepeatedRef, Stale, RefConflict, NotACommit, Missing, WrongType, OverQuota, TooMany, Syntax, WrongName, BadObject, Truncated, TooLarge, StagedTooLong, NoUpload, UploadOpen}
+use Rattle.fork_request.specs.declared.refusal.Refusal.TheVariants.{BadRequest, BadName, RepositoryExists, NoRepository, BadRef, RepeatedRef, Stale, RefConflict, NotACommit, Missing, WrongType, OverQuota, TooMany, Syntax, WrongName, BadObject, Truncated, TooLarge, StagedTooLong, NoUpload, UploadOpen, OfferExists, NoOffer}
 use Rattle.fork_request.specs.declared.reply.Reply.{Reply}
 use Rattle.fork_request.specs.declared.reply.Reply.TheVariants.{Done, Refused}
-use Rattle.fork_model.specs.Offer.{Offers}
+use Rattle.fork_model.specs.Context.{Context}
+use Rattle.fork_model.specs.Offer.{Offer, Offers, Pair, offered}
 use Rattle.fork_model.specs.View.{View, Repositories}
 
 -- the answer to a word in a repository's place: a refusal of the word, or the row's answer
@@ -200,6 +203,66 @@ set_head_in view word reference (Some old) = with_head view word old reference (
 unfoldable pub set_head_answer : View → List ℕ → List ℕ → Reply × View
 set_head_answer view word reference = named_repository view word (set_head_in view word reference (get view.repositories word))
 
+-- the answer to a word in a receiver's place: a refusal of the word, and of the own name, or the row's answer
+abbrev pub named_receiver : Context → View → List ℕ → Reply × View → Reply × View
+named_receiver context view word row = if is_plain_name MAX_TENANT_NAME word && not (same_name word context.own) then row else (Refused (BadName word), view)
+
+-- one more offer of a repository as it is, where none stands of it to the receiver and there is room for it
+abbrev pub offer_added : View → Pair → Repository → Reply × View
+offer_added view key repository =
+    if contains_key view.made key then (Refused (OfferExists key.0 key.1), view)
+    else if nat_le MAX_OFFERS (len view.made) then (Refused TooMany, view)
+    else (Done [], record view { made = insert view.made key (offered view.objects repository) })
+
+abbrev pub offer_in : View → List ℕ → List ℕ → Option Repository → Reply × View
+offer_in view word receiver None = (Refused (NoRepository word), view)
+offer_in view word receiver (Some repository) = offer_added view (receiver, word) repository
+
+-- `offer REPO TENANT`: an offer of the repository as it is; whether there is such a tenant makes no difference
+unfoldable pub offer_answer : Context → View → List ℕ → List ℕ → Reply × View
+offer_answer context view word receiver = named_repository view word (named_receiver context view receiver (offer_in view word receiver (get view.repositories word)))
+
+-- an offer goes, where it stands
+abbrev pub withdrawn : View → Pair → Reply × View
+withdrawn view key = if contains_key view.made key then (Done [], record view { made = remove view.made key }) else (Refused (NoOffer key.0 key.1), view)
+
+-- `withdraw REPO TENANT`: the offer goes; the repository need not be there any more
+unfoldable pub withdraw_answer : Context → View → List ℕ → List ℕ → Reply × View
+withdraw_answer context view word receiver = named_repository view word (named_receiver context view receiver (withdrawn view (receiver, word)))
+
+-- the answer to a word in a giver's place
+abbrev pub named_giver : View → List ℕ → Reply × View → Reply × View
+named_giver view word row = if is_plain_name MAX_TENANT_NAME word then row else (Refused (BadName word), view)
+
+-- a new repository of what was offered, whose objects are seen beside the others, where it is within the limit
+abbrev pub offer_taken : View → List ℕ → Offer → Reply × View
+offer_taken view copy offer =
+    if contains_key view.repositories copy then (Refused (RepositoryExists copy), view)
+    else if nat_le MAX_REPOSITORIES (len view.repositories) then (Refused TooMany, view)
+    else if nat_lt view.limit (use_of (joined view.objects offer.objects)) then (Refused OverQuota, view)
+    else (Done [], record view { repositories = insert view.repositories copy offer.repository; objects = joined view.objects offer.objects })
+
+abbrev pub fork_offered : View → Pair → List ℕ → Option Offer → Reply × View
+fork_offered view key copy None = (Refused (NoOffer key.0 key.1), view)
+fork_offered view key copy (Some offer) = offer_taken view copy offer
+
+-- `fork-offer GIVER REPO DST`: a new repository of what the giver offered
+unfoldable pub fork_offer_answer : Context → View → List ℕ → List ℕ → List ℕ → Reply × View
+fork_offer_answer context view giver word copy =
+    named_giver view giver (named_repository view word (named_repository view copy (fork_offered view (giver, word) copy (get context.offered (giver, word)))))
+
+-- a row for an offer: a word, the other tenant, the repository
+abbrev pub offer_row : List ℕ → Pair → List ℕ
+offer_row word key = word ++ key.0 ++ codes " " ++ key.1 ++ codes "\n"
+
+-- a row for each
+abbrev pub offer_rows : List ℕ → Offers → List ℕ
+offer_rows word offers = flat_map (offer_row word) (keys offers)
+
+-- `offers`: those to the tenant, then those that it has made
+unfoldable pub offers_answer : Context → View → Reply × View
+offers_answer context view = (Done (offer_rows (codes "from ") context.offered ++ offer_rows (codes "to ") view.made), view)
+
 -- how a reply tells what was found
 abbrev pub reply_of : Result (List ℕ) Refusal → Reply
 reply_of (Ok text) = Done text
@@ -272,27 +335,31 @@ pruned view = record view { objects = retain_keys view.objects (is_reached (link
 unfoldable pub prune_answer : View → Reply × View
 prune_answer view = (Done [], pruned view)
 
--- the reply to a request, and the view afterwards
-unfoldable pub answer : View → Ask → Reply × View
-answer view (Inits repository) = init_answer view repository
-answer view (Drops repository) = drop_answer view repository
-answer view (Forks source copy) = fork_answer view source copy
-answer view (Pushes repository body) = push_answer view repository body
-answer view (SendsPart body) = part_answer view body
-answer view (EndsParts repository) = part_end_answer view repository
-answer view DropsParts = part_drop_answer view
-answer view (Updates repository body) = update_answer view repository body
-answer view (SetsHead repository reference) = set_head_answer view repository reference
-answer view (AsksObject name) = cat_file_answer view name
-answer view (AsksTree name) = ls_tree_answer view name
-answer view (AsksRevisions repository items) = rev_list_answer view repository items
-answer view (AsksBases repository first second) = merge_base_answer view repository first second
-answer view (AsksReferences repository prefix) = references_answer view repository prefix
-answer view (AsksHead repository) = head_answer view repository
-answer view (Fetches repository items) = fetch_answer view repository items
-answer view AsksUse = quota_answer view
-answer view Prunes = prune_answer view
-answer view NoRequest = (Refused BadRequest, view)
+-- the reply to a request of a tenant that meets this, and the view afterwards
+unfoldable pub answer : Context → View → Ask → Reply × View
+answer context view (Inits repository) = init_answer view repository
+answer context view (Drops repository) = drop_answer view repository
+answer context view (Forks source copy) = fork_answer view source copy
+answer context view (Pushes repository body) = push_answer view repository body
+answer context view (SendsPart body) = part_answer view body
+answer context view (EndsParts repository) = part_end_answer view repository
+answer context view DropsParts = part_drop_answer view
+answer context view (Updates repository body) = update_answer view repository body
+answer context view (SetsHead repository reference) = set_head_answer view repository reference
+answer context view (MakesOffer repository receiver) = offer_answer context view repository receiver
+answer context view (Withdraws repository receiver) = withdraw_answer context view repository receiver
+answer context view (ForksOffer giver repository copy) = fork_offer_answer context view giver repository copy
+answer context view (AsksObject name) = cat_file_answer view name
+answer context view (AsksTree name) = ls_tree_answer view name
+answer context view (AsksRevisions repository items) = rev_list_answer view repository items
+answer context view (AsksBases repository first second) = merge_base_answer view repository first second
+answer context view (AsksReferences repository prefix) = references_answer view repository prefix
+answer context view (AsksHead repository) = head_answer view repository
+answer context view AsksOffers = offers_answer context view
+answer context view (Fetches repository items) = fetch_answer view repository items
+answer context view AsksUse = quota_answer view
+answer context view Prunes = prune_answer view
+answer context view NoRequest = (Refused BadRequest, view)
 
 -- what a refusal leaves: the view, and without the upload where its end was asked for
 abbrev pub left_by : View → Ask → View

@@ -1,4 +1,6 @@
 pub mod Answer
+pub mod Context
+pub mod Disclosure
 pub mod Missing
 pub mod Offer
 pub mod Provenance

@@ -24,7 +24,7 @@ pub record Offer : Type 0 where
   pub repository : Repository
   pub objects : Objects
 
--- offers of one tenant, each under its receiver and the name of the repository
+-- offers of one tenant, each under its receiver and the name of the repository; or offers to one tenant, each under its giver and that name
 abbrev pub Offers : Type 0
 Offers = FinMap pair_cmp Offer
 

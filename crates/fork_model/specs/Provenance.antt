@@ -1,30 +1,41 @@
 -- Where objects come from (own): what a tenant sees, it saw before or sent itself.
 use Rattle.std.specs.Prelude.{◌≡◌, ℕ, Bool, false, true, not, List, [], ◌∷◌, ◌++◌, Option, None, Some, Contains}
 use Rattle.std.specs.FinMap.{contains_key, get}
-use Rattle.std.specs.List.{AllByRecursion, concat, flat_map}
+use Rattle.std.specs.List.{AllByRecursion, concat, flat_map, zip}
 use Rattle.git_name.specs.Object.{Object, object_name}
 use Rattle.push_stream.specs.Stream.{sent_in, stream_of}
 use Rattle.push_stream.specs.Upload.{UploadValue, continued, fed}
-use Rattle.fork_request.specs.Asked.{Ask, Pushes, SendsPart, EndsParts, DropsParts}
+use Rattle.fork_request.specs.Asked.{Pushes, SendsPart, EndsParts, DropsParts, ForksOffer}
 use Rattle.fork_request.specs.Told.{is_host_fault}
+use Rattle.fork_request.specs.declared.reply.Reply.{Reply}
 use Rattle.fork_request.specs.declared.reply.Reply.TheVariants.{Done}
 use Rattle.fork_model.specs.Answer.{open_upload}
+use Rattle.fork_model.specs.Context.{Context}
+use Rattle.fork_model.specs.Offer.{Offer}
 use Rattle.fork_model.specs.View.{View}
-use Rattle.fork_model.specs.World.{Exchange, alone}
+use Rattle.fork_model.specs.World.{Exchange, Meeting, alone}
 
 -- the object is one of those that were sent, and this is its name
 pub record IsAmong (objects : List Object) (name : List ℕ) (object : Object) : Type 0 where
   pub sent : Contains objects object
   pub named : object_name object ≡ name
 
+-- an offer that is met holds the object
+pub record IsOffered (context : Context) (giver repository name : List ℕ) (object : Object) : Type 0 where
+  pub offer : Offer
+  pub stands : get context.offered (giver, repository) ≡ Some offer
+  pub holds : get offer.objects name ≡ Some object
+
 -- where an object comes from that is seen behind an answer
-pub data IsFrom (view : View) (exchange : Exchange) (name : List ℕ) (object : Object) : Type 0 where
+pub data IsFrom (context : Context) (view : View) (exchange : Exchange) (name : List ℕ) (object : Object) : Type 0 where
   -- it was seen before
-  Seen : get view.objects name ≡ Some object → IsFrom view exchange name object
+  Seen : get view.objects name ≡ Some object → IsFrom context view exchange name object
   -- it stands in the body of this push, which is answered `ok`
-  Pushed : (repository body : List ℕ) → exchange ≡ (Pushes repository body, Done []) → IsAmong (sent_in (stream_of body)) name object → IsFrom view exchange name object
+  Pushed : (repository body : List ℕ) → exchange ≡ (Pushes repository body, Done []) → IsAmong (sent_in (stream_of body)) name object → IsFrom context view exchange name object
   -- it stands in the upload that ends here, and its end is answered `ok`
-  Uploaded : (repository : List ℕ) (upload : UploadValue) → exchange ≡ (EndsParts repository, Done []) → view.upload ≡ Some upload → IsAmong (sent_in upload.stream) name object → IsFrom view exchange name object
+  Uploaded : (repository : List ℕ) (upload : UploadValue) → exchange ≡ (EndsParts repository, Done []) → view.upload ≡ Some upload → IsAmong (sent_in upload.stream) name object → IsFrom context view exchange name object
+  -- it stands in the offer that is forked here, which is answered `ok`
+  Taken : (giver repository copy : List ℕ) → exchange ≡ (ForksOffer giver repository copy, Done []) → IsOffered context giver repository name object → IsFrom context view exchange name object
 
 -- the body of a part that is answered `ok`
 abbrev pub part_in : Exchange → List (List ℕ)
@@ -69,6 +80,19 @@ pub data WasSent (view : View) (exchanges : List Exchange) (name : List ℕ) (ob
   -- it stands in the upload that was open at first, or in one of no bytes where none was, and in all parts by which that one went on
   InUpload : (bodies : List (List ℕ)) → AreParts exchanges bodies → IsAmong (sent_in (fed (open_upload view.upload) bodies).stream) name object → WasSent view exchanges name object
 
+-- of what a tenant asks, each beside what it meets, and of what it is told, this is one
+abbrev pub IsAnsweredAmong : List Meeting → List Reply → Meeting → Reply → Type 0
+IsAnsweredAmong asked replies met reply = Contains (zip asked replies) (met, reply)
+
+-- an offer held the object that the tenant met beside a `fork-offer` that was answered `ok`
+pub record WasOffered (asked : List Meeting) (replies : List Reply) (name : List ℕ) (object : Object) : Type 0 where
+  pub context : Context
+  pub giver : List ℕ
+  pub repository : List ℕ
+  pub copy : List ℕ
+  pub taken : IsAnsweredAmong asked replies (context, ForksOffer giver repository copy) (Done [])
+  pub offered : IsOffered context giver repository name object
+
 -- at some moment of what a private host is asked it sees an object of this name
-abbrev pub WasShown : View → List Ask → List ℕ → Type 0
-WasShown view asks name = (front behind : List Ask) × (asks ≡ front ++ behind) × (contains_key (alone view front).1.objects name ≡ true)
+abbrev pub WasShown : View → List Meeting → List ℕ → Type 0
+WasShown view asked name = (front behind : List Meeting) × (asked ≡ front ++ behind) × (contains_key (alone view front).1.objects name ≡ true)

@@ -1,6 +1,6 @@
 -- Sound views (own): in order, which is that references name what is there and the limits hold; and right, which is that
 -- objects stand under their own names, are in their grammars and link to what is there.
-use Rattle.std.specs.Prelude.{◌≡◌, ◌≢◌, ℕ, ◌≤◌, true, List, Some, None}
+use Rattle.std.specs.Prelude.{◌≡◌, ◌≢◌, ℕ, ◌≤◌, Bool, true, false, List, [], ◌∷◌, Some, None, ⊤}
 use Rattle.fork_request.specs.declared.limit.TheConstants.{MAX_LIMIT}
 use Rattle.git_reftx.specs.declared.transact.TheConstants.{MAX_REFERENCES}
 use Rattle.push_stream.specs.declared.upload.TheConstants.{MAX_UPLOAD}
@@ -10,6 +10,7 @@ use Rattle.std.specs.FinMap.{get, contains_key, keys, len}
 use Rattle.git_refname.specs.Rule.{IsRefName}
 use Rattle.git_reftx.specs.Repository.{IsBranch, Repository}
 use Rattle.git_reftx.specs.Transaction.{References, is_branch, is_commit, least_upper}
+use Rattle.git_name.specs.Maps.{joined}
 use Rattle.git_name.specs.Object.{Object}
 use Rattle.git_object.specs.declared.link.Link.{Link}
 use Rattle.git_object.specs.ObjectIn.{object_in, links_in}
@@ -17,10 +18,14 @@ use Rattle.push_stream.specs.Stream.{AreObjects, sent_in}
 use Rattle.push_stream.specs.Upload.{UploadValue}
 use Rattle.fork_reach.specs.Objects.{IsNamed, use_of}
 use Rattle.fork_reach.specs.Source.{Objects, kind_in}
+use Rattle.fork_request.specs.Asked.{ForksOffer}
 use Rattle.fork_request.specs.Names.{IsRepositoryName, IsTenantName}
+use Rattle.fork_request.specs.declared.reply.Reply.{Reply}
+use Rattle.fork_model.specs.Context.{Context}
 use Rattle.fork_model.specs.Offer.{Offer, Pair, reached_by}
 use Rattle.fork_model.specs.View.{View}
-use Rattle.fork_model.specs.World.{World}
+use Rattle.fork_model.specs.Runs
+use Rattle.fork_model.specs.World.{Event, Explains, World}
 
 -- each object is in the grammar of its kind
 abbrev pub AreRight : Objects → Type 0
@@ -84,6 +89,20 @@ pub record IsSound (view : View) : Type 0 where
   pub orderly : IsOrderly view
   pub right : IsRight view
 
+-- what is offered may be taken by a tenant that sees these objects: HEAD names a branch, and the references hold over all that is seen then
+abbrev pub MayTake : Context → Objects → Type 0
+MayTake context objects = (key : Pair) (offer : Offer) → get context.offered key ≡ Some offer → IsBranch offer.repository.head × AreReferences (joined objects offer.objects) offer.repository.references
+
+-- objects that stand under their own names, are in their grammars, and link to what is there
+pub record AreSound (objects : Objects) : Type 0 where
+  pub named : IsNamed objects
+  pub right : AreRight objects
+  pub closed : IsClosed objects
+
+-- and what is seen then is sound
+abbrev pub IsSoundBeside : Context → Objects → Type 0
+IsSoundBeside context objects = (key : Pair) (offer : Offer) → get context.offered key ≡ Some offer → AreSound (joined objects offer.objects)
+
 -- no offer that a tenant has made is to itself
 abbrev pub AreToOthers : List ℕ → View → Type 0
 AreToOthers tenant view = (key : Pair) (offer : Offer) → get view.made key ≡ Some offer → key.0 ≢ tenant
@@ -99,7 +118,23 @@ pub record IsOrderlyWorld (world : World) : Type 0 where
 abbrev pub IsRightWorld : World → Type 0
 IsRightWorld world = (tenant : List ℕ) (view : View) → get world tenant ≡ Some view → IsRight view
 
+-- of one name the world has one object
+abbrev pub IsAlike : World → Type 0
+IsAlike world = (tenant other name : List ℕ) (view another : View) (object same : Object) → get world tenant ≡ Some view → get world other ≡ Some another
+    → get view.objects name ≡ Some object → get another.objects name ≡ Some same → object ≡ same
+
 -- a world that a host may show
 pub record IsSoundWorld (world : World) : Type 0 where
   pub orderly : IsOrderlyWorld world
   pub right : IsRightWorld world
+
+-- whether a step takes an offer
+abbrev pub takes_offer : Event → Bool
+takes_offer (Runs.Asks tenant (ForksOffer giver repository copy)) = true
+takes_offer event = false
+
+-- wherever an offer is taken along a run, of one name the world has one object: names are hashes, and no two of one name are known
+abbrev pub IsAlikeWhereTaken : (old : World) (steps : List Event) (replies : List Reply) (new : World) → Explains old steps replies new → Type 0
+IsAlikeWhereTaken old (step ∷ steps) (reply ∷ replies) new run = (takes_offer step ≡ true → IsAlike old) × IsAlikeWhereTaken run.0 steps replies new run.2
+IsAlikeWhereTaken old [] replies new run = ⊤
+IsAlikeWhereTaken old (step ∷ steps) [] new run = ⊤

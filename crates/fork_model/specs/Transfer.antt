@@ -14,6 +14,9 @@ use Rattle.fork_reach.specs.Source.{Objects}
 use Rattle.fork_request.specs.declared.refusal.Refusal.TheVariants.{OverQuota}
 use Rattle.fork_request.specs.declared.reply.Reply.{Reply}
 use Rattle.fork_request.specs.declared.reply.Reply.TheVariants.{Done, Refused}
+use Rattle.fork_model.specs.Context.{Context}
+use Rattle.fork_model.specs.Offer.{Offer, Pair}
+use Rattle.fork_model.specs.Provenance.{IsOffered}
 use Rattle.fork_model.specs.View.{View}
 use Rattle.fork_model.specs.World.{World}
 
@@ -21,10 +24,15 @@ use Rattle.fork_model.specs.World.{World}
 abbrev pub AreSendable : Objects → Type 0
 AreSendable objects = (name : List ℕ) (object : Object) → get objects name ≡ Some object → length object.bytes ≤ MAX_CONTENT
 
--- a view whose objects can be sent, those of the open upload too
+-- a view whose objects can be sent, those of the open upload and of offers too
 pub record IsSendable (view : View) : Type 0 where
   pub objects : AreSendable view.objects
   pub upload : (upload : UploadValue) → view.upload ≡ Some upload → AreWithin (sent_in upload.stream)
+  pub offers : (key : Pair) (offer : Offer) → get view.made key ≡ Some offer → AreSendable offer.objects
+
+-- offers whose objects can be sent
+abbrev pub AreSendableOffers : Context → Type 0
+AreSendableOffers context = (giver repository name : List ℕ) (object : Object) → IsOffered context giver repository name object → length object.bytes ≤ MAX_CONTENT
 
 -- each view is such
 abbrev pub IsSendableWorld : World → Type 0

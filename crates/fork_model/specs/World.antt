@@ -1,17 +1,19 @@
 -- The world of a host: a view for each tenant, and how runs go from one world to the next.
-use Rattle.std.specs.Prelude.{◌≡◌, ◌≤◌, ◌++◌, ℕ, List, codes, decimal, ⊤}
+use Rattle.std.specs.Prelude.{◌≡◌, ◌≤◌, ◌++◌, ◌&&◌, ℕ, Bool, false, List, codes, decimal, map}
 use Rattle.std.specs.FinMap.{FinMap, get}
-use Rattle.std.specs.List.{zip}
+use Rattle.std.specs.List.{AllByRecursion, zip}
 use Rattle.git_name.specs.Name.{name_cmp}
-use Rattle.fork_request.specs.Asked.{Ask}
+use Rattle.git_name.specs.Same.{same_name}
+use Rattle.fork_request.specs.Asked.{Ask, MakesOffer, Withdraws}
 use Rattle.fork_request.specs.Harms.{Harmed, harm_lines}
-use Rattle.fork_request.specs.Told.{is_host_fault}
+use Rattle.fork_request.specs.Told.{is_done, is_host_fault}
 use Rattle.fork_request.specs.declared.host_request.HostRequest.{HostRequest}
 use Rattle.fork_request.specs.declared.host_request.HostRequest.TheVariants.{Sweep, Collect, Census, Fsck, Bad}
 use Rattle.fork_request.specs.declared.refusal.Refusal.TheVariants.{BadRequest, UnknownTenant}
 use Rattle.fork_request.specs.declared.reply.Reply.{Reply}
 use Rattle.fork_request.specs.declared.reply.Reply.TheVariants.{Done, Refused}
 use Rattle.fork_model.specs.Answer.{answer}
+use Rattle.fork_model.specs.Context.{Context, met_by, offered_to}
 use Rattle.fork_model.specs.Runs
 use Rattle.fork_model.specs.View.{View}
 
@@ -36,17 +38,13 @@ HostSays Census reply = (n : ℕ) × (reply ≡ Done (number_line n))
 HostSays Fsck reply = (harms : Harmed) × (reply ≡ Done (harm_lines harms))
 HostSays Bad reply = reply ≡ Refused BadRequest
 
--- a tenant meets nothing of the world beside its requests
-abbrev pub nothing_met : World → List ℕ → ⊤
-nothing_met world tenant = tt
-
 -- one step may go from the old world to the new one with this reply
 abbrev pub Steps : World → Event → Reply → World → Type 0
-Steps = Runs.Steps name_cmp nothing_met (λ _. answer) (Refused UnknownTenant) is_host_fault HostSays
+Steps = Runs.Steps name_cmp met_by answer (Refused UnknownTenant) is_host_fault HostSays
 
 -- these replies, one to each step, lead from the old world to the new one
 abbrev pub Explains : World → List Event → List Reply → World → Type 0
-Explains = Runs.Explains name_cmp nothing_met (λ _. answer) (Refused UnknownTenant) is_host_fault HostSays
+Explains = Runs.Explains name_cmp met_by answer (Refused UnknownTenant) is_host_fault HostSays
 
 -- what a tenant asks, in order
 abbrev pub own : List ℕ → List Event → List Ask
@@ -64,9 +62,21 @@ Exchange = Ask × Reply
 abbrev pub exchanges : List ℕ → List Event → List Reply → List Exchange
 exchanges tenant steps replies = zip (own tenant steps) (told tenant steps replies)
 
--- the replies and the last view of a private host, which has this view and no other tenant
-abbrev pub alone : View → List Ask → List Reply × View
-alone view asks = Runs.alone (λ _. answer) view (Runs.meeting (tt {0}) asks)
+-- a tenant's request, and what it meets beside it
+abbrev pub Meeting : Type 0
+Meeting = Context × Ask
+
+-- what a tenant asks along a run, in order, each beside what it meets: the offers that stand to it then
+abbrev pub met : (tenant : List ℕ) (old : World) (steps : List Event) (replies : List Reply) (new : World) → Explains old steps replies new → List Meeting
+met = Runs.met name_cmp met_by answer (Refused UnknownTenant) is_host_fault HostSays
+
+-- requests beside each of which this is met
+abbrev pub meeting : Context → List Ask → List Meeting
+meeting = Runs.meeting
+
+-- the replies and the last view of a private host, which has this view and no other tenant, and meets this beside each request
+abbrev pub alone : View → List Meeting → List Reply × View
+alone = Runs.alone answer
 
 -- no reply of these is a host fault
 abbrev pub AreFine : List Reply → Type 0
@@ -76,14 +86,25 @@ AreFine = Runs.AreFine is_host_fault
 abbrev pub IsUnfaulted : List ℕ → List Event → List Reply → Type 0
 IsUnfaulted tenant steps replies = Runs.AreFine is_host_fault (told tenant steps replies)
 
--- both worlds show the tenant alike
-abbrev pub Agree : List ℕ → World → World → Type 0
-Agree tenant world other = get world tenant ≡ get other tenant
+-- both worlds show the tenant alike, and offer it the same
+pub record Agree (tenant : List ℕ) (world other : World) : Type 0 where
+  pub views : get world tenant ≡ get other tenant
+  pub offers : offered_to world tenant ≡ offered_to other tenant
 
--- a tenant's own part in a step
-abbrev pub Answers : View → Ask → Reply → View → Type 0
-Answers = Runs.Answers (λ _. answer) is_host_fault (tt {0})
+-- a tenant's own part in a step beside which it meets this
+abbrev pub Answers : Context → View → Ask → Reply → View → Type 0
+Answers = Runs.Answers answer is_host_fault
 
 -- what a private host is asked, each beside what it answers, in order
-abbrev pub exchanges_alone : View → List Ask → List Exchange
-exchanges_alone view asks = zip asks (alone view asks).0
+abbrev pub exchanges_alone : View → List Meeting → List Exchange
+exchanges_alone view asked = zip (map (λ met. met.1) asked) (alone view asked).0
+
+-- an offer to the tenant is made, or withdrawn, in this step
+abbrev pub deals_with : List ℕ → Event → Reply → Bool
+deals_with tenant (Runs.Asks giver (MakesOffer repository receiver)) reply = is_done reply && same_name receiver tenant
+deals_with tenant (Runs.Asks giver (Withdraws repository receiver)) reply = is_done reply && same_name receiver tenant
+deals_with tenant event reply = false
+
+-- no offer to the tenant is made or withdrawn in these steps
+abbrev pub LeavesOffers : List ℕ → List Event → List Reply → Type 0
+LeavesOffers tenant steps replies = AllByRecursion (λ step. deals_with tenant step.0 step.1 ≡ false) (zip steps replies)

@@ -4,6 +4,7 @@
 //! would tell it.
 #![tactic(auto)]
 
+mod disclosure;
 mod limits;
 mod missing;
 mod provenance;
@@ -14,8 +15,10 @@ ghost use Rattle.std.specs.Prelude.{◌≡◌, ℕ, List, Some, false};
 ghost use Rattle.std.specs.FinMap.{get};
 ghost use Rattle.fork_request.specs.declared.reply.Reply.{Reply};
 ghost use Rattle.fork_model.specs.View.{View};
-ghost use Rattle.fork_model.specs.World.{World, Event, Explains, IsUnfaulted, Agree, own, told, alone};
+ghost use Rattle.fork_model.specs.World.{World, Event, Explains, IsUnfaulted, LeavesOffers, Agree, own, told, alone, meeting, met};
+ghost use Rattle.fork_model.specs.Context.{met_by};
 
+pub use crate::disclosure::{offers_are_met_by_two_requests, offers_disclose_what_they_hold};
 pub use crate::limits::{MAX_ITEMS, MAX_OFFERS, MAX_REPOSITORIES, MAX_TENANTS};
 pub use crate::missing::what_is_lacking_is_missing;
 pub use crate::provenance::{
@@ -28,30 +31,38 @@ pub use crate::transfer::{
 };
 pub use crate::uploads::uploads_are_their_readings_and_objects;
 
-/// What a tenant is told, and its view afterwards, are those of a private host that holds this
-/// tenant alone, whatever requests of others stand between, where no host fault answered it.
+/// What a tenant is told, and its view afterwards, are those of a private host that holds this tenant
+/// alone and meets the same offers, whatever requests of others stand between, where no host fault
+/// answered it. Where no offer to it is made or withdrawn, the offers are those that stood at first.
 pub fn a_run_is_private()
     ensures replies { (tenant : List ℕ) (old new : World) (steps : List Event) (replies : List Reply) (view : View)
-        → Explains old steps replies new → IsUnfaulted tenant steps replies → get old tenant ≡ Some view
-        → told tenant steps replies ≡ (alone view (own tenant steps)).0 }
+        → Explains old steps replies new → IsUnfaulted tenant steps replies → LeavesOffers tenant steps replies → get old tenant ≡ Some view
+        → told tenant steps replies ≡ (alone view (meeting (met_by old tenant) (own tenant steps))).0 }
     ensures view { (tenant : List ℕ) (old new : World) (steps : List Event) (replies : List Reply) (view : View)
-        → Explains old steps replies new → IsUnfaulted tenant steps replies → get old tenant ≡ Some view
-        → get new tenant ≡ Some (alone view (own tenant steps)).1 }
+        → Explains old steps replies new → IsUnfaulted tenant steps replies → LeavesOffers tenant steps replies → get old tenant ≡ Some view
+        → get new tenant ≡ Some (alone view (meeting (met_by old tenant) (own tenant steps))).1 }
+    ensures replies_met { (tenant : List ℕ) (old new : World) (steps : List Event) (replies : List Reply) (view : View)
+        → (run : Explains old steps replies new) → IsUnfaulted tenant steps replies → get old tenant ≡ Some view
+        → told tenant steps replies ≡ (alone view (met tenant old steps replies new run)).0 }
+    ensures view_met { (tenant : List ℕ) (old new : World) (steps : List Event) (replies : List Reply) (view : View)
+        → (run : Explains old steps replies new) → IsUnfaulted tenant steps replies → get old tenant ≡ Some view
+        → get new tenant ≡ Some (alone view (met tenant old steps replies new run)).1 }
 {}
 
-/// Two runs from worlds that show a tenant alike, in which the tenant asks the same, tell it the
-/// same and leave worlds that show it alike, whatever else the runs and the worlds are.
+/// Two runs from worlds that show a tenant alike and offer it the same, in which the tenant asks the
+/// same and no offer to it is made or withdrawn, tell it the same and leave worlds that show it alike
+/// and offer it the same, whatever else the runs and the worlds are.
 pub fn two_runs_agree()
     ensures replies { (tenant : List ℕ) (old new : World) (steps : List Event) (replies : List Reply)
         (old2 new2 : World) (steps2 : List Event) (replies2 : List Reply)
-        → Explains old steps replies new → IsUnfaulted tenant steps replies
-        → Explains old2 steps2 replies2 new2 → IsUnfaulted tenant steps2 replies2
+        → Explains old steps replies new → IsUnfaulted tenant steps replies → LeavesOffers tenant steps replies
+        → Explains old2 steps2 replies2 new2 → IsUnfaulted tenant steps2 replies2 → LeavesOffers tenant steps2 replies2
         → Agree tenant old old2 → own tenant steps ≡ own tenant steps2
         → told tenant steps replies ≡ told tenant steps2 replies2 }
     ensures worlds { (tenant : List ℕ) (old new : World) (steps : List Event) (replies : List Reply)
         (old2 new2 : World) (steps2 : List Event) (replies2 : List Reply)
-        → Explains old steps replies new → IsUnfaulted tenant steps replies
-        → Explains old2 steps2 replies2 new2 → IsUnfaulted tenant steps2 replies2
+        → Explains old steps replies new → IsUnfaulted tenant steps replies → LeavesOffers tenant steps replies
+        → Explains old2 steps2 replies2 new2 → IsUnfaulted tenant steps2 replies2 → LeavesOffers tenant steps2 replies2
         → Agree tenant old old2 → own tenant steps ≡ own tenant steps2
         → Agree tenant new new2 }
 {}
@@ -60,23 +71,26 @@ ghost use Rattle.fork_request.specs.Asked.{Ask};
 ghost use Rattle.fork_request.specs.declared.refusal.Refusal.{Refusal};
 ghost use Rattle.fork_request.specs.declared.reply.Reply.TheVariants.{Refused};
 ghost use Rattle.fork_model.specs.Answer.{answer, left_by};
-ghost use Rattle.fork_model.specs.Sound.{IsOrderly, IsOrderlyWorld, IsRight, IsRightWorld};
+ghost use Rattle.std.specs.List.{AllByRecursion};
+ghost use Rattle.fork_model.specs.Context.{Context};
+ghost use Rattle.fork_model.specs.Sound.{IsAlikeWhereTaken, IsOrderly, IsOrderlyWorld, IsRight, IsSound, IsSoundBeside, IsSoundWorld, MayTake, takes_offer};
 ghost use Rattle.fork_request.specs.Told.{is_host_fault};
 
 /// A refused request leaves the view as it was, but that a refused `part-end` takes the upload away;
 /// and no answer of the model is a host fault.
 pub fn refusals_leave_the_view()
-    ensures view { (view : View) (ask : Ask) (refusal : Refusal) → (answer view ask).0 ≡ Refused refusal → (answer view ask).1 ≡ left_by view ask }
-    ensures reply { (view : View) (ask : Ask) → is_host_fault (answer view ask).0 ≡ false }
+    ensures view { (context : Context) (view : View) (ask : Ask) (refusal : Refusal) → (answer context view ask).0 ≡ Refused refusal → (answer context view ask).1 ≡ left_by view ask }
+    ensures reply { (context : Context) (view : View) (ask : Ask) → is_host_fault (answer context view ask).0 ≡ false }
 {}
 
-/// Answers keep a view in order and right, and runs a world: what names, kinds, lengths, references
-/// and limits decide needs nothing of what bytes decide.
+/// Answers keep a view in order and right, where what is offered may be taken, and runs a world, where
+/// of one name it has one object whenever an offer is taken. Where none is, what names, kinds, lengths,
+/// references and limits decide needs nothing of what bytes decide.
 pub fn runs_keep_worlds_sound()
-    ensures orderly { (view : View) (ask : Ask) → IsOrderly view → IsOrderly (answer view ask).1 }
-    ensures right { (view : View) (ask : Ask) → IsRight view → IsRight (answer view ask).1 }
-    ensures orderly_world { (old new : World) (steps : List Event) (replies : List Reply) → Explains old steps replies new → IsOrderlyWorld old → IsOrderlyWorld new }
-    ensures right_world { (old new : World) (steps : List Event) (replies : List Reply) → Explains old steps replies new → IsRightWorld old → IsRightWorld new }
+    ensures orderly { (context : Context) (view : View) (ask : Ask) → MayTake context view.objects → IsOrderly view → IsOrderly (answer context view ask).1 }
+    ensures right { (context : Context) (view : View) (ask : Ask) → IsSoundBeside context view.objects → IsSound view → IsRight (answer context view ask).1 }
+    ensures world { (old new : World) (steps : List Event) (replies : List Reply) → (run : Explains old steps replies new) → IsAlikeWhereTaken old steps replies new run → IsSoundWorld old → IsSoundWorld new }
+    ensures orderly_world { (old new : World) (steps : List Event) (replies : List Reply) → Explains old steps replies new → AllByRecursion (λ step. takes_offer step ≡ false) steps → IsOrderlyWorld old → IsOrderlyWorld new }
 {}
 
 ghost use Rattle.std.specs.Prelude.{◌⊎◌, ◌≢◌, true};
@@ -109,7 +123,7 @@ ghost use Rattle.fork_model.specs.Runs.{Asks};
 /// An object that a tenant does not hold is told to be missing, whatever others hold: by the answer,
 /// and so in each step that no host fault answers.
 pub fn what_is_not_held_is_missing()
-    ensures answer { (view : View) (name : List ℕ) → get view.objects name ≡ None → answer view (AsksObject name) ≡ (Refused (Missing name), view) }
+    ensures answer { (context : Context) (view : View) (name : List ℕ) → get view.objects name ≡ None → answer context view (AsksObject name) ≡ (Refused (Missing name), view) }
     ensures step { (old new : World) (tenant : List ℕ) (view : View) (name : List ℕ) (reply : Reply)
         → get old tenant ≡ Some view → get view.objects name ≡ None
         → Steps old (Asks tenant (AsksObject name)) reply new → is_host_fault reply ≡ false

@@ -6,6 +6,7 @@ ghost use Rattle.fork_request.specs.declared.refusal.Refusal.TheVariants.{Missin
 ghost use Rattle.fork_request.specs.declared.reply.Reply.{Reply};
 ghost use Rattle.fork_request.specs.declared.reply.Reply.TheVariants.{Refused};
 ghost use Rattle.fork_model.specs.Answer.{answer, left_by};
+ghost use Rattle.fork_model.specs.Context.{Context};
 ghost use Rattle.fork_model.specs.Missing.{IsMissing};
 ghost use Rattle.fork_model.specs.Runs.{Asks};
 ghost use Rattle.fork_model.specs.View.{View};
@@ -16,7 +17,7 @@ ghost use Rattle.fork_model.specs.World.{World, Steps};
 /// no host fault answers, and nothing changes but that a refused `part-end` takes the upload away.
 /// And `missing` is told of nothing else.
 pub fn what_is_lacking_is_missing()
-    ensures answer { (view : View) (name : List ℕ) (ask : Ask) → IsMissing view name ask → answer view ask ≡ (Refused (Missing name), left_by view ask) }
+    ensures answer { (context : Context) (view : View) (name : List ℕ) (ask : Ask) → IsMissing view name ask → answer context view ask ≡ (Refused (Missing name), left_by view ask) }
     ensures step { (old new : World) (tenant : List ℕ) (view : View) (name : List ℕ) (ask : Ask) (reply : Reply)
         → get old tenant ≡ Some view → IsMissing view name ask
         → Steps old (Asks tenant ask) reply new → is_host_fault reply ≡ false
@@ -25,7 +26,7 @@ pub fn what_is_lacking_is_missing()
         → get old tenant ≡ Some view → IsMissing view name ask
         → Steps old (Asks tenant ask) reply new → is_host_fault reply ≡ false
         → new ≡ insert old tenant (left_by view ask) }
-    ensures only { (view : View) (name : List ℕ) (ask : Ask) → (answer view ask).0 ≡ Refused (Missing name) → IsMissing view name ask }
+    ensures only { (context : Context) (view : View) (name : List ℕ) (ask : Ask) → (answer context view ask).0 ≡ Refused (Missing name) → IsMissing view name ask }
     ensures only_step { (old new : World) (tenant : List ℕ) (view : View) (name : List ℕ) (ask : Ask)
         → get old tenant ≡ Some view → Steps old (Asks tenant ask) (Refused (Missing name)) new → IsMissing view name ask }
 {}

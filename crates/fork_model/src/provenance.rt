@@ -4,26 +4,29 @@ ghost use Rattle.git_name.specs.Object.{Object};
 ghost use Rattle.fork_request.specs.Asked.{Ask};
 ghost use Rattle.fork_request.specs.declared.reply.Reply.{Reply};
 ghost use Rattle.fork_model.specs.Answer.{answer};
-ghost use Rattle.fork_model.specs.Provenance.{IsFrom, IsUploadFrom, WasSent};
+ghost use Rattle.fork_model.specs.Context.{Context};
+ghost use Rattle.fork_model.specs.Provenance.{IsFrom, IsUploadFrom, WasOffered, WasSent};
 ghost use Rattle.fork_model.specs.View.{View};
-ghost use Rattle.fork_model.specs.World.{World, Event, Explains, alone, exchanges, exchanges_alone};
+ghost use Rattle.fork_model.specs.World.{World, Event, Explains, Meeting, alone, exchanges, exchanges_alone, met, told};
 
 /// What a tenant sees behind an answer, it saw before, or it stands in the body of this push or in
-/// the upload that ends here; and an open upload was open before, or began or went on by this part.
+/// the upload that ends here, or in the offer that is forked; and an open upload was open before, or began or went on by this part.
 pub fn what_is_seen_was_seen_or_sent()
-    ensures object { (view : View) (ask : Ask) (name : List ℕ) (object : Object) → get (answer view ask).1.objects name ≡ Some object → IsFrom view (ask, (answer view ask).0) name object }
-    ensures upload { (view : View) (ask : Ask) → IsUploadFrom view (ask, (answer view ask).0) (answer view ask).1.upload }
+    ensures object { (context : Context) (view : View) (ask : Ask) (name : List ℕ) (object : Object) → get (answer context view ask).1.objects name ≡ Some object → IsFrom context view (ask, (answer context view ask).0) name object }
+    ensures upload { (context : Context) (view : View) (ask : Ask) → IsUploadFrom view (ask, (answer context view ask).0) (answer context view ask).1.upload }
 {}
 
 /// What a tenant sees at the end of a run, it saw at its start, or sent itself: in the body of a
-/// push, or in all the parts of one upload, from its beginning to its end. What others send is
-/// nowhere in it, whatever host faults come.
+/// push, or in all the parts of one upload, from its beginning to its end; or it stood in an offer that
+/// the tenant met and forked. What others send is nowhere else in it, whatever host faults come.
 pub fn what_runs_show_was_seen_or_sent()
-    ensures alone { (view : View) (asks : List Ask) (name : List ℕ) (object : Object)
-        → get (alone view asks).1.objects name ≡ Some object → (get view.objects name ≡ Some object) ⊎ WasSent view (exchanges_alone view asks) name object }
+    ensures alone { (view : View) (asked : List Meeting) (name : List ℕ) (object : Object)
+        → get (alone view asked).1.objects name ≡ Some object
+        → (get view.objects name ≡ Some object) ⊎ (WasSent view (exchanges_alone view asked) name object ⊎ WasOffered asked (alone view asked).0 name object) }
     ensures run { (tenant : List ℕ) (old new : World) (steps : List Event) (replies : List Reply) (view last : View) (name : List ℕ) (object : Object)
-        → Explains old steps replies new → get old tenant ≡ Some view → get new tenant ≡ Some last
-        → get last.objects name ≡ Some object → (get view.objects name ≡ Some object) ⊎ WasSent view (exchanges tenant steps replies) name object }
+        → (run : Explains old steps replies new) → get old tenant ≡ Some view → get new tenant ≡ Some last
+        → get last.objects name ≡ Some object
+        → (get view.objects name ≡ Some object) ⊎ (WasSent view (exchanges tenant steps replies) name object ⊎ WasOffered (met tenant old steps replies new run) (told tenant steps replies) name object) }
 {}
 
 ghost use Rattle.std.specs.Prelude.{◌++◌, ◌∷◌, [], true};
@@ -41,5 +44,5 @@ ghost use Rattle.fork_model.specs.Provenance.{WasShown};
 
 /// What was sent was seen at some moment: behind the push, or the end of the upload, that brought it.
 pub fn what_was_sent_was_seen()
-    ensures { (view : View) (asks : List Ask) (name : List ℕ) (object : Object) → WasSent view (exchanges_alone view asks) name object → WasShown view asks name }
+    ensures { (view : View) (asked : List Meeting) (name : List ℕ) (object : Object) → WasSent view (exchanges_alone view asked) name object → WasShown view asked name }
 {}

@@ -16,8 +16,9 @@ ghost use Rattle.fork_request.specs.Asked.{Ask, Fetches, Pushes};
 ghost use Rattle.fork_request.specs.declared.reply.Reply.{Reply};
 ghost use Rattle.fork_request.specs.declared.reply.Reply.TheVariants.{Done};
 ghost use Rattle.fork_model.specs.Answer.{answer, pushed};
+ghost use Rattle.fork_model.specs.Context.{Context};
 ghost use Rattle.fork_model.specs.Sound.{AreReferences, IsClosed, IsOrderly, IsRight};
-ghost use Rattle.fork_model.specs.Transfer.{AreAlike, AreSendable, HasPrerequisites, IsSendable, IsSendableWorld, fetched_objects, received, within_quota};
+ghost use Rattle.fork_model.specs.Transfer.{AreAlike, AreSendable, AreSendableOffers, HasPrerequisites, IsSendable, IsSendableWorld, fetched_objects, received, within_quota};
 ghost use Rattle.fork_model.specs.View.{View};
 ghost use Rattle.fork_model.specs.World.{World, Event, Explains};
 
@@ -51,13 +52,13 @@ pub fn what_is_fetched_is_taken()
 /// The data of a `fetch`, pushed behind an empty line by another tenant that holds what was
 /// excluded: it is answered as one with the objects there, where its limit has room for them.
 pub fn what_is_fetched_can_be_pushed()
-    ensures { (receiver sender : View) (source word : List ℕ) (items : List (List ℕ)) (repository old : Repository) (selection : Selection) (text : List ℕ)
+    ensures { (context other : Context) (receiver sender : View) (source word : List ℕ) (items : List (List ℕ)) (repository old : Repository) (selection : Selection) (text : List ℕ)
         → IsRight sender → AreSendable sender.objects → IsOrderly receiver
         → get sender.repositories source ≡ Some repository → selected (object_of_item sender.objects repository) items ≡ Ok selection
-        → (answer sender (Fetches source items)).0 ≡ Done text
+        → (answer context sender (Fetches source items)).0 ≡ Done text
         → HasPrerequisites receiver.objects sender.objects selection.excluded
         → get receiver.repositories word ≡ Some old → receiver.upload ≡ None
-        → answer receiver (Pushes word (10 ∷ text)) ≡ within_quota receiver word old (received receiver.objects sender.objects selection.wanted selection.excluded) }
+        → answer other receiver (Pushes word (10 ∷ text)) ≡ within_quota receiver word old (received receiver.objects sender.objects selection.wanted selection.excluded) }
 {}
 
 /// A receiver whose objects link to what is there has the prerequisites as soon as it has the
@@ -71,6 +72,6 @@ pub fn excluded_objects_are_enough()
 /// Answers keep a view's objects such that they can be sent, and runs each view's: no object of a
 /// host that began without any is longer than a stream takes.
 pub fn answers_keep_views_sendable()
-    ensures view { (view : View) (ask : Ask) → IsSendable view → IsSendable (answer view ask).1 }
+    ensures view { (context : Context) (view : View) (ask : Ask) → AreSendableOffers context → IsSendable view → IsSendable (answer context view ask).1 }
     ensures world { (old new : World) (steps : List Event) (replies : List Reply) → Explains old steps replies new → IsSendableWorld old → IsSendableWorld new }
 {}

@@ -12,7 +12,7 @@ use Rattle.git_name.specs.Name.{IsName, name_in, same_again}
 use Rattle.git_name.specs.Text.{Lacks, split_once, words_of}
 use Rattle.git_name.proofs.ReadingLemmas.{written_name}
 use Rattle.git_name.proofs.TextLemmas.{split_once-append, split_once-none, words_of-append, words_of-plain}
-use Rattle.fork_request.specs.Asked.{Ask, NoRequest, DropsParts, AsksUse, Prunes, asked, asked_alone, asked_bases, asked_cat_file, asked_drop, asked_fetch, asked_fork, asked_head, asked_init, asked_ls_tree, asked_object, asked_part_end, asked_parts, asked_plain, asked_push, asked_query, asked_references, asked_revisions, asked_set_head, asked_tree, asked_update, asked_verb, asked_words}
+use Rattle.fork_request.specs.Asked.{Ask, NoRequest, DropsParts, AsksOffers, AsksUse, Prunes, asked, asked_alone, asked_bases, asked_cat_file, asked_drop, asked_fetch, asked_fork, asked_fork_offer, asked_head, asked_init, asked_ls_tree, asked_object, asked_offer, asked_offering, asked_part_end, asked_parts, asked_plain, asked_push, asked_query, asked_references, asked_revisions, asked_set_head, asked_tree, asked_update, asked_verb, asked_withdraw, asked_words}
 use Rattle.fork_request.specs.declared.request.TheConstants.{MAX_PAYLOAD}
 use Rattle.fork_request.specs.Spelling.{IsWord, Spells}
 use Rattle.fork_request.specs.Words.{one_or_two, pair, sole, three, word_and_items}
@@ -124,7 +124,7 @@ bases_right : (payload rest body : List ℕ) (words : Option (List ℕ × List �
     → Right payload (asked_bases words body)
 bases_right payload rest body words is (inl none) = inl (ap (λ o. asked_bases o body) none)
 bases_right payload rest [] words is (inr some) =
-    let line = ap (λ text. codes "merge-base " ++ text ++ 10 ∷ []) some.0.whole ∙ three_line some.0.first some.0.second some.0.third in
+    let line = ap (λ text. codes "merge-base " ++ text ++ 10 ∷ []) some.0.whole ∙ three_line (codes "merge-base ") some.0.first some.0.second some.0.third in
     right_at payload _ _ (ap (λ o. asked_bases o []) some.1) (some.0.is_first, some.0.is_second, some.0.is_third, is ∙ line)
 bases_right payload rest (b ∷ body) words is (inr some) = inl (ap (λ o. asked_bases o (b ∷ body)) some.1)
 
@@ -144,6 +144,26 @@ set_head_right payload rest body words is (inl none) = inl (ap (λ o. asked_set_
 set_head_right payload rest [] words is (inr some) =
     right_at payload _ _ (ap (λ o. asked_set_head o []) some.1) (some.0.is_first, some.0.is_second, is ∙ two_words (codes "set-head ") some.0.first some.0.second rest (10 ∷ []) some.0.whole)
 set_head_right payload rest (b ∷ body) words is (inr some) = inl (ap (λ o. asked_set_head o (b ∷ body)) some.1)
+
+offer_right : (payload rest body : List ℕ) (words : Option (List ℕ × List ℕ)) → payload ≡ codes "offer " ++ rest ++ 10 ∷ body → (words ≡ None) ⊎ ((t : TwoWords rest) × (words ≡ Some (t.first, t.second))) → Right payload (asked_offer words body)
+offer_right payload rest body words is (inl none) = inl (ap (λ o. asked_offer o body) none)
+offer_right payload rest [] words is (inr some) =
+    right_at payload _ _ (ap (λ o. asked_offer o []) some.1) (some.0.is_first, some.0.is_second, is ∙ two_words (codes "offer ") some.0.first some.0.second rest (10 ∷ []) some.0.whole)
+offer_right payload rest (b ∷ body) words is (inr some) = inl (ap (λ o. asked_offer o (b ∷ body)) some.1)
+
+withdraw_right : (payload rest body : List ℕ) (words : Option (List ℕ × List ℕ)) → payload ≡ codes "withdraw " ++ rest ++ 10 ∷ body → (words ≡ None) ⊎ ((t : TwoWords rest) × (words ≡ Some (t.first, t.second))) → Right payload (asked_withdraw words body)
+withdraw_right payload rest body words is (inl none) = inl (ap (λ o. asked_withdraw o body) none)
+withdraw_right payload rest [] words is (inr some) =
+    right_at payload _ _ (ap (λ o. asked_withdraw o []) some.1) (some.0.is_first, some.0.is_second, is ∙ two_words (codes "withdraw ") some.0.first some.0.second rest (10 ∷ []) some.0.whole)
+withdraw_right payload rest (b ∷ body) words is (inr some) = inl (ap (λ o. asked_withdraw o (b ∷ body)) some.1)
+
+fork_offer_right : (payload rest body : List ℕ) (words : Option (List ℕ × List ℕ × List ℕ)) → payload ≡ codes "fork-offer " ++ rest ++ 10 ∷ body → (words ≡ None) ⊎ ((t : ThreeWords rest) × (words ≡ Some (t.first, t.second, t.third)))
+    → Right payload (asked_fork_offer words body)
+fork_offer_right payload rest body words is (inl none) = inl (ap (λ o. asked_fork_offer o body) none)
+fork_offer_right payload rest [] words is (inr some) =
+    let line = ap (λ text. codes "fork-offer " ++ text ++ 10 ∷ []) some.0.whole ∙ three_line (codes "fork-offer ") some.0.first some.0.second some.0.third in
+    right_at payload _ _ (ap (λ o. asked_fork_offer o []) some.1) (some.0.is_first, some.0.is_second, some.0.is_third, is ∙ line)
+fork_offer_right payload rest (b ∷ body) words is (inr some) = inl (ap (λ o. asked_fork_offer o (b ∷ body)) some.1)
 
 references_right : (payload rest body : List ℕ) (words : Option (List ℕ × Option (List ℕ))) → payload ≡ codes "for-each-ref " ++ rest ++ 10 ∷ body
     → (words ≡ None) ⊎ ((words ≡ Some (rest, None)) × IsWord rest) ⊎ ((t : TwoWords rest) × (words ≡ Some (t.first, Some t.second))) → Right payload (asked_references words body)
@@ -175,6 +195,14 @@ query_right payload verb rest body is ends =
     (by_word (Right payload) verb (codes "head") _ _ (λ v. head_right payload rest body (sole (words_of rest)) (at (codes "head") v) one)
     (by_word (Right payload) verb (codes "fetch") _ _ (λ v. fetch_right payload rest body (word_and_items (words_of rest)) (at (codes "fetch") v) items) (inl refl)))))))
 
+offering_right : (payload verb rest body : List ℕ) → payload ≡ (verb ++ 32 ∷ rest) ++ 10 ∷ body → Lacks 10 rest → Right payload (asked_offering verb (words_of rest) body)
+offering_right payload verb rest body is ends =
+    let at = (λ (word : List ℕ) (same : verb ≡ word). is ∙ ap (λ v. (v ++ 32 ∷ rest) ++ 10 ∷ body) same) in
+    let two = pair_right rest ends in
+    by_word (Right payload) verb (codes "offer") _ _ (λ v. offer_right payload rest body (pair (words_of rest)) (at (codes "offer") v) two)
+    (by_word (Right payload) verb (codes "withdraw") _ _ (λ v. withdraw_right payload rest body (pair (words_of rest)) (at (codes "withdraw") v) two)
+    (by_word (Right payload) verb (codes "fork-offer") _ _ (λ v. fork_offer_right payload rest body (three (words_of rest)) (at (codes "fork-offer") v) (three_right rest ends)) (query_right payload verb rest body is ends)))
+
 verb_right : (payload verb rest body : List ℕ) → payload ≡ (verb ++ 32 ∷ rest) ++ 10 ∷ body → Lacks 10 rest → Right payload (asked_verb verb (words_of rest) body)
 verb_right payload verb rest body is ends =
     let at = (λ (word : List ℕ) (same : verb ≡ word). is ∙ ap (λ v. (v ++ 32 ∷ rest) ++ 10 ∷ body) same) in
@@ -186,7 +214,7 @@ verb_right payload verb rest body is ends =
     (by_word (Right payload) verb (codes "push") _ _ (λ v. push_right payload rest body (sole (words_of rest)) (at (codes "push") v) one)
     (by_word (Right payload) verb (codes "part-end") _ _ (λ v. part_end_right payload rest body (sole (words_of rest)) (at (codes "part-end") v) one)
     (by_word (Right payload) verb (codes "update-refs") _ _ (λ v. update_right payload rest body (sole (words_of rest)) (at (codes "update-refs") v) one)
-    (by_word (Right payload) verb (codes "set-head") _ _ (λ v. set_head_right payload rest body (pair (words_of rest)) (at (codes "set-head") v) two) (query_right payload verb rest body is ends)))))))
+    (by_word (Right payload) verb (codes "set-head") _ _ (λ v. set_head_right payload rest body (pair (words_of rest)) (at (codes "set-head") v) two) (offering_right payload verb rest body is ends)))))))
 
 plain_right : (payload body end : List ℕ) (ask : Ask) → (body ≡ [] → Spells ask payload) → Right payload (asked_plain ask body)
 plain_right payload [] end ask spells = inr (spells refl)
@@ -197,8 +225,9 @@ alone_right payload verb body is =
     let at = (λ (word : List ℕ) (same : verb ≡ word). is ∙ ap (λ v. v ++ 10 ∷ body) same) in
     by_word (Right payload) verb (codes "part") _ _ (λ v. inr (at (codes "part") v))
     (by_word (Right payload) verb (codes "part-drop") _ _ (λ v. plain_right payload body [] DropsParts (λ none. at (codes "part-drop") v ∙ ap (λ b. codes "part-drop\n" ++ b) none))
+    (by_word (Right payload) verb (codes "offers") _ _ (λ v. plain_right payload body [] AsksOffers (λ none. at (codes "offers") v ∙ ap (λ b. codes "offers\n" ++ b) none))
     (by_word (Right payload) verb (codes "quota") _ _ (λ v. plain_right payload body [] AsksUse (λ none. at (codes "quota") v ∙ ap (λ b. codes "quota\n" ++ b) none))
-    (by_word (Right payload) verb (codes "prune") _ _ (λ v. plain_right payload body [] Prunes (λ none. at (codes "prune") v ∙ ap (λ b. codes "prune\n" ++ b) none)) (inl refl))))
+    (by_word (Right payload) verb (codes "prune") _ _ (λ v. plain_right payload body [] Prunes (λ none. at (codes "prune") v ∙ ap (λ b. codes "prune\n" ++ b) none)) (inl refl)))))
 
 line_right : (payload line body : List ℕ) → payload ≡ line ++ 10 ∷ body → Lacks 10 line → Right payload (asked_words (words_of line) body)
 line_right payload line body is ends = by (parted 32 line)

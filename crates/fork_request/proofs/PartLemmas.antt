@@ -126,8 +126,8 @@ pub record ThreeWords (text : List ℕ) : Type 0 where
   pub whole : text ≡ first ++ 32 ∷ (second ++ 32 ∷ third)
 
 -- a line of three words behind a verb
-pub three_line : (first second third : List ℕ) → codes "merge-base " ++ (first ++ 32 ∷ (second ++ 32 ∷ third)) ++ 10 ∷ [] ≡ codes "merge-base " ++ first ++ codes " " ++ second ++ codes " " ++ third ++ codes "\n"
-three_line first second third = simp append_assoc
+pub three_line : (verb first second third : List ℕ) → verb ++ (first ++ 32 ∷ (second ++ 32 ∷ third)) ++ 10 ∷ [] ≡ verb ++ first ++ codes " " ++ second ++ codes " " ++ third ++ codes "\n"
+three_line verb first second third = simp append_assoc
 
 no_others : (one : Option (List ℕ)) → all_words one None ≡ None
 no_others None = refl

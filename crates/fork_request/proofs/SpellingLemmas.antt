@@ -10,7 +10,7 @@ use Rattle.git_name.specs.Name.{IsName}
 use Rattle.git_name.specs.Text.{Lacks, split_once, words_of}
 use Rattle.git_name.proofs.ReadingLemmas.{name_in-encode_lower}
 use Rattle.git_name.proofs.TextLemmas.{split_once-append, words_of-append, words_of-plain}
-use Rattle.fork_request.specs.Asked.{Ask, Inits, Drops, Forks, Pushes, SendsPart, EndsParts, DropsParts, Updates, SetsHead, AsksObject, AsksTree, AsksRevisions, AsksBases, AsksReferences, AsksHead, Fetches, AsksUse, Prunes, NoRequest, asked, asked_bases, asked_cat_file, asked_drop, asked_fetch, asked_fork, asked_head, asked_init, asked_ls_tree, asked_object, asked_part_end, asked_parts, asked_push, asked_references, asked_revisions, asked_set_head, asked_tree, asked_update, asked_words}
+use Rattle.fork_request.specs.Asked.{Ask, Inits, Drops, Forks, Pushes, SendsPart, EndsParts, DropsParts, Updates, SetsHead, MakesOffer, Withdraws, ForksOffer, AsksObject, AsksTree, AsksRevisions, AsksBases, AsksReferences, AsksHead, AsksOffers, Fetches, AsksUse, Prunes, NoRequest, asked, asked_bases, asked_cat_file, asked_drop, asked_fetch, asked_fork, asked_fork_offer, asked_head, asked_init, asked_ls_tree, asked_object, asked_offer, asked_part_end, asked_parts, asked_push, asked_references, asked_revisions, asked_set_head, asked_tree, asked_update, asked_withdraw, asked_words}
 use Rattle.fork_request.specs.declared.request.TheConstants.{MAX_PAYLOAD}
 use Rattle.fork_request.specs.Spelling.{AreItems, IsItem, IsWord, Spells, behind_spaces}
 use Rattle.fork_request.specs.Words.{all_words, and_items, and_word, both_words, items_in, some_word}
@@ -61,11 +61,12 @@ two_words : (payload verb one two : List ℕ) → payload ≡ verb ++ one ++ cod
 two_words payload verb one two is = is ∙ ap (λ text. text ++ codes "\n") (append_assoc (verb ++ one) (codes " ") two ∙ append_assoc verb one (32 ∷ two))
 
 -- three words behind a verb
-three_words : (payload first second third : List ℕ) → payload ≡ codes "merge-base " ++ first ++ codes " " ++ second ++ codes " " ++ third ++ codes "\n"
-    → payload ≡ (codes "merge-base" ++ behind_spaces (first ∷ second ∷ third ∷ [])) ++ 10 ∷ []
-three_words payload first second third is =
+three_words : (payload verb first second third : List ℕ) → payload ≡ (verb ++ codes " ") ++ first ++ codes " " ++ second ++ codes " " ++ third ++ codes "\n"
+    → payload ≡ (verb ++ behind_spaces (first ∷ second ∷ third ∷ [])) ++ 10 ∷ []
+three_words payload verb first second third is =
     let words : behind_spaces (first ∷ second ∷ third ∷ []) ≡ 32 ∷ (first ++ 32 ∷ (second ++ 32 ∷ third)) = ap (λ text. 32 ∷ (first ++ 32 ∷ (second ++ 32 ∷ text))) (append-nil third) in
-    is ∙ sym (ap (λ (text : List ℕ). codes "merge-base" ++ text ++ 10 ∷ []) words ∙ three_line first second third)
+    let line = ap (λ (text : List ℕ). verb ++ text) words ∙ sym (append_assoc verb (codes " ") (first ++ 32 ∷ (second ++ 32 ∷ third))) in
+    is ∙ sym (ap (λ (text : List ℕ). text ++ 10 ∷ []) line ∙ three_line (verb ++ codes " ") first second third)
 
 -- ---- the digits of a name are a word
 
@@ -97,6 +98,15 @@ verb_by verb spaces ends = record { spaces = lacks_by 32 verb spaces; ends = lac
 two_there : (one two : List ℕ) → IsWord one → IsWord two → both_words (some_word one) (some_word two) ≡ Some (one, two)
 two_there one two is_one is_two = ap (λ o. both_words o (some_word two)) (some_there one is_one.some) ∙ ap (both_words (Some one)) (some_there two is_two.some)
 
+-- three words are there
+three_there : (first second third : List ℕ) → IsWord first → IsWord second → IsWord third → all_words (some_word first) (both_words (some_word second) (some_word third)) ≡ Some (first, second, third)
+three_there first second third is_first is_second is_third =
+    ap (λ o. all_words o (both_words (some_word second) (some_word third))) (some_there first is_first.some) ∙ ap (all_words (Some first)) (two_there second third is_second is_third)
+
+-- each of them is a word
+three_are : (first second third : List ℕ) → IsWord first → IsWord second → IsWord third → All IsWord (first ∷ second ∷ third ∷ [])
+three_are first second third is_first is_second is_third = All-cons IsWord first (second ∷ third ∷ []) is_first (All-cons IsWord second (third ∷ []) is_second (All-cons IsWord third [] is_third (All-nil IsWord)))
+
 -- a repository and items are words
 words_are : (repository : List ℕ) (items : List (List ℕ)) → IsWord repository → AreItems items → All IsWord (repository ∷ items)
 words_are repository items is are = All-cons IsWord repository items is (All-weaker IsItem IsWord (λ item is_item. is_item.word) items are.each)
@@ -126,6 +136,16 @@ spelled_asked payload (Updates repository body) fits spells =
 spelled_asked payload (SetsHead repository reference) fits spells =
     with_two payload (codes "set-head") repository reference [] (verb_by (codes "set-head") refl refl) spells.0 spells.1 (two_words payload (codes "set-head ") repository reference spells.2) fits
     ∙ ap (λ o. asked_set_head o []) (two_there repository reference spells.0 spells.1)
+spelled_asked payload (MakesOffer repository receiver) fits spells =
+    with_two payload (codes "offer") repository receiver [] (verb_by (codes "offer") refl refl) spells.0 spells.1 (two_words payload (codes "offer ") repository receiver spells.2) fits
+    ∙ ap (λ o. asked_offer o []) (two_there repository receiver spells.0 spells.1)
+spelled_asked payload (Withdraws repository receiver) fits spells =
+    with_two payload (codes "withdraw") repository receiver [] (verb_by (codes "withdraw") refl refl) spells.0 spells.1 (two_words payload (codes "withdraw ") repository receiver spells.2) fits
+    ∙ ap (λ o. asked_withdraw o []) (two_there repository receiver spells.0 spells.1)
+spelled_asked payload (ForksOffer giver repository copy) fits spells =
+    with_words payload (codes "fork-offer") (giver ∷ repository ∷ copy ∷ []) [] (verb_by (codes "fork-offer") refl refl) (three_are giver repository copy spells.0 spells.1 spells.2)
+    (three_words payload (codes "fork-offer") giver repository copy spells.3) fits
+    ∙ ap (λ o. asked_fork_offer o []) (three_there giver repository copy spells.0 spells.1 spells.2)
 spelled_asked payload (AsksObject name) fits spells =
     let word = digits_word name spells.0 in
     with_word payload (codes "cat-file") (encode_lower name) [] (verb_by (codes "cat-file") refl refl) word spells.1 fits
@@ -138,10 +158,9 @@ spelled_asked payload (AsksRevisions repository items) fits spells =
     with_words payload (codes "rev-list") (repository ∷ items) [] (verb_by (codes "rev-list") refl refl) (words_are repository items spells.0 spells.1) spells.2 fits
     ∙ ap (λ o. asked_revisions o []) (items_read repository items spells.0 spells.1)
 spelled_asked payload (AsksBases repository first second) fits spells =
-    let words = All-cons IsWord repository (first ∷ second ∷ []) spells.0 (All-cons IsWord first (second ∷ []) spells.1 (All-cons IsWord second [] spells.2 (All-nil IsWord))) in
-    with_words payload (codes "merge-base") (repository ∷ first ∷ second ∷ []) [] (verb_by (codes "merge-base") refl refl) words (three_words payload repository first second spells.3) fits
-    ∙ ap (λ o. asked_bases (all_words o (both_words (some_word first) (some_word second))) []) (some_there repository spells.0.some)
-    ∙ ap (λ o. asked_bases (all_words (Some repository) o) []) (two_there first second spells.1 spells.2)
+    with_words payload (codes "merge-base") (repository ∷ first ∷ second ∷ []) [] (verb_by (codes "merge-base") refl refl) (three_are repository first second spells.0 spells.1 spells.2)
+    (three_words payload (codes "merge-base") repository first second spells.3) fits
+    ∙ ap (λ o. asked_bases o []) (three_there repository first second spells.0 spells.1 spells.2)
 spelled_asked payload (AsksReferences repository None) fits spells =
     with_word payload (codes "for-each-ref") repository [] (verb_by (codes "for-each-ref") refl refl) spells.0 spells.1 fits
     ∙ ap (λ o. asked_references (option_map (λ first. (first, None)) o) []) (some_there repository spells.0.some)
@@ -150,6 +169,7 @@ spelled_asked payload (AsksReferences repository (Some prefix)) fits spells =
     ∙ ap (λ o. asked_references (and_word o) []) (two_there repository prefix spells.0 spells.1)
 spelled_asked payload (AsksHead repository) fits spells =
     with_word payload (codes "head") repository [] (verb_by (codes "head") refl refl) spells.0 spells.1 fits ∙ ap (λ o. asked_head o []) (some_there repository spells.0.some)
+spelled_asked payload AsksOffers fits spells = alone payload (codes "offers") [] (verb_by (codes "offers") refl refl) spells fits
 spelled_asked payload (Fetches repository items) fits spells =
     with_words payload (codes "fetch") (repository ∷ items) [] (verb_by (codes "fetch") refl refl) (words_are repository items spells.0 spells.1) spells.2 fits
     ∙ ap (λ o. asked_fetch o []) (items_read repository items spells.0 spells.1)

@@ -5,7 +5,7 @@ use Rattle.git_name.specs.Name.{name_in}
 use Rattle.git_name.specs.Number.{number_in}
 use Rattle.git_name.specs.Text.{split_once, words_of}
 use Rattle.fork_request.specs.declared.request.Request.{Request}
-use Rattle.fork_request.specs.declared.request.Request.TheVariants.{Init, Drop, Fork, Push, Part, PartEnd, PartDrop, UpdateRefs, SetHead, CatFile, LsTree, RevList, MergeBase, ForEachRef, Head, Fetch, Quota, Prune, Bad}
+use Rattle.fork_request.specs.declared.request.Request.TheVariants.{Init, Drop, Fork, Push, Part, PartEnd, PartDrop, UpdateRefs, SetHead, Offer, Withdraw, ForkOffer, CatFile, LsTree, RevList, MergeBase, ForEachRef, Head, Offers, Fetch, Quota, Prune, Bad}
 use Rattle.fork_request.specs.declared.request.TheConstants.{MAX_PAYLOAD}
 use Rattle.fork_request.specs.declared.host_request.HostRequest.{HostRequest}
 use Rattle.fork_request.specs.declared.host_request.HostRequest.TheVariants.{Sweep, Collect, Census, Fsck, Bad as Bad_host}
@@ -23,12 +23,16 @@ pub data Ask : Type 0 where
   DropsParts : Ask
   Updates : (repository : List ℕ) (body : List ℕ) → Ask
   SetsHead : (repository : List ℕ) (reference : List ℕ) → Ask
+  MakesOffer : (repository : List ℕ) (receiver : List ℕ) → Ask
+  Withdraws : (repository : List ℕ) (receiver : List ℕ) → Ask
+  ForksOffer : (giver : List ℕ) (repository : List ℕ) (copy : List ℕ) → Ask
   AsksObject : (name : List ℕ) → Ask
   AsksTree : (name : List ℕ) → Ask
   AsksRevisions : (repository : List ℕ) (items : List (List ℕ)) → Ask
   AsksBases : (repository : List ℕ) (first : List ℕ) (second : List ℕ) → Ask
   AsksReferences : (repository : List ℕ) (prefix : Option (List ℕ)) → Ask
   AsksHead : (repository : List ℕ) → Ask
+  AsksOffers : Ask
   Fetches : (repository : List ℕ) (items : List (List ℕ)) → Ask
   AsksUse : Ask
   Prunes : Ask
@@ -45,12 +49,16 @@ ask_of (PartEnd repository) = EndsParts repository.now
 ask_of PartDrop = DropsParts
 ask_of (UpdateRefs repository body) = Updates repository.now body.now
 ask_of (SetHead repository reference) = SetsHead repository.now reference.now
+ask_of (Offer repository receiver) = MakesOffer repository.now receiver.now
+ask_of (Withdraw repository receiver) = Withdraws repository.now receiver.now
+ask_of (ForkOffer giver repository copy) = ForksOffer giver.now repository.now copy.now
 ask_of (CatFile name) = AsksObject name
 ask_of (LsTree name) = AsksTree name
 ask_of (RevList repository items) = AsksRevisions repository.now (words_of items.now)
 ask_of (MergeBase repository first second) = AsksBases repository.now first.now second.now
 ask_of (ForEachRef repository prefix) = AsksReferences repository.now (option_map (λ word. word.now) prefix)
 ask_of (Head repository) = AsksHead repository.now
+ask_of Offers = AsksOffers
 ask_of (Fetch repository items) = Fetches repository.now (words_of items.now)
 ask_of Quota = AsksUse
 ask_of Prune = Prunes
@@ -99,6 +107,21 @@ asked_update None body = NoRequest
 abbrev pub asked_set_head : Option (List ℕ × List ℕ) → List ℕ → Ask
 asked_set_head (Some p) body = asked_plain (SetsHead p.0 p.1) body
 asked_set_head None body = NoRequest
+
+-- `offer REPO TENANT`
+abbrev pub asked_offer : Option (List ℕ × List ℕ) → List ℕ → Ask
+asked_offer (Some p) body = asked_plain (MakesOffer p.0 p.1) body
+asked_offer None body = NoRequest
+
+-- `withdraw REPO TENANT`
+abbrev pub asked_withdraw : Option (List ℕ × List ℕ) → List ℕ → Ask
+asked_withdraw (Some p) body = asked_plain (Withdraws p.0 p.1) body
+asked_withdraw None body = NoRequest
+
+-- `fork-offer GIVER REPO DST`
+abbrev pub asked_fork_offer : Option (List ℕ × List ℕ × List ℕ) → List ℕ → Ask
+asked_fork_offer (Some p) body = asked_plain (ForksOffer p.0 p.1 p.2) body
+asked_fork_offer None body = NoRequest
 
 -- the object of a name, where there is a name and nothing behind it
 abbrev pub asked_object : Option (List ℕ) → List ℕ → Ask
@@ -159,6 +182,14 @@ asked_query verb words body =
     else if bytes_eq verb (codes "fetch") then asked_fetch (word_and_items words) body
     else NoRequest
 
+-- a change of offers, or a query, by its verb and the words behind it
+abbrev pub asked_offering : List ℕ → List (List ℕ) → List ℕ → Ask
+asked_offering verb words body =
+    if bytes_eq verb (codes "offer") then asked_offer (pair words) body
+    else if bytes_eq verb (codes "withdraw") then asked_withdraw (pair words) body
+    else if bytes_eq verb (codes "fork-offer") then asked_fork_offer (three words) body
+    else asked_query verb words body
+
 -- by a verb and the words behind it
 abbrev pub asked_verb : List ℕ → List (List ℕ) → List ℕ → Ask
 asked_verb verb words body =
@@ -169,13 +200,14 @@ asked_verb verb words body =
     else if bytes_eq verb (codes "part-end") then asked_part_end (sole words) body
     else if bytes_eq verb (codes "update-refs") then asked_update (sole words) body
     else if bytes_eq verb (codes "set-head") then asked_set_head (pair words) body
-    else asked_query verb words body
+    else asked_offering verb words body
 
--- by a verb that stands alone: `part` and a body, `part-drop`, `quota`, `prune`
+-- by a verb that stands alone: `part` and a body, `part-drop`, `offers`, `quota`, `prune`
 abbrev pub asked_alone : List ℕ → List ℕ → Ask
 asked_alone verb body =
     if bytes_eq verb (codes "part") then SendsPart body
     else if bytes_eq verb (codes "part-drop") then asked_plain DropsParts body
+    else if bytes_eq verb (codes "offers") then asked_plain AsksOffers body
     else if bytes_eq verb (codes "quota") then asked_plain AsksUse body
     else if bytes_eq verb (codes "prune") then asked_plain Prunes body
     else NoRequest

@@ -3,7 +3,7 @@ use Rattle.std.specs.Prelude.{◌≡◌, ◌≢◌, ℕ, ◌≤◌, List, ◌++�
 use Rattle.std.specs.List.{flat_map}
 use Rattle.hex.specs.Hex.{encode_lower}
 use Rattle.git_name.specs.Name.{IsName}
-use Rattle.fork_request.specs.Asked.{Ask, Inits, Drops, Forks, Pushes, SendsPart, EndsParts, DropsParts, Updates, SetsHead, AsksObject, AsksTree, AsksRevisions, AsksBases, AsksReferences, AsksHead, Fetches, AsksUse, Prunes, NoRequest}
+use Rattle.fork_request.specs.Asked.{Ask, Inits, Drops, Forks, Pushes, SendsPart, EndsParts, DropsParts, Updates, SetsHead, MakesOffer, Withdraws, ForksOffer, AsksObject, AsksTree, AsksRevisions, AsksBases, AsksReferences, AsksHead, AsksOffers, Fetches, AsksUse, Prunes, NoRequest}
 use Rattle.fork_request.specs.declared.host_request.HostRequest.{HostRequest}
 use Rattle.fork_request.specs.declared.host_request.HostRequest.TheVariants.{Sweep, Collect, Census, Fsck, Bad}
 use Rattle.fork_request.specs.declared.host_request.TheConstants.{MAX_SWEEP}
@@ -39,6 +39,9 @@ Spells (EndsParts repository) payload = IsWord repository × (payload ≡ codes 
 Spells DropsParts payload = payload ≡ codes "part-drop\n"
 Spells (Updates repository body) payload = IsWord repository × (payload ≡ codes "update-refs " ++ repository ++ codes "\n" ++ body)
 Spells (SetsHead repository reference) payload = IsWord repository × IsWord reference × (payload ≡ codes "set-head " ++ repository ++ codes " " ++ reference ++ codes "\n")
+Spells (MakesOffer repository receiver) payload = IsWord repository × IsWord receiver × (payload ≡ codes "offer " ++ repository ++ codes " " ++ receiver ++ codes "\n")
+Spells (Withdraws repository receiver) payload = IsWord repository × IsWord receiver × (payload ≡ codes "withdraw " ++ repository ++ codes " " ++ receiver ++ codes "\n")
+Spells (ForksOffer giver repository copy) payload = IsWord giver × IsWord repository × IsWord copy × (payload ≡ codes "fork-offer " ++ giver ++ codes " " ++ repository ++ codes " " ++ copy ++ codes "\n")
 Spells (AsksObject name) payload = IsName name × (payload ≡ codes "cat-file " ++ encode_lower name ++ codes "\n")
 Spells (AsksTree name) payload = IsName name × (payload ≡ codes "ls-tree " ++ encode_lower name ++ codes "\n")
 Spells (AsksRevisions repository items) payload = IsWord repository × AreItems items × (payload ≡ codes "rev-list " ++ repository ++ behind_spaces items ++ codes "\n")
@@ -46,6 +49,7 @@ Spells (AsksBases repository first second) payload = IsWord repository × IsWord
 Spells (AsksReferences repository None) payload = IsWord repository × (payload ≡ codes "for-each-ref " ++ repository ++ codes "\n")
 Spells (AsksReferences repository (Some prefix)) payload = IsWord repository × IsWord prefix × (payload ≡ codes "for-each-ref " ++ repository ++ codes " " ++ prefix ++ codes "\n")
 Spells (AsksHead repository) payload = IsWord repository × (payload ≡ codes "head " ++ repository ++ codes "\n")
+Spells AsksOffers payload = payload ≡ codes "offers\n"
 Spells (Fetches repository items) payload = IsWord repository × AreItems items × (payload ≡ codes "fetch " ++ repository ++ behind_spaces items ++ codes "\n")
 Spells AsksUse payload = payload ≡ codes "quota\n"
 Spells Prunes payload = payload ≡ codes "prune\n"

@@ -2,7 +2,7 @@
 use Rattle.std.specs.Prelude.{ℕ, List, ◌++◌, Bool, true, false, codes}
 use Rattle.hex.specs.Hex.{encode_lower}
 use Rattle.fork_request.specs.declared.refusal.Refusal.{Refusal}
-use Rattle.fork_request.specs.declared.refusal.Refusal.TheVariants.{BadRequest, UnknownTenant, BadName, RepositoryExists, NoRepository, NoRef, BadRef, RepeatedRef, Stale, RefConflict, NotACommit, Missing, WrongType, NotATree, OverQuota, TooMany, Syntax, WrongName, BadObject, Truncated, TooLarge, StagedTooLong, NoUpload, UploadOpen}
+use Rattle.fork_request.specs.declared.refusal.Refusal.TheVariants.{BadRequest, UnknownTenant, BadName, RepositoryExists, NoRepository, NoRef, BadRef, RepeatedRef, Stale, RefConflict, NotACommit, Missing, WrongType, NotATree, OverQuota, TooMany, Syntax, WrongName, BadObject, Truncated, TooLarge, StagedTooLong, NoUpload, UploadOpen, OfferExists, NoOffer}
 use Rattle.fork_request.specs.declared.host_fault.HostFault.{HostFault}
 use Rattle.fork_request.specs.declared.host_fault.HostFault.TheVariants.{Memory, Store, Damaged, Collision}
 use Rattle.fork_request.specs.declared.reply.Reply.{Reply}
@@ -34,6 +34,8 @@ refusal_text (TooLarge name) = codes "too-large " ++ encode_lower name
 refusal_text StagedTooLong = codes "staged-too-long"
 refusal_text NoUpload = codes "no-upload"
 refusal_text UploadOpen = codes "upload-open"
+refusal_text (OfferExists tenant repository) = codes "offer-exists " ++ tenant ++ codes "/" ++ repository
+refusal_text (NoOffer tenant repository) = codes "no-offer " ++ tenant ++ codes "/" ++ repository
 
 -- the word of a host fault
 abbrev pub fault_word : HostFault → List ℕ

@@ -1,8 +1,8 @@
-ghost use Rattle.std.specs.Prelude.{◌≡◌, ◌++◌, OnOk};
+ghost use Rattle.std.specs.Prelude.{◌≡◌, ◌++◌, OnOk, codes};
 ghost use Rattle.hex.specs.Hex.{encode_lower};
 
 use crate::byte_string::ByteString;
-use crate::name::RepositoryName;
+use crate::name::{RepositoryName, TenantName};
 use git_name::Name;
 use git_refname::RefName;
 use std::alloc::AllocError;
@@ -59,6 +59,10 @@ pub enum Refusal {
     NoUpload,
     /// There is an open upload.
     UploadOpen,
+    /// This tenant has an offer of this repository already.
+    OfferExists(TenantName, RepositoryName),
+    /// There is no such offer: the other tenant, and the repository.
+    NoOffer(TenantName, RepositoryName),
 }
 
 impl Refusal {
@@ -101,6 +105,17 @@ impl Refusal {
             Refusal::StagedTooLong => text.extend_from_slice(b"staged-too-long"),
             Refusal::NoUpload => text.extend_from_slice(b"no-upload"),
             Refusal::UploadOpen => text.extend_from_slice(b"upload-open"),
+            Refusal::OfferExists(tenant, repository) => {
+                write_offer(
+                    text,
+                    b"offer-exists ",
+                    tenant.as_bytes(),
+                    repository.as_bytes(),
+                )
+            }
+            Refusal::NoOffer(tenant, repository) => {
+                write_offer(text, b"no-offer ", tenant.as_bytes(), repository.as_bytes())
+            }
         }
     }
 }
@@ -110,6 +125,18 @@ fn write_about(text: &mut Vec<u8>, word: &[u8], about: &[u8]) -> Result<(), Allo
 {
     text.extend_from_slice(word)?;
     text.extend_from_slice(about)
+}
+
+fn write_offer(
+    text: &mut Vec<u8>,
+    word: &[u8],
+    tenant: &[u8],
+    repository: &[u8],
+) -> Result<(), AllocError>
+    ensures { OnOk result (text.new.items ≡ text.old.items ++ (word.now ++ tenant.now ++ codes "/" ++ repository.now)) }
+{
+    write_about(text, word, tenant)?;
+    write_about(text, b"/", repository)
 }
 
 fn write_name(text: &mut Vec<u8>, word: &[u8], name: Name) -> Result<(), AllocError>

@@ -1,12 +1,13 @@
 ghost use Rattle.std.specs.Prelude.{◌≡◌, ◌∷◌};
 
 mod changes;
+mod offers;
 mod queries;
 
 use crate::words::{is_word, sole_word, two_words};
 use changes::{drop_of, fork, init, part_end, push, set_head, update_refs};
 use git_name::{first_word, split_once};
-use queries::read_query;
+use offers::read_offering;
 
 /// The most bytes that a payload has.
 pub const MAX_PAYLOAD: usize = 1_048_576;
@@ -33,6 +34,12 @@ pub enum Request<'a> {
     UpdateRefs(&'a [u8], &'a [u8]),
     /// `set-head REPO REF`: HEAD of a repository names another branch.
     SetHead(&'a [u8], &'a [u8]),
+    /// `offer REPO TENANT`: a repository is shown to another tenant, as it is now.
+    Offer(&'a [u8], &'a [u8]),
+    /// `withdraw REPO TENANT`: an offer goes.
+    Withdraw(&'a [u8], &'a [u8]),
+    /// `fork-offer GIVER REPO DST`: a new repository with the references and the HEAD of an offer.
+    ForkOffer(&'a [u8], &'a [u8], &'a [u8]),
     /// `cat-file NAME`: the record of an object.
     CatFile([u8; 32]),
     /// `ls-tree NAME`: the rows of the tree that a name leads to.
@@ -47,6 +54,8 @@ pub enum Request<'a> {
     ForEachRef(&'a [u8], Option<&'a [u8]>),
     /// `head REPO`: the branch that HEAD of a repository names.
     Head(&'a [u8]),
+    /// `offers`: the offers made to the tenant, and those that it made.
+    Offers,
     /// `fetch REPO ITEM..`: the records of the objects that the items reach, less those that the
     /// items with `^` reach. The items stand as in `RevList`.
     Fetch(&'a [u8], &'a [u8]),
@@ -99,6 +108,9 @@ fn read_verb<'a>(verb: &'a [u8], body: &'a [u8]) -> Request<'a>
     if is_word(verb, b"part-drop") {
         return plain(Request::PartDrop, body);
     }
+    if is_word(verb, b"offers") {
+        return plain(Request::Offers, body);
+    }
     if is_word(verb, b"quota") {
         return plain(Request::Quota, body);
     }
@@ -133,7 +145,7 @@ fn read_words<'a>(verb: &'a [u8], words: &'a [u8], body: &'a [u8]) -> Request<'a
     if is_word(verb, b"set-head") {
         return set_head(two_words(words), body);
     }
-    read_query(verb, words, body)
+    read_offering(verb, words, body)
 }
 
 // This, where nothing stands behind the line.

@@ -28,8 +28,9 @@ use Rattle.fork_request.specs.declared.refusal.Refusal.TheVariants.{UnknownTenan
 use Rattle.fork_request.specs.declared.reply.Reply.{Reply}
 use Rattle.fork_request.specs.declared.reply.Reply.TheVariants.{Done, Refused, Failed}
 use Rattle.fork_model.specs.Answer.{answer}
+use Rattle.fork_model.specs.Context.{met_by}
 use Rattle.fork_model.specs.Runs.{Asks, HostAsks, Answered, Unknown, Faulted, TenantStep, OwnStep, HostAnswered, HostFaulted}
-use Rattle.fork_model.specs.World.{AreFine, Event, Explains, HostSays, Steps, World, nothing_met}
+use Rattle.fork_model.specs.World.{AreFine, Event, Explains, HostSays, Steps, World}
 
 one_value : {X : Type 0} (o : Option X) (x y : X) → o ≡ Some x → o ≡ Some y → x ≡ y
 one_value o x y is other = cc
@@ -40,11 +41,11 @@ none_value o x is other = cc
 true_false : (b : Bool) → b ≡ true → b ≡ false → ⊥
 true_false b is other = cc
 
-same_answer : (old new new2 : World) (name : List ℕ) (ask : Ask) (reply reply2 : Reply) → TenantStep name_cmp nothing_met (λ _. answer) (Refused UnknownTenant) is_host_fault old name ask reply new → TenantStep name_cmp nothing_met (λ _. answer) (Refused UnknownTenant) is_host_fault old name ask reply2 new2
+same_answer : (old new new2 : World) (name : List ℕ) (ask : Ask) (reply reply2 : Reply) → TenantStep name_cmp met_by answer (Refused UnknownTenant) is_host_fault old name ask reply new → TenantStep name_cmp met_by answer (Refused UnknownTenant) is_host_fault old name ask reply2 new2
     → is_host_fault reply ≡ false → is_host_fault reply2 ≡ false → (reply ≡ reply2) × (new ≡ new2)
 same_answer old new new2 name ask reply reply2 (Answered view here told set) (Answered view2 here2 told2 set2) fine fine2 =
     let same = one_value (get old name) view view2 here here2 in
-    (told ∙ ap (λ v. (answer v ask).0) same ∙ sym told2, set ∙ ap (λ v. insert old name (answer v ask).1) same ∙ sym set2)
+    (told ∙ ap (λ v. (answer (met_by old name) v ask).0) same ∙ sym told2, set ∙ ap (λ v. insert old name (answer (met_by old name) v ask).1) same ∙ sym set2)
 same_answer old new new2 name ask reply reply2 (Answered view here told set) (Unknown none told2 stays) fine fine2 = absurd (none_value (get old name) view none here)
 same_answer old new new2 name ask reply reply2 (Unknown none told stays) (Answered view here told2 set) fine fine2 = absurd (none_value (get old name) view none here)
 same_answer old new new2 name ask reply reply2 (Unknown none told stays) (Unknown none2 told2 stays2) fine fine2 = (told ∙ sym told2, stays ∙ sym stays2)

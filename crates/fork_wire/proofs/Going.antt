@@ -8,7 +8,7 @@ use Rattle.std.specs.Io.KnownBytes.{Appends, Consumes, Keeps}
 use Rattle.fork_request.specs.Told.{bytes_of}
 use Rattle.fork_request.specs.declared.reply.Reply.{Reply}
 use Rattle.fork_model.specs.World.{World, Event, Explains}
-use Rattle.fork_model.proofs.Meetings.{run_alone}
+use Rattle.fork_model.proofs.Meetings.{run_alone, run_private}
 use Rattle.fork_host.specs.Shown.{HostState, world_of}
 use Rattle.fork_host.specs.Step.{IsRun, IsStep}
 use Rattle.fork_host.proofs.StepLemmas.{run_explained, run_more}
@@ -79,8 +79,10 @@ begins_with (Some bytes) (Some rest) came frames taken right = (came, rest, righ
 
 -- a run is private
 private_of : (old new : World) (events : List Event) (replies : List Reply) → Explains old events replies new → IsPrivateRun old events replies new
-private_of old new events replies run tenant view here fine =
-    run_alone tenant old new events replies view run fine here
+private_of old new events replies run = record {
+  met = λ tenant view again here fine. run_private tenant old new events replies view again fine here;
+  steady = λ tenant view here fine leaves. run_alone tenant old new events replies view run fine leaves here;
+}
 
 -- nothing was written
 pub none_written : (a : Option (List ℕ)) (bytes : List ℕ) → WritesFront a a bytes

@@ -2,7 +2,7 @@
 use Rattle.std.proofs.Common.{◌≡◌, ◌∙◌, Bool, true, false, cond, not, refl, sym, ap, ℕ, List}
 use Rattle.git_name.specs.Name.{name_cmp}
 use Rattle.git_name.proofs.Names.{name_exact, name_total}
-use Rattle.fork_request.specs.Asked.{Ask, Inits, Drops, Forks, Pushes, SendsPart, EndsParts, DropsParts, Updates, SetsHead, AsksObject, AsksTree, AsksRevisions, AsksBases, AsksReferences, AsksHead, Fetches, AsksUse, Prunes, NoRequest, asked, asked_host}
+use Rattle.fork_request.specs.Asked.{Ask, Inits, Drops, Forks, Pushes, SendsPart, EndsParts, DropsParts, Updates, SetsHead, MakesOffer, Withdraws, ForksOffer, AsksObject, AsksTree, AsksRevisions, AsksBases, AsksReferences, AsksHead, AsksOffers, Fetches, AsksUse, Prunes, NoRequest, asked, asked_host}
 use Rattle.fork_request.specs.Names.{is_plain_name}
 use Rattle.fork_request.specs.declared.name.TheConstants.{MAX_REPOSITORY_NAME}
 use Rattle.fork_request.specs.Told.{is_host_fault}
@@ -10,10 +10,11 @@ use Rattle.fork_request.specs.declared.reply.Reply.{Reply}
 use Rattle.fork_request.specs.declared.reply.Reply.TheVariants.{Done, Refused, Failed}
 use Rattle.fork_request.specs.declared.refusal.Refusal.TheVariants.{UnknownTenant}
 use Rattle.std.specs.FinMap.{insert}
-use Rattle.fork_model.specs.Answer.{answer, left_by, cat_file_answer, ls_tree_answer, rev_list_answer, merge_base_answer, references_answer, head_answer, fetch_answer, quota_answer}
+use Rattle.fork_model.specs.Answer.{answer, left_by, cat_file_answer, ls_tree_answer, rev_list_answer, merge_base_answer, references_answer, head_answer, fetch_answer, quota_answer, offers_answer}
+use Rattle.fork_model.specs.Context.{Context, met_by}
 use Rattle.fork_model.specs.Runs.{Answered, Unknown, Faulted, TenantStep}
 use Rattle.fork_model.specs.View.{View}
-use Rattle.fork_model.specs.World.{HostSays, Steps, World, nothing_met}
+use Rattle.fork_model.specs.World.{HostSays, Steps, World}
 use Rattle.fork_model.proofs.Isolation.{own_request}
 use Rattle.fork_model.proofs.Refusals.{refusal_keeps}
 use Rattle.fork_model.proofs.StepLemmas.{answer_tells}
@@ -29,27 +30,31 @@ tested view true x y = refl
 tested view false x y = refl
 
 -- a request that only asks leaves the view
-pub asking_leaves : (view : View) (ask : Ask) → only_asks ask ≡ true → (answer view ask).1 ≡ view
-unfolding answer cat_file_answer ls_tree_answer rev_list_answer merge_base_answer references_answer head_answer fetch_answer quota_answer
-asking_leaves view (Inits repository) is = absurd (cc)
-asking_leaves view (Drops repository) is = absurd (cc)
-asking_leaves view (Forks source copy) is = absurd (cc)
-asking_leaves view (Pushes repository body) is = absurd (cc)
-asking_leaves view (SendsPart body) is = absurd (cc)
-asking_leaves view (EndsParts repository) is = absurd (cc)
-asking_leaves view DropsParts is = absurd (cc)
-asking_leaves view (Updates repository body) is = absurd (cc)
-asking_leaves view (SetsHead repository reference) is = absurd (cc)
-asking_leaves view (AsksObject name) is = refl
-asking_leaves view (AsksTree name) is = refl
-asking_leaves view (AsksRevisions repository items) is = tested view (is_plain_name MAX_REPOSITORY_NAME repository) _ _
-asking_leaves view (AsksBases repository first second) is = tested view (is_plain_name MAX_REPOSITORY_NAME repository) _ _
-asking_leaves view (AsksReferences repository prefix) is = tested view (is_plain_name MAX_REPOSITORY_NAME repository) _ _
-asking_leaves view (AsksHead repository) is = tested view (is_plain_name MAX_REPOSITORY_NAME repository) _ _
-asking_leaves view (Fetches repository items) is = tested view (is_plain_name MAX_REPOSITORY_NAME repository) _ _
-asking_leaves view AsksUse is = refl
-asking_leaves view Prunes is = absurd (cc)
-asking_leaves view NoRequest is = refl
+pub asking_leaves : (context : Context) (view : View) (ask : Ask) → only_asks ask ≡ true → (answer context view ask).1 ≡ view
+unfolding answer offers_answer cat_file_answer ls_tree_answer rev_list_answer merge_base_answer references_answer head_answer fetch_answer quota_answer
+asking_leaves context view (Inits repository) is = absurd (cc)
+asking_leaves context view (Drops repository) is = absurd (cc)
+asking_leaves context view (Forks source copy) is = absurd (cc)
+asking_leaves context view (Pushes repository body) is = absurd (cc)
+asking_leaves context view (SendsPart body) is = absurd (cc)
+asking_leaves context view (EndsParts repository) is = absurd (cc)
+asking_leaves context view DropsParts is = absurd (cc)
+asking_leaves context view (Updates repository body) is = absurd (cc)
+asking_leaves context view (SetsHead repository reference) is = absurd (cc)
+asking_leaves context view (MakesOffer repository receiver) is = absurd (cc)
+asking_leaves context view (Withdraws repository receiver) is = absurd (cc)
+asking_leaves context view (ForksOffer giver repository copy) is = absurd (cc)
+asking_leaves context view AsksOffers is = refl
+asking_leaves context view (AsksObject name) is = refl
+asking_leaves context view (AsksTree name) is = refl
+asking_leaves context view (AsksRevisions repository items) is = tested view (is_plain_name MAX_REPOSITORY_NAME repository) _ _
+asking_leaves context view (AsksBases repository first second) is = tested view (is_plain_name MAX_REPOSITORY_NAME repository) _ _
+asking_leaves context view (AsksReferences repository prefix) is = tested view (is_plain_name MAX_REPOSITORY_NAME repository) _ _
+asking_leaves context view (AsksHead repository) is = tested view (is_plain_name MAX_REPOSITORY_NAME repository) _ _
+asking_leaves context view (Fetches repository items) is = tested view (is_plain_name MAX_REPOSITORY_NAME repository) _ _
+asking_leaves context view AsksUse is = refl
+asking_leaves context view Prunes is = absurd (cc)
+asking_leaves context view NoRequest is = refl
 
 -- what a refusal leaves is the view, but where the upload ends
 left_there : (view : View) (ask : Ask) → not (is_part_end ask) ≡ true → left_by view ask ≡ view
@@ -62,6 +67,10 @@ left_there view (EndsParts repository) is = absurd (cc)
 left_there view DropsParts is = refl
 left_there view (Updates repository body) is = refl
 left_there view (SetsHead repository reference) is = refl
+left_there view (MakesOffer repository receiver) is = refl
+left_there view (Withdraws repository receiver) is = refl
+left_there view (ForksOffer giver repository copy) is = refl
+left_there view AsksOffers is = refl
 left_there view (AsksObject name) is = refl
 left_there view (AsksTree name) is = refl
 left_there view (AsksRevisions repository items) is = refl
@@ -74,22 +83,22 @@ left_there view Prunes is = refl
 left_there view NoRequest is = refl
 
 -- an answer of which it is told that the view is left leaves it
-answer_leaves : (view : View) (ask : Ask) (reply : Reply) → reply ≡ (answer view ask).0 → leaves ask reply ≡ true → (answer view ask).1 ≡ view
-answer_leaves view ask (Done text) told is = asking_leaves view ask is
-answer_leaves view ask (Refused refusal) told is = refusal_keeps view ask refusal (sym told) ∙ left_there view ask is
-answer_leaves view ask (Failed fault) told is = (let fine = answer_tells view ask in let no : ⊥ = cc (ap is_host_fault told) in absurd no)
+answer_leaves : (context : Context) (view : View) (ask : Ask) (reply : Reply) → reply ≡ (answer context view ask).0 → leaves ask reply ≡ true → (answer context view ask).1 ≡ view
+answer_leaves context view ask (Done text) told is = asking_leaves context view ask is
+answer_leaves context view ask (Refused refusal) told is = refusal_keeps context view ask refusal (sym told) ∙ left_there view ask is
+answer_leaves context view ask (Failed fault) told is = (let fine = answer_tells context view ask in let no : ⊥ = cc (ap is_host_fault told) in absurd no)
 
 told_true : (b : Bool) → not b ≡ false → b ≡ true
 told_true true is = refl
 told_true false is = absurd (cc)
 
-tenant_leaves : (old new : World) (name : List ℕ) (ask : Ask) (reply : Reply) → TenantStep name_cmp nothing_met (λ _. answer) (Refused UnknownTenant) is_host_fault old name ask reply new → leaves ask reply ≡ true → new ≡ old
+tenant_leaves : (old new : World) (name : List ℕ) (ask : Ask) (reply : Reply) → TenantStep name_cmp met_by answer (Refused UnknownTenant) is_host_fault old name ask reply new → leaves ask reply ≡ true → new ≡ old
 tenant_leaves old new name ask reply (Answered view here told set) is =
-    set ∙ ap (λ v. insert old name v) (answer_leaves view ask reply told is) ∙ insert_same name_total name_exact old name view here
+    set ∙ ap (λ v. insert old name v) (answer_leaves (met_by old name) view ask reply told is) ∙ insert_same name_total name_exact old name view here
 tenant_leaves old new name ask reply (Unknown none told stays) is = stays
 tenant_leaves old new name ask reply (Faulted bad stays) is = stays
 
 -- a step by a frame that is not kept leaves the world
 pub step_leaves : (old new : World) (asker : Asker) (payload : List ℕ) (reply : Reply) → Steps old (event_by asker payload) reply new → is_kept_of asker payload reply ≡ false → new ≡ old
 step_leaves old new (Tenant name) payload reply step is = tenant_leaves old new name (asked payload) reply step (told_true (leaves (asked payload) reply) is)
-step_leaves old new Host payload reply step is = own_request name_cmp name_total nothing_met (λ _. answer) (Refused UnknownTenant) is_host_fault HostSays old new (asked_host payload) reply step
+step_leaves old new Host payload reply step is = own_request name_cmp name_total met_by answer (Refused UnknownTenant) is_host_fault HostSays old new (asked_host payload) reply step

@@ -9,7 +9,9 @@ use Rattle.fork_request.specs.Told.{bytes_of}
 use Rattle.fork_request.specs.declared.reply.Reply.{Reply}
 use Rattle.fork_model.specs.Runs.{Asks, HostAsks}
 use Rattle.fork_model.specs.View.{View}
-use Rattle.fork_model.specs.World.{World, Event, IsUnfaulted, alone, own, told}
+use Rattle.fork_model.specs.World.{World, Event, Explains, IsUnfaulted, LeavesOffers, alone, meeting, own, told}
+use Rattle.fork_model.specs.World as World
+use Rattle.fork_model.specs.Context.{met_by}
 use Rattle.fork_host.specs.Shown.{HostState, Trusted, world_of}
 use Rattle.fork_host.specs.Step.{IsRun}
 use Rattle.fork_frame.specs.Frame.{AreFrames, IsBad, IsRequestStream}
@@ -51,10 +53,13 @@ frames_of replies = flat_map (λ reply. reply_frame (bytes_of reply)) replies
 abbrev pub told_to : List ℕ → List Frame → List Reply → List ℕ
 told_to tenant frames replies = frames_of (told tenant (events_of frames) replies)
 
--- each tenant that no host fault answered was told what a private host would tell it, and is left as there
-abbrev pub IsPrivateRun : World → List Event → List Reply → World → Type 0
-IsPrivateRun old events replies new = (tenant : List ℕ) (view : View) → get old tenant ≡ Some view → IsUnfaulted tenant events replies
-    → (told tenant events replies ≡ (alone view (own tenant events)).0) × (get new tenant ≡ Some (alone view (own tenant events)).1)
+-- each tenant that no host fault answered was told what a private host that meets the same offers would tell it, and is left as there;
+-- where no offer to it was made or withdrawn, one that meets those that stood at first
+pub record IsPrivateRun (old : World) (events : List Event) (replies : List Reply) (new : World) : Type 0 where
+  pub met : (tenant : List ℕ) (view : View) (run : Explains old events replies new) → get old tenant ≡ Some view → IsUnfaulted tenant events replies
+      → (told tenant events replies ≡ (alone view (World.met tenant old events replies new run)).0) × (get new tenant ≡ Some (alone view (World.met tenant old events replies new run)).1)
+  pub steady : (tenant : List ℕ) (view : View) → get old tenant ≡ Some view → IsUnfaulted tenant events replies → LeavesOffers tenant events replies
+      → (told tenant events replies ≡ (alone view (meeting (met_by old tenant) (own tenant events))).0) × (get new tenant ≡ Some (alone view (meeting (met_by old tenant) (own tenant events))).1)
 
 -- the replies are one to each frame, and lead from state to state. Over a store that is trusted each tenant's are those of a private host
 pub record IsAnswered (old new : HostState) (frames : List Frame) (replies : List Reply) : Type 0 where

@@ -19,6 +19,7 @@ fn only_asks(payload: &[u8]) -> bool
         | Request::MergeBase(_, _, _)
         | Request::ForEachRef(_, _)
         | Request::Head(_)
+        | Request::Offers
         | Request::Fetch(_, _)
         | Request::Quota
         | Request::Bad => true,
@@ -31,6 +32,9 @@ fn only_asks(payload: &[u8]) -> bool
         | Request::PartDrop
         | Request::UpdateRefs(_, _)
         | Request::SetHead(_, _)
+        | Request::Offer(_, _)
+        | Request::Withdraw(_, _)
+        | Request::ForkOffer(_, _, _)
         | Request::Prune => false,
     }
 }

@@ -1,10 +1,11 @@
 ghost use Rattle.std.specs.Prelude.{◌≡◌, ◌≤◌, ◌++◌, None, Some, ℕ, List, length};
 ghost use Rattle.std.specs.FinMap.{get, insert};
 ghost use Rattle.push_stream.specs.declared.upload.TheConstants.{MAX_UPLOAD};
+ghost use Rattle.fork_model.specs.Disclosure.{happenings};
 ghost use Rattle.fork_model.specs.Sound.{IsOrderlyWorld};
 ghost use Rattle.fork_model.specs.View.{View};
 ghost use Rattle.fork_request.specs.declared.reply.Reply.{Reply};
-ghost use Rattle.fork_model.specs.World.{Agree, AreFine, Explains, IsUnfaulted, World};
+ghost use Rattle.fork_model.specs.World.{Agree, AreFine, Explains, IsUnfaulted, LeavesOffers, World};
 ghost use Rattle.fork_host.specs.Shown.{HostState, Trusted, world_of};
 ghost use Rattle.fork_host.specs.Uploads.{without_uploads, uploads_of};
 ghost use Rattle.fork_frame.specs.declared.frame.Frame.{Frame};
@@ -16,25 +17,33 @@ ghost use Rattle.fork_wire.specs.Kept.{kept_bytes, kept_of};
 ghost use Rattle.fork_wire.specs.Reopening.{ArePartFrames, Reopens, with_upload};
 ghost use Rattle.fork_wire.specs.Sessions.{IsAnswered, events_of, frames_of, payloads_of, told_to};
 
-/// A law, and no work: where two hosts over trusted stores show a tenant alike, and it sends the same
-/// payloads to both, the same bytes go out to it, whatever others send between, and both show it alike
-/// again; unless a host fault answered it. `frames` and `replies` are those of `IsServed` or
-/// `IsStopped`.
+/// A law, and no work: where two hosts over trusted stores show a tenant alike and offer it the same, and
+/// it sends the same payloads to both, the same bytes go out to it, whatever others send between, and both
+/// show it alike again and offer it the same; unless a host fault answered it, or an offer to it was made
+/// or withdrawn. And also then, where equal offers are made and withdrawn at the same places between what
+/// it asks: where the same happens to it. `frames` and `replies` are those of `IsServed` or `IsStopped`.
 pub fn two_sessions_agree()
     ensures replies { (tenant : List ℕ) (old new : HostState) (frames : List Frame) (replies : List Reply)
         → (old2 new2 : HostState) (frames2 : List Frame) (replies2 : List Reply)
-        → IsAnswered old new frames replies → IsUnfaulted tenant (events_of frames) replies
-        → IsAnswered old2 new2 frames2 replies2 → IsUnfaulted tenant (events_of frames2) replies2
+        → IsAnswered old new frames replies → IsUnfaulted tenant (events_of frames) replies → LeavesOffers tenant (events_of frames) replies
+        → IsAnswered old2 new2 frames2 replies2 → IsUnfaulted tenant (events_of frames2) replies2 → LeavesOffers tenant (events_of frames2) replies2
         → Trusted old → Trusted old2 → Agree tenant (world_of old) (world_of old2)
         → payloads_of tenant frames ≡ payloads_of tenant frames2
         → told_to tenant frames replies ≡ told_to tenant frames2 replies2 }
     ensures worlds { (tenant : List ℕ) (old new : HostState) (frames : List Frame) (replies : List Reply)
         → (old2 new2 : HostState) (frames2 : List Frame) (replies2 : List Reply)
-        → IsAnswered old new frames replies → IsUnfaulted tenant (events_of frames) replies
-        → IsAnswered old2 new2 frames2 replies2 → IsUnfaulted tenant (events_of frames2) replies2
+        → IsAnswered old new frames replies → IsUnfaulted tenant (events_of frames) replies → LeavesOffers tenant (events_of frames) replies
+        → IsAnswered old2 new2 frames2 replies2 → IsUnfaulted tenant (events_of frames2) replies2 → LeavesOffers tenant (events_of frames2) replies2
         → Trusted old → Trusted old2 → Agree tenant (world_of old) (world_of old2)
         → payloads_of tenant frames ≡ payloads_of tenant frames2
         → Agree tenant (world_of new) (world_of new2) }
+    ensures disclosed { (tenant : List ℕ) (old new : HostState) (frames : List Frame) (replies : List Reply)
+        → (old2 new2 : HostState) (frames2 : List Frame) (replies2 : List Reply)
+        → (run : Explains (world_of old) (events_of frames) replies (world_of new)) → IsUnfaulted tenant (events_of frames) replies
+        → (run2 : Explains (world_of old2) (events_of frames2) replies2 (world_of new2)) → IsUnfaulted tenant (events_of frames2) replies2
+        → Agree tenant (world_of old) (world_of old2)
+        → happenings tenant (world_of old) (events_of frames) replies (world_of new) run ≡ happenings tenant (world_of old2) (events_of frames2) replies2 (world_of new2) run2
+        → (told_to tenant frames replies ≡ told_to tenant frames2 replies2) × Agree tenant (world_of new) (world_of new2) }
 {}
 
 /// A law, and no work: frames that are served again, over trusted stores that show the same world and

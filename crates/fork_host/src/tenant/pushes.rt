@@ -43,6 +43,7 @@ impl Tenant {
         ensures safe { IsSafe (IsBounded (sent_in (stream_of body.now)) own.old.vault.now own.new.vault.now) (shown_by self.old own.old) result (shown self.new own.new.vault.now own.old.tenant.now) }
         ensures upload { self.new.upload ≡ self.old.upload }
         ensures own { Uses (sent_names (sent_in (stream_of body.now))) own.old own.new }
+        ensures made { self.new.made ≡ self.old.made }
     {
         let Some(name) = RepositoryName::read(word) else {
             return bad_name(alloc, word);
@@ -70,6 +71,7 @@ impl Tenant {
         ensures safe { IsSafe (IsBounded (sent_in (continued (open_upload (shown_by self.old own.old).upload) body.now).stream) own.old.vault.now own.new.vault.now) (shown_by self.old own.old) result (shown self.new own.new.vault.now own.old.tenant.now) }
         ensures staged { IsStaged own.old.vault.now.honest self.new.upload (staged_in own.new.vault.now own.old.tenant.now) }
         ensures own { Touches (sent_names (sent_in (continued (open_upload (shown_by self.old own.old).upload) body.now).stream)) own.old own.new }
+        ensures made { self.new.made ≡ self.old.made }
     {
         if let Some(upload) = &mut self.upload {
             return feed(alloc, own, upload, body);
@@ -96,6 +98,7 @@ impl Tenant {
         ensures safe { IsSafe (IsBounded (sent_in (open_upload (shown_by self.old own.old).upload).stream) own.old.vault.now own.new.vault.now) (shown_by self.old own.old) result (shown self.new own.new.vault.now own.old.tenant.now) }
         ensures staged { IsStaged own.old.vault.now.honest self.new.upload (staged_in own.new.vault.now own.old.tenant.now) }
         ensures own { Touches [] own.old own.new }
+        ensures made { self.new.made ≡ self.old.made }
     {
         let reply = self.end_upload(alloc, own, word);
         if !is_failed(&reply) {

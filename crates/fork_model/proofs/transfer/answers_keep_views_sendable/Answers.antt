@@ -1,10 +1,8 @@
-use Rattle.fork_model.specs.Transfer.{IsSendable}
-use Rattle.fork_model.proofs.SendableLemmas.{sendable_answer}
-use Rattle.fork_model.proofs.SoundWorlds.{each_run}
+use Rattle.fork_model.proofs.SendableLemmas.{sendable_answer, sendable_run}
 use Rattle.fork_model.proofs.transfer.answers_keep_views_sendable.Goals as goal
 
 pub returns-clause-view : goal.returns-clause-view
 returns-clause-view c = sendable_answer
 
 pub returns-clause-world : goal.returns-clause-world
-returns-clause-world c = each_run IsSendable sendable_answer
+returns-clause-world c = sendable_run

@@ -1,10 +1,11 @@
-use Rattle.std.proofs.Common.{Some, inl, refl, rules, ap, sym, subst, ◌∙◌}
+use Rattle.std.proofs.Common.{Some, inl, inr, refl, rules, ap, sym, subst, ◌∙◌}
 use Rattle.std.specs.FinMap as map
 use Rattle.git_name.proofs.Names.{name_total}
 use Rattle.git_name.proofs.TreeMaps.{get_of_entries}
 use Rattle.fork_request.specs.Asked.{ask_of}
 use Rattle.fork_request.specs.declared.refusal.Refusal.TheVariants.{UnknownTenant}
 use Rattle.fork_request.specs.declared.reply.Reply.TheVariants.{Refused}
+use Rattle.fork_model.specs.Context.{met_by}
 use Rattle.fork_model.specs.Runs.{Asks}
 use Rattle.fork_model.specs.World.{Steps}
 use Rattle.looks.specs.Growth.{GrowsAmong}
@@ -15,82 +16,88 @@ use Rattle.fork_host.specs.Sent.{sent_in_world, sent_names}
 use Rattle.fork_host.specs.Shown.{state_of, world_of}
 use Rattle.fork_ledger.proofs.UpdateLemmas.{found_in, written_back}
 use Rattle.fork_host.proofs.BoundLemmas.{bounded_still}
-use Rattle.fork_host.proofs.WholeLemmas.{all_stay, answered_step, others_stay, ready, seen_here, sent_here, unknown_step, whole_after}
+use Rattle.fork_host.proofs.WholeLemmas.{alike_of, all_stay, answered_step, others_stay, ready, seen_here, sent_here, unknown_step, whole_after}
 use Rattle.fork_host.proofs.accounts.Accounts.answer.Goals as goal
 
-pub returns-in_default-clause-explained : goal.returns-in_default-clause-explained
-returns-in_default-clause-explained g c trusted =
-    let none = ap (λ m. map.get m c.args.name.now) (sym c.self.view_is) ∙ get_of_entries name_total c.self.inside.tenants.entries c.args.name.now ∙ sym c.in_default.ensures.value in
+pub returns-in_default-get_mut-clause-explained : goal.returns-in_default-get_mut-clause-explained
+returns-in_default-get_mut-clause-explained g c trusted =
+    let none = ap (λ m. map.get m c.args.name.now) (sym c.self.view_is) ∙ get_of_entries name_total c.self.inside.tenants.entries c.args.name.now ∙ sym c.in_default-get_mut.ensures.value in
     let stays = ap map.from_entries (ap (λ t. t.entries) c.get_mut.follows.holds-at-none) ∙ c.self.view_is in
     subst (λ accounts. Steps (world_of (state_of c.args.self.now c.args.vault.now)) (Asks c.args.name.now (ask_of c.args.request)) (Refused UnknownTenant) (world_of (state_of accounts c.args.vault.now))) (sym stays)
     (unknown_step (state_of c.args.self.now c.args.vault.now) c.args.name.now (ask_of c.args.request) none)
 
-pub answer_from-requires : goal.answer_from-requires
-answer_from-requires g c =
+pub answer_met-requires : goal.answer_met-requires
+answer_met-requires g c =
     let here = found_in c.args.self.now c.self.inside.tenants.entries c.args.name.now (Some c.in-Some.tenant.now) c.self.view_is c.in-Some.ensures.value in
     record { ready = ready (state_of c.args.self.now c.args.vault.now) c.args.name.now c.in-Some.tenant.now c.requires.whole here; staged = c.requires.whole.staged c.args.name.now c.in-Some.tenant.now here }
 
 pub returns-clause-explained : goal.returns-clause-explained
 returns-clause-explained g c trusted =
-    let stays = (c.get_mut.follows.holds c.answer_from.new.tenant).3 (search rules) in
+    let stays = (c.get_mut.follows.holds c.answer_met.new.tenant).3 (search rules) in
     let entries = c.self.inside.tenants.entries in
     let here = found_in c.args.self.now entries c.args.name.now (Some c.in-Some.tenant.now) c.self.view_is c.in-Some.ensures.value in
-    let set = written_back c.args.self.now entries (c.get_mut.follows.lender c.answer_from.new.tenant).entries c.args.name.now c.answer_from.new.tenant c.self.view_is stays.0 in
+    let set = written_back c.args.self.now entries (c.get_mut.follows.lender c.answer_met.new.tenant).entries c.args.name.now c.answer_met.new.tenant c.self.view_is stays.0 in
     let old = state_of c.args.self.now c.args.vault.now in
-    let new = state_of (map.from_entries (c.get_mut.follows.lender c.answer_from.new.tenant).entries) c.answer_from.new.vault in
-    answered_step old new c.args.name.now (ask_of c.args.request) c.in-Some.tenant.now c.answer_from.new.tenant c.answer_from.result (c.requires.whole.right trusted) here set (c.answer_from.ensures.row.yields trusted) c.answer_from.ensures.own trusted
+    let new = state_of (map.from_entries (c.get_mut.follows.lender c.answer_met.new.tenant).entries) c.answer_met.new.vault in
+    answered_step old new c.args.name.now (ask_of c.args.request) c.in-Some.tenant.now c.answer_met.new.tenant c.answer_met.result (record { orderly = c.requires.whole.orderly; right = c.requires.whole.right trusted }) (alike_of old (c.invariant.ensures.one trusted)) here set
+    ((c.answer_met.ensures.row (met_by (world_of old) c.args.name.now) refl c.in-Ok.ensures).yields trusted) c.answer_met.ensures.own trusted
 
 pub returns-clause-whole : goal.returns-clause-whole
 returns-clause-whole g c =
-    let stays = (c.get_mut.follows.holds c.answer_from.new.tenant).3 (search rules) in
+    let stays = (c.get_mut.follows.holds c.answer_met.new.tenant).3 (search rules) in
     let entries = c.self.inside.tenants.entries in
     let here = found_in c.args.self.now entries c.args.name.now (Some c.in-Some.tenant.now) c.self.view_is c.in-Some.ensures.value in
-    let set = written_back c.args.self.now entries (c.get_mut.follows.lender c.answer_from.new.tenant).entries c.args.name.now c.answer_from.new.tenant c.self.view_is stays.0 in
+    let set = written_back c.args.self.now entries (c.get_mut.follows.lender c.answer_met.new.tenant).entries c.args.name.now c.answer_met.new.tenant c.self.view_is stays.0 in
     let old = state_of c.args.self.now c.args.vault.now in
-    let new = state_of (map.from_entries (c.get_mut.follows.lender c.answer_from.new.tenant).entries) c.answer_from.new.vault in
-    whole_after _ old new c.args.name.now (ask_of c.args.request) c.in-Some.tenant.now c.answer_from.new.tenant c.answer_from.result
-    c.requires.whole here set (returns-clause-explained g c) c.answer_from.ensures.safe c.answer_from.ensures.own c.answer_from.ensures.staged
+    let new = state_of (map.from_entries (c.get_mut.follows.lender c.answer_met.new.tenant).entries) c.answer_met.new.vault in
+    whole_after _ old new c.args.name.now (ask_of c.args.request) c.in-Some.tenant.now c.answer_met.new.tenant c.answer_met.result
+    c.requires.whole here set (λ trusted. alike_of old (c.invariant.ensures.one trusted)) (returns-clause-explained g c) (c.answer_met.ensures.safe (met_by (world_of old) c.args.name.now) c.in-Ok.ensures) c.answer_met.ensures.others c.answer_met.ensures.own c.answer_met.ensures.staged
 
 pub returns-clause-kept : goal.returns-clause-kept
 returns-clause-kept g c not_done =
-    let stays = (c.get_mut.follows.holds c.answer_from.new.tenant).3 (search rules) in
+    let stays = (c.get_mut.follows.holds c.answer_met.new.tenant).3 (search rules) in
     let entries = c.self.inside.tenants.entries in
     let here = found_in c.args.self.now entries c.args.name.now (Some c.in-Some.tenant.now) c.self.view_is c.in-Some.ensures.value in
-    let set = written_back c.args.self.now entries (c.get_mut.follows.lender c.answer_from.new.tenant).entries c.args.name.now c.answer_from.new.tenant c.self.view_is stays.0 in
+    let set = written_back c.args.self.now entries (c.get_mut.follows.lender c.answer_met.new.tenant).entries c.args.name.now c.answer_met.new.tenant c.self.view_is stays.0 in
     let old = state_of c.args.self.now c.args.vault.now in
-    let new = state_of (map.from_entries (c.get_mut.follows.lender c.answer_from.new.tenant).entries) c.answer_from.new.vault in
-    all_stay old new c.args.name.now c.in-Some.tenant.now c.answer_from.new.tenant here set c.answer_from.ensures.own (c.answer_from.ensures.safe.kept not_done)
+    let new = state_of (map.from_entries (c.get_mut.follows.lender c.answer_met.new.tenant).entries) c.answer_met.new.vault in
+    all_stay old new c.args.name.now c.in-Some.tenant.now c.answer_met.new.tenant here set c.answer_met.ensures.own ((c.answer_met.ensures.safe (met_by (world_of old) c.args.name.now) c.in-Ok.ensures).kept not_done)
 
 pub returns-clause-others : goal.returns-clause-others
 returns-clause-others g c =
-    let stays = (c.get_mut.follows.holds c.answer_from.new.tenant).3 (search rules) in
+    let stays = (c.get_mut.follows.holds c.answer_met.new.tenant).3 (search rules) in
     let entries = c.self.inside.tenants.entries in
-    let here = found_in c.args.self.now entries c.args.name.now (Some c.in-Some.tenant.now) c.self.view_is c.in-Some.ensures.value in
-    let set = written_back c.args.self.now entries (c.get_mut.follows.lender c.answer_from.new.tenant).entries c.args.name.now c.answer_from.new.tenant c.self.view_is stays.0 in
+    let set = written_back c.args.self.now entries (c.get_mut.follows.lender c.answer_met.new.tenant).entries c.args.name.now c.answer_met.new.tenant c.self.view_is stays.0 in
     let old = state_of c.args.self.now c.args.vault.now in
-    let new = state_of (map.from_entries (c.get_mut.follows.lender c.answer_from.new.tenant).entries) c.answer_from.new.vault in
-    others_stay old new c.args.name.now c.answer_from.new.tenant set c.answer_from.ensures.own
+    let new = state_of (map.from_entries (c.get_mut.follows.lender c.answer_met.new.tenant).entries) c.answer_met.new.vault in
+    others_stay old new c.args.name.now c.answer_met.new.tenant set c.answer_met.ensures.own
 
 pub returns-in_default-clause-faults : goal.returns-in_default-clause-faults
-returns-in_default-clause-faults g c = bounded_still (sent_in_world (world_of (state_of c.args.self.now c.args.vault.now)) c.args.name.now (ask_of c.args.request)) c.args.vault.now (Refused UnknownTenant) (inl refl)
+returns-in_default-clause-faults g c = bounded_still (sent_in_world (world_of (state_of c.args.self.now c.args.vault.now)) c.args.name.now (ask_of c.args.request)) c.args.vault.now _ (inr refl)
+
+pub returns-in_default-get_mut-clause-faults : goal.returns-in_default-get_mut-clause-faults
+returns-in_default-get_mut-clause-faults g c = bounded_still (sent_in_world (world_of (state_of c.args.self.now c.args.vault.now)) c.args.name.now (ask_of c.args.request)) c.args.vault.now (Refused UnknownTenant) (inl refl)
 
 pub returns-clause-faults : goal.returns-clause-faults
 returns-clause-faults g c =
     let here = found_in c.args.self.now c.self.inside.tenants.entries c.args.name.now (Some c.in-Some.tenant.now) c.self.view_is c.in-Some.ensures.value in
     let old = state_of c.args.self.now c.args.vault.now in
-    subst (λ sent. IsBounded sent c.args.vault.now c.answer_from.new.vault c.answer_from.result) (sym (sent_here old c.args.name.now (ask_of c.args.request) c.in-Some.tenant.now here)) c.answer_from.ensures.safe.faults
+    subst (λ sent. IsBounded sent c.args.vault.now c.answer_met.new.vault c.answer_met.result) (sym (sent_here old c.args.name.now (ask_of c.args.request) c.in-Some.tenant.now here)) (c.answer_met.ensures.safe (met_by (world_of old) c.args.name.now) c.in-Ok.ensures).faults
 
 pub returns-clause-seen : goal.returns-clause-seen
 returns-clause-seen g c =
     let here = found_in c.args.self.now c.self.inside.tenants.entries c.args.name.now (Some c.in-Some.tenant.now) c.self.view_is c.in-Some.ensures.value in
     let old = state_of c.args.self.now c.args.vault.now in
-    subst (λ seen. TellsSeen seen (ask_of c.args.request) c.answer_from.result) (sym (seen_here old c.args.name.now c.in-Some.tenant.now here)) c.answer_from.ensures.seen
+    subst (λ seen. TellsSeen seen (ask_of c.args.request) c.answer_met.result) (sym (seen_here old c.args.name.now c.in-Some.tenant.now here)) c.answer_met.ensures.seen
 
 pub returns-in_default-clause-grows : goal.returns-in_default-clause-grows
 returns-in_default-clause-grows g c = grows_none (sent_names (sent_in_world (world_of (state_of c.args.self.now c.args.vault.now)) c.args.name.now (ask_of c.args.request))) c.args.vault.now.places
+
+pub returns-in_default-get_mut-clause-grows : goal.returns-in_default-get_mut-clause-grows
+returns-in_default-get_mut-clause-grows g c = grows_none (sent_names (sent_in_world (world_of (state_of c.args.self.now c.args.vault.now)) c.args.name.now (ask_of c.args.request))) c.args.vault.now.places
 
 pub returns-clause-grows : goal.returns-clause-grows
 returns-clause-grows g c =
     let here = found_in c.args.self.now c.self.inside.tenants.entries c.args.name.now (Some c.in-Some.tenant.now) c.self.view_is c.in-Some.ensures.value in
     let old = state_of c.args.self.now c.args.vault.now in
-    subst (λ sent. GrowsAmong (sent_names sent) c.args.vault.now.places c.answer_from.new.vault.places) (sym (sent_here old c.args.name.now (ask_of c.args.request) c.in-Some.tenant.now here)) c.answer_from.ensures.grows
+    subst (λ sent. GrowsAmong (sent_names sent) c.args.vault.now.places c.answer_met.new.vault.places) (sym (sent_here old c.args.name.now (ask_of c.args.request) c.in-Some.tenant.now here)) c.answer_met.ensures.grows

@@ -62,22 +62,25 @@ returns-clause-sharp g c trusted slices are done enough =
     (subst (λ (s : HostState). IsAccounted s.vault) c.self-2.view_is (c.invariant-behind.ensures.accounted (ap (λ (s : HostState). s.vault.honest) c.self-2.view_is ∙ honest ∙ trusted)))
 
 pub returns-clause-private_replies : goal.returns-clause-private_replies
-returns-clause-private_replies g c trusted tenant view first fine =
+returns-clause-private_replies g c trusted tenant view first fine leaves =
     let old = c.args.self.now in
     let new = c.loop-step.self in
     let run = all old new c.args.steps.now c.loop-step.step-index c.loop-step.replies.items (omega arith) c.loop-step.invariant.ran in
-    c.a_run_is_private.ensures.replies tenant (world_of old) (world_of new) (events_given c.args.steps.now) c.loop-step.replies.items view (run_explained old new (events_given c.args.steps.now) c.loop-step.replies.items run trusted) fine first
+    c.a_run_is_private.ensures.replies tenant (world_of old) (world_of new) (events_given c.args.steps.now) c.loop-step.replies.items view (run_explained old new (events_given c.args.steps.now) c.loop-step.replies.items run trusted) fine leaves first
 
 pub returns-clause-private_view : goal.returns-clause-private_view
-returns-clause-private_view g c trusted tenant view first fine =
+returns-clause-private_view g c trusted tenant view first fine leaves =
     let old = c.args.self.now in
     let new = c.loop-step.self in
     let run = all old new c.args.steps.now c.loop-step.step-index c.loop-step.replies.items (omega arith) c.loop-step.invariant.ran in
-    c.a_run_is_private.ensures.view tenant (world_of old) (world_of new) (events_given c.args.steps.now) c.loop-step.replies.items view (run_explained old new (events_given c.args.steps.now) c.loop-step.replies.items run trusted) fine first
+    c.a_run_is_private.ensures.view tenant (world_of old) (world_of new) (events_given c.args.steps.now) c.loop-step.replies.items view (run_explained old new (events_given c.args.steps.now) c.loop-step.replies.items run trusted) fine leaves first
+
+pub returns-clause-private_met : goal.returns-clause-private_met
+returns-clause-private_met g c tenant view run first fine = (
+  c.a_run_is_private.ensures.replies_met tenant (world_of c.args.self.now) (world_of c.loop-step.self) (events_given c.args.steps.now) c.loop-step.replies.items view run fine first,
+  c.a_run_is_private.ensures.view_met tenant (world_of c.args.self.now) (world_of c.loop-step.self) (events_given c.args.steps.now) c.loop-step.replies.items view run fine first,
+)
 
 pub returns-clause-provenance : goal.returns-clause-provenance
-returns-clause-provenance g c trusted tenant view last name object first end seen =
-    let old = c.args.self.now in
-    let new = c.loop-step.self in
-    let run = all old new c.args.steps.now c.loop-step.step-index c.loop-step.replies.items (omega arith) c.loop-step.invariant.ran in
-    c.what_runs_show_was_seen_or_sent.ensures.run tenant (world_of old) (world_of new) (events_given c.args.steps.now) c.loop-step.replies.items view last name object (run_explained old new (events_given c.args.steps.now) c.loop-step.replies.items run trusted) first end seen
+returns-clause-provenance g c tenant view last name object run first end seen =
+    c.what_runs_show_was_seen_or_sent.ensures.run tenant (world_of c.args.self.now) (world_of c.loop-step.self) (events_given c.args.steps.now) c.loop-step.replies.items view last name object run first end seen

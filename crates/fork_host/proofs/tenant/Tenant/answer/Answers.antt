@@ -1,6 +1,9 @@
 use Rattle.fork_request.specs.Asked.{ask_of}
-use Rattle.std.proofs.Common.{[], subst, sym}
-use Rattle.fork_model.specs.Answer.{answer, cat_file_answer, ls_tree_answer}
+use Rattle.std.proofs.Common.{[], ap, refl, subst, sym}
+use Rattle.fork_model.specs.Context.{nothing_offered}
+use Rattle.fork_model.specs.Answer.{answer, cat_file_answer, ls_tree_answer, offer_answer, withdraw_answer}
+use Rattle.fork_ledger.specs.Tenants.{private_of}
+use Rattle.fork_host.proofs.WholeLemmas.{others_gives, others_made}
 use Rattle.fork_host.specs.Handle.{private_by, shown_by, staged_by}
 use Rattle.fork_host.specs.Own.{staged_in}
 use Rattle.fork_host.specs.Rows.{Gives, Yields}
@@ -23,8 +26,8 @@ unfolding answer
 returns-in-Init-clause-safe g c =
     let view = shown_by c.args.self.now c.args.own.now in
     let new = shown c.init.new.self c.args.own.now.vault.now c.args.own.now.tenant.now in
-    let gives : Gives (answer view (ask_of c.args.request)) view c.init.result new = rw c.in-Init.is (c.init.ensures.row (private_by c.args.own.now)) in
-    safe_gives _ view new (ask_of c.args.request) c.init.result (bounded_still (sent_by view (ask_of c.args.request)) c.args.own.now.vault.now c.init.result (quiet_row view new (ask_of c.args.request) c.init.result gives)) gives
+    let gives : Gives (answer (nothing_offered c.args.own.now.tenant.now) view (ask_of c.args.request)) view c.init.result new = rw c.in-Init.is (c.init.ensures.row (private_by c.args.own.now)) in
+    safe_gives _ c.args.own.now.tenant.now view new (ask_of c.args.request) c.init.result (bounded_still (sent_by view (ask_of c.args.request)) c.args.own.now.vault.now c.init.result (quiet_row (nothing_offered c.args.own.now.tenant.now) view new (ask_of c.args.request) c.init.result gives)) gives
 
 pub returns-in-Drop-clause-row : goal.returns-in-Drop-clause-row
 unfolding answer
@@ -35,8 +38,8 @@ unfolding answer
 returns-in-Drop-clause-safe g c =
     let view = shown_by c.args.self.now c.args.own.now in
     let new = shown c.drop_repository.new.self c.args.own.now.vault.now c.args.own.now.tenant.now in
-    let gives : Gives (answer view (ask_of c.args.request)) view c.drop_repository.result new = rw c.in-Drop.is (c.drop_repository.ensures.row (private_by c.args.own.now)) in
-    safe_gives _ view new (ask_of c.args.request) c.drop_repository.result (bounded_still (sent_by view (ask_of c.args.request)) c.args.own.now.vault.now c.drop_repository.result (quiet_row view new (ask_of c.args.request) c.drop_repository.result gives)) gives
+    let gives : Gives (answer (nothing_offered c.args.own.now.tenant.now) view (ask_of c.args.request)) view c.drop_repository.result new = rw c.in-Drop.is (c.drop_repository.ensures.row (private_by c.args.own.now)) in
+    safe_gives _ c.args.own.now.tenant.now view new (ask_of c.args.request) c.drop_repository.result (bounded_still (sent_by view (ask_of c.args.request)) c.args.own.now.vault.now c.drop_repository.result (quiet_row (nothing_offered c.args.own.now.tenant.now) view new (ask_of c.args.request) c.drop_repository.result gives)) gives
 
 pub returns-in-Fork-clause-row : goal.returns-in-Fork-clause-row
 unfolding answer
@@ -47,8 +50,8 @@ unfolding answer
 returns-in-Fork-clause-safe g c =
     let view = shown_by c.args.self.now c.args.own.now in
     let new = shown c.fork.new.self c.args.own.now.vault.now c.args.own.now.tenant.now in
-    let gives : Gives (answer view (ask_of c.args.request)) view c.fork.result new = rw c.in-Fork.is (c.fork.ensures.row (private_by c.args.own.now)) in
-    safe_gives _ view new (ask_of c.args.request) c.fork.result (bounded_still (sent_by view (ask_of c.args.request)) c.args.own.now.vault.now c.fork.result (quiet_row view new (ask_of c.args.request) c.fork.result gives)) gives
+    let gives : Gives (answer (nothing_offered c.args.own.now.tenant.now) view (ask_of c.args.request)) view c.fork.result new = rw c.in-Fork.is (c.fork.ensures.row (private_by c.args.own.now)) in
+    safe_gives _ c.args.own.now.tenant.now view new (ask_of c.args.request) c.fork.result (bounded_still (sent_by view (ask_of c.args.request)) c.args.own.now.vault.now c.fork.result (quiet_row (nothing_offered c.args.own.now.tenant.now) view new (ask_of c.args.request) c.fork.result gives)) gives
 
 pub returns-in-Part-clause-row : goal.returns-in-Part-clause-row
 unfolding answer
@@ -66,9 +69,9 @@ returns-in-PartDrop-clause-safe g c =
     let now = c.part_drop.new.own.vault.now in
     let new = shown c.part_drop.new.self now c.args.own.now.tenant.now in
     let sent = sent_by view (ask_of c.args.request) in
-    let gives : Gives (answer view (ask_of c.args.request)) view c.part_drop.result new = rw c.in-PartDrop.is c.part_drop.ensures.row in
-    safe_gives _ view new (ask_of c.args.request) c.part_drop.result
-    (bounded_left sent old old now c.part_drop.result (bounded_still sent old c.part_drop.result (quiet_row view new (ask_of c.args.request) c.part_drop.result gives)) c.part_drop.ensures.store) gives
+    let gives : Gives (answer (nothing_offered c.args.own.now.tenant.now) view (ask_of c.args.request)) view c.part_drop.result new = rw c.in-PartDrop.is c.part_drop.ensures.row in
+    safe_gives _ c.args.own.now.tenant.now view new (ask_of c.args.request) c.part_drop.result
+    (bounded_left sent old old now c.part_drop.result (bounded_still sent old c.part_drop.result (quiet_row (nothing_offered c.args.own.now.tenant.now) view new (ask_of c.args.request) c.part_drop.result gives)) c.part_drop.ensures.store) gives
 
 pub returns-in-UpdateRefs-clause-row : goal.returns-in-UpdateRefs-clause-row
 unfolding answer
@@ -79,8 +82,8 @@ unfolding answer
 returns-in-UpdateRefs-clause-safe g c =
     let view = shown_by c.args.self.now c.args.own.now in
     let new = shown c.update_refs.new.self c.args.own.now.vault.now c.args.own.now.tenant.now in
-    let gives : Gives (answer view (ask_of c.args.request)) view c.update_refs.result new = rw c.in-UpdateRefs.is c.update_refs.ensures.row in
-    safe_gives _ view new (ask_of c.args.request) c.update_refs.result (bounded_still (sent_by view (ask_of c.args.request)) c.args.own.now.vault.now c.update_refs.result (quiet_row view new (ask_of c.args.request) c.update_refs.result gives)) gives
+    let gives : Gives (answer (nothing_offered c.args.own.now.tenant.now) view (ask_of c.args.request)) view c.update_refs.result new = rw c.in-UpdateRefs.is c.update_refs.ensures.row in
+    safe_gives _ c.args.own.now.tenant.now view new (ask_of c.args.request) c.update_refs.result (bounded_still (sent_by view (ask_of c.args.request)) c.args.own.now.vault.now c.update_refs.result (quiet_row (nothing_offered c.args.own.now.tenant.now) view new (ask_of c.args.request) c.update_refs.result gives)) gives
 
 pub returns-in-ForEachRef-clause-row : goal.returns-in-ForEachRef-clause-row
 unfolding answer
@@ -91,8 +94,8 @@ unfolding answer
 returns-in-ForEachRef-clause-safe g c =
     let view = shown_by c.args.self.now c.args.own.now in
     let new = shown c.args.self.now c.args.own.now.vault.now c.args.own.now.tenant.now in
-    let gives : Gives (answer view (ask_of c.args.request)) view c.for_each_ref.result new = rw c.in-ForEachRef.is c.for_each_ref.ensures in
-    safe_gives _ view new (ask_of c.args.request) c.for_each_ref.result (bounded_still (sent_by view (ask_of c.args.request)) c.args.own.now.vault.now c.for_each_ref.result (quiet_row view new (ask_of c.args.request) c.for_each_ref.result gives)) gives
+    let gives : Gives (answer (nothing_offered c.args.own.now.tenant.now) view (ask_of c.args.request)) view c.for_each_ref.result new = rw c.in-ForEachRef.is c.for_each_ref.ensures in
+    safe_gives _ c.args.own.now.tenant.now view new (ask_of c.args.request) c.for_each_ref.result (bounded_still (sent_by view (ask_of c.args.request)) c.args.own.now.vault.now c.for_each_ref.result (quiet_row (nothing_offered c.args.own.now.tenant.now) view new (ask_of c.args.request) c.for_each_ref.result gives)) gives
 
 pub returns-in-SetHead-clause-row : goal.returns-in-SetHead-clause-row
 unfolding answer
@@ -103,8 +106,8 @@ unfolding answer
 returns-in-SetHead-clause-safe g c =
     let view = shown_by c.args.self.now c.args.own.now in
     let new = shown c.set_head.new.self c.args.own.now.vault.now c.args.own.now.tenant.now in
-    let gives : Gives (answer view (ask_of c.args.request)) view c.set_head.result new = rw c.in-SetHead.is (c.set_head.ensures.row (private_by c.args.own.now)) in
-    safe_gives _ view new (ask_of c.args.request) c.set_head.result (bounded_still (sent_by view (ask_of c.args.request)) c.args.own.now.vault.now c.set_head.result (quiet_row view new (ask_of c.args.request) c.set_head.result gives)) gives
+    let gives : Gives (answer (nothing_offered c.args.own.now.tenant.now) view (ask_of c.args.request)) view c.set_head.result new = rw c.in-SetHead.is (c.set_head.ensures.row (private_by c.args.own.now)) in
+    safe_gives _ c.args.own.now.tenant.now view new (ask_of c.args.request) c.set_head.result (bounded_still (sent_by view (ask_of c.args.request)) c.args.own.now.vault.now c.set_head.result (quiet_row (nothing_offered c.args.own.now.tenant.now) view new (ask_of c.args.request) c.set_head.result gives)) gives
 
 pub returns-in-Head-clause-row : goal.returns-in-Head-clause-row
 unfolding answer
@@ -115,8 +118,8 @@ unfolding answer
 returns-in-Head-clause-safe g c =
     let view = shown_by c.args.self.now c.args.own.now in
     let new = shown c.args.self.now c.args.own.now.vault.now c.args.own.now.tenant.now in
-    let gives : Gives (answer view (ask_of c.args.request)) view c.head.result new = rw c.in-Head.is (c.head.ensures (private_by c.args.own.now)) in
-    safe_gives _ view new (ask_of c.args.request) c.head.result (bounded_still (sent_by view (ask_of c.args.request)) c.args.own.now.vault.now c.head.result (quiet_row view new (ask_of c.args.request) c.head.result gives)) gives
+    let gives : Gives (answer (nothing_offered c.args.own.now.tenant.now) view (ask_of c.args.request)) view c.head.result new = rw c.in-Head.is (c.head.ensures (private_by c.args.own.now)) in
+    safe_gives _ c.args.own.now.tenant.now view new (ask_of c.args.request) c.head.result (bounded_still (sent_by view (ask_of c.args.request)) c.args.own.now.vault.now c.head.result (quiet_row (nothing_offered c.args.own.now.tenant.now) view new (ask_of c.args.request) c.head.result gives)) gives
 
 pub returns-in-Quota-clause-row : goal.returns-in-Quota-clause-row
 unfolding answer
@@ -127,8 +130,8 @@ unfolding answer
 returns-in-Quota-clause-safe g c =
     let view = shown_by c.args.self.now c.args.own.now in
     let new = shown c.args.self.now c.args.own.now.vault.now c.args.own.now.tenant.now in
-    let gives : Gives (answer view (ask_of c.args.request)) view c.quota.result new = rw c.in-Quota.is c.quota.ensures in
-    safe_gives _ view new (ask_of c.args.request) c.quota.result (bounded_still (sent_by view (ask_of c.args.request)) c.args.own.now.vault.now c.quota.result (quiet_row view new (ask_of c.args.request) c.quota.result gives)) gives
+    let gives : Gives (answer (nothing_offered c.args.own.now.tenant.now) view (ask_of c.args.request)) view c.quota.result new = rw c.in-Quota.is c.quota.ensures in
+    safe_gives _ c.args.own.now.tenant.now view new (ask_of c.args.request) c.quota.result (bounded_still (sent_by view (ask_of c.args.request)) c.args.own.now.vault.now c.quota.result (quiet_row (nothing_offered c.args.own.now.tenant.now) view new (ask_of c.args.request) c.quota.result gives)) gives
 
 pub returns-in-Push-clause-row : goal.returns-in-Push-clause-row
 unfolding answer
@@ -262,3 +265,110 @@ returns-in-PartEnd-clause-own g c = touched _ c.args.own.now c.part_end.new.own 
 
 pub returns-in-PartDrop-clause-own : goal.returns-in-PartDrop-clause-own
 returns-in-PartDrop-clause-own g c = touched _ c.args.own.now c.part_drop.new.own c.part_drop.ensures.own
+
+pub returns-in-Init-clause-others : goal.returns-in-Init-clause-others
+unfolding answer
+returns-in-Init-clause-others g c =
+    let view = shown_by c.args.self.now c.args.own.now in
+    let gives : Gives (answer (nothing_offered c.args.own.now.tenant.now) view (ask_of c.args.request)) view c.init.result (shown c.init.new.self c.args.own.now.vault.now c.args.own.now.tenant.now) = rw c.in-Init.is (c.init.ensures.row (private_by c.args.own.now)) in
+    others_gives c.args.own.now.tenant.now view _ (ask_of c.args.request) c.init.result gives
+
+pub returns-in-Drop-clause-others : goal.returns-in-Drop-clause-others
+unfolding answer
+returns-in-Drop-clause-others g c =
+    let view = shown_by c.args.self.now c.args.own.now in
+    let gives : Gives (answer (nothing_offered c.args.own.now.tenant.now) view (ask_of c.args.request)) view c.drop_repository.result (shown c.drop_repository.new.self c.args.own.now.vault.now c.args.own.now.tenant.now) = rw c.in-Drop.is (c.drop_repository.ensures.row (private_by c.args.own.now)) in
+    others_gives c.args.own.now.tenant.now view _ (ask_of c.args.request) c.drop_repository.result gives
+
+pub returns-in-Fork-clause-others : goal.returns-in-Fork-clause-others
+unfolding answer
+returns-in-Fork-clause-others g c =
+    let view = shown_by c.args.self.now c.args.own.now in
+    let gives : Gives (answer (nothing_offered c.args.own.now.tenant.now) view (ask_of c.args.request)) view c.fork.result (shown c.fork.new.self c.args.own.now.vault.now c.args.own.now.tenant.now) = rw c.in-Fork.is (c.fork.ensures.row (private_by c.args.own.now)) in
+    others_gives c.args.own.now.tenant.now view _ (ask_of c.args.request) c.fork.result gives
+
+pub returns-in-SetHead-clause-others : goal.returns-in-SetHead-clause-others
+unfolding answer
+returns-in-SetHead-clause-others g c =
+    let view = shown_by c.args.self.now c.args.own.now in
+    let gives : Gives (answer (nothing_offered c.args.own.now.tenant.now) view (ask_of c.args.request)) view c.set_head.result (shown c.set_head.new.self c.args.own.now.vault.now c.args.own.now.tenant.now) = rw c.in-SetHead.is (c.set_head.ensures.row (private_by c.args.own.now)) in
+    others_gives c.args.own.now.tenant.now view _ (ask_of c.args.request) c.set_head.result gives
+
+pub returns-in-PartDrop-clause-others : goal.returns-in-PartDrop-clause-others
+unfolding answer
+returns-in-PartDrop-clause-others g c =
+    let view = shown_by c.args.self.now c.args.own.now in
+    let gives : Gives (answer (nothing_offered c.args.own.now.tenant.now) view (ask_of c.args.request)) view c.part_drop.result (shown c.part_drop.new.self c.part_drop.new.own.vault.now c.args.own.now.tenant.now) = rw c.in-PartDrop.is c.part_drop.ensures.row in
+    others_gives c.args.own.now.tenant.now view _ (ask_of c.args.request) c.part_drop.result gives
+
+pub returns-in-UpdateRefs-clause-others : goal.returns-in-UpdateRefs-clause-others
+unfolding answer
+returns-in-UpdateRefs-clause-others g c =
+    let view = shown_by c.args.self.now c.args.own.now in
+    let gives : Gives (answer (nothing_offered c.args.own.now.tenant.now) view (ask_of c.args.request)) view c.update_refs.result (shown c.update_refs.new.self c.args.own.now.vault.now c.args.own.now.tenant.now) = rw c.in-UpdateRefs.is c.update_refs.ensures.row in
+    others_gives c.args.own.now.tenant.now view _ (ask_of c.args.request) c.update_refs.result gives
+
+pub returns-in-CatFile-clause-others : goal.returns-in-CatFile-clause-others
+returns-in-CatFile-clause-others g c = others_made c.args.own.now.tenant.now c.args.self.now c.args.self.now (private_by c.args.own.now) (private_of c.cat_file.new.own.vault.now.tenants c.args.own.now.tenant.now) refl
+
+pub returns-in-LsTree-clause-others : goal.returns-in-LsTree-clause-others
+returns-in-LsTree-clause-others g c = others_made c.args.own.now.tenant.now c.args.self.now c.args.self.now (private_by c.args.own.now) (private_of c.ls_tree.new.own.vault.now.tenants c.args.own.now.tenant.now) refl
+
+pub returns-in-RevList-clause-others : goal.returns-in-RevList-clause-others
+returns-in-RevList-clause-others g c = others_made c.args.own.now.tenant.now c.args.self.now c.args.self.now (private_by c.args.own.now) (private_of c.rev_list.new.own.vault.now.tenants c.args.own.now.tenant.now) refl
+
+pub returns-in-MergeBase-clause-others : goal.returns-in-MergeBase-clause-others
+returns-in-MergeBase-clause-others g c = others_made c.args.own.now.tenant.now c.args.self.now c.args.self.now (private_by c.args.own.now) (private_of c.merge_base.new.own.vault.now.tenants c.args.own.now.tenant.now) refl
+
+pub returns-in-Fetch-clause-others : goal.returns-in-Fetch-clause-others
+returns-in-Fetch-clause-others g c = others_made c.args.own.now.tenant.now c.args.self.now c.args.self.now (private_by c.args.own.now) (private_of c.fetch.new.own.vault.now.tenants c.args.own.now.tenant.now) refl
+
+pub returns-in-Prune-clause-others : goal.returns-in-Prune-clause-others
+returns-in-Prune-clause-others g c = others_made c.args.own.now.tenant.now c.args.self.now c.args.self.now (private_by c.args.own.now) (private_of c.prune.new.own.vault.now.tenants c.args.own.now.tenant.now) refl
+
+pub returns-in-Push-clause-others : goal.returns-in-Push-clause-others
+returns-in-Push-clause-others g c = others_made c.args.own.now.tenant.now c.args.self.now c.push.new.self (private_by c.args.own.now) (private_of c.push.new.own.vault.now.tenants c.args.own.now.tenant.now) c.push.ensures.made
+
+pub returns-in-Part-clause-others : goal.returns-in-Part-clause-others
+returns-in-Part-clause-others g c = others_made c.args.own.now.tenant.now c.args.self.now c.part.new.self (private_by c.args.own.now) (private_of c.part.new.own.vault.now.tenants c.args.own.now.tenant.now) c.part.ensures.made
+
+pub returns-in-PartEnd-clause-others : goal.returns-in-PartEnd-clause-others
+returns-in-PartEnd-clause-others g c = others_made c.args.own.now.tenant.now c.args.self.now c.part_end.new.self (private_by c.args.own.now) (private_of c.part_end.new.own.vault.now.tenants c.args.own.now.tenant.now) c.part_end.ensures.made
+
+pub returns-in-Offer-clause-row : goal.returns-in-Offer-clause-row
+unfolding answer
+returns-in-Offer-clause-row g c = record { yields = λ honest. yields_of _ _ _ _ (rw c.in-Offer.is (subst (λ t. Gives (offer_answer (nothing_offered t) (shown_by c.args.self.now c.args.own.now) c.in-Offer.word.now c.in-Offer.receiver.now) (shown_by c.args.self.now c.args.own.now) c.offer.result (shown c.offer.new.self c.args.own.now.vault.now c.args.own.now.tenant.now)) (ap (λ t. t.now) c.tenant.ensures) (c.offer.ensures.row (private_by c.args.own.now)))) }
+
+pub returns-in-Offer-clause-others : goal.returns-in-Offer-clause-others
+unfolding answer
+returns-in-Offer-clause-others g c =
+    let view = shown_by c.args.self.now c.args.own.now in
+    let gives : Gives (answer (nothing_offered c.args.own.now.tenant.now) view (ask_of c.args.request)) view c.offer.result (shown c.offer.new.self c.args.own.now.vault.now c.args.own.now.tenant.now) = rw c.in-Offer.is (subst (λ t. Gives (offer_answer (nothing_offered t) (shown_by c.args.self.now c.args.own.now) c.in-Offer.word.now c.in-Offer.receiver.now) (shown_by c.args.self.now c.args.own.now) c.offer.result (shown c.offer.new.self c.args.own.now.vault.now c.args.own.now.tenant.now)) (ap (λ t. t.now) c.tenant.ensures) (c.offer.ensures.row (private_by c.args.own.now))) in
+    others_gives c.args.own.now.tenant.now view _ (ask_of c.args.request) c.offer.result gives
+
+pub returns-in-Offer-clause-safe : goal.returns-in-Offer-clause-safe
+unfolding answer
+returns-in-Offer-clause-safe g c =
+    let view = shown_by c.args.self.now c.args.own.now in
+    let new = shown c.offer.new.self c.args.own.now.vault.now c.args.own.now.tenant.now in
+    let gives : Gives (answer (nothing_offered c.args.own.now.tenant.now) view (ask_of c.args.request)) view c.offer.result new = rw c.in-Offer.is (subst (λ t. Gives (offer_answer (nothing_offered t) (shown_by c.args.self.now c.args.own.now) c.in-Offer.word.now c.in-Offer.receiver.now) (shown_by c.args.self.now c.args.own.now) c.offer.result (shown c.offer.new.self c.args.own.now.vault.now c.args.own.now.tenant.now)) (ap (λ t. t.now) c.tenant.ensures) (c.offer.ensures.row (private_by c.args.own.now))) in
+    safe_gives _ c.args.own.now.tenant.now view new (ask_of c.args.request) c.offer.result (bounded_still (sent_by view (ask_of c.args.request)) c.args.own.now.vault.now c.offer.result (quiet_row (nothing_offered c.args.own.now.tenant.now) view new (ask_of c.args.request) c.offer.result gives)) gives
+
+pub returns-in-Withdraw-clause-row : goal.returns-in-Withdraw-clause-row
+unfolding answer
+returns-in-Withdraw-clause-row g c = record { yields = λ honest. yields_of _ _ _ _ (rw c.in-Withdraw.is (subst (λ t. Gives (withdraw_answer (nothing_offered t) (shown_by c.args.self.now c.args.own.now) c.in-Withdraw.word.now c.in-Withdraw.receiver.now) (shown_by c.args.self.now c.args.own.now) c.withdraw.result (shown c.withdraw.new.self c.args.own.now.vault.now c.args.own.now.tenant.now)) (ap (λ t. t.now) c.tenant-in-Withdraw.ensures) (c.withdraw.ensures.row (private_by c.args.own.now)))) }
+
+pub returns-in-Withdraw-clause-others : goal.returns-in-Withdraw-clause-others
+unfolding answer
+returns-in-Withdraw-clause-others g c =
+    let view = shown_by c.args.self.now c.args.own.now in
+    let gives : Gives (answer (nothing_offered c.args.own.now.tenant.now) view (ask_of c.args.request)) view c.withdraw.result (shown c.withdraw.new.self c.args.own.now.vault.now c.args.own.now.tenant.now) = rw c.in-Withdraw.is (subst (λ t. Gives (withdraw_answer (nothing_offered t) (shown_by c.args.self.now c.args.own.now) c.in-Withdraw.word.now c.in-Withdraw.receiver.now) (shown_by c.args.self.now c.args.own.now) c.withdraw.result (shown c.withdraw.new.self c.args.own.now.vault.now c.args.own.now.tenant.now)) (ap (λ t. t.now) c.tenant-in-Withdraw.ensures) (c.withdraw.ensures.row (private_by c.args.own.now))) in
+    others_gives c.args.own.now.tenant.now view _ (ask_of c.args.request) c.withdraw.result gives
+
+pub returns-in-Withdraw-clause-safe : goal.returns-in-Withdraw-clause-safe
+unfolding answer
+returns-in-Withdraw-clause-safe g c =
+    let view = shown_by c.args.self.now c.args.own.now in
+    let new = shown c.withdraw.new.self c.args.own.now.vault.now c.args.own.now.tenant.now in
+    let gives : Gives (answer (nothing_offered c.args.own.now.tenant.now) view (ask_of c.args.request)) view c.withdraw.result new = rw c.in-Withdraw.is (subst (λ t. Gives (withdraw_answer (nothing_offered t) (shown_by c.args.self.now c.args.own.now) c.in-Withdraw.word.now c.in-Withdraw.receiver.now) (shown_by c.args.self.now c.args.own.now) c.withdraw.result (shown c.withdraw.new.self c.args.own.now.vault.now c.args.own.now.tenant.now)) (ap (λ t. t.now) c.tenant-in-Withdraw.ensures) (c.withdraw.ensures.row (private_by c.args.own.now))) in
+    safe_gives _ c.args.own.now.tenant.now view new (ask_of c.args.request) c.withdraw.result (bounded_still (sent_by view (ask_of c.args.request)) c.args.own.now.vault.now c.withdraw.result (quiet_row (nothing_offered c.args.own.now.tenant.now) view new (ask_of c.args.request) c.withdraw.result gives)) gives

@@ -3,6 +3,7 @@ use Rattle.std.specs.FinMap.{empty, get}
 use Rattle.std.specs.Option.{option_map}
 use Rattle.push_stream.specs.Stream.{sent_in}
 use Rattle.fork_request.specs.Asked.{EndsParts}
+use Rattle.fork_model.specs.Context.{nothing_offered}
 use Rattle.fork_model.specs.Answer.{answer, end_in, named_repository, open_upload, part_end_answer, without_upload}
 use Rattle.fork_model.specs.Uploads.{upload_among}
 use Rattle.fork_model.proofs.StepLemmas.{answer_tells}
@@ -84,7 +85,7 @@ returns-else-not-is_failed-clause-row g c honest =
     let same : plain now ≡ plain last =
     λ i. (record (view_of view after.repositories (visible_in mid own.tenant.now) (c.end_upload-reply.ensures.limit i)) { made = empty; upload = option_map (upload_among (kept.exact honest i)) (c.end_upload-reply.ensures.upload i) }, made i) in
     let row = named_repository view c.args.word.now (end_in view c.args.word.now (get account.repositories c.args.word.now)) in
-    ended_failed row view c.end_upload-reply.result now (answer_tells view (EndsParts c.args.word.now)) failed
+    ended_failed row view c.end_upload-reply.result now (answer_tells (nothing_offered own.tenant.now) view (EndsParts c.args.word.now)) failed
     (yields_plain row view last now c.end_upload-reply.result same (c.end_upload-reply.ensures.row honest))
 
 pub returns-else-not-is_failed-clause-safe : goal.returns-else-not-is_failed-clause-safe

@@ -1,0 +1,60 @@
+use Rattle.std.proofs.Common.{refl, subst, sym, inl}
+use Rattle.fork_request.specs.Asked.{ForksOffer}
+use Rattle.fork_request.specs.declared.refusal.Refusal.TheVariants.{NoOffer}
+use Rattle.fork_request.specs.declared.reply.Reply.TheVariants.{Refused}
+use Rattle.fork_model.specs.Answer.{fork_offer_answer}
+use Rattle.fork_model.specs.Sound.{AreReferences}
+use Rattle.fork_host.specs.Meeting.{IsMet}
+use Rattle.fork_host.specs.Own.{visible_in}
+use Rattle.fork_host.specs.Rows.{YieldsOver}
+use Rattle.fork_host.specs.Shown.{shown}
+use Rattle.fork_host.proofs.ForkedLemmas.{bad_quiet, copy_unnamed, giver_unnamed, safe_quiet, word_unnamed, yields_bad, yields_refused}
+use Rattle.fork_host.proofs.ForkOfferLemmas.{none_offered, nothing_met, offer_met}
+use Rattle.fork_host.proofs.forking.fork_offer.Goals as goal
+
+pub returns-in_default-clause-row : goal.returns-in_default-clause-row
+returns-in_default-clause-row g c = λ context met. record { yields = λ honest.
+    (let view = shown c.args.tenant.now c.args.vault.now c.args.name.now in
+    yields_bad (fork_offer_answer context view c.args.words.0.now c.args.words.1.now c.args.words.2.now) view c.args.words.0.now c.bad_name.result (giver_unnamed context view c.args.words.0.now c.args.words.1.now c.args.words.2.now (sym c.in_default.ensures.test)) c.bad_name.ensures) }
+
+pub returns-in_default-clause-safe : goal.returns-in_default-clause-safe
+returns-in_default-clause-safe g c = λ context met. safe_quiet c.args.vault.now (shown c.args.tenant.now c.args.vault.now c.args.name.now) c.bad_name.result (bad_quiet c.bad_name.result c.args.words.0.now c.bad_name.ensures)
+
+pub returns-in_default-read-clause-row : goal.returns-in_default-read-clause-row
+returns-in_default-read-clause-row g c = λ context met. record { yields = λ honest.
+    (let view = shown c.args.tenant.now c.args.vault.now c.args.name.now in
+    yields_bad (fork_offer_answer context view c.args.words.0.now c.args.words.1.now c.args.words.2.now) view c.args.words.1.now c.bad_name-in_default-read.result (word_unnamed context view c.args.words.0.now c.args.words.1.now c.args.words.2.now (sym c.in-Some.ensures.test) (sym c.in_default-read.ensures.test)) c.bad_name-in_default-read.ensures) }
+
+pub returns-in_default-read-clause-safe : goal.returns-in_default-read-clause-safe
+returns-in_default-read-clause-safe g c = λ context met. safe_quiet c.args.vault.now (shown c.args.tenant.now c.args.vault.now c.args.name.now) c.bad_name-in_default-read.result (bad_quiet c.bad_name-in_default-read.result c.args.words.1.now c.bad_name-in_default-read.ensures)
+
+pub returns-in_default-read-2-clause-row : goal.returns-in_default-read-2-clause-row
+returns-in_default-read-2-clause-row g c = λ context met. record { yields = λ honest.
+    (let view = shown c.args.tenant.now c.args.vault.now c.args.name.now in
+    yields_bad (fork_offer_answer context view c.args.words.0.now c.args.words.1.now c.args.words.2.now) view c.args.words.2.now c.bad_name-in_default-read-2.result (copy_unnamed context view c.args.words.0.now c.args.words.1.now c.args.words.2.now (sym c.in-Some.ensures.test) (sym c.in-Some-read.ensures.test) (sym c.in_default-read-2.ensures.test)) c.bad_name-in_default-read-2.ensures) }
+
+pub returns-in_default-read-2-clause-safe : goal.returns-in_default-read-2-clause-safe
+returns-in_default-read-2-clause-safe g c = λ context met. safe_quiet c.args.vault.now (shown c.args.tenant.now c.args.vault.now c.args.name.now) c.bad_name-in_default-read-2.result (bad_quiet c.bad_name-in_default-read-2.result c.args.words.2.now c.bad_name-in_default-read-2.ensures)
+
+pub returns-in-Offer-clause-row : goal.returns-in-Offer-clause-row
+returns-in-Offer-clause-row g c = λ context met.
+    let old = c.args.vault.now in
+    let view = shown c.args.tenant.now c.args.vault.now c.args.name.now in
+    let is = subst (IsMet old context (ForksOffer c.args.words.0.now c.args.words.1.now c.args.words.2.now)) c.in-Offer.is met in
+    subst (λ row. YieldsOver old.honest row view c.take_offer.result (shown c.take_offer.new.tenant c.take_offer.new.vault c.args.name.now))
+    (sym (offer_met context view c.args.words.0.now c.args.words.1.now c.args.words.2.now old c.in-Offer.giver c.in-Some-read-2.copy c.in-Offer.repository (sym c.in-Some.ensures.test) (sym c.in-Some-read.ensures.test) (sym c.in-Some-read-2.ensures.test) is c.in-Some-read-2.ensures.found.0)) c.take_offer.ensures.row
+
+pub returns-in-Offer-clause-safe : goal.returns-in-Offer-clause-safe
+returns-in-Offer-clause-safe g c = λ context met.
+    let old = c.args.vault.now in
+    let is = subst (IsMet old context (ForksOffer c.args.words.0.now c.args.words.1.now c.args.words.2.now)) c.in-Offer.is met in
+    c.take_offer.ensures.safe is.head (subst (λ who. AreReferences (visible_in old who) c.in-Offer.repository.references) (sym is.named) is.references)
+
+pub returns-clause-row : goal.returns-clause-row
+returns-clause-row g c = λ context met. record { yields = λ honest.
+    (let view = shown c.args.tenant.now c.args.vault.now c.args.name.now in
+    yields_refused (fork_offer_answer context view c.args.words.0.now c.args.words.1.now c.args.words.2.now) view (NoOffer c.in-Some.giver c.in-Some-read.of) (Refused (NoOffer c.in-Some.giver c.in-Some-read.of))
+    (none_offered context view c.args.words.0.now c.args.words.1.now c.args.words.2.now c.in-Some.giver c.in-Some-read.of (sym c.in-Some.ensures.test) (sym c.in-Some-read.ensures.test) (sym c.in-Some-read-2.ensures.test) c.in-Some.ensures.found.0 c.in-Some-read.ensures.found.0 (nothing_met c.args.vault.now context c.args.words.0.now c.args.words.1.now c.args.words.2.now c.args.met c.in_default-met.not-Offer met)) refl) }
+
+pub returns-clause-safe : goal.returns-clause-safe
+returns-clause-safe g c = λ context met. safe_quiet c.args.vault.now (shown c.args.tenant.now c.args.vault.now c.args.name.now) (Refused (NoOffer c.in-Some.giver c.in-Some-read.of)) (inl refl)

@@ -1,0 +1,26 @@
+-- What becomes of an offer that is forked, once it is known what it holds.
+use Rattle.std.specs.Prelude.{◌≡◌, ◌⊎◌, ℕ, ◌≤◌, ◌<◌, [], IsTrue, List}
+use Rattle.std.specs.FinMap.{insert}
+use Rattle.git_name.specs.Maps.{joined}
+use Rattle.git_reftx.specs.Repository.{Repository}
+use Rattle.fork_reach.specs.Objects.{use_of}
+use Rattle.fork_reach.specs.Source.{Objects}
+use Rattle.fork_ledger.specs.Private.{AreAmong, with_adopted}
+use Rattle.fork_ledger.specs.Tenants.{VaultState, at_tenant}
+use Rattle.fork_request.specs.declared.host_fault.HostFault.{HostFault}
+use Rattle.fork_request.specs.declared.host_fault.HostFault.TheVariants.{Memory, Damaged}
+use Rattle.fork_request.specs.declared.refusal.Refusal.TheVariants.{OverQuota}
+use Rattle.fork_request.specs.declared.reply.Reply.{Reply}
+use Rattle.fork_request.specs.declared.reply.Reply.TheVariants.{Done, Refused, Failed}
+use Rattle.fork_host.specs.Own.{visible_in}
+use Rattle.fork_host.specs.Shown.{Account}
+
+-- a tenant comes to have this repository, and to see these objects beside its own
+pub data IsForked (tenant copy : List ℕ) (repository : Repository) (objects : Objects) (account now : Account) (old new : VaultState) (reply : Reply) : Type 0 where
+  -- they are within the limit, and are seen under their names
+  Forked : reply ≡ Done [] → use_of (joined (visible_in old tenant) objects) ≤ account.limit → now ≡ record account { repositories = insert account.repositories copy repository }
+      → new.tenants ≡ at_tenant old.tenants tenant (with_adopted objects) → AreAmong objects (visible_in new tenant) → IsForked tenant copy repository objects account now old new reply
+  -- they are not, and nothing changes
+  Full : reply ≡ Refused OverQuota → account.limit < use_of (joined (visible_in old tenant) objects) → now ≡ account → new.tenants ≡ old.tenants → IsForked tenant copy repository objects account now old new reply
+  -- a host fault, which changes nothing: over an honest store want of memory
+  Unforked : (fault : HostFault) → reply ≡ Failed fault → (fault ≡ Memory) ⊎ (fault ≡ Damaged) → (IsTrue old.honest → fault ≡ Memory) → now ≡ account → new.tenants ≡ old.tenants → IsForked tenant copy repository objects account now old new reply

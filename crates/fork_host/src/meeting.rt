@@ -1,0 +1,13 @@
+use fork_request::TenantName;
+use git_reftx::Repository;
+
+// What a request meets of the offers that others have made to its tenant.
+#[derive(Drop)]
+pub(crate) enum Met {
+    // Nothing.
+    Nothing,
+    // A row for each of them.
+    Rows(Vec<u8>),
+    // The one that it names: the giver, and the repository as it was when the offer was made.
+    Offer(TenantName, Repository),
+}

@@ -11,7 +11,7 @@ use Rattle.git_name.specs.Object.{Object}
 use Rattle.git_name.proofs.Names.{name_exact, name_total}
 use Rattle.git_reftx.specs.Repository.{IsBranch, Repository}
 use Rattle.git_reftx.specs.Transaction.{References, is_commit}
-use Rattle.fork_reach.specs.Objects.{Measures, use_of}
+use Rattle.fork_reach.specs.Objects.{Measures, measures_of, use_of}
 use Rattle.fork_reach.specs.Reach.{is_reached, linked_names}
 use Rattle.fork_reach.specs.Source.{Objects, kind_in}
 use Rattle.fork_reach.proofs.KeptObjects.{at_key, tied_names}
@@ -45,7 +45,7 @@ use Rattle.fork_host.specs.Forked.{Forked, Full, IsForked, Unforked}
 use Rattle.fork_host.specs.Own.{IsOwn, staged_in, visible_in}
 use Rattle.fork_host.specs.Pushed.{view_of}
 use Rattle.fork_host.specs.Rows.{Faulted, Lacking, Yielded, Yields, plain, vault_told}
-use Rattle.fork_host.specs.Safe.{IsSafe}
+use Rattle.fork_host.specs.Safe.{IsSafe, IsTakenFrom}
 use Rattle.fork_host.specs.Shown.{Account, seen_by, shown}
 use Rattle.fork_host.specs.Staged.{IsStaged}
 use Rattle.fork_host.proofs.BoundLemmas.{IsQuiet, bounded_gains, bounded_still, gains_left, gains_read, gains_then}
@@ -53,6 +53,7 @@ use Rattle.fork_host.proofs.MadeLemmas.{plain_as, same_made}
 use Rattle.fork_host.proofs.OwnLemmas.{changed_at, made_just, own_of, own_read, own_then, staged_read}
 use Rattle.fork_host.proofs.SafeLemmas.{alike_shown, orderly_measured, safe_left}
 use Rattle.fork_host.proofs.StagedLemmas.{staged_kept_still}
+use Rattle.fork_host.proofs.TakenFromLemmas.{taken_alike, taken_beside, taken_none}
 
 -- ---- repositories
 -- what holds of one that comes and of each that was there holds of all
@@ -289,6 +290,21 @@ module _ (tenant giver copy : List ℕ) (repository : Repository) (names : List 
   forked_staged forked staged =
       subst (λ upload. IsStaged old.honest upload (staged_in new tenant)) (sym (forked_upload forked))
       (subst (IsStaged old.honest account.upload) (sym (still_staged forked)) (staged_kept_still old mid tenant account.upload (staged_read old mid tenant walked.shape walked.kept) staged))
+
+  -- what comes is what the giver sees
+  same_seen : (t : List ℕ) → measures_of (visible_in mid t) ≡ measures_of (visible_in old t)
+  same_seen t = ap (λ (p : Measures × Measures). p.0) (same_measures old.tenants mid.tenants t walked.shape)
+
+  none_taken : new.tenants ≡ mid.tenants → IsTakenFrom (visible_in old giver) (visible_in old tenant) (visible_in new tenant)
+  none_taken same = taken_none (visible_in old giver) (visible_in old tenant) (visible_in new tenant) (ap (λ tenants. measures_of (private_of tenants tenant).visible) same ∙ same_seen tenant)
+
+  pub forked_takes : IsDone → IsTakenFrom (visible_in old giver) (visible_in old tenant) (visible_in new tenant)
+  forked_takes (Forked told fits has set among) =
+      taken_alike (visible_in mid giver) (visible_in mid tenant) (visible_in old giver) (visible_in old tenant) (visible_in new tenant) (same_seen giver) (same_seen tenant)
+      (subst (IsTakenFrom (visible_in mid giver) (visible_in mid tenant)) (sym (ap (λ (p : Private). p.visible) (changed_at mid.tenants new.tenants tenant (with_adopted (retain_keys (visible_in mid giver) names)) here set)))
+      (taken_beside (visible_in mid giver) (visible_in mid tenant) names))
+  forked_takes (Full told above has same) = none_taken same
+  forked_takes (Unforked fault told is lacks has same) = none_taken same
 
   -- the store was read, and a damaged one alone faults
   gains : Gains [] old new

@@ -28,6 +28,7 @@ pub mod ShapeLemmas
 pub mod StagedLemmas
 pub mod StepLemmas
 pub mod SweptLemmas
+pub mod TakenFromLemmas
 pub mod TakingLemmas
 pub mod TargetLemmas
 pub mod TendingLemmas

@@ -319,7 +319,7 @@ failed_not_done (Failed fault) is = refl
 
 -- a safe answer keeps wider bounds too
 pub safe_within : (Within Over : Reply → Type 0) (old : View) (reply : Reply) (new : View) → (Within reply → Over reply) → IsSafe Within old reply new → IsSafe Over old reply new
-safe_within Within Over old reply new over safe = record { orderly = safe.orderly; made = safe.made; kept = safe.kept; faults = over safe.faults }
+safe_within Within Over old reply new over safe = record { orderly = safe.orderly; kept = safe.kept; faults = over safe.faults }
 
 -- ---- the catalogue
 -- what a piece adds stands behind what came, whichever objects these are

@@ -147,7 +147,6 @@ safe_rest Within old repositories objects rest other limit reply alike safe = re
 pub safe_ended : (Within : Reply → Type 0) (old new : View) (reply : Reply) → IsSafe Within old reply new → IsSafe Within old reply (without_upload new)
 safe_ended Within old new reply safe = record {
   orderly = λ before. orderly_without new (safe.orderly before);
-  made = safe.made;
   kept = safe.kept;
   faults = safe.faults;
 }

@@ -38,7 +38,8 @@ use Rattle.fork_host.specs.Made.{made_shown}
 use Rattle.fork_host.specs.Rows.{Gives, Given, Wanting, Yields}
 use Rattle.fork_host.specs.Safe.{IsSafe}
 use Rattle.fork_host.specs.Sent.{seen_in_world, seen_of, sent_by, sent_in_world, brought_by}
-use Rattle.fork_host.specs.Shape.{SameShape, view_shape}
+use Rattle.fork_host.specs.Shape.{SameOffers, SameShape, repositories_offered, view_shape}
+use Rattle.fork_host.proofs.ShapeLemmas.{same_offers}
 use Rattle.fork_host.specs.Shown.{Account, Accounts, HostState, IsWhole, Trusted, seen_by, shown, state_of, world_of}
 use Rattle.fork_host.specs.Staged.{IsStaged}
 use Rattle.fork_host.proofs.AddingLemmas.{orderly_more, orderly_none, right_more, right_none}
@@ -261,6 +262,17 @@ all_stay old new t account after here set own same q = by (eq_by_cmp name_cmp q 
         ap (option_map view_shape) (at_own old new t q after set tied) ∙ ap Some same
         ∙ ap (option_map view_shape) (sym (ap (get (world_of old)) (tied_names q t tied) ∙ get_world old t ∙ ap (option_map (λ a. shown a old.vault t)) here))
     by false apart = others_shape old new t q after set own apart
+
+-- and so do its offers, where its account's do
+pub offers_stay : (old new : HostState) (t : List ℕ) (account after : Account) → get old.accounts t ≡ Some account → new.accounts ≡ insert old.accounts t after → IsOwn t old.vault new.vault
+    → after.made ≡ account.made → (q : List ℕ) → SameOffers q (world_of old) (world_of new)
+offers_stay old new t account after here set own same q = by (eq_by_cmp name_cmp q t) refl
+  where
+    by : (b : Bool) → eq_by_cmp name_cmp q t ≡ b → SameOffers q (world_of old) (world_of new)
+    by true tied =
+        ap (option_map repositories_offered) (at_own old new t q after set tied) ∙ ap Some (made_again (visible_in new.vault t) after.made ∙ same ∙ sym (made_again (visible_in old.vault t) account.made))
+        ∙ ap (option_map repositories_offered) (sym (ap (get (world_of old)) (tied_names q t tied) ∙ get_world old t ∙ ap (option_map (λ a. shown a old.vault t)) here))
+    by false apart = same_offers (get (world_of new) q) (get (world_of old) q) (others_shape old new t q after set own apart)
 
 -- what each tenant has staged is what came of its upload, where it is so of this one
 pub staged_after : (old new : HostState) (t : List ℕ) (after : Account) → new.accounts ≡ insert old.accounts t after → IsOwn t old.vault new.vault

@@ -1,6 +1,7 @@
 -- The steps that a host is given, as values.
-use Rattle.std.specs.Prelude.{ℕ, List, Option, None, Some, map}
+use Rattle.std.specs.Prelude.{ℕ, Bool, false, List, Option, None, Some, map}
 use Rattle.fork_request.specs.Asked.{ask_of}
+use Rattle.fork_model.specs.Disclosure.{changes_offers}
 use Rattle.fork_model.specs.Runs.{Asks, HostAsks}
 use Rattle.fork_model.specs.World.{Event}
 use Rattle.fork_host.specs.declared.step.HostStep.{HostStep}
@@ -18,3 +19,8 @@ events_given steps = map event_given steps
 abbrev pub asker_of : Event → Option (List ℕ)
 asker_of (Asks tenant ask) = Some tenant
 asker_of (HostAsks ask) = None
+
+-- whether it is a tenant's request that changes what the tenant has offered
+abbrev pub changes_offers_in : Event → Bool
+changes_offers_in (Asks tenant ask) = changes_offers ask
+changes_offers_in (HostAsks ask) = false

@@ -18,3 +18,10 @@ view_shape view = record { repositories = view.repositories; made = made_of view
 -- the tenant's shape is the same in both worlds
 abbrev pub SameShape : List ℕ → World → World → Type 0
 SameShape tenant old new = option_map view_shape (get new tenant) ≡ option_map view_shape (get old tenant)
+
+-- of the tenant's offers each is of the same repository in both worlds
+abbrev pub repositories_offered : View → Made
+repositories_offered view = made_of view.made
+
+abbrev pub SameOffers : List ℕ → World → World → Type 0
+SameOffers tenant old new = option_map repositories_offered (get new tenant) ≡ option_map repositories_offered (get old tenant)

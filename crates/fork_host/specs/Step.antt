@@ -1,14 +1,15 @@
 -- What a step of a host is, and a run of steps (own): all that is promised of one request, from state to state.
 use Rattle.std.specs.Prelude.{◌≡◌, ◌≢◌, ℕ, false, List, [], ◌∷◌, Some, ⊤}
+use Rattle.fork_request.specs.Asked.{ForksOffer}
 use Rattle.fork_request.specs.Told.{is_done}
 use Rattle.fork_request.specs.declared.reply.Reply.{Reply}
 use Rattle.fork_model.specs.Runs.{Asks, HostAsks}
 use Rattle.fork_model.specs.World.{Event, Steps, World}
 use Rattle.fork_host.specs.Faults.{FaultsWithin}
-use Rattle.fork_host.specs.Given.{asker_of}
-use Rattle.fork_host.specs.Safe.{IsNamedReply, TellsSeen}
+use Rattle.fork_host.specs.Given.{asker_of, changes_offers_in}
+use Rattle.fork_host.specs.Safe.{IsNamedReply, IsTakenFrom, TellsSeen}
 use Rattle.fork_host.specs.Sent.{seen_in_world}
-use Rattle.fork_host.specs.Shape.{SameShape}
+use Rattle.fork_host.specs.Shape.{SameOffers, SameShape}
 use Rattle.fork_host.specs.Shown.{HostState, IsWhole, Trusted, world_of}
 use Rattle.fork_host.specs.Swept.{TendsAt}
 
@@ -23,14 +24,18 @@ TellsSeenAt world (Asks tenant ask) reply = TellsSeen (seen_in_world world tenan
 TellsSeenAt world (HostAsks request) reply = ⊤
 
 -- a step from state to state. Over an honest store it is a step of the world. Over any store the honesty stays, and the new state is
--- a host's; what is refused or failed keeps each view's shape, and a step that a tenant does not ask keeps that tenant's; what is told
--- under a name has it, and merge bases are names of what the tenant sees; the host faults and what is done with the store keep their bounds
+-- a host's; what is refused or failed keeps each view's shape, and a step that a tenant does not ask keeps that tenant's; `offer` and
+-- `withdraw` alone change what is offered, and `fork-offer` takes of no other tenant than the giver; what is told under a name has it,
+-- and merge bases are names of what the tenant sees; the host faults and what is done with the store keep their bounds
 pub record IsStep (old : HostState) (event : Event) (reply : Reply) (new : HostState) : Type 0 where
   pub explained : Trusted old → Steps (world_of old) event reply (world_of new)
   pub honest : new.vault.honest ≡ old.vault.honest
   pub whole : IsWhole new
   pub kept : is_done reply ≡ false → (tenant : List ℕ) → SameShape tenant (world_of old) (world_of new)
   pub others : (tenant : List ℕ) → asker_of event ≢ Some tenant → SameShape tenant (world_of old) (world_of new)
+  pub offers : changes_offers_in event ≡ false → (tenant : List ℕ) → SameOffers tenant (world_of old) (world_of new)
+  pub takes : (tenant giver repository copy : List ℕ) → event ≡ Asks tenant (ForksOffer giver repository copy)
+      → IsTakenFrom (seen_in_world (world_of old) giver) (seen_in_world (world_of old) tenant) (seen_in_world (world_of new) tenant)
   pub named : IsNamedAt event reply
   pub seen : TellsSeenAt (world_of old) event reply
   pub faults : FaultsWithin old event reply new

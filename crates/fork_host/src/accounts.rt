@@ -19,7 +19,7 @@ ghost use Rattle.fork_ledger.specs.Tenants.{VaultState};
 ghost use Rattle.fork_request.specs.Asked.{AsksOffers, ForksOffer};
 ghost use Rattle.fork_model.specs.Answer.{answer, offers_answer};
 ghost use Rattle.fork_model.specs.Context.{Context, met_by, nothing_offered};
-ghost use Rattle.fork_model.specs.Disclosure.{looks_at_offers};
+ghost use Rattle.fork_model.specs.Disclosure.{changes_offers, looks_at_offers};
 ghost use Rattle.fork_model.specs.Sound.{AreToOthers};
 ghost use Rattle.fork_host.specs.Made.{rows_from};
 ghost use Rattle.fork_host.specs.Meeting.{IsMet};
@@ -28,9 +28,9 @@ ghost use Rattle.fork_host.specs.Shown.{seen_by};
 ghost use Rattle.fork_host.specs.Opening.{reading_told};
 ghost use Rattle.fork_host.specs.Own.{IsOwn, IsReady, staged_in, visible_in};
 ghost use Rattle.fork_host.specs.Rows.{YieldsOver};
-ghost use Rattle.fork_host.specs.Safe.{IsNamedReply, IsSafe, TellsSeen};
+ghost use Rattle.fork_host.specs.Safe.{IsNamedReply, IsSafe, IsTakenFrom, TellsSeen};
 ghost use Rattle.fork_host.specs.Sent.{seen_in_world, sent_by, sent_in_world, sent_names};
-ghost use Rattle.fork_host.specs.Shape.{SameShape};
+ghost use Rattle.fork_host.specs.Shape.{SameOffers, SameShape};
 ghost use Rattle.fork_host.specs.Uploads.{upload_at, uploading_in};
 ghost use Rattle.fork_host.specs.Shown.{Account, IsWhole, Trusted, shown, state_of, world_of};
 ghost use Rattle.fork_host.specs.Staged.{Came, IsStaged};
@@ -194,6 +194,9 @@ impl Accounts {
         // Over any store.
         ensures kept { is_done result ≡ false → (tenant : List ℕ) → SameShape tenant (world_of (state_of self.old vault.old)) (world_of (state_of self.new vault.new)) }
         ensures others { (tenant : List ℕ) → tenant ≢ name.now → SameShape tenant (world_of (state_of self.old vault.old)) (world_of (state_of self.new vault.new)) }
+        ensures offers { changes_offers (ask_of request.entry) ≡ false → (tenant : List ℕ) → SameOffers tenant (world_of (state_of self.old vault.old)) (world_of (state_of self.new vault.new)) }
+        ensures takes { (giver word copy : List ℕ) → ask_of request.entry ≡ ForksOffer giver word copy
+            → IsTakenFrom (seen_in_world (world_of (state_of self.old vault.old)) giver) (seen_in_world (world_of (state_of self.old vault.old)) name.now) (seen_in_world (world_of (state_of self.new vault.new)) name.now) }
         ensures named { IsNamedReply (ask_of request.entry) result }
         ensures seen { TellsSeen (seen_in_world (world_of (state_of self.old vault.old)) name.now) (ask_of request.entry) result }
         ensures faults { IsBounded (sent_in_world (world_of (state_of self.old vault.old)) name.now (ask_of request.entry)) vault.old vault.new result }
@@ -302,7 +305,10 @@ fn answer_met<S: LooseFiles>(
         → YieldsOver vault.old.honest (answer context (shown tenant.old vault.old name.now) (ask_of request.entry)) (shown tenant.old vault.old name.now) result (shown tenant.new vault.new name.now) }
     ensures safe { (context : Context) → IsMet vault.old context (ask_of request.entry) met
         → IsSafe (IsBounded (sent_by (shown tenant.old vault.old name.now) (ask_of request.entry)) vault.old vault.new) (shown tenant.old vault.old name.now) result (shown tenant.new vault.new name.now) }
+    ensures made { changes_offers (ask_of request.entry) ≡ false → tenant.new.made ≡ tenant.old.made }
     ensures others { AreToOthers name.now (shown tenant.old vault.old name.now) → AreToOthers name.now (shown tenant.new vault.new name.now) }
+    ensures takes { (context : Context) (giver word copy : List ℕ) → IsMet vault.old context (ask_of request.entry) met → ask_of request.entry ≡ ForksOffer giver word copy
+        → IsTakenFrom (visible_in vault.old giver) (visible_in vault.old name.now) (visible_in vault.new name.now) }
     ensures named { IsNamedReply (ask_of request.entry) result }
     ensures seen { TellsSeen (visible_in vault.old name.now) (ask_of request.entry) result }
     ensures own { IsOwn name.now vault.old vault.new }
@@ -342,6 +348,8 @@ fn look<S: LooseFiles>(
         → YieldsOver vault.old.honest (answer context (shown tenant.old vault.old name.now) (ask_of request.entry)) (shown tenant.old vault.old name.now) result (shown tenant.new vault.new name.now) }
     ensures safe { (context : Context) → IsMet vault.old context (ask_of request.entry) met
         → IsSafe (IsBounded [] vault.old vault.new) (shown tenant.old vault.old name.now) result (shown tenant.new vault.new name.now) }
+    ensures takes { (context : Context) (giver word copy : List ℕ) → IsMet vault.old context (ask_of request.entry) met → ask_of request.entry ≡ ForksOffer giver word copy
+        → IsTakenFrom (visible_in vault.old giver) (visible_in vault.old name.now) (visible_in vault.new name.now) }
     ensures made { tenant.new.made ≡ tenant.old.made }
     ensures own { IsOwn name.now vault.old vault.new }
     ensures grows { GrowsAmong [] vault.old.places vault.new.places }
@@ -380,6 +388,7 @@ fn answer_from<S: LooseFiles>(
     requires alone { looks_at_offers (ask_of request) ≡ false }
     ensures row { YieldsOver vault.old.honest (answer (nothing_offered name.now) (shown tenant.old vault.old name.now) (ask_of request.entry)) (shown tenant.old vault.old name.now) result (shown tenant.new vault.new name.now) }
     ensures safe { IsSafe (IsBounded (sent_by (shown tenant.old vault.old name.now) (ask_of request.entry)) vault.old vault.new) (shown tenant.old vault.old name.now) result (shown tenant.new vault.new name.now) }
+    ensures made { changes_offers (ask_of request.entry) ≡ false → tenant.new.made ≡ tenant.old.made }
     ensures others { AreToOthers name.now (shown tenant.old vault.old name.now) → AreToOthers name.now (shown tenant.new vault.new name.now) }
     ensures named { IsNamedReply (ask_of request.entry) result }
     ensures seen { TellsSeen (visible_in vault.old name.now) (ask_of request.entry) result }

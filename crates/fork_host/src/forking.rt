@@ -20,7 +20,7 @@ ghost use Rattle.fork_host.specs.Forked.{IsForked};
 ghost use Rattle.fork_host.specs.Meeting.{IsMet};
 ghost use Rattle.fork_host.specs.Own.{IsOwn, IsReady, staged_in, visible_in};
 ghost use Rattle.fork_host.specs.Rows.{YieldsOver};
-ghost use Rattle.fork_host.specs.Safe.{IsSafe};
+ghost use Rattle.fork_host.specs.Safe.{IsSafe, IsTakenFrom};
 ghost use Rattle.fork_host.specs.Shown.{shown};
 ghost use Rattle.fork_host.specs.Staged.{IsStaged};
 
@@ -54,6 +54,8 @@ pub(crate) fn fork_offer<S: LooseFiles>(
         → YieldsOver vault.old.honest (fork_offer_answer context (shown tenant.old vault.old name.now) words.entry.0.now words.entry.1.now words.entry.2.now) (shown tenant.old vault.old name.now) result (shown tenant.new vault.new name.now) }
     ensures safe { (context : Context) → IsMet vault.old context (ForksOffer words.entry.0.now words.entry.1.now words.entry.2.now) met
         → IsSafe (IsBounded [] vault.old vault.new) (shown tenant.old vault.old name.now) result (shown tenant.new vault.new name.now) }
+    ensures takes { (context : Context) → IsMet vault.old context (ForksOffer words.entry.0.now words.entry.1.now words.entry.2.now) met
+        → IsTakenFrom (visible_in vault.old words.entry.0.now) (visible_in vault.old name.now) (visible_in vault.new name.now) }
     ensures made { tenant.new.made ≡ tenant.old.made }
     ensures own { IsOwn name.now vault.old vault.new }
     ensures grows { GrowsAmong [] vault.old.places vault.new.places }
@@ -91,6 +93,7 @@ fn take_offer<S: LooseFiles>(
     ensures row { YieldsOver vault.old.honest (offer_taken (shown tenant.old vault.old name.now) copy (offered (visible_in vault.old giver.now) repository)) (shown tenant.old vault.old name.now) result (shown tenant.new vault.new name.now) }
     ensures safe { IsBranch repository.head → AreReferences (visible_in vault.old giver.now) repository.references
         → IsSafe (IsBounded [] vault.old vault.new) (shown tenant.old vault.old name.now) result (shown tenant.new vault.new name.now) }
+    ensures takes { IsTakenFrom (visible_in vault.old giver.now) (visible_in vault.old name.now) (visible_in vault.new name.now) }
     ensures made { tenant.new.made ≡ tenant.old.made }
     ensures own { IsOwn name.now vault.old vault.new }
     ensures grows { GrowsAmong [] vault.old.places vault.new.places }

@@ -2,7 +2,7 @@ ghost use Rattle.std.specs.Prelude.{◌≡◌, IsTrue, false};
 ghost use Rattle.fork_request.specs.Asked.{ask_of};
 ghost use Rattle.fork_model.specs.Answer.{answer};
 ghost use Rattle.fork_model.specs.Context.{nothing_offered};
-ghost use Rattle.fork_model.specs.Disclosure.{looks_at_offers};
+ghost use Rattle.fork_model.specs.Disclosure.{changes_offers, looks_at_offers};
 ghost use Rattle.fork_model.specs.Sound.{AreToOthers};
 ghost use Rattle.fork_host.specs.Adding.{new_account};
 ghost use Rattle.fork_host.specs.Bounds.{IsBounded};
@@ -89,6 +89,7 @@ impl Tenant {
         requires alone { looks_at_offers (ask_of request) ≡ false }
         ensures row { YieldsOver own.old.vault.now.honest (answer (nothing_offered own.old.tenant.now) (shown_by self.old own.old) (ask_of request.entry)) (shown_by self.old own.old) result (shown self.new own.new.vault.now own.old.tenant.now) }
         ensures safe { IsSafe (IsBounded (sent_by (shown_by self.old own.old) (ask_of request.entry)) own.old.vault.now own.new.vault.now) (shown_by self.old own.old) result (shown self.new own.new.vault.now own.old.tenant.now) }
+        ensures made { changes_offers (ask_of request.entry) ≡ false → self.new.made ≡ self.old.made }
         ensures others { AreToOthers own.old.tenant.now (shown_by self.old own.old) → AreToOthers own.old.tenant.now (shown self.new own.new.vault.now own.old.tenant.now) }
         ensures named { IsNamedReply (ask_of request.entry) result }
         ensures seen { TellsSeen (visible_by own.old) (ask_of request.entry) result }

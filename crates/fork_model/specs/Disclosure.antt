@@ -50,6 +50,12 @@ met_along context [] = []
 met_along context (Asked ask ∷ more) = (context, ask) ∷ met_along context more
 met_along context (Changes key offer ∷ more) = met_along (record context { offered = with_change context.offered key offer }) more
 
+-- whether a request changes what its tenant has offered
+abbrev pub changes_offers : Ask → Bool
+changes_offers (MakesOffer repository receiver) = true
+changes_offers (Withdraws repository receiver) = true
+changes_offers ask = false
+
 -- whether a request looks at what its tenant is offered
 abbrev pub looks_at_offers : Ask → Bool
 looks_at_offers AsksOffers = true

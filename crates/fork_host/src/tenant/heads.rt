@@ -36,6 +36,7 @@ impl Tenant {
     pub(crate) fn set_head(&mut self, alloc: Global, word: &[u8], reference: &[u8]) -> Reply
         ensures row { (own : Private) → Gives (set_head_answer (seen_by self.old own) word.now reference.now) (seen_by self.old own) result (seen_by self.new own) }
         ensures upload { self.new.upload ≡ self.old.upload }
+        ensures made { self.new.made ≡ self.old.made }
     {
         let Some(name) = RepositoryName::read(word) else {
             return bad_name(alloc, word);
@@ -47,6 +48,7 @@ impl Tenant {
     fn point_head(&mut self, alloc: Global, name: RepositoryName, reference: &[u8]) -> Reply
         ensures row { (own : Private) → Gives (set_head_in (seen_by self.old own) name reference.now (map.get self.old.repositories name)) (seen_by self.old own) result (seen_by self.new own) }
         ensures upload { self.new.upload ≡ self.old.upload }
+        ensures made { self.new.made ≡ self.old.made }
     {
         if !self.repositories.contains(&name) {
             return Reply::Refused(Refusal::NoRepository(name));

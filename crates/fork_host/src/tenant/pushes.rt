@@ -155,6 +155,7 @@ impl Tenant {
         ensures store { LeavesStore own.old.vault.now own.new.vault.now }
         ensures staged { IsStaged own.old.vault.now.honest self.new.upload (staged_in own.new.vault.now own.old.tenant.now) }
         ensures own { Touches [] own.old own.new }
+        ensures made { self.new.made ≡ self.old.made }
     {
         if self.upload.is_none() {
             return Reply::Refused(Refusal::NoUpload);

@@ -29,6 +29,7 @@ impl Tenant {
     ) -> Reply
         ensures row { Gives (update_answer (shown_by self.old own.now) word.now body.now) (shown_by self.old own.now) result (shown_by self.new own.now) }
         ensures upload { self.new.upload ≡ self.old.upload }
+        ensures made { self.new.made ≡ self.old.made }
     {
         let Some(name) = RepositoryName::read(word) else {
             return bad_name(alloc, word);
@@ -55,6 +56,7 @@ impl Tenant {
         ensures row { (old : Repository) → map.get self.old.repositories name.now ≡ Some old
             → Gives (with_references (shown_by self.old own.now) name.now old (transacted old.references commands.now (kind_in (visible_by own.now)))) (shown_by self.old own.now) result (shown_by self.new own.now) }
         ensures upload { self.new.upload ≡ self.old.upload }
+        ensures made { self.new.made ≡ self.old.made }
     {
         match self.repositories.apply(alloc, name, commands, own) {
             Ok(()) => done(alloc),

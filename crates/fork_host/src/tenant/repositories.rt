@@ -19,6 +19,7 @@ impl Tenant {
     pub(crate) fn init(&mut self, alloc: Global, word: &[u8]) -> Reply
         ensures row { (own : Private) → Gives (init_answer (seen_by self.old own) word.now) (seen_by self.old own) result (seen_by self.new own) }
         ensures upload { self.new.upload ≡ self.old.upload }
+        ensures made { self.new.made ≡ self.old.made }
     {
         match RepositoryName::read(word) {
             Some(name) => self.add_repository(alloc, name, Repository::new(alloc)),
@@ -35,6 +36,7 @@ impl Tenant {
     ) -> Reply
         ensures row { (own : Private) → Gives (repository_added (seen_by self.old own) name repository) (seen_by self.old own) result (seen_by self.new own) }
         ensures upload { self.new.upload ≡ self.old.upload }
+        ensures made { self.new.made ≡ self.old.made }
     {
         if self.repositories.contains(&name) {
             return Reply::Refused(Refusal::RepositoryExists(name));
@@ -53,6 +55,7 @@ impl Tenant {
     pub(crate) fn drop_repository(&mut self, alloc: Global, word: &[u8]) -> Reply
         ensures row { (own : Private) → Gives (drop_answer (seen_by self.old own) word.now) (seen_by self.old own) result (seen_by self.new own) }
         ensures upload { self.new.upload ≡ self.old.upload }
+        ensures made { self.new.made ≡ self.old.made }
     {
         let Some(name) = RepositoryName::read(word) else {
             return bad_name(alloc, word);
@@ -69,6 +72,7 @@ impl Tenant {
     pub(crate) fn fork(&mut self, alloc: Global, source: &[u8], copy: &[u8]) -> Reply
         ensures row { (own : Private) → Gives (fork_answer (seen_by self.old own) source.now copy.now) (seen_by self.old own) result (seen_by self.new own) }
         ensures upload { self.new.upload ≡ self.old.upload }
+        ensures made { self.new.made ≡ self.old.made }
     {
         let Some(from) = RepositoryName::read(source) else {
             return bad_name(alloc, source);
@@ -83,6 +87,7 @@ impl Tenant {
     fn copy_repository(&mut self, alloc: Global, from: RepositoryName, to: RepositoryName) -> Reply
         ensures row { (own : Private) → Gives (copied (seen_by self.old own) from to (map.get self.old.repositories from)) (seen_by self.old own) result (seen_by self.new own) }
         ensures upload { self.new.upload ≡ self.old.upload }
+        ensures made { self.new.made ≡ self.old.made }
     {
         let Some(repository) = self.repositories.get(&from) else {
             return Reply::Refused(Refusal::NoRepository(from));

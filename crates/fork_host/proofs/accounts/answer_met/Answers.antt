@@ -5,6 +5,7 @@ use Rattle.fork_model.proofs.DisclosureLemmas.{unlooked}
 use Rattle.fork_ledger.specs.Tenants.{private_of}
 use Rattle.fork_host.specs.Rows.{YieldsOver}
 use Rattle.fork_host.specs.Shown.{shown}
+use Rattle.fork_host.proofs.TakenFromLemmas.{looked_at}
 use Rattle.fork_host.proofs.WholeLemmas.{others_made}
 use Rattle.fork_host.proofs.accounts.answer_met.Goals as goal
 
@@ -17,3 +18,7 @@ returns-clause-row g c = λ context own met.
     let view = shown c.args.tenant.now c.args.vault.now c.args.name.now in
     subst (λ row. YieldsOver c.args.vault.now.honest row view c.answer_from.result (shown c.answer_from.new.tenant c.answer_from.new.vault c.args.name.now))
     (sym (unlooked context (nothing_offered c.args.name.now) view (ask_of c.args.request) own (sym c.looks_at_offers.ensures ∙ c.if-looks_at_offers.false))) c.answer_from.ensures.row
+
+pub returns-clause-takes : goal.returns-clause-takes
+returns-clause-takes g c = λ context giver word copy met is.
+    absurd (looked_at (ask_of c.args.request) giver word copy (sym c.looks_at_offers.ensures ∙ c.if-looks_at_offers.false) is)

@@ -1,14 +1,17 @@
-use Rattle.std.proofs.Common.{[], subst}
+use Rattle.std.proofs.Common.{◌≡◌, [], ap, refl, subst, sym, ◌∙◌}
 use Rattle.fork_request.specs.Asked.{ask_of}
 use Rattle.fork_model.specs.Answer.{answer}
 use Rattle.fork_ledger.specs.Tenants.{private_of}
 use Rattle.fork_host.specs.Bounds.{IsBounded}
 use Rattle.fork_host.specs.Meeting.{IsMet}
+use Rattle.fork_host.specs.Own.{visible_in}
 use Rattle.fork_host.specs.Rows.{Gives}
+use Rattle.fork_host.specs.Safe.{IsTakenFrom}
 use Rattle.fork_host.specs.Shown.{shown}
 use Rattle.fork_host.proofs.BoundLemmas.{bounded_still, quiet_row}
 use Rattle.fork_host.proofs.RowLemmas.{yields_of}
 use Rattle.fork_host.proofs.SafeLemmas.{safe_still}
+use Rattle.fork_host.proofs.TakenFromLemmas.{giver_in, taken_none}
 use Rattle.fork_host.proofs.accounts.look.Goals as goal
 
 pub returns-in-Offers-clause-row : goal.returns-in-Offers-clause-row
@@ -30,3 +33,15 @@ returns-in-ForkOffer-clause-row g c = λ context met. rw c.in-ForkOffer.is (c.fo
 
 pub returns-in-ForkOffer-clause-safe : goal.returns-in-ForkOffer-clause-safe
 returns-in-ForkOffer-clause-safe g c = λ context met. c.fork_offer.ensures.safe context (subst (λ r. IsMet c.args.vault.now context (ask_of r) c.args.met) c.in-ForkOffer.is met)
+
+pub returns-in-Offers-clause-takes : goal.returns-in-Offers-clause-takes
+returns-in-Offers-clause-takes g c = λ context giver word copy met is.
+    let seen = visible_in c.args.vault.now c.args.name.now in
+    taken_none (visible_in c.args.vault.now giver) seen seen refl
+
+pub returns-in-ForkOffer-clause-takes : goal.returns-in-ForkOffer-clause-takes
+returns-in-ForkOffer-clause-takes g c = λ context giver word copy met is.
+    let old = c.args.vault.now in
+    let same : c.in-ForkOffer.giver.now ≡ giver = ap giver_in (sym (ap ask_of c.in-ForkOffer.is) ∙ is) in
+    subst (λ who. IsTakenFrom (visible_in old who) (visible_in old c.args.name.now) (visible_in c.fork_offer.new.vault c.args.name.now)) same
+    (c.fork_offer.ensures.takes context (subst (λ r. IsMet old context (ask_of r) c.args.met) c.in-ForkOffer.is met))

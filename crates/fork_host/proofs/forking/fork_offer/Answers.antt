@@ -7,9 +7,11 @@ use Rattle.fork_model.specs.Sound.{AreReferences}
 use Rattle.fork_host.specs.Meeting.{IsMet}
 use Rattle.fork_host.specs.Own.{visible_in}
 use Rattle.fork_host.specs.Rows.{YieldsOver}
+use Rattle.fork_host.specs.Safe.{IsTakenFrom}
 use Rattle.fork_host.specs.Shown.{shown}
 use Rattle.fork_host.proofs.ForkedLemmas.{bad_quiet, copy_unnamed, giver_unnamed, safe_quiet, word_unnamed, yields_bad, yields_refused}
 use Rattle.fork_host.proofs.ForkOfferLemmas.{none_offered, nothing_met, offer_met}
+use Rattle.fork_host.proofs.TakenFromLemmas.{taken_none}
 use Rattle.fork_host.proofs.forking.fork_offer.Goals as goal
 
 pub returns-in_default-clause-row : goal.returns-in_default-clause-row
@@ -58,3 +60,29 @@ returns-clause-row g c = λ context met. record { yields = λ honest.
 
 pub returns-clause-safe : goal.returns-clause-safe
 returns-clause-safe g c = λ context met. safe_quiet c.args.vault.now (shown c.args.tenant.now c.args.vault.now c.args.name.now) (Refused (NoOffer c.in-Some.giver c.in-Some-read.of)) (inl refl)
+
+pub returns-in_default-clause-takes : goal.returns-in_default-clause-takes
+returns-in_default-clause-takes g c = λ context met.
+    let seen = visible_in c.args.vault.now c.args.name.now in
+    taken_none (visible_in c.args.vault.now c.args.words.0.now) seen seen refl
+
+pub returns-in_default-read-clause-takes : goal.returns-in_default-read-clause-takes
+returns-in_default-read-clause-takes g c = λ context met.
+    let seen = visible_in c.args.vault.now c.args.name.now in
+    taken_none (visible_in c.args.vault.now c.args.words.0.now) seen seen refl
+
+pub returns-in_default-read-2-clause-takes : goal.returns-in_default-read-2-clause-takes
+returns-in_default-read-2-clause-takes g c = λ context met.
+    let seen = visible_in c.args.vault.now c.args.name.now in
+    taken_none (visible_in c.args.vault.now c.args.words.0.now) seen seen refl
+
+pub returns-clause-takes : goal.returns-clause-takes
+returns-clause-takes g c = λ context met.
+    let seen = visible_in c.args.vault.now c.args.name.now in
+    taken_none (visible_in c.args.vault.now c.args.words.0.now) seen seen refl
+
+pub returns-in-Offer-clause-takes : goal.returns-in-Offer-clause-takes
+returns-in-Offer-clause-takes g c = λ context met.
+    let old = c.args.vault.now in
+    let is = subst (IsMet old context (ForksOffer c.args.words.0.now c.args.words.1.now c.args.words.2.now)) c.in-Offer.is met in
+    subst (λ who. IsTakenFrom (visible_in old who) (visible_in old c.args.name.now) (visible_in c.take_offer.new.vault c.args.name.now)) is.named c.take_offer.ensures.takes

@@ -11,12 +11,13 @@ use Rattle.fork_model.specs.World.{Steps}
 use Rattle.looks.specs.Growth.{GrowsAmong}
 use Rattle.looks.proofs.GrowthLemmas.{grows_none}
 use Rattle.fork_host.specs.Bounds.{IsBounded}
-use Rattle.fork_host.specs.Safe.{TellsSeen}
-use Rattle.fork_host.specs.Sent.{sent_in_world, sent_names}
+use Rattle.fork_host.specs.Safe.{IsTakenFrom, TellsSeen}
+use Rattle.fork_host.specs.Sent.{seen_in_world, sent_in_world, sent_names}
 use Rattle.fork_host.specs.Shown.{state_of, world_of}
 use Rattle.fork_ledger.proofs.UpdateLemmas.{found_in, written_back}
 use Rattle.fork_host.proofs.BoundLemmas.{bounded_still}
-use Rattle.fork_host.proofs.WholeLemmas.{alike_of, all_stay, answered_step, others_stay, ready, seen_here, sent_here, unknown_step, whole_after}
+use Rattle.fork_host.proofs.TakenFromLemmas.{taken_none, taken_shown}
+use Rattle.fork_host.proofs.WholeLemmas.{alike_of, all_stay, answered_step, offers_stay, others_stay, ready, seen_here, sent_here, unknown_step, whole_after}
 use Rattle.fork_host.proofs.accounts.Accounts.answer.Goals as goal
 
 pub returns-in_default-get_mut-clause-explained : goal.returns-in_default-get_mut-clause-explained
@@ -101,3 +102,31 @@ returns-clause-grows g c =
     let here = found_in c.args.self.now c.self.inside.tenants.entries c.args.name.now (Some c.in-Some.tenant.now) c.self.view_is c.in-Some.ensures.value in
     let old = state_of c.args.self.now c.args.vault.now in
     subst (λ sent. GrowsAmong (sent_names sent) c.args.vault.now.places c.answer_met.new.vault.places) (sym (sent_here old c.args.name.now (ask_of c.args.request) c.in-Some.tenant.now here)) c.answer_met.ensures.grows
+
+pub returns-clause-offers : goal.returns-clause-offers
+returns-clause-offers g c same =
+    let stays = (c.get_mut.follows.holds c.answer_met.new.tenant).3 (search rules) in
+    let entries = c.self.inside.tenants.entries in
+    let here = found_in c.args.self.now entries c.args.name.now (Some c.in-Some.tenant.now) c.self.view_is c.in-Some.ensures.value in
+    let set = written_back c.args.self.now entries (c.get_mut.follows.lender c.answer_met.new.tenant).entries c.args.name.now c.answer_met.new.tenant c.self.view_is stays.0 in
+    let old = state_of c.args.self.now c.args.vault.now in
+    let new = state_of (map.from_entries (c.get_mut.follows.lender c.answer_met.new.tenant).entries) c.answer_met.new.vault in
+    offers_stay old new c.args.name.now c.in-Some.tenant.now c.answer_met.new.tenant here set c.answer_met.ensures.own (c.answer_met.ensures.made same)
+
+pub returns-in_default-clause-takes : goal.returns-in_default-clause-takes
+returns-in_default-clause-takes g c = λ giver word copy is.
+    let world = world_of (state_of c.args.self.now c.args.vault.now) in
+    taken_none (seen_in_world world giver) (seen_in_world world c.args.name.now) (seen_in_world world c.args.name.now) refl
+
+pub returns-in_default-get_mut-clause-takes : goal.returns-in_default-get_mut-clause-takes
+returns-in_default-get_mut-clause-takes g c = λ giver word copy is.
+    let stays = ap map.from_entries (ap (λ t. t.entries) c.get_mut.follows.holds-at-none) ∙ c.self.view_is in
+    let world = world_of (state_of c.args.self.now c.args.vault.now) in
+    subst (λ accounts. IsTakenFrom (seen_in_world world giver) (seen_in_world world c.args.name.now) (seen_in_world (world_of (state_of accounts c.args.vault.now)) c.args.name.now)) (sym stays)
+    (taken_none (seen_in_world world giver) (seen_in_world world c.args.name.now) (seen_in_world world c.args.name.now) refl)
+
+pub returns-clause-takes : goal.returns-clause-takes
+returns-clause-takes g c = λ giver word copy is.
+    let old = state_of c.args.self.now c.args.vault.now in
+    let new = state_of (map.from_entries (c.get_mut.follows.lender c.answer_met.new.tenant).entries) c.answer_met.new.vault in
+    taken_shown old new c.requires.whole.there (returns-clause-whole g c).there giver c.args.name.now (c.answer_met.ensures.takes (met_by (world_of old) c.args.name.now) giver word copy c.in-Ok.ensures is)

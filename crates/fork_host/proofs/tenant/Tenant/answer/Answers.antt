@@ -1,6 +1,7 @@
 use Rattle.fork_request.specs.Asked.{ask_of}
-use Rattle.std.proofs.Common.{[], ap, refl, subst, sym}
+use Rattle.std.proofs.Common.{◌≡◌, [], ap, false, refl, subst, sym, true, ◌∙◌}
 use Rattle.fork_model.specs.Context.{nothing_offered}
+use Rattle.fork_model.specs.Disclosure.{changes_offers}
 use Rattle.fork_model.specs.Answer.{answer, cat_file_answer, ls_tree_answer, offer_answer, withdraw_answer}
 use Rattle.fork_ledger.specs.Tenants.{private_of}
 use Rattle.fork_host.proofs.WholeLemmas.{others_gives, others_made}
@@ -372,3 +373,9 @@ returns-in-Withdraw-clause-safe g c =
     let new = shown c.withdraw.new.self c.args.own.now.vault.now c.args.own.now.tenant.now in
     let gives : Gives (answer (nothing_offered c.args.own.now.tenant.now) view (ask_of c.args.request)) view c.withdraw.result new = rw c.in-Withdraw.is (subst (λ t. Gives (withdraw_answer (nothing_offered t) (shown_by c.args.self.now c.args.own.now) c.in-Withdraw.word.now c.in-Withdraw.receiver.now) (shown_by c.args.self.now c.args.own.now) c.withdraw.result (shown c.withdraw.new.self c.args.own.now.vault.now c.args.own.now.tenant.now)) (ap (λ t. t.now) c.tenant-in-Withdraw.ensures) (c.withdraw.ensures.row (private_by c.args.own.now))) in
     safe_gives _ c.args.own.now.tenant.now view new (ask_of c.args.request) c.withdraw.result (bounded_still (sent_by view (ask_of c.args.request)) c.args.own.now.vault.now c.withdraw.result (quiet_row (nothing_offered c.args.own.now.tenant.now) view new (ask_of c.args.request) c.withdraw.result gives)) gives
+
+pub returns-in-Offer-clause-made : goal.returns-in-Offer-clause-made
+returns-in-Offer-clause-made g c = λ same. (let differs : true ≡ false = sym (ap (λ r. changes_offers (ask_of r)) c.in-Offer.is) ∙ same in absurd (cc))
+
+pub returns-in-Withdraw-clause-made : goal.returns-in-Withdraw-clause-made
+returns-in-Withdraw-clause-made g c = λ same. (let differs : true ≡ false = sym (ap (λ r. changes_offers (ask_of r)) c.in-Withdraw.is) ∙ same in absurd (cc))

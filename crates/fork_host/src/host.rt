@@ -219,6 +219,9 @@ impl<S: LooseFiles> Host<S> {
         // store has files of just the names of which some tenant has an object.
         ensures sharp { Trusted self.old → IfOk result (λ replies. SharpAfterSweeps self.old.vault (events_given steps.now) replies.items self.new.vault) }
 
+        // It is a run of the world.
+        ensures explained { Trusted self.old → IfOk result (λ replies. Explains (world_of self.old) (events_given steps.now) replies.items (world_of self.new)) }
+
         // To each tenant that no host fault answered, the replies are those of a private host that meets
         // the same offers; where no offer to it is made or withdrawn, those that stood at first.
         ensures private_replies { Trusted self.old → IfOk result (λ replies. (tenant : List ℕ) (view : View)

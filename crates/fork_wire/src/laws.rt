@@ -23,6 +23,8 @@ ghost use Rattle.fork_wire.specs.Sessions.{IsAnswered, events_of, frames_of, pay
 /// or withdrawn. And also then, where equal offers are made and withdrawn at the same places between what
 /// it asks: where the same happens to it. `frames` and `replies` are those of `IsServed` or `IsStopped`.
 pub fn two_sessions_agree()
+    ensures explained { (old new : HostState) (frames : List Frame) (replies : List Reply)
+        → IsAnswered old new frames replies → Trusted old → Explains (world_of old) (events_of frames) replies (world_of new) }
     ensures replies { (tenant : List ℕ) (old new : HostState) (frames : List Frame) (replies : List Reply)
         → (old2 new2 : HostState) (frames2 : List Frame) (replies2 : List Reply)
         → IsAnswered old new frames replies → IsUnfaulted tenant (events_of frames) replies → LeavesOffers tenant (events_of frames) replies

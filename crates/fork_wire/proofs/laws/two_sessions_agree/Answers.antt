@@ -1,5 +1,10 @@
+use Rattle.fork_host.proofs.StepLemmas.{run_explained}
+use Rattle.fork_wire.specs.Sessions.{events_of}
 use Rattle.fork_wire.proofs.Agreement.{sessions_agree, sessions_agree_happened}
 use Rattle.fork_wire.proofs.laws.two_sessions_agree.Goals as goal
+
+pub returns-clause-explained : goal.returns-clause-explained
+returns-clause-explained c old new frames replies one trusted = run_explained old new (events_of frames) replies one.ran trusted
 
 pub returns-clause-replies : goal.returns-clause-replies
 returns-clause-replies c tenant old new frames replies old2 new2 frames2 replies2 one fine leaves other fine2 leaves2 trusted trusted2 agree same =

@@ -61,6 +61,12 @@ returns-clause-sharp g c trusted slices are done enough =
     c.sharp_slices.ensures slices old.vault new.vault swept (subst (λ (s : HostState). s.vault.places.place ≤ length s.vault.places.names) c.self.view_is c.invariant-before.ensures.place) enough
     (subst (λ (s : HostState). IsAccounted s.vault) c.self-2.view_is (c.invariant-behind.ensures.accounted (ap (λ (s : HostState). s.vault.honest) c.self-2.view_is ∙ honest ∙ trusted)))
 
+pub returns-clause-explained : goal.returns-clause-explained
+returns-clause-explained g c trusted =
+    let old = c.args.self.now in
+    let new = c.loop-step.self in
+    run_explained old new (events_given c.args.steps.now) c.loop-step.replies.items (all old new c.args.steps.now c.loop-step.step-index c.loop-step.replies.items (omega arith) c.loop-step.invariant.ran) trusted
+
 pub returns-clause-private_replies : goal.returns-clause-private_replies
 returns-clause-private_replies g c trusted tenant view first fine leaves =
     let old = c.args.self.now in

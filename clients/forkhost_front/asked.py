@@ -9,9 +9,12 @@ from forkhost_client.faults import Fatal
 # Git's server programs, and their words behind `git`.
 READ, WRITE, ARCHIVE = "git-upload-pack", "git-receive-pack", "git-upload-archive"
 PROGRAMS = {READ: "upload-pack", WRITE: "receive-pack"}
+# The new repository is its last word.
+FORKS_OFFER = "fork-offer"
 # Requests that are asked by hand, with the number of their words; none stands for one or more.
 BY_HAND = {"init": 1, "drop": 1, "fork": 2, "head": 1, "set-head": 2, "quota": 0, "prune": 0, "for-each-ref": None}
 BY_HAND |= {"cat-file": 1, "ls-tree": 1, "rev-list": None, "merge-base": 3}
+BY_HAND |= {"offer": 2, "withdraw": 2, "offers": 0, FORKS_OFFER: 3}
 # Their words begin with an object.
 OF_OBJECTS = ("cat-file", "ls-tree")
 NAME = re.compile(rf"/*({REPOSITORY})(?:\.git)?/*")
@@ -26,8 +29,9 @@ class Asked(NamedTuple):
         return self.word in PROGRAMS
 
     def repository(self) -> Optional[str]:
-        """The repository that the words begin with, as far as it is a name."""
-        found = NAME.fullmatch(self.rest[0]) if self.rest and self.word not in OF_OBJECTS else None
+        """The repository that the words name: the first word, or where an offer is forked the new one. None where it is no name."""
+        word = self.rest[-1 if self.word == FORKS_OFFER else 0] if self.rest and self.word not in OF_OBJECTS else ""
+        found = NAME.fullmatch(word)
         return found[1] if found else None
 
 

@@ -30,6 +30,7 @@ def show_words(world):
     checks.same("quota", done(used), told("quota"))
     row = world.ask("alice", "for-each-ref", "r").output
     checks.same("for-each-ref", done(row), told("for-each-ref", "r"))
+    show_offer(world)
     checks.same("the cache of s is there", True, os.path.isdir(world.cache("s")))
     checks.same("drop", done(), told("drop", "s"))
     checks.same("the cache of s is gone", [False] * 3, [os.path.exists(world.cache("s") + end) for end in ENDS])
@@ -44,6 +45,24 @@ def show_words(world):
     world.host.ends_well(checks, "after words")
 
 
+def show_offer(world):
+    """A fork between two people: what is offered is cloned by the one who forks it, and the giver is told nothing."""
+    checks = world.checks
+    told = lambda tenant, *words: world.by_hand(tenant, *words)
+    no = lambda text: Ran(1, b"", f"forkhost: {text}\n".encode())
+    checks.same("nothing is offered", no("no-offer alice/r"), told("bob", "fork-offer", "alice", "r", "mine"))
+    checks.same("offer", done(), told("alice", "offer", "r", "bob"))
+    checks.same("offer again", no("offer-exists bob/r"), told("alice", "offer", "r", "bob"))
+    checks.same("offers to bob", done(b"from alice r\n"), told("bob", "offers"))
+    checks.same("fork-offer", done(), told("bob", "fork-offer", "alice", "r", "mine"))
+    checks.same("the fork has the references", world.kept("r"), world.kept("mine", "bob"))
+    world.cloned("the fork of the offer", "mine", tenant="bob")
+    checks.same("offers of alice", done(b"to bob r\n"), told("alice", "offers"))
+    checks.same("withdraw", done(), told("alice", "withdraw", "r", "bob"))
+    checks.same("withdraw again", no("no-offer bob/r"), told("alice", "withdraw", "r", "bob"))
+    checks.same("none stands", done(), told("bob", "offers"))
+
+
 ENDS = ("", ".lock", ".use")
 
 
@@ -54,7 +73,7 @@ def show_log(world):
     requests = [text for text in lines if " cache " not in text]
     checks.same("each request is a line of one form", [], [text for text in requests if not LINE.fullmatch(text)])
     words = [" ".join(text.split()[1:5]) for text in requests]
-    for wanted in ("alice init r ok", "alice init r repository-exists", "alice git-receive-pack r ok"):
+    for wanted in ("alice init r ok", "alice init r repository-exists", "alice git-receive-pack r ok", "bob fork-offer mine ok"):
         checks.same(f"the log has: {wanted}", 1, words.count(wanted))
     checks.same("the log has: a repository that is not there", "alice git-upload-pack s no-repository", words[-1])
     checks.same("nobody else reads it", 0, os.stat(world.path("log")).st_mode & 0o077)

@@ -13,7 +13,7 @@ use Rattle.fork_reach.specs.Source.{Objects}
 use Rattle.fork_reach.proofs.ReachLemmas.{next_reached, root_reached}
 use Rattle.fork_model.specs.Context.{met_by, nothing_offered}
 use Rattle.fork_model.specs.Offer.{Offer, Pair, pair_cmp}
-use Rattle.fork_model.specs.Sound.{AreReferences, AreSound, IsAlike, IsReach, IsSoundBeside, IsSoundWorld, MayTake}
+use Rattle.fork_model.specs.Sound.{AreReferences, AreSoundObjects, IsAlike, IsReach, IsSoundBeside, IsSoundWorld, MayTake}
 use Rattle.fork_model.specs.View.{View}
 use Rattle.fork_model.specs.World.{World}
 use Rattle.fork_model.proofs.KeptLemmas.{closed_kept, found_kept, found_value, met_alike, named_kept, references_right, right_kept}
@@ -24,12 +24,12 @@ use Rattle.fork_model.proofs.Rows.{references_kept}
 -- what a sound offer holds is sound by itself, and its references hold over it
 record IsWhole (offer : Offer) : Type 0 where
   references : AreReferences offer.objects offer.repository.references
-  sound : AreSound offer.objects
+  sound : AreSoundObjects offer.objects
 
-whole : (objects : Objects) (offer : Offer) → AreSound objects → IsReach objects offer → AreReferences objects offer.repository.references → IsWhole offer
+whole : (objects : Objects) (offer : Offer) → AreSoundObjects objects → IsReach objects offer → AreReferences objects offer.repository.references → IsWhole offer
 whole objects offer sound reach holds = record {
   references = subst (λ all. AreReferences all offer.repository.references) (sym reach.objects) (references_right objects kept offer.repository.references (λ reference target points there. rooted reference target points there) holds);
-  sound = subst AreSound (sym reach.objects) (record {
+  sound = subst AreSoundObjects (sym reach.objects) (record {
     named = named_kept objects kept sound.named;
     right = right_kept objects kept sound.right;
     closed = closed_kept objects kept (λ from name. next_reached (linked_names objects) objects roots from name) sound.closed;
@@ -67,7 +67,7 @@ module _ (objects others : Objects) (match : Match objects others) where
       by None found = inr found
       by (Some first) found = inl found
 
-  both_sound : AreSound objects → AreSound others → AreSound (joined objects others)
+  both_sound : AreSoundObjects objects → AreSoundObjects others → AreSoundObjects (joined objects others)
   both_sound one two = record {
     named = λ name object is. elim (either_side name object is) [ inl here ↦ one.named name object here | inr there ↦ two.named name object there ];
     right = λ name object is. elim (either_side name object is) [ inl here ↦ one.right name object here | inr there ↦ two.right name object there ];

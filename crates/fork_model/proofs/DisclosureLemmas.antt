@@ -3,7 +3,7 @@ use Rattle.std.proofs.Common.{◌≡◌, ◌≢◌, ℕ, ◌&&◌, Bool, true, f
 use Rattle.std.specs.Ordering.{eq_by_cmp, is_eq}
 use Rattle.std.proofs.lemmas.Cmp.{tied_itself}
 use Rattle.std.specs.Option.{option_and_then}
-use Rattle.std.specs.FinMap.{get, get-insert, get-remove, insert, same_map}
+use Rattle.std.specs.FinMap.{get, get-insert, get-remove, insert, remove, same_map}
 use Rattle.git_name.specs.Name.{name_cmp}
 use Rattle.git_name.specs.Same.{same_name}
 use Rattle.git_name.proofs.Names.{name_exact, name_total}
@@ -13,7 +13,7 @@ use Rattle.fork_request.specs.declared.reply.Reply.{Reply}
 use Rattle.fork_request.specs.declared.reply.Reply.TheVariants.{Done, Refused, Failed}
 use Rattle.fork_model.specs.Answer.{answer, offer_answer, withdraw_answer}
 use Rattle.fork_model.specs.Context.{Context, met_by, offered_to}
-use Rattle.fork_model.specs.Disclosure.{Asked, Changes, Happening, change_in, happenings, looks_at_offers, met_along, met_behind, with_change, word_of}
+use Rattle.fork_model.specs.Disclosure.{Asked, Changes, Happening, change_in, changes_offers, happenings, looks_at_offers, word_of}
 use Rattle.fork_model.specs.Offer.{Offer, Offers, Pair, pair_cmp}
 use Rattle.fork_model.specs.Runs.{Asks, HostAsks, Answered, Unknown, Faulted}
 use Rattle.fork_model.specs.View.{View}
@@ -23,6 +23,23 @@ use Rattle.fork_model.proofs.Meetings.{runs_agree_met}
 use Rattle.fork_model.proofs.OfferLemmas.{tied_pairs}
 use Rattle.fork_model.proofs.OfferedLemmas.{get_offered, met_still}
 use Rattle.fork_model.proofs.SoundLemmas.{made_answer}
+
+-- with another offer under a key, or none
+abbrev pub with_change : Offers → Pair → Option Offer → Offers
+with_change offers key (Some offer) = insert offers key offer
+with_change offers key None = remove offers key
+
+-- what a tenant meets behind what happened, where it met this before
+abbrev pub met_behind : Context → List Happening → Context
+met_behind context [] = context
+met_behind context (Asked ask ∷ more) = met_behind context more
+met_behind context (Changes key offer ∷ more) = met_behind (record context { offered = with_change context.offered key offer }) more
+
+-- what it asks, each beside what it meets
+abbrev pub met_along : Context → List Happening → List Meeting
+met_along context [] = []
+met_along context (Asked ask ∷ more) = (context, ask) ∷ met_along context more
+met_along context (Changes key offer ∷ more) = met_along (record context { offered = with_change context.offered key offer }) more
 
 -- ---- a change under one key
 by_key : (offers : Offers) (key other : Pair) (o : Option Offer) → get (with_change offers key o) other ≡ cond (eq_by_cmp pair_cmp other key) o (get offers other)
@@ -161,3 +178,9 @@ unlooked context other view (Withdraws repository receiver) same leaves = λ i. 
 unlooked context other view (ForksOffer giver repository copy) same leaves = absurd (let no : ⊥ = cc in no)
 unlooked context other view AsksOffers same leaves = absurd (let no : ⊥ = cc in no)
 unlooked context other view ask same leaves = refl
+
+-- ---- which requests change what a tenant has made
+pub unmade : (context : Context) (view : View) (ask : Ask) → changes_offers ask ≡ false → (answer context view ask).1.made ≡ view.made
+unmade context view (MakesOffer repository receiver) leaves = absurd (let no : ⊥ = cc in no)
+unmade context view (Withdraws repository receiver) leaves = absurd (let no : ⊥ = cc in no)
+unmade context view ask leaves = made_answer context view ask

@@ -5,9 +5,8 @@ use Rattle.std.specs.declared.cmp.Ordering.{Ordering}
 use Rattle.std.specs.declared.cmp.Ordering.TheVariants.{Less, Equal, Greater}
 use Rattle.std.specs.Ordering.{eq_by_cmp, is_eq}
 use Rattle.std.specs.Cmp.{IsTotalOrder}
-use Rattle.std.specs.List.{AllByRecursion}
 use Rattle.std.specs.FinMap.{FinMap, IsAntisymmetric, get, get-insert, get_tied, insert}
-use Rattle.fork_model.specs.Runs.{Event, Asks, HostAsks, own, told, alone, TenantStep, Answered, Unknown, Faulted, OwnStep, HostAnswered, HostFaulted, Steps, Explains, IsSteady, AreFine, meeting, met}
+use Rattle.fork_model.specs.Runs.{Event, Asks, HostAsks, own, told, alone, TenantStep, Answered, Unknown, Faulted, OwnStep, HostAnswered, HostFaulted, Steps, Explains, AreFine, meeting, met}
 
 one_value : {X : Type 0} (o : Option X) (x y : X) → o ≡ Some x → o ≡ Some y → x ≡ y
 one_value o x y is other = cc
@@ -97,12 +96,6 @@ module _ {Tenant View Context Ask HostAsk Reply : Type 0} (cmp : Tenant → Tena
       let same = ap (λ o. seen answer unknown o asked) here ∙ seen-alone answer unknown view asked in
       (all.0 ∙ ap (λ (p : List Reply × Option View). p.0) same, all.1 ∙ ap (λ (p : List Reply × Option View). p.1) same)
 
-  -- and where it meets the same beside each request
-  pub run_alone : (t : Tenant) (context : Context) (old new : FinMap cmp View) (steps : List (Event Tenant Ask HostAsk)) (replies : List Reply) (view : View) (run : Explains cmp meets answer unknown is_fault HostSays old steps replies new) → IsSteady cmp meets answer unknown is_fault HostSays t context old steps replies new run → AreFine is_fault (told cmp t steps replies) → get old t ≡ Some view → (told cmp t steps replies ≡ (alone answer view (meeting context (own cmp t steps))).0) × (get new t ≡ Some (alone answer view (meeting context (own cmp t steps))).1)
-  run_alone t context old new steps replies view run steady fine here =
-      let all = run_met t old new steps replies view run fine here in
-      (all.0 ∙ ap (λ asked. (alone answer view asked).0) steady, all.1 ∙ ap (λ asked. Some (alone answer view asked).1) steady)
-
   -- two runs in which a tenant meets and asks the same
   pub runs_met_agree : (t : Tenant) (old new : FinMap cmp View) (steps : List (Event Tenant Ask HostAsk)) (replies : List Reply) (old2 new2 : FinMap cmp View) (steps2 : List (Event Tenant Ask HostAsk)) (replies2 : List Reply) (run : Explains cmp meets answer unknown is_fault HostSays old steps replies new) → AreFine is_fault (told cmp t steps replies) → (run2 : Explains cmp meets answer unknown is_fault HostSays old2 steps2 replies2 new2) → AreFine is_fault (told cmp t steps2 replies2) → get old t ≡ get old2 t
       → met cmp meets answer unknown is_fault HostSays t old steps replies new run ≡ met cmp meets answer unknown is_fault HostSays t old2 steps2 replies2 new2 run2 → (told cmp t steps replies ≡ told cmp t steps2 replies2) × (get new t ≡ get new2 t)
@@ -112,12 +105,6 @@ module _ {Tenant View Context Ask HostAsk Reply : Type 0} (cmp : Tenant → Tena
       let joined : seen answer unknown (get old t) (met cmp meets answer unknown is_fault HostSays t old steps replies new run) ≡ seen answer unknown (get old2 t) (met cmp meets answer unknown is_fault HostSays t old2 steps2 replies2 new2 run2) = λ i. seen answer unknown (agree i) (same i) in
       (one.0 ∙ (ap (λ (p : List Reply × Option View). p.0) joined ∙ sym two.0), one.1 ∙ (ap (λ (p : List Reply × Option View). p.1) joined ∙ sym two.1))
 
-  -- and where it meets one and the same beside each request, and asks the same
-  pub runs_agree : (t : Tenant) (context : Context) (old new : FinMap cmp View) (steps : List (Event Tenant Ask HostAsk)) (replies : List Reply) (old2 new2 : FinMap cmp View) (steps2 : List (Event Tenant Ask HostAsk)) (replies2 : List Reply) (run : Explains cmp meets answer unknown is_fault HostSays old steps replies new) → AreFine is_fault (told cmp t steps replies) → (run2 : Explains cmp meets answer unknown is_fault HostSays old2 steps2 replies2 new2) → AreFine is_fault (told cmp t steps2 replies2) → get old t ≡ get old2 t → own cmp t steps ≡ own cmp t steps2
-      → IsSteady cmp meets answer unknown is_fault HostSays t context old steps replies new run → IsSteady cmp meets answer unknown is_fault HostSays t context old2 steps2 replies2 new2 run2 → (told cmp t steps replies ≡ told cmp t steps2 replies2) × (get new t ≡ get new2 t)
-  runs_agree t context old new steps replies old2 new2 steps2 replies2 run fine run2 fine2 agree same steady steady2 =
-      runs_met_agree t old new steps replies old2 new2 steps2 replies2 run fine run2 fine2 agree (steady ∙ ap (meeting context) same ∙ sym steady2)
-
   -- what no step of a run changes for a tenant, it meets beside each request
   abbrev pub StaysFor : Tenant → (old : FinMap cmp View) (steps : List (Event Tenant Ask HostAsk)) (replies : List Reply) (new : FinMap cmp View) → Explains cmp meets answer unknown is_fault HostSays old steps replies new → Type 0
   StaysFor t old [] [] new run = ⊤
@@ -125,7 +112,8 @@ module _ {Tenant View Context Ask HostAsk Reply : Type 0} (cmp : Tenant → Tena
   StaysFor t old (step ∷ steps) [] new run = ⊤
   StaysFor t old (step ∷ steps) (reply ∷ replies) new run = (meets run.0 t ≡ meets old t) × StaysFor t run.0 steps replies new run.2
 
-  pub steady : (exact : IsAntisymmetric cmp) (t : Tenant) (old new : FinMap cmp View) (steps : List (Event Tenant Ask HostAsk)) (replies : List Reply) (context : Context) (run : Explains cmp meets answer unknown is_fault HostSays old steps replies new) → meets old t ≡ context → StaysFor t old steps replies new run → IsSteady cmp meets answer unknown is_fault HostSays t context old steps replies new run
+  pub steady : (exact : IsAntisymmetric cmp) (t : Tenant) (old new : FinMap cmp View) (steps : List (Event Tenant Ask HostAsk)) (replies : List Reply) (context : Context) (run : Explains cmp meets answer unknown is_fault HostSays old steps replies new) → meets old t ≡ context → StaysFor t old steps replies new run
+      → met cmp meets answer unknown is_fault HostSays t old steps replies new run ≡ meeting context (own cmp t steps)
   steady exact t old new [] [] context run is stays = refl
   steady exact t old new [] (reply ∷ replies) context run is stays = absurd run
   steady exact t old new (Asks u ask ∷ steps) [] context run is stays = absurd run
@@ -141,14 +129,6 @@ module _ {Tenant View Context Ask HostAsk Reply : Type 0} (cmp : Tenant → Tena
       by true tied rest =
           let here : meets old u ≡ context = ap (λ k. meets old k) (sym (exact t u (is_equal _ tied))) ∙ is in
           ap (λ c. (c, ask) ∷ behind) here ∙ ap (λ asked. (context, ask) ∷ asked) rest
-
-  -- where no step of a run is such as to change it
-  pub stays_by : (t : Tenant) (names : Event Tenant Ask HostAsk → Bool) → ((old new : FinMap cmp View) (step : Event Tenant Ask HostAsk) (reply : Reply) → Steps cmp meets answer unknown is_fault HostSays old step reply new → names step ≡ false → meets new t ≡ meets old t)
-      → (old new : FinMap cmp View) (steps : List (Event Tenant Ask HostAsk)) (replies : List Reply) (run : Explains cmp meets answer unknown is_fault HostSays old steps replies new) → AllByRecursion (λ step. names step ≡ false) steps → StaysFor t old steps replies new run
-  stays_by t names keeps old new [] [] run none = tt
-  stays_by t names keeps old new [] (reply ∷ replies) run none = tt
-  stays_by t names keeps old new (step ∷ steps) [] run none = tt
-  stays_by t names keeps old new (step ∷ steps) (reply ∷ replies) run none = (keeps old run.0 step reply run.1 none.0, stays_by t names keeps run.0 new steps replies run.2 none.1)
 
   -- where no answer is a host fault, what a step leaves is settled by its reply
   one_left : ((context : Context) (view : View) (ask : Ask) → is_fault (answer context view ask).0 ≡ false) → is_fault unknown ≡ false
@@ -166,7 +146,22 @@ module _ {Tenant View Context Ask HostAsk Reply : Type 0} (cmp : Tenant → Tena
   one_left fine known old new new2 (Asks u ask) reply (Faulted bad stays) (Unknown none told stays2) = stays ∙ sym stays2
   one_left fine known old new new2 (Asks u ask) reply (Faulted bad stays) (Faulted bad2 stays2) = stays ∙ sym stays2
 
-  -- so what a tenant meets along a run is settled by the first world, the steps and the replies, whatever worlds lie between
+  -- also where the first worlds are two that are equal
+  pub one_next : ((context : Context) (view : View) (ask : Ask) → is_fault (answer context view ask).0 ≡ false) → is_fault unknown ≡ false
+      → (old old2 new new2 : FinMap cmp View) (step : Event Tenant Ask HostAsk) (reply : Reply) → old ≡ old2 → Steps cmp meets answer unknown is_fault HostSays old step reply new → Steps cmp meets answer unknown is_fault HostSays old2 step reply new2 → new ≡ new2
+  one_next fine known old old2 new new2 step reply same one two =
+      one_left fine known old new new2 step reply one (subst (λ w. Steps cmp meets answer unknown is_fault HostSays w step reply new2) (sym same) two)
+
+  -- so the last world is settled by the first one, the steps and the replies
+  pub one_last : ((context : Context) (view : View) (ask : Ask) → is_fault (answer context view ask).0 ≡ false) → is_fault unknown ≡ false
+      → (old old2 new new2 : FinMap cmp View) (steps : List (Event Tenant Ask HostAsk)) (replies : List Reply) → old ≡ old2 → Explains cmp meets answer unknown is_fault HostSays old steps replies new → Explains cmp meets answer unknown is_fault HostSays old2 steps replies new2 → new ≡ new2
+  one_last fine known old old2 new new2 [] [] same run run2 = run ∙ (same ∙ sym run2)
+  one_last fine known old old2 new new2 [] (reply ∷ replies) same run run2 = absurd run
+  one_last fine known old old2 new new2 (step ∷ steps) [] same run run2 = absurd run
+  one_last fine known old old2 new new2 (step ∷ steps) (reply ∷ replies) same run run2 =
+      one_last fine known run.0 run2.0 new new2 steps replies (one_next fine known old old2 run.0 run2.0 step reply same run.1 run2.1) run.2 run2.2
+
+  -- and so is what a tenant meets along the run, whatever worlds lie between
   pub one_met : ((context : Context) (view : View) (ask : Ask) → is_fault (answer context view ask).0 ≡ false) → is_fault unknown ≡ false
       → (t : Tenant) (old old2 new new2 : FinMap cmp View) (steps : List (Event Tenant Ask HostAsk)) (replies : List Reply) → old ≡ old2 → (run : Explains cmp meets answer unknown is_fault HostSays old steps replies new) (run2 : Explains cmp meets answer unknown is_fault HostSays old2 steps replies new2) → met cmp meets answer unknown is_fault HostSays t old steps replies new run ≡ met cmp meets answer unknown is_fault HostSays t old2 steps replies new2 run2
   one_met fine known t old old2 new new2 [] [] same run run2 = refl
@@ -174,7 +169,7 @@ module _ {Tenant View Context Ask HostAsk Reply : Type 0} (cmp : Tenant → Tena
   one_met fine known t old old2 new new2 (Asks u ask ∷ steps) [] same run run2 = refl
   one_met fine known t old old2 new new2 (HostAsks ask ∷ steps) [] same run run2 = refl
   one_met fine known t old old2 new new2 (HostAsks ask ∷ steps) (reply ∷ replies) same run run2 =
-      one_met fine known t run.0 run2.0 new new2 steps replies (one_left fine known old run.0 run2.0 (HostAsks ask) reply run.1 (subst (λ w. Steps cmp meets answer unknown is_fault HostSays w (HostAsks ask) reply run2.0) (sym same) run2.1)) run.2 run2.2
+      one_met fine known t run.0 run2.0 new new2 steps replies (one_next fine known old old2 run.0 run2.0 (HostAsks ask) reply same run.1 run2.1) run.2 run2.2
   one_met fine known t old old2 new new2 (Asks u ask ∷ steps) (reply ∷ replies) same run run2 =
-      let rest = one_met fine known t run.0 run2.0 new new2 steps replies (one_left fine known old run.0 run2.0 (Asks u ask) reply run.1 (subst (λ w. Steps cmp meets answer unknown is_fault HostSays w (Asks u ask) reply run2.0) (sym same) run2.1)) run.2 run2.2 in
+      let rest = one_met fine known t run.0 run2.0 new new2 steps replies (one_next fine known old old2 run.0 run2.0 (Asks u ask) reply same run.1 run2.1) run.2 run2.2 in
       λ i. cond (eq_by_cmp cmp t u) ((meets (same i) u, ask) ∷ rest i) (rest i)

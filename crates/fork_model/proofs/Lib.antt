@@ -23,6 +23,7 @@ pub mod ProvenanceLemmas
 pub mod PushLemmas
 pub mod Refusals
 pub mod Rows
+pub mod RunLemmas
 pub mod SeenLemmas
 pub mod SendableLemmas
 pub mod SentLemmas

@@ -7,7 +7,7 @@ use Rattle.std.specs.Ordering.{eq_by_cmp, is_eq, ordering_then}
 use Rattle.std.specs.Option.{option_and_then, option_or}
 use Rattle.std.specs.List.{AllByRecursion, flat_map}
 use Rattle.std.specs.List.Sorted.{IsStrictlySortedBy}
-use Rattle.std.specs.FinMap.{entries, find, get, get-entries, get-from_entries, get-insert, get-retain_keys, insert, keys, same_map}
+use Rattle.std.specs.FinMap.{empty, entries, find, get, get-empty, get-entries, get-from_entries, get-insert, get-retain_keys, insert, keys, same_map}
 use Rattle.std.proofs.lemmas.Cmp.{tied_itself}
 use Rattle.git_name.specs.Name.{name_cmp}
 use Rattle.git_name.specs.Same.{same_name}
@@ -64,7 +64,7 @@ find_given receiver giver who word (offer ∷ offers) b tied all =
     let rest = find_given receiver giver who word offers b tied all.1 in
     let here : eq_by_cmp pair_cmp (who, word) (giver, offer.0.1) ≡ (b && eq_by_cmp name_cmp word offer.0.1) = both_equal (name_cmp who giver) (name_cmp word offer.0.1) ∙ ap (λ t. t && eq_by_cmp name_cmp word offer.0.1) tied in
     let there : eq_by_cmp pair_cmp (receiver, word) offer.0 ≡ eq_by_cmp name_cmp word offer.0.1 =
-        both_equal (name_cmp receiver offer.0.0) (name_cmp word offer.0.1) ∙ ap (λ t. t && eq_by_cmp name_cmp word offer.0.1) (ap (λ n. is_eq (name_cmp receiver n)) all.0 ∙ ap is_eq (tied_itself name_total receiver)) in
+    both_equal (name_cmp receiver offer.0.0) (name_cmp word offer.0.1) ∙ ap (λ t. t && eq_by_cmp name_cmp word offer.0.1) (ap (λ n. is_eq (name_cmp receiver n)) all.0 ∙ ap is_eq (tied_itself name_total receiver)) in
     ap (λ t. cond t (Some offer.1) (find pair_cmp (who, word) (map (λ o. ((giver, o.0.1), o.1)) offers))) here
     ∙ (by b (eq_by_cmp name_cmp word offer.0.1) (find pair_cmp (who, word) (map (λ o. ((giver, o.0.1), o.1)) offers)) (find pair_cmp (receiver, word) offers) (Some offer.1) rest
     ∙ ap (λ t. cond b (cond t (Some offer.1) (find pair_cmp (receiver, word) offers)) None) (sym there))
@@ -241,17 +241,27 @@ made_still context view giver tenant word AsksUse apart = ap (λ (made : Offers)
 made_still context view giver tenant word Prunes apart = ap (λ (made : Offers). get made (tenant, word)) (made_answer context view Prunes)
 made_still context view giver tenant word NoRequest apart = ap (λ (made : Offers). get made (tenant, word)) (made_answer context view NoRequest)
 
--- where a world has another view in a giver's place, which offers a tenant the same, the tenant is offered the same
-same_offered : (world : World) (giver tenant : List ℕ) (view after : View) → get world giver ≡ Some view → ((word : List ℕ) → get after.made (tenant, word) ≡ get view.made (tenant, word)) → offered_to (insert world giver after) tenant ≡ offered_to world tenant
-same_offered world giver tenant view after here same =
+-- where a world gets a view in a giver's place which offers a tenant what that one was offered from there, the tenant is offered the same
+set_offered : (world : World) (giver tenant : List ℕ) (after : View) → ((word : List ℕ) → get after.made (tenant, word) ≡ option_and_then (λ (view : View). get view.made (tenant, word)) (get world giver)) → offered_to (insert world giver after) tenant ≡ offered_to world tenant
+set_offered world giver tenant after same =
     same_map pair_total pair_exact (offered_to (insert world giver after) tenant) (offered_to world tenant) (λ key.
     get_offered (insert world giver after) tenant key.0 key.1
     ∙ (ap (option_and_then (λ (v : View). get v.made (tenant, key.1))) (get-insert name_total world giver after key.0)
     ∙ (by key.1 key.0 (eq_by_cmp name_cmp key.0 giver) refl ∙ sym (get_offered world tenant key.0 key.1))))
   where
     by : (word who : List ℕ) (b : Bool) → eq_by_cmp name_cmp who giver ≡ b → option_and_then (λ (v : View). get v.made (tenant, word)) (cond b (Some after) (get world who)) ≡ option_and_then (λ (v : View). get v.made (tenant, word)) (get world who)
-    by word who true tied = same word ∙ sym (ap (option_and_then (λ (v : View). get v.made (tenant, word))) (ap (get world) (name_exact who giver (is_equal (name_cmp who giver) tied)) ∙ here))
+    by word who true tied = same word ∙ sym (ap (option_and_then (λ (v : View). get v.made (tenant, word))) (ap (get world) (name_exact who giver (is_equal (name_cmp who giver) tied))))
     by word who false apart = refl
+
+-- so it is where another view stands there, which offers it the same
+same_offered : (world : World) (giver tenant : List ℕ) (view after : View) → get world giver ≡ Some view → ((word : List ℕ) → get after.made (tenant, word) ≡ get view.made (tenant, word)) → offered_to (insert world giver after) tenant ≡ offered_to world tenant
+same_offered world giver tenant view after here same = set_offered world giver tenant after (λ word. same word ∙ sym (ap (option_and_then (λ (v : View). get v.made (tenant, word))) here))
+
+-- and where none stood there, and the new one has made no offer
+pub added_offered : (world : World) (name receiver : List ℕ) (view : View) → get world name ≡ None → view.made ≡ empty → offered_to (insert world name view) receiver ≡ offered_to world receiver
+added_offered world name receiver view lacks none =
+    set_offered world name receiver view (λ word.
+    ap (λ (made : Offers). get made (receiver, word)) none ∙ (get-empty pair_cmp (receiver, word) ∙ sym (ap (option_and_then (λ (v : View). get v.made (receiver, word))) lacks)))
 
 -- a step that does not deal with a tenant leaves what it meets
 pub met_still : (tenant : List ℕ) (old new : World) (event : Event) (reply : Reply) → Steps old event reply new → deals_with tenant event reply ≡ false → met_by new tenant ≡ met_by old tenant

@@ -9,7 +9,7 @@ use Rattle.fork_reach.specs.Reach.{IsReached, Root, Next, linked_names, links_of
 use Rattle.fork_reach.specs.Source.{Objects}
 use Rattle.fork_reach.proofs.ReachLemmas.{reached_led_to}
 use Rattle.fork_model.specs.Sound.{IsClosed}
-use Rattle.fork_model.specs.Transfer.{AreAlike, HasPrerequisites}
+use Rattle.fork_model.specs.Transfer.{HasPrerequisites, HoldTheSame}
 use Rattle.fork_model.proofs.KeptLemmas.{there_by_link}
 use Rattle.fork_model.proofs.TransferLemmas.{none_there}
 
@@ -18,7 +18,7 @@ none_linked name at = omega arith
 
 -- what the excluded names reach is there, step by step
 led_there : (receiver sender : Objects) (excluded : List (List ℕ)) → IsClosed receiver
-    → AreAlike sender receiver
+    → HoldTheSame sender receiver
     → ((name : List ℕ) → Contains excluded name → contains_key sender name ≡ true → contains_key receiver name ≡ true)
     → (name : List ℕ) → IsReached (linked_names sender) sender excluded name → contains_key receiver name ≡ true
 led_there receiver sender excluded closed same holds _ (Root name root there) = holds name root there
@@ -35,7 +35,7 @@ led_there receiver sender excluded closed same holds _ (Next before name reached
 
 -- so it has the prerequisites
 pub prerequisites : (receiver sender : Objects) (excluded : List (List ℕ)) → IsClosed receiver
-    → AreAlike sender receiver
+    → HoldTheSame sender receiver
     → ((name : List ℕ) → Contains excluded name → contains_key sender name ≡ true → contains_key receiver name ≡ true)
     → HasPrerequisites receiver sender excluded
 prerequisites receiver sender excluded closed same holds = record {

@@ -14,7 +14,7 @@ use Rattle.fork_reach.specs.Source.{Objects}
 use Rattle.fork_reach.proofs.KeptObjects.{kept_all}
 use Rattle.fork_reach.proofs.ReachLemmas.{reached_there}
 use Rattle.fork_model.specs.Sound.{IsRight}
-use Rattle.fork_model.specs.Transfer.{AreAlike, HasPrerequisites, fetched_objects, received}
+use Rattle.fork_model.specs.Transfer.{HasPrerequisites, HoldTheSame, fetched_objects, received}
 use Rattle.fork_model.specs.View.{View}
 use Rattle.fork_model.proofs.ClosedLemmas.{each_of}
 use Rattle.fork_model.proofs.FetchedLemmas.{each_value}
@@ -47,7 +47,7 @@ came objects (more ∷ sent) object (suc k, few, is) = came (with_object objects
 
 -- what is found under a name of the sender is the sender's object, where the receiver's are the same
 found_alike : (receiver sender : Objects) (sent : List Object)
-    → AreAlike sender receiver
+    → HoldTheSame sender receiver
     → AllByRecursion (λ object. get sender (object_name object) ≡ Some object) sent
     → (name : List ℕ) (object other : Object) → get sender name ≡ Some object → get (with_objects receiver sent) name ≡ Some other → other ≡ object
 found_alike receiver sender sent same theirs name object other here found =
@@ -57,7 +57,7 @@ found_alike receiver sender sent same theirs name object other here found =
     ]
 
 some_found : (receiver sender : Objects) (sent : List Object)
-    → AreAlike sender receiver
+    → HoldTheSame sender receiver
     → AllByRecursion (λ object. get sender (object_name object) ≡ Some object) sent
     → (name : List ℕ) → contains_key sender name ≡ true → contains_key (with_objects receiver sent) name ≡ true → get (with_objects receiver sent) name ≡ get sender name
 some_found receiver sender sent same theirs name there arrived = by (get sender name) (get (with_objects receiver sent) name) refl refl

@@ -1,14 +1,14 @@
--- What offers disclose to a tenant: what happens to it along a run, and which requests meet an offer.
-use Rattle.std.specs.Prelude.{ℕ, ◌++◌, Bool, true, false, cond, List, [], ◌∷◌, Option, None, Some}
+-- What offers disclose to a tenant: what happens to it along a run, and which requests meet and change offers.
+use Rattle.std.specs.Prelude.{ℕ, ◌++◌, Bool, true, false, cond, List, [], ◌∷◌, Option}
 use Rattle.std.specs.Ordering.{eq_by_cmp}
-use Rattle.std.specs.FinMap.{get, insert, remove}
+use Rattle.std.specs.FinMap.{get}
 use Rattle.git_name.specs.Name.{name_cmp}
 use Rattle.fork_request.specs.Asked.{Ask, AsksOffers, ForksOffer, MakesOffer, Withdraws}
 use Rattle.fork_request.specs.declared.reply.Reply.{Reply}
-use Rattle.fork_model.specs.Context.{Context, offered_to}
-use Rattle.fork_model.specs.Offer.{Offer, Offers, Pair}
+use Rattle.fork_model.specs.Context.{offered_to}
+use Rattle.fork_model.specs.Offer.{Offer, Pair}
 use Rattle.fork_model.specs.Runs
-use Rattle.fork_model.specs.World.{Event, Explains, Meeting, World, deals_with}
+use Rattle.fork_model.specs.World.{Event, Explains, World, deals_with}
 
 -- what happens to a tenant: it asks, or from now on this is offered to it under this key, an offer or nothing
 pub data Happening : Type 0 where
@@ -33,31 +33,14 @@ happenings tenant old (Runs.HostAsks ask ∷ steps) (reply ∷ replies) new run 
 happenings tenant old [] replies new run = []
 happenings tenant old (step ∷ steps) [] new run = []
 
--- with another offer under a key, or none
-abbrev pub with_change : Offers → Pair → Option Offer → Offers
-with_change offers key (Some offer) = insert offers key offer
-with_change offers key None = remove offers key
-
--- what a tenant meets behind what happened, where it met this before
-abbrev pub met_behind : Context → List Happening → Context
-met_behind context [] = context
-met_behind context (Asked ask ∷ more) = met_behind context more
-met_behind context (Changes key offer ∷ more) = met_behind (record context { offered = with_change context.offered key offer }) more
-
--- what it asks, each beside what it meets
-abbrev pub met_along : Context → List Happening → List Meeting
-met_along context [] = []
-met_along context (Asked ask ∷ more) = (context, ask) ∷ met_along context more
-met_along context (Changes key offer ∷ more) = met_along (record context { offered = with_change context.offered key offer }) more
-
--- whether a request changes what its tenant has offered
-abbrev pub changes_offers : Ask → Bool
-changes_offers (MakesOffer repository receiver) = true
-changes_offers (Withdraws repository receiver) = true
-changes_offers ask = false
-
 -- whether a request looks at what its tenant is offered
 abbrev pub looks_at_offers : Ask → Bool
 looks_at_offers AsksOffers = true
 looks_at_offers (ForksOffer giver repository copy) = true
 looks_at_offers ask = false
+
+-- whether a request may change the offers that its tenant has made
+abbrev pub changes_offers : Ask → Bool
+changes_offers (MakesOffer repository receiver) = true
+changes_offers (Withdraws repository receiver) = true
+changes_offers ask = false

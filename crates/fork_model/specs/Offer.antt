@@ -1,13 +1,12 @@
 -- Offers between tenants (own): a repository as it was when it was offered, and the objects that its references reach.
-use Rattle.std.specs.Prelude.{ℕ, List, refl}
+use Rattle.std.specs.Prelude.{ℕ, List}
 use Rattle.std.specs.declared.cmp.Ordering.{Ordering}
 use Rattle.std.specs.Ordering.{ordering_then}
-use Rattle.std.specs.Coded.{Coded, code_by, coded×}
-use Rattle.std.specs.FinMap.{FinMap, code, retain_keys, values}
+use Rattle.std.specs.Coded.{Coded, coded×}
+use Rattle.std.specs.FinMap.{FinMap, retain_keys, values}
 use Rattle.git_name.specs.Name.{name_cmp}
 use Rattle.git_name.specs.Text.{bytes_code}
-use Rattle.git_name.specs.contracts.sealed.Sealed as sealed
-use Rattle.git_reftx.specs.Repository.{Repository, repository_code}
+use Rattle.git_reftx.specs.Repository.{Repository}
 use Rattle.git_reftx.specs.Transaction.{References}
 use Rattle.fork_reach.specs.Reach.{is_reached, linked_names}
 use Rattle.fork_reach.specs.Source.{Objects}
@@ -36,11 +35,6 @@ reached_by objects references = retain_keys objects (is_reached (linked_names ob
 abbrev pub offered : Objects → Repository → Offer
 offered objects repository = record { repository = repository; objects = reached_by objects repository.references }
 
--- pairs of names and offers have codes, so that they can be part of a model's value
+-- pairs of names have a code, so that they can be keys in a model's value
 abbrev pub pair_code : Coded Pair
 pair_code = coded× bytes_code bytes_code
-
-abbrev pub offer_code : Coded Offer
-offer_code =
-    code_by (Repository × Objects) (coded× repository_code (code bytes_code sealed.the_row.coded))
-    (λ o. (o.repository, o.objects)) (λ p. record { repository = p.0; objects = p.1 }) (λ _. refl)

@@ -94,14 +94,14 @@ abbrev pub MayTake : Context → Objects → Type 0
 MayTake context objects = (key : Pair) (offer : Offer) → get context.offered key ≡ Some offer → IsBranch offer.repository.head × AreReferences (joined objects offer.objects) offer.repository.references
 
 -- objects that stand under their own names, are in their grammars, and link to what is there
-pub record AreSound (objects : Objects) : Type 0 where
+pub record AreSoundObjects (objects : Objects) : Type 0 where
   pub named : IsNamed objects
   pub right : AreRight objects
   pub closed : IsClosed objects
 
 -- and what is seen then is sound
 abbrev pub IsSoundBeside : Context → Objects → Type 0
-IsSoundBeside context objects = (key : Pair) (offer : Offer) → get context.offered key ≡ Some offer → AreSound (joined objects offer.objects)
+IsSoundBeside context objects = (key : Pair) (offer : Offer) → get context.offered key ≡ Some offer → AreSoundObjects (joined objects offer.objects)
 
 -- no offer that a tenant has made is to itself
 abbrev pub AreToOthers : List ℕ → View → Type 0

@@ -43,13 +43,13 @@ abbrev pub fetched_objects : Objects → List (List ℕ) → List (List ℕ) →
 fetched_objects objects wanted excluded = values (beyond (linked_names objects) objects wanted excluded)
 
 -- under a name that both hold stands one object: names are hashes, so no two of one name are known
-abbrev pub AreAlike : Objects → Objects → Type 0
-AreAlike sender receiver = (name : List ℕ) (object other : Object) → get sender name ≡ Some object → get receiver name ≡ Some other → object ≡ other
+abbrev pub HoldTheSame : Objects → Objects → Type 0
+HoldTheSame sender receiver = (name : List ℕ) (object other : Object) → get sender name ≡ Some object → get receiver name ≡ Some other → object ≡ other
 
 -- the receiver holds what the excluded names reach, and holds it as the sender does
 pub record HasPrerequisites (receiver sender : Objects) (excluded : List (List ℕ)) : Type 0 where
   pub reached : (name : List ℕ) → is_reached (linked_names sender) sender excluded name ≡ true → contains_key receiver name ≡ true
-  pub same : AreAlike sender receiver
+  pub same : HoldTheSame sender receiver
 
 -- the receiver's objects and those that it fetched
 abbrev pub received : Objects → Objects → List (List ℕ) → List (List ℕ) → Objects

@@ -1,11 +1,12 @@
 // What offers disclose, and to which requests.
-ghost use Rattle.std.specs.Prelude.{◌≡◌, ◌++◌, codes, false, ℕ, List};
-ghost use Rattle.std.specs.FinMap.{get, keys};
-ghost use Rattle.fork_request.specs.Asked.{Ask, AsksOffers, ForksOffer};
+ghost use Rattle.std.specs.Prelude.{◌≡◌, ◌≢◌, false, None, ℕ, List};
+ghost use Rattle.std.specs.FinMap.{empty, get, insert, keys};
+ghost use Rattle.fork_request.specs.Asked.{Ask, AsksOffers, ForksOffer, MakesOffer, Withdraws};
 ghost use Rattle.fork_request.specs.declared.reply.Reply.{Reply};
 ghost use Rattle.fork_model.specs.Answer.{answer};
-ghost use Rattle.fork_model.specs.Context.{Context};
-ghost use Rattle.fork_model.specs.Disclosure.{happenings, looks_at_offers};
+ghost use Rattle.fork_model.specs.Context.{Context, offered_to};
+ghost use Rattle.fork_model.specs.Disclosure.{changes_offers, happenings, looks_at_offers};
+ghost use Rattle.fork_model.specs.Offer.{Pair};
 ghost use Rattle.fork_model.specs.View.{View};
 ghost use Rattle.fork_model.specs.World.{Agree, Event, Explains, IsUnfaulted, World, met, told};
 
@@ -49,4 +50,21 @@ pub fn offers_are_met_by_two_requests()
     ensures listed { (context other : Context) (view : View) → keys context.offered ≡ keys other.offered → answer context view AsksOffers ≡ answer other view AsksOffers }
     ensures forked { (context other : Context) (view : View) (giver repository copy : List ℕ) → get context.offered (giver, repository) ≡ get other.offered (giver, repository)
         → answer context view (ForksOffer giver repository copy) ≡ answer other view (ForksOffer giver repository copy) }
+{}
+
+/// `offer` and `withdraw` alone change the offers that a tenant has made: every other answer leaves
+/// them. And each of the two leaves those to other receivers and of other repositories.
+pub fn offers_are_changed_by_two_requests()
+    ensures others { (context : Context) (view : View) (ask : Ask) → changes_offers ask ≡ false → (answer context view ask).1.made ≡ view.made }
+    ensures made { (context : Context) (view : View) (repository receiver : List ℕ) (key : Pair) → key ≢ (receiver, repository)
+        → get (answer context view (MakesOffer repository receiver)).1.made key ≡ get view.made key }
+    ensures withdrawn { (context : Context) (view : View) (repository receiver : List ℕ) (key : Pair) → key ≢ (receiver, repository)
+        → get (answer context view (Withdraws repository receiver)).1.made key ≡ get view.made key }
+{}
+
+/// A tenant that is added, and has made no offer, changes nothing of what is offered. So the others
+/// are offered what they were; and the new one meets from the start what was offered to its name before.
+pub fn a_new_tenant_changes_no_offer()
+    ensures { (world : World) (name receiver : List ℕ) (view : View) → get world name ≡ None → view.made ≡ empty
+        → offered_to (insert world name view) receiver ≡ offered_to world receiver }
 {}

@@ -8,6 +8,7 @@ mod disclosure;
 mod limits;
 mod missing;
 mod provenance;
+mod runs;
 mod transfer;
 mod uploads;
 
@@ -18,13 +19,17 @@ ghost use Rattle.fork_model.specs.View.{View};
 ghost use Rattle.fork_model.specs.World.{World, Event, Explains, IsUnfaulted, LeavesOffers, Agree, own, told, alone, meeting, met};
 ghost use Rattle.fork_model.specs.Context.{met_by};
 
-pub use crate::disclosure::{offers_are_met_by_two_requests, offers_disclose_what_they_hold};
+pub use crate::disclosure::{
+    a_new_tenant_changes_no_offer, offers_are_changed_by_two_requests,
+    offers_are_met_by_two_requests, offers_disclose_what_they_hold,
+};
 pub use crate::limits::{MAX_ITEMS, MAX_OFFERS, MAX_REPOSITORIES, MAX_TENANTS};
 pub use crate::missing::what_is_lacking_is_missing;
 pub use crate::provenance::{
     an_upload_is_all_its_parts, what_is_seen_was_seen_or_sent, what_runs_show_was_seen_or_sent,
     what_was_sent_was_seen,
 };
+pub use crate::runs::a_run_is_settled_by_its_replies;
 pub use crate::transfer::{
     answers_keep_views_sendable, excluded_objects_are_enough, what_is_fetched_can_be_pushed,
     what_is_fetched_is_a_stream, what_is_fetched_is_enough, what_is_fetched_is_taken,

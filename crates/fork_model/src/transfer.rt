@@ -18,7 +18,7 @@ ghost use Rattle.fork_request.specs.declared.reply.Reply.TheVariants.{Done};
 ghost use Rattle.fork_model.specs.Answer.{answer, pushed};
 ghost use Rattle.fork_model.specs.Context.{Context};
 ghost use Rattle.fork_model.specs.Sound.{AreReferences, IsClosed, IsOrderly, IsRight};
-ghost use Rattle.fork_model.specs.Transfer.{AreAlike, AreSendable, AreSendableOffers, HasPrerequisites, IsSendable, IsSendableWorld, fetched_objects, received, within_quota};
+ghost use Rattle.fork_model.specs.Transfer.{AreSendable, AreSendableOffers, HasPrerequisites, HoldTheSame, IsSendable, IsSendableWorld, fetched_objects, received, within_quota};
 ghost use Rattle.fork_model.specs.View.{View};
 ghost use Rattle.fork_model.specs.World.{World, Event, Explains};
 
@@ -64,7 +64,7 @@ pub fn what_is_fetched_can_be_pushed()
 /// A receiver whose objects link to what is there has the prerequisites as soon as it has the
 /// excluded objects themselves.
 pub fn excluded_objects_are_enough()
-    ensures { (receiver sender : Objects) (excluded : List (List ℕ)) → IsClosed receiver → AreAlike sender receiver
+    ensures { (receiver sender : Objects) (excluded : List (List ℕ)) → IsClosed receiver → HoldTheSame sender receiver
         → ((name : List ℕ) → Contains excluded name → contains_key sender name ≡ true → contains_key receiver name ≡ true)
         → HasPrerequisites receiver sender excluded }
 {}

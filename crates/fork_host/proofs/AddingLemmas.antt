@@ -1,5 +1,5 @@
 -- When a tenant is added.
-use Rattle.std.proofs.Common.{◌≡◌, ℕ, ◌+◌, ◌<◌, ◌≤◌, Bool, true, false, cond, List, Some, None, sym, ap, subst, ◌∙◌, arith, is_some, inl, inr, refl, ◌⊎◌}
+use Rattle.std.proofs.Common.{◌≡◌, ℕ, ◌+◌, ◌<◌, ◌≤◌, Bool, true, false, cond, List, Option, Some, None, sym, ap, subst, ◌∙◌, arith, is_some, inl, inr, refl, ◌⊎◌}
 use Rattle.std.specs.Prelude.{nat_le, nat_lt}
 use Rattle.std.proofs.lemmas.Bool.Decides.{nat_tests}
 use Rattle.std.specs.Ordering.{eq_by_cmp}
@@ -25,6 +25,14 @@ use Rattle.fork_host.specs.declared.add_error.AddError.TheVariants.{There, TooMa
 -- whether the world has the tenant is whether the entries have it
 pub known : (w : World) (es : List (List ℕ × View)) (t : List ℕ) (b : Bool) → from_entries es ≡ w → b ≡ is_some (lookup (is_at (name_cmp t)) es) → contains_key w t ≡ b
 known w es t b is found = ap is_some (get_is w es t is) ∙ sym found
+
+-- a tenant that the world lacks has no view there
+pub none_there : (w : World) (t : List ℕ) → contains_key w t ≡ false → get w t ≡ None
+none_there w t absent = by (get w t) absent
+  where
+    by : (o : Option View) → is_some o ≡ false → o ≡ None
+    by None is = refl
+    by (Some view) is = absurd (cc)
 
 pub refused_there : (w : World) (t : List ℕ) (limit : ℕ) → contains_key w t ≡ true → refusal_to_add w t limit ≡ Some There
 refused_there w t limit here = ap (λ b. cond b (Some There) (cond (nat_le 64 (len w)) (Some TooMany) (cond (nat_lt 1099511627776 limit) (Some Limit) None))) here

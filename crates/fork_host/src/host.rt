@@ -4,7 +4,7 @@ ghost use Rattle.fork_host.specs.Uploads.{upload_at, uploads_of};
 ghost use Rattle.std.specs.FinMap as map;
 ghost use Rattle.fork_request.specs.Asked.{ask_of};
 ghost use Rattle.git_name.specs.Object.{Object};
-ghost use Rattle.fork_model.specs.Context.{met_by};
+ghost use Rattle.fork_model.specs.Context.{met_by, offered_to};
 ghost use Rattle.fork_model.specs.Provenance.{WasOffered, WasSent};
 ghost use Rattle.fork_model.specs.Runs.{Asks, HostAsks};
 ghost use Rattle.fork_model.specs.Sound.{IsOrderlyWorld, IsRightWorld};
@@ -159,6 +159,8 @@ impl<S: LooseFiles> Host<S> {
     ) -> Result<(), AddError>
         ensures ok { OnOk result (world_of self.new ≡ map.insert (world_of self.old) name (new_view limit)) }
         ensures free { OnOk result (refusal_to_add (world_of self.old) name limit ≡ None) }
+        // The others are offered what they were, and this one what was offered to its name before.
+        ensures offered { OnOk result ((tenant : List ℕ) → offered_to (world_of self.new) tenant ≡ offered_to (world_of self.old) tenant) }
         ensures cause { IfErr result (λ error. error ≢ AddError.Memory → refusal_to_add (world_of self.old) name limit ≡ Some error) }
         ensures err { OnErr result (self.new ≡ self.old) }
         ensures trusted { Trusted self.old → Trusted self.new }

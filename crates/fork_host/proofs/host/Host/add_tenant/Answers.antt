@@ -1,8 +1,10 @@
-use Rattle.std.proofs.Common.{◌<◌, ap, sym, subst, ◌∙◌, arith}
+use Rattle.std.proofs.Common.{◌<◌, ap, refl, sym, subst, ◌∙◌, arith}
 use Rattle.std.specs.FinMap as map
+use Rattle.fork_model.specs.Context.{offered_to}
+use Rattle.fork_model.proofs.OfferedLemmas.{added_offered}
 use Rattle.fork_host.specs.Adding.{new_view}
 use Rattle.fork_host.specs.Shown.{IsWhole, state_of, world_of}
-use Rattle.fork_host.proofs.AddingLemmas.{not_refused, refused_limit, refused_many, refused_there}
+use Rattle.fork_host.proofs.AddingLemmas.{none_there, not_refused, refused_limit, refused_many, refused_there}
 use Rattle.fork_host.proofs.WholeLemmas.{same_state, whole_more, world_more}
 use Rattle.fork_host.proofs.WorldLemmas.{known_world, len_world}
 use Rattle.fork_host.proofs.host.Host.add_tenant.Goals as goal
@@ -30,6 +32,13 @@ returns-clause-ok g c =
     let new = state_of c.open_account.new.accounts c.open_account.new.vault in
     world_more old new c.args.name c.args.limit c.self.invariant (sym c.contains.ensures ∙ c.if-contains.false) c.in-Ok.ensures.ok c.in-Ok.ensures.vault
     ∙ ap (λ s. map.insert (world_of s) c.args.name (new_view c.args.limit)) c.self.view_is
+
+pub returns-clause-offered : goal.returns-clause-offered
+returns-clause-offered g c = λ tenant.
+    let world = world_of c.args.self.now in
+    let known = ap (λ s. map.contains_key (world_of s) c.args.name) (sym c.self.view_is) ∙ known_world (state_of c.self.inside.accounts c.self.inside.vault) c.args.name in
+    ap (λ w. offered_to w tenant) (returns-clause-ok g c)
+    ∙ added_offered world c.args.name tenant (new_view c.args.limit) (none_there world c.args.name (known ∙ sym c.contains.ensures ∙ c.if-contains.false)) refl
 
 pub returns-clause-free : goal.returns-clause-free
 returns-clause-free g c =

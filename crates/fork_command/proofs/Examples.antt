@@ -1,7 +1,7 @@
 -- Command lines that are written out, as the definitions compute them.
 use Rattle.std.proofs.Common.{◌≡◌, ℕ, Option, Some, None, List, [], ◌∷◌, codes, option_map, refl}
 use Rattle.clap.specs.Words.{Text, fault_of, first_of, subcommand_of}
-use Rattle.clap.specs.declared.error.kind.ErrorKind.TheVariants.{ArgumentConflict, DisplayHelp, MissingRequiredArgument, MissingSubcommand, UnknownArgument, ValueValidation}
+use Rattle.clap.specs.declared.error.kind.ErrorKind.TheVariants.{ArgumentConflict, DisplayHelp, DisplayVersion, MissingRequiredArgument, MissingSubcommand, UnknownArgument, ValueValidation}
 use Rattle.clap.proofs.OnLiterals.{clap_on_literals}
 use Rattle.fork_command.specs.Command.{connections_given, tenants_given, type_given}
 use Rattle.fork_command.specs.Table.{table_app}
@@ -95,6 +95,10 @@ check_takes_no_tenant = refl
 pub help_is_asked : fault_of table_app (codes "forkhost" ∷ codes "run" ∷ codes "--help" ∷ []) ≡ DisplayHelp ∷ []
 unfolding clap_on_literals table_app
 help_is_asked = refl
+
+pub the_version_is_asked : fault_of table_app (codes "forkhost" ∷ codes "--version" ∷ []) ≡ DisplayVersion ∷ []
+unfolding clap_on_literals table_app
+the_version_is_asked = refl
 
 -- ---- `upgrade`
 pub upgrade_is_asked : option_map {U = Text × Option Text} (λ p. (p.0, first_of (codes "dir") p.1)) (subcommand_of table_app (codes "forkhost" ∷ codes "upgrade" ∷ codes "--dir" ∷ codes "d" ∷ [])) ≡ Some (codes "upgrade", Some (codes "d"))

@@ -2,7 +2,8 @@
 use Rattle.std.specs.Prelude.{◌≡◌, ◌≢◌, ◌⊎◌, ◌≤◌, ℕ, Bool, false, List, [], codes, Option, Some, is_some, option_map, pos, true, unwrap_or}
 use Rattle.std.specs.Str.Parse.{digits_value, without_leading_plus}
 use Rattle.clap.specs.Words.{IsAmong, IsSignedIn, Kinds, Row, Text, all_of, first_of, kind_of, one_of, without_minus}
-use Rattle.clap.specs.declared.error.kind.ErrorKind.TheVariants.{DisplayHelp}
+use Rattle.clap.specs.declared.error.kind.ErrorKind.{ErrorKind}
+use Rattle.clap.specs.declared.error.kind.ErrorKind.TheVariants.{DisplayHelp, DisplayVersion}
 use Rattle.git_name.specs.declared.kind.Kind.{Kind}
 use Rattle.git_name.specs.Kind.{type_word}
 use Rattle.fork_command.specs.declared.command.Command.{Command}
@@ -72,10 +73,14 @@ IsBadType met = (rows : List Row) × (met ≡ Some (codes "hash-object", rows)) 
 abbrev pub IsBadTenant : Option (Text × List Row) → List ℕ → Type 0
 IsBadTenant met word = (rows : List Row) × ((met ≡ Some (codes "run", rows)) ⊎ (met ≡ Some (codes "serve", rows))) × IsFirstBad word (tenants_given rows)
 
+-- words of this kind ask for a text of `clap`'s: its help, or the version
+abbrev pub IsShown : ErrorKind → Type 0
+IsShown kind = (kind ≡ DisplayHelp) ⊎ (kind ≡ DisplayVersion)
+
 -- why the words are refused: `faults` are the kinds of error that `clap` finds in them, none where it takes them
 abbrev pub IsRefused : Kinds → Option (Text × List Row) → CommandError → Type 0
-IsRefused faults met (Help error) = (kind_of error ≡ DisplayHelp) × IsAmong DisplayHelp faults
-IsRefused faults met (Usage error) = (kind_of error ≢ DisplayHelp) × (IsAmong (kind_of error) faults ⊎ ((faults ≡ []) × IsBadType met))
+IsRefused faults met (Help error) = IsShown (kind_of error) × IsAmong (kind_of error) faults
+IsRefused faults met (Usage error) = (IsShown (kind_of error) → ⊥) × (IsAmong (kind_of error) faults ⊎ ((faults ≡ []) × IsBadType met))
 IsRefused faults met (BadTenant word) = (faults ≡ []) × IsBadTenant met word.now
 IsRefused faults met Memory = Unit {0}
 

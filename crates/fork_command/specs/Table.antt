@@ -49,7 +49,7 @@ upgrade_app = folder_app (codes "upgrade")
 
 -- `forkhost` and one of its subcommands
 abbrev pub top_app : App
-top_app = let top = new_app (codes "forkhost") in record top { top = record top.top { subcommand_required = true; disable_help_subcommand = true } }
+top_app = let top = new_app (codes "forkhost") in record top { top = record top.top { subcommand_required = true; disable_help_subcommand = true; has_version = true } }
 
 unfoldable pub table_app : App
 table_app = with_subcommand (with_subcommand (with_subcommand (with_subcommand (with_subcommand top_app hash_object_app.top) run_app.top) serve_app.top) check_app.top) upgrade_app.top

@@ -48,7 +48,7 @@ fn refusal<'a>(error: Error) -> CommandError<'a>
 {
     match error.kind() {
         ErrorKind::OutOfMemory => CommandError::Memory,
-        ErrorKind::DisplayHelp => CommandError::Help(error),
+        ErrorKind::DisplayHelp | ErrorKind::DisplayVersion => CommandError::Help(error),
         _ => CommandError::Usage(error),
     }
 }

@@ -7,6 +7,9 @@ ghost use Rattle.fork_command.specs.Table.{connections_rule, folder_app, hash_ob
 use clap::{Arg, ArgAction, Command, value_parser};
 use std::alloc::{AllocError, Global};
 
+// The version of the program.
+const VERSION: &str = "0.1.0";
+
 fn hash_object<'a>(alloc: Global) -> Result<Command<'a>, AllocError>
     ensures table { IfOk result (λ c. app_of c ≡ hash_object_app) }
     ensures local { IfOk result (λ c. (out-Command c).has_globals ≡ false) }
@@ -115,6 +118,7 @@ pub(crate) fn table<'a>(alloc: Global) -> Result<Command<'a>, AllocError>
     )?;
     let top = Command::new(alloc, "forkhost")
         .about("The core of a Git host for many tenants")
+        .version(VERSION)
         .subcommand_required(true)
         .disable_help_subcommand(true);
     top.subcommand(hash_object(alloc)?)?

@@ -2,8 +2,8 @@
 use Rattle.std.specs.Prelude.{◌≡◌, ℕ, ◌≤◌, List, [], ◌∷◌, ◌++◌, codes, Option, Result, Ok, Err, ⊤}
 use Rattle.std.specs.Io.KnownBytes.{Appends, Keeps}
 use Rattle.clap.specs.Words.{IsAmong, Kinds, Row, Text, fault_of, subcommand_of}
-use Rattle.clap.specs.declared.error.kind.ErrorKind.TheVariants.{DisplayHelp}
-use Rattle.fork_command.specs.Command.{Asks, IsRefused}
+use Rattle.clap.specs.declared.error.kind.ErrorKind.{ErrorKind}
+use Rattle.fork_command.specs.Command.{Asks, IsRefused, IsShown}
 use Rattle.fork_command.specs.Table.{table_app}
 use Rattle.fork_command.specs.declared.command.Command.{Command}
 use Rattle.fork_command.specs.declared.command.Command.TheVariants.{HashObject, Run, Serve, Check, Upgrade}
@@ -84,15 +84,15 @@ pub data IsChecked (kinds : Kinds) (met : Option (Text × List Row)) (input left
 pub data IsWell (kinds : Kinds) (met : Option (Text × List Row)) (input left before after : Option (List ℕ)) : Type 0 where
   -- the words ask for a command, and it was done
   Did : (command : Command) → kinds ≡ [] → Asks met command → IsDone command input before after → IsWell kinds met input left before after
-  -- they ask for help, and it was given
-  Helped : IsAmong DisplayHelp kinds → Keeps input left → (text : List ℕ) → Appends before after text → IsWell kinds met input left before after
+  -- they ask for help or for the version, and it was given
+  Helped : (kind : ErrorKind) → IsShown kind → IsAmong kind kinds → Keeps input left → (text : List ℕ) → Appends before after text → IsWell kinds met input left before after
 
 -- how this fault came
 pub data IsFault (kinds : Kinds) (met : Option (Text × List Row)) (input left before after : Option (List ℕ)) (why : Fault) : Type 0 where
   -- the words ask for a command, and it failed
   Undone : (command : Command) → kinds ≡ [] → Asks met command → IsUndone command input left before after why → IsFault kinds met input left before after why
-  -- they ask for help, which could not be written
-  Unhelped : IsAmong DisplayHelp kinds → Keeps input left → why ≡ fault.Write → IsFault kinds met input left before after why
+  -- they ask for help or for the version, which could not be written
+  Unhelped : (kind : ErrorKind) → IsShown kind → IsAmong kind kinds → Keeps input left → why ≡ fault.Write → IsFault kinds met input left before after why
   -- there was no memory to read the words, or for their help
   Wanting : why ≡ fault.Memory → IsUntouched input left before after → IsFault kinds met input left before after why
 

@@ -11,4 +11,4 @@ returns-in-Ok g c =
 pub returns-in-Ok-help : goal.returns-in-Ok-help
 returns-in-Ok-help g c =
     let help = rw c.in-Err-Help.field-0-is at c.in-Err-Help.ensures.err in
-    Helped help.1 (Keeps-refl _) c.in-Ok-help.ensures.ok.0 c.in-Ok-help.ensures.ok.1
+    Helped _ help.0 help.1 (Keeps-refl _) c.in-Ok-help.ensures.ok.0 c.in-Ok-help.ensures.ok.1

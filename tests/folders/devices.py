@@ -67,6 +67,7 @@ def show_untold(checks: Checks, program, work):
     rows = {
         ("hash-object",): (0, NAME_OF_NOTHING),
         ("--help",): (0, None),
+        ("--version",): (0, b"forkhost 0.1.0\n"),
         ("hash-object", "--type=tag"): (1, b""),
         ("check", "--dir", absent): (1, b""),
         ("run", "--dir", os.path.join(work, "file", "in")): (1, b""),

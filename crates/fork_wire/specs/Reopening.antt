@@ -1,4 +1,4 @@
--- Frames that open uploads again (own): `part` requests, whose pieces are the bytes that came.
+-- Frames that open uploads again (own): `part` requests, whose pieces are bytes of the same upload.
 use Rattle.std.specs.Prelude.{◌≡◌, ℕ, ◌≤◌, All, List, [], ◌∷◌, ◌++◌, Some, codes, length, map}
 use Rattle.std.specs.List.{concat}
 use Rattle.push_stream.specs.Upload.{UploadValue, upload_of}

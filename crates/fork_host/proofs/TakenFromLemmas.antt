@@ -1,7 +1,7 @@
 -- What a tenant comes to see of what a giver sees.
 use Rattle.std.proofs.Common.{◌≡◌, ◌⊎◌, inl, inr, ℕ, Bool, true, false, cond, List, [], Option, None, Some, refl, sym, ap, subst, ◌∙◌, is_some}
 use Rattle.std.specs.Option.{option_map, option_or, unwrap_or}
-use Rattle.std.specs.FinMap.{contains_key, get, get-retain_keys, retain_keys}
+use Rattle.std.specs.FinMap.{contains_key, get, retain_keys}
 use Rattle.git_name.specs.Maps.{joined}
 use Rattle.git_name.specs.Object.{Object}
 use Rattle.git_name.proofs.MapLemmas.{get_joined, get_map_values}
@@ -9,6 +9,7 @@ use Rattle.git_name.proofs.Names.{name_total}
 use Rattle.fork_reach.specs.Objects.{Measures, measure_of, measures_of}
 use Rattle.fork_reach.specs.Source.{Objects}
 use Rattle.fork_ledger.specs.Private.{Private, nothing}
+use Rattle.fork_ledger.proofs.SeenLemmas.{get_kept}
 use Rattle.fork_request.specs.Asked.{Ask, ForksOffer}
 use Rattle.fork_model.specs.Disclosure.{looks_at_offers}
 use Rattle.fork_host.specs.Own.{visible_in}
@@ -19,7 +20,7 @@ use Rattle.fork_host.proofs.WholeLemmas.{seen_here}
 use Rattle.fork_host.proofs.WorldLemmas.{get_world}
 
 -- the giver whose offer is forked
-pub giver_in : Ask → List ℕ
+abbrev pub giver_in : Ask → List ℕ
 giver_in (ForksOffer giver repository copy) = giver
 giver_in ask = []
 
@@ -42,7 +43,7 @@ taken_beside giver seen names name = by (get seen name) refl (names name) refl
     all = joined seen (retain_keys giver names)
 
     here : get all name ≡ option_or (get seen name) (cond (names name) (get giver name) None)
-    here = get_joined name_total seen (retain_keys giver names) name ∙ ap (option_or (get seen name)) (get-retain_keys giver names name)
+    here = get_joined name_total seen (retain_keys giver names) name ∙ ap (option_or (get seen name)) (get_kept giver names name)
 
     none : get seen name ≡ None → get (measures_of seen) name ≡ None
     none absent = measured seen name ∙ ap (option_map measure_of) absent

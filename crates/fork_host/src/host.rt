@@ -7,7 +7,7 @@ ghost use Rattle.git_name.specs.Object.{Object};
 ghost use Rattle.fork_model.specs.Context.{met_by, offered_to};
 ghost use Rattle.fork_model.specs.Provenance.{WasOffered, WasSent};
 ghost use Rattle.fork_model.specs.Runs.{Asks, HostAsks};
-ghost use Rattle.fork_model.specs.Sound.{IsOrderlyWorld, IsRightWorld};
+ghost use Rattle.fork_model.specs.Sound.{IsAlike, IsOrderlyWorld, IsRightWorld};
 ghost use Rattle.fork_model.specs.View.{View};
 ghost use Rattle.fork_model.specs.World.{Explains, IsUnfaulted, LeavesOffers, alone, exchanges, meeting, met, own, told};
 ghost use Rattle.state_text.specs.Kept.{states_of};
@@ -99,9 +99,11 @@ impl<S: LooseFiles> Host<S> {
 
     /// What holds of every host between requests, for who is to show something of it: nothing is done.
     pub fn invariant(&self)
-        ensures { IsWhole self.now }
+        ensures whole { IsWhole self.now }
+        ensures alike { Trusted self.now → IsAlike (world_of self.now) }
     {
         let _accounts = &self.accounts;
+        self.vault.invariant();
     }
 
     /// How many tenants there are.

@@ -4,8 +4,8 @@ use Rattle.fork_wire.proofs.again.serve_again.Goals as goal
 pub loop-count-init : goal.loop-count-init
 loop-count-init g c = record {
   trusted = λ trusted. trusted;
-  orderly = c.invariant.ensures.orderly;
-  right = c.invariant.ensures.right;
+  orderly = c.invariant.ensures.whole.orderly;
+  right = c.invariant.ensures.whole.right;
   so_far = none_again _ _;
 }
 

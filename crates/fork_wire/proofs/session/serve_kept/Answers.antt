@@ -7,8 +7,8 @@ use Rattle.fork_wire.proofs.session.serve_kept.Goals as goal
 pub loop-init : goal.loop-init
 loop-init g c = record {
   trusted = λ trusted. trusted;
-  orderly = c.invariant.ensures.orderly;
-  right = c.invariant.ensures.right;
+  orderly = c.invariant.ensures.whole.orderly;
+  right = c.invariant.ensures.whole.right;
   going = not_yet _ _ _ _;
   whole = refl;
 }

@@ -281,6 +281,12 @@ module _ (tenant giver copy : List ℕ) (repository : Repository) (names : List 
   forked_upload (Full told above has same) = ap (λ (a : Account). a.upload) has
   forked_upload (Unforked fault told is lacks has same) = ap (λ (a : Account). a.upload) has
 
+  -- and the repository came
+  pub forked_repositories : IsDone → is_done reply ≡ true → now.repositories ≡ insert account.repositories copy repository
+  forked_repositories (Forked told fits has set among) done = ap (λ (a : Account). a.repositories) has
+  forked_repositories (Full told above has same) done = (let no : false ≡ true = sym (ap is_done told) ∙ done in absurd (cc))
+  forked_repositories (Unforked fault told is lacks has same) done = (let no : false ≡ true = sym (ap is_done told) ∙ done in absurd (cc))
+
   still_staged : IsDone → staged_in new tenant ≡ staged_in mid tenant
   still_staged (Forked told fits has set among) = ap (λ (p : Private). p.staged) (changed_at mid.tenants new.tenants tenant (with_adopted (retain_keys (visible_in mid giver) names)) here set)
   still_staged (Full told above has same) = ap (λ tenants. (private_of tenants tenant).staged) same
@@ -384,6 +390,10 @@ safe_quiet vault view reply quiet = record { orderly = λ before. before; kept =
 pub bad_quiet : (reply : Reply) (word : List ℕ) → (reply ≡ Refused (BadName word)) ⊎ (reply ≡ Failed Memory) → IsQuiet reply
 bad_quiet reply word (inl told) = inl (ap is_host_fault told)
 bad_quiet reply word (inr wanting) = inr wanting
+
+pub bad_undone : (reply : Reply) (word : List ℕ) → (reply ≡ Refused (BadName word)) ⊎ (reply ≡ Failed Memory) → is_done reply ≡ true → ⊥
+bad_undone reply word (inl told) done = (let no : false ≡ true = sym (ap is_done told) ∙ done in cc)
+bad_undone reply word (inr wanting) done = (let no : false ≡ true = sym (ap is_done wanting) ∙ done in cc)
 
 -- a word that is no name, told so or for want of memory
 pub yields_bad : (row : Reply × View) (view : View) (word : List ℕ) (reply : Reply) → row ≡ (Refused (BadName word), view) → (reply ≡ Refused (BadName word)) ⊎ (reply ≡ Failed Memory) → Yields row view reply view

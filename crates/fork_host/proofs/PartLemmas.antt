@@ -46,7 +46,7 @@ use Rattle.fork_host.specs.Sent.{sent_names}
 use Rattle.fork_host.specs.Shown.{Account, seen_by, shown}
 use Rattle.fork_host.specs.Staged.{Came, IsStaged}
 use Rattle.fork_host.proofs.SafeLemmas.{orderly_measured, shape_measured}
-use Rattle.fork_host.proofs.MadeLemmas.{same_made, still_made}
+use Rattle.fork_host.proofs.MadeLemmas.{same_made}
 use Rattle.fork_host.proofs.StagedLemmas.{came_none, came_upload, staged_kept_still}
 
 -- an account with this upload

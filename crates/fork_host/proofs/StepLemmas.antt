@@ -14,6 +14,7 @@ use Rattle.fork_model.specs.World.{Event, Explains, HostSays, Steps}
 use Rattle.fork_ledger.specs.Tenants.{VaultState, shape_of}
 use Rattle.fork_host.specs.Bounds.{IsBounded}
 use Rattle.fork_host.specs.Faults.{HostFaults}
+use Rattle.fork_host.specs.Forked.{ForksOffered}
 use Rattle.fork_host.specs.Given.{asker_of}
 use Rattle.fork_host.specs.Safe.{IsNamedReply, IsTakenFrom, TellsSeen}
 use Rattle.fork_host.specs.Sent.{seen_in_world, sent_in_world, sent_names}
@@ -28,15 +29,20 @@ use Rattle.fork_host.proofs.TendingLemmas.{own_step, shape_tended, whole_tended,
 pub answered_step : (old new : HostState) (t : List ℕ) (ask : Ask) (reply : Reply) → (Trusted old → Steps (world_of old) (Asks t ask) reply (world_of new)) → IsWhole new → new.vault.honest ≡ old.vault.honest
     → (is_done reply ≡ false → (tenant : List ℕ) → SameShape tenant (world_of old) (world_of new)) → ((tenant : List ℕ) → tenant ≢ t → SameShape tenant (world_of old) (world_of new))
     → (changes_offers ask ≡ false → (tenant : List ℕ) → SameOffers tenant (world_of old) (world_of new))
+    → ((giver word copy : List ℕ) → ask ≡ ForksOffer giver word copy → is_done reply ≡ true → ForksOffered (world_of old) (world_of new) t giver word copy)
     → ((giver word copy : List ℕ) → ask ≡ ForksOffer giver word copy → IsTakenFrom (seen_in_world (world_of old) giver) (seen_in_world (world_of old) t) (seen_in_world (world_of new) t))
     → IsNamedReply ask reply → TellsSeen (seen_in_world (world_of old) t) ask reply → IsBounded (sent_in_world (world_of old) t ask) old.vault new.vault reply → GrowsAmong (sent_names (sent_in_world (world_of old) t ask)) old.vault.places new.vault.places → IsStep old (Asks t ask) reply new
-answered_step old new t ask reply explained whole honest kept others offers takes named seen bounded grows = record {
+answered_step old new t ask reply explained whole honest kept others offers forked takes named seen bounded grows = record {
   explained = explained;
   honest = honest;
   whole = whole;
   kept = kept;
   others = λ tenant differs. others tenant (λ same. differs (ap Some (sym same)));
   offers = offers;
+  forked = λ tenant giver word copy is done.
+      let asker : t ≡ tenant = cc in
+      let same : ask ≡ ForksOffer giver word copy = cc in
+      subst (λ who. ForksOffered (world_of old) (world_of new) who giver word copy) asker (forked giver word copy same done);
   takes = λ tenant giver word copy is.
       let asker : t ≡ tenant = cc in
       let same : ask ≡ ForksOffer giver word copy = cc in
@@ -57,6 +63,7 @@ tended_step accounts old new request reply says tends same faults bounded whole 
   kept = λ is tenant. shape_tended accounts old new same tenant;
   others = λ tenant differs. shape_tended accounts old new same tenant;
   offers = λ _ tenant. same_offers (get (world_of (state_of accounts new)) tenant) (get (world_of (state_of accounts old)) tenant) (shape_tended accounts old new same tenant);
+  forked = λ tenant giver word copy is done. absurd (cc);
   takes = λ tenant giver word copy is. absurd (cc);
   named = tt;
   seen = tt;

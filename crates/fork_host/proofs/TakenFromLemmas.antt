@@ -24,6 +24,15 @@ abbrev pub giver_in : Ask → List ℕ
 giver_in (ForksOffer giver repository copy) = giver
 giver_in ask = []
 
+-- the repository that is offered, and the new one
+abbrev pub word_in : Ask → List ℕ
+word_in (ForksOffer giver repository copy) = repository
+word_in ask = []
+
+abbrev pub copy_in : Ask → List ℕ
+copy_in (ForksOffer giver repository copy) = copy
+copy_in ask = []
+
 -- that request looks at what is offered
 pub looked_at : (ask : Ask) (giver word copy : List ℕ) → looks_at_offers ask ≡ false → ask ≡ ForksOffer giver word copy → ⊥
 looked_at ask giver word copy unlooked is = (let looks : true ≡ false = sym (ap looks_at_offers is) ∙ unlooked in cc)

@@ -33,6 +33,7 @@ use Rattle.fork_model.proofs.MadeLemmas.{to_others_answer}
 use Rattle.fork_model.proofs.SoundWorlds.{right_step}
 use Rattle.fork_model.proofs.Worlds.{answered}
 use Rattle.fork_host.specs.Adding.{new_account, new_view}
+use Rattle.fork_host.specs.Forked.{ForksOffered, HasForked}
 use Rattle.fork_host.specs.Own.{IsOwn, IsReady, staged_in, visible_in}
 use Rattle.fork_host.specs.Made.{made_shown}
 use Rattle.fork_host.specs.Rows.{Gives, Given, Wanting, Yields}
@@ -273,6 +274,17 @@ offers_stay old new t account after here set own same q = by (eq_by_cmp name_cmp
         ap (option_map repositories_offered) (at_own old new t q after set tied) ∙ ap Some (made_again (visible_in new.vault t) after.made ∙ same ∙ sym (made_again (visible_in old.vault t) account.made))
         ∙ ap (option_map repositories_offered) (sym (ap (get (world_of old)) (tied_names q t tied) ∙ get_world old t ∙ ap (option_map (λ a. shown a old.vault t)) here))
     by false apart = same_offers (get (world_of new) q) (get (world_of old) q) (others_shape old new t q after set own apart)
+
+-- a repository comes to the tenant's view, where it comes to its account
+pub forked_shown : (old new : HostState) (t giver word copy : List ℕ) (account after : Account) → get old.accounts t ≡ Some account → new.accounts ≡ insert old.accounts t after
+    → HasForked (met_by (world_of old) t) giver word copy account after → ForksOffered (world_of old) (world_of new) t giver word copy
+forked_shown old new t giver word copy account after here set forked = record {
+  offer = forked.offer;
+  stands = forked.stands;
+  repositories =
+      ap (option_map (λ (view : View). view.repositories)) (at_own old new t t after set ((eq_by_cmp_equiv name_total).refl t)) ∙ ap Some forked.repositories
+      ∙ ap (option_map (λ (view : View). insert view.repositories copy forked.offer.repository)) (sym (get_world old t ∙ ap (option_map (λ a. shown a old.vault t)) here));
+}
 
 -- what each tenant has staged is what came of its upload, where it is so of this one
 pub staged_after : (old new : HostState) (t : List ℕ) (after : Account) → new.accounts ≡ insert old.accounts t after → IsOwn t old.vault new.vault

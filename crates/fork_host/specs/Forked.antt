@@ -1,6 +1,6 @@
 -- What becomes of an offer that is forked, once it is known what it holds.
-use Rattle.std.specs.Prelude.{◌≡◌, ◌⊎◌, ℕ, ◌≤◌, ◌<◌, [], IsTrue, List}
-use Rattle.std.specs.FinMap.{insert}
+use Rattle.std.specs.Prelude.{◌≡◌, ◌⊎◌, ℕ, ◌≤◌, ◌<◌, [], IsTrue, List, Some, option_map}
+use Rattle.std.specs.FinMap.{get, insert}
 use Rattle.git_name.specs.Maps.{joined}
 use Rattle.git_reftx.specs.Repository.{Repository}
 use Rattle.fork_reach.specs.Objects.{use_of}
@@ -12,6 +12,10 @@ use Rattle.fork_request.specs.declared.host_fault.HostFault.TheVariants.{Memory,
 use Rattle.fork_request.specs.declared.refusal.Refusal.TheVariants.{OverQuota}
 use Rattle.fork_request.specs.declared.reply.Reply.{Reply}
 use Rattle.fork_request.specs.declared.reply.Reply.TheVariants.{Done, Refused, Failed}
+use Rattle.fork_model.specs.Context.{Context, offered_to}
+use Rattle.fork_model.specs.Offer.{Offer}
+use Rattle.fork_model.specs.View.{View}
+use Rattle.fork_model.specs.World.{World}
 use Rattle.fork_host.specs.Own.{visible_in}
 use Rattle.fork_host.specs.Shown.{Account}
 
@@ -24,3 +28,15 @@ pub data IsForked (tenant copy : List ℕ) (repository : Repository) (objects : 
   Full : reply ≡ Refused OverQuota → account.limit < use_of (joined (visible_in old tenant) objects) → now ≡ account → new.tenants ≡ old.tenants → IsForked tenant copy repository objects account now old new reply
   -- a host fault, which changes nothing: over an honest store want of memory
   Unforked : (fault : HostFault) → reply ≡ Failed fault → (fault ≡ Memory) ⊎ (fault ≡ Damaged) → (IsTrue old.honest → fault ≡ Memory) → now ≡ account → new.tenants ≡ old.tenants → IsForked tenant copy repository objects account now old new reply
+
+-- an account has a new repository, as it was offered
+pub record HasForked (context : Context) (giver word copy : List ℕ) (account now : Account) : Type 0 where
+  pub offer : Offer
+  pub stands : get context.offered (giver, word) ≡ Some offer
+  pub repositories : now.repositories ≡ insert account.repositories copy offer.repository
+
+-- a tenant of a world has a new repository, as it was offered to it
+pub record ForksOffered (old new : World) (tenant giver word copy : List ℕ) : Type 0 where
+  pub offer : Offer
+  pub stands : get (offered_to old tenant) (giver, word) ≡ Some offer
+  pub repositories : option_map (λ (view : View). view.repositories) (get new tenant) ≡ option_map (λ (view : View). insert view.repositories copy offer.repository) (get old tenant)

@@ -1,11 +1,12 @@
 -- What a step of a host is, and a run of steps (own): all that is promised of one request, from state to state.
-use Rattle.std.specs.Prelude.{◌≡◌, ◌≢◌, ℕ, false, List, [], ◌∷◌, Some, ⊤}
+use Rattle.std.specs.Prelude.{◌≡◌, ◌≢◌, ℕ, false, true, List, [], ◌∷◌, Some, ⊤}
 use Rattle.fork_request.specs.Asked.{ForksOffer}
 use Rattle.fork_request.specs.Told.{is_done}
 use Rattle.fork_request.specs.declared.reply.Reply.{Reply}
 use Rattle.fork_model.specs.Runs.{Asks, HostAsks}
 use Rattle.fork_model.specs.World.{Event, Steps, World}
 use Rattle.fork_host.specs.Faults.{FaultsWithin}
+use Rattle.fork_host.specs.Forked.{ForksOffered}
 use Rattle.fork_host.specs.Given.{asker_of, changes_offers_in}
 use Rattle.fork_host.specs.Safe.{IsNamedReply, IsTakenFrom, TellsSeen}
 use Rattle.fork_host.specs.Sent.{seen_in_world}
@@ -25,8 +26,8 @@ TellsSeenAt world (HostAsks request) reply = ⊤
 
 -- a step from state to state. Over an honest store it is a step of the world. Over any store the honesty stays, and the new state is
 -- a host's; what is refused or failed keeps each view's shape, and a step that a tenant does not ask keeps that tenant's; `offer` and
--- `withdraw` alone change what is offered, and `fork-offer` takes of no other tenant than the giver; what is told under a name has it,
--- and merge bases are names of what the tenant sees; the host faults and what is done with the store keep their bounds
+-- `withdraw` alone change of which repositories offers are; `fork-offer` gives a repository that is offered, and what comes to be seen
+-- by it is of what the giver sees; what is told under a name has it, and merge bases are names of what the tenant sees; the host faults and what is done with the store keep their bounds
 pub record IsStep (old : HostState) (event : Event) (reply : Reply) (new : HostState) : Type 0 where
   pub explained : Trusted old → Steps (world_of old) event reply (world_of new)
   pub honest : new.vault.honest ≡ old.vault.honest
@@ -34,6 +35,8 @@ pub record IsStep (old : HostState) (event : Event) (reply : Reply) (new : HostS
   pub kept : is_done reply ≡ false → (tenant : List ℕ) → SameShape tenant (world_of old) (world_of new)
   pub others : (tenant : List ℕ) → asker_of event ≢ Some tenant → SameShape tenant (world_of old) (world_of new)
   pub offers : changes_offers_in event ≡ false → (tenant : List ℕ) → SameOffers tenant (world_of old) (world_of new)
+  pub forked : (tenant giver repository copy : List ℕ) → event ≡ Asks tenant (ForksOffer giver repository copy) → is_done reply ≡ true
+      → ForksOffered (world_of old) (world_of new) tenant giver repository copy
   pub takes : (tenant giver repository copy : List ℕ) → event ≡ Asks tenant (ForksOffer giver repository copy)
       → IsTakenFrom (seen_in_world (world_of old) giver) (seen_in_world (world_of old) tenant) (seen_in_world (world_of new) tenant)
   pub named : IsNamedAt event reply

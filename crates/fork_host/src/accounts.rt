@@ -21,6 +21,7 @@ ghost use Rattle.fork_model.specs.Answer.{answer, offers_answer};
 ghost use Rattle.fork_model.specs.Context.{Context, met_by, nothing_offered};
 ghost use Rattle.fork_model.specs.Disclosure.{changes_offers, looks_at_offers};
 ghost use Rattle.fork_model.specs.Sound.{AreToOthers};
+ghost use Rattle.fork_host.specs.Forked.{ForksOffered, HasForked};
 ghost use Rattle.fork_host.specs.Made.{rows_from};
 ghost use Rattle.fork_host.specs.Meeting.{IsMet};
 ghost use Rattle.fork_host.specs.Rows.{Gives};
@@ -195,6 +196,8 @@ impl Accounts {
         ensures kept { is_done result ≡ false → (tenant : List ℕ) → SameShape tenant (world_of (state_of self.old vault.old)) (world_of (state_of self.new vault.new)) }
         ensures others { (tenant : List ℕ) → tenant ≢ name.now → SameShape tenant (world_of (state_of self.old vault.old)) (world_of (state_of self.new vault.new)) }
         ensures offers { changes_offers (ask_of request.entry) ≡ false → (tenant : List ℕ) → SameOffers tenant (world_of (state_of self.old vault.old)) (world_of (state_of self.new vault.new)) }
+        ensures forked { (giver word copy : List ℕ) → ask_of request.entry ≡ ForksOffer giver word copy → is_done result ≡ true
+            → ForksOffered (world_of (state_of self.old vault.old)) (world_of (state_of self.new vault.new)) name.now giver word copy }
         ensures takes { (giver word copy : List ℕ) → ask_of request.entry ≡ ForksOffer giver word copy
             → IsTakenFrom (seen_in_world (world_of (state_of self.old vault.old)) giver) (seen_in_world (world_of (state_of self.old vault.old)) name.now) (seen_in_world (world_of (state_of self.new vault.new)) name.now) }
         ensures named { IsNamedReply (ask_of request.entry) result }
@@ -307,6 +310,8 @@ fn answer_met<S: LooseFiles>(
         → IsSafe (IsBounded (sent_by (shown tenant.old vault.old name.now) (ask_of request.entry)) vault.old vault.new) (shown tenant.old vault.old name.now) result (shown tenant.new vault.new name.now) }
     ensures made { changes_offers (ask_of request.entry) ≡ false → tenant.new.made ≡ tenant.old.made }
     ensures others { AreToOthers name.now (shown tenant.old vault.old name.now) → AreToOthers name.now (shown tenant.new vault.new name.now) }
+    ensures forked { (context : Context) (giver word copy : List ℕ) → IsMet vault.old context (ask_of request.entry) met → ask_of request.entry ≡ ForksOffer giver word copy → is_done result ≡ true
+        → HasForked context giver word copy tenant.old tenant.new }
     ensures takes { (context : Context) (giver word copy : List ℕ) → IsMet vault.old context (ask_of request.entry) met → ask_of request.entry ≡ ForksOffer giver word copy
         → IsTakenFrom (visible_in vault.old giver) (visible_in vault.old name.now) (visible_in vault.new name.now) }
     ensures named { IsNamedReply (ask_of request.entry) result }
@@ -348,6 +353,8 @@ fn look<S: LooseFiles>(
         → YieldsOver vault.old.honest (answer context (shown tenant.old vault.old name.now) (ask_of request.entry)) (shown tenant.old vault.old name.now) result (shown tenant.new vault.new name.now) }
     ensures safe { (context : Context) → IsMet vault.old context (ask_of request.entry) met
         → IsSafe (IsBounded [] vault.old vault.new) (shown tenant.old vault.old name.now) result (shown tenant.new vault.new name.now) }
+    ensures forked { (context : Context) (giver word copy : List ℕ) → IsMet vault.old context (ask_of request.entry) met → ask_of request.entry ≡ ForksOffer giver word copy → is_done result ≡ true
+        → HasForked context giver word copy tenant.old tenant.new }
     ensures takes { (context : Context) (giver word copy : List ℕ) → IsMet vault.old context (ask_of request.entry) met → ask_of request.entry ≡ ForksOffer giver word copy
         → IsTakenFrom (visible_in vault.old giver) (visible_in vault.old name.now) (visible_in vault.new name.now) }
     ensures made { tenant.new.made ≡ tenant.old.made }

@@ -9,6 +9,7 @@ ghost use Rattle.git_reftx.specs.Repository.{IsBranch};
 ghost use Rattle.fork_reach.specs.Reach.{is_reached, linked_names};
 ghost use Rattle.fork_ledger.specs.Tenants.{shape_of};
 ghost use Rattle.fork_request.specs.Asked.{ForksOffer};
+ghost use Rattle.fork_request.specs.Told.{is_done};
 ghost use Rattle.fork_model.specs.Answer.{fork_offer_answer, offer_taken};
 ghost use Rattle.fork_model.specs.Context.{Context};
 ghost use Rattle.fork_model.specs.Offer.{offered};
@@ -16,7 +17,7 @@ ghost use Rattle.fork_model.specs.Sound.{AreReferences};
 ghost use Rattle.looks.specs.Growth.{GrowsAmong};
 ghost use Rattle.fork_host.specs.Bounds.{IsBounded, ReadsStore};
 ghost use Rattle.fork_ledger.specs.Store.{LeavesStore};
-ghost use Rattle.fork_host.specs.Forked.{IsForked};
+ghost use Rattle.fork_host.specs.Forked.{HasForked, IsForked};
 ghost use Rattle.fork_host.specs.Meeting.{IsMet};
 ghost use Rattle.fork_host.specs.Own.{IsOwn, IsReady, staged_in, visible_in};
 ghost use Rattle.fork_host.specs.Rows.{YieldsOver};
@@ -54,6 +55,8 @@ pub(crate) fn fork_offer<S: LooseFiles>(
         → YieldsOver vault.old.honest (fork_offer_answer context (shown tenant.old vault.old name.now) words.entry.0.now words.entry.1.now words.entry.2.now) (shown tenant.old vault.old name.now) result (shown tenant.new vault.new name.now) }
     ensures safe { (context : Context) → IsMet vault.old context (ForksOffer words.entry.0.now words.entry.1.now words.entry.2.now) met
         → IsSafe (IsBounded [] vault.old vault.new) (shown tenant.old vault.old name.now) result (shown tenant.new vault.new name.now) }
+    ensures forked { (context : Context) → IsMet vault.old context (ForksOffer words.entry.0.now words.entry.1.now words.entry.2.now) met → is_done result ≡ true
+        → HasForked context words.entry.0.now words.entry.1.now words.entry.2.now tenant.old tenant.new }
     ensures takes { (context : Context) → IsMet vault.old context (ForksOffer words.entry.0.now words.entry.1.now words.entry.2.now) met
         → IsTakenFrom (visible_in vault.old words.entry.0.now) (visible_in vault.old name.now) (visible_in vault.new name.now) }
     ensures made { tenant.new.made ≡ tenant.old.made }
@@ -93,6 +96,7 @@ fn take_offer<S: LooseFiles>(
     ensures row { YieldsOver vault.old.honest (offer_taken (shown tenant.old vault.old name.now) copy (offered (visible_in vault.old giver.now) repository)) (shown tenant.old vault.old name.now) result (shown tenant.new vault.new name.now) }
     ensures safe { IsBranch repository.head → AreReferences (visible_in vault.old giver.now) repository.references
         → IsSafe (IsBounded [] vault.old vault.new) (shown tenant.old vault.old name.now) result (shown tenant.new vault.new name.now) }
+    ensures forked { is_done result ≡ true → tenant.new.repositories ≡ map.insert tenant.old.repositories copy repository }
     ensures takes { IsTakenFrom (visible_in vault.old giver.now) (visible_in vault.old name.now) (visible_in vault.new name.now) }
     ensures made { tenant.new.made ≡ tenant.old.made }
     ensures own { IsOwn name.now vault.old vault.new }

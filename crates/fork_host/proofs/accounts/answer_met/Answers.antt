@@ -22,3 +22,7 @@ returns-clause-row g c = λ context own met.
 pub returns-clause-takes : goal.returns-clause-takes
 returns-clause-takes g c = λ context giver word copy met is.
     absurd (looked_at (ask_of c.args.request) giver word copy (sym c.looks_at_offers.ensures ∙ c.if-looks_at_offers.false) is)
+
+pub returns-clause-forked : goal.returns-clause-forked
+returns-clause-forked g c = λ context giver word copy met is done.
+    absurd (looked_at (ask_of c.args.request) giver word copy (sym c.looks_at_offers.ensures ∙ c.if-looks_at_offers.false) is)

@@ -1,8 +1,9 @@
 use Rattle.std.proofs.Common.{◌≡◌, [], ap, refl, subst, sym, ◌∙◌}
-use Rattle.fork_request.specs.Asked.{ask_of}
+use Rattle.fork_request.specs.Asked.{AsksOffers, ForksOffer, ask_of}
 use Rattle.fork_model.specs.Answer.{answer}
 use Rattle.fork_ledger.specs.Tenants.{private_of}
 use Rattle.fork_host.specs.Bounds.{IsBounded}
+use Rattle.fork_host.specs.Forked.{HasForked}
 use Rattle.fork_host.specs.Meeting.{IsMet}
 use Rattle.fork_host.specs.Own.{visible_in}
 use Rattle.fork_host.specs.Rows.{Gives}
@@ -11,7 +12,7 @@ use Rattle.fork_host.specs.Shown.{shown}
 use Rattle.fork_host.proofs.BoundLemmas.{bounded_still, quiet_row}
 use Rattle.fork_host.proofs.RowLemmas.{yields_of}
 use Rattle.fork_host.proofs.SafeLemmas.{safe_still}
-use Rattle.fork_host.proofs.TakenFromLemmas.{giver_in, taken_none}
+use Rattle.fork_host.proofs.TakenFromLemmas.{copy_in, giver_in, taken_none, word_in}
 use Rattle.fork_host.proofs.accounts.look.Goals as goal
 
 pub returns-in-Offers-clause-row : goal.returns-in-Offers-clause-row
@@ -45,3 +46,13 @@ returns-in-ForkOffer-clause-takes g c = λ context giver word copy met is.
     let same : c.in-ForkOffer.giver.now ≡ giver = ap giver_in (sym (ap ask_of c.in-ForkOffer.is) ∙ is) in
     subst (λ who. IsTakenFrom (visible_in old who) (visible_in old c.args.name.now) (visible_in c.fork_offer.new.vault c.args.name.now)) same
     (c.fork_offer.ensures.takes context (subst (λ r. IsMet old context (ask_of r) c.args.met) c.in-ForkOffer.is met))
+
+pub returns-in-Offers-clause-forked : goal.returns-in-Offers-clause-forked
+returns-in-Offers-clause-forked g c = λ context giver word copy met is done.
+    let differs : AsksOffers ≡ ForksOffer giver word copy = sym (ap ask_of c.in-Offers.is) ∙ is in
+    absurd (cc)
+
+pub returns-in-ForkOffer-clause-forked : goal.returns-in-ForkOffer-clause-forked
+returns-in-ForkOffer-clause-forked g c = λ context giver word copy met is done.
+    subst (λ ask. HasForked context (giver_in ask) (word_in ask) (copy_in ask) c.args.tenant.now c.fork_offer.new.tenant) (sym (ap ask_of c.in-ForkOffer.is) ∙ is)
+    (c.fork_offer.ensures.forked context (subst (λ r. IsMet c.args.vault.now context (ask_of r) c.args.met) c.in-ForkOffer.is met) done)

@@ -1,15 +1,17 @@
-use Rattle.std.proofs.Common.{refl, subst, sym, inl}
+use Rattle.std.proofs.Common.{ap, refl, subst, sym, inl, ◌∙◌}
+use Rattle.std.specs.FinMap.{insert}
 use Rattle.fork_request.specs.Asked.{ForksOffer}
 use Rattle.fork_request.specs.declared.refusal.Refusal.TheVariants.{NoOffer}
 use Rattle.fork_request.specs.declared.reply.Reply.TheVariants.{Refused}
 use Rattle.fork_model.specs.Answer.{fork_offer_answer}
+use Rattle.fork_model.specs.Offer.{offered}
 use Rattle.fork_model.specs.Sound.{AreReferences}
 use Rattle.fork_host.specs.Meeting.{IsMet}
 use Rattle.fork_host.specs.Own.{visible_in}
 use Rattle.fork_host.specs.Rows.{YieldsOver}
 use Rattle.fork_host.specs.Safe.{IsTakenFrom}
 use Rattle.fork_host.specs.Shown.{shown}
-use Rattle.fork_host.proofs.ForkedLemmas.{bad_quiet, copy_unnamed, giver_unnamed, safe_quiet, word_unnamed, yields_bad, yields_refused}
+use Rattle.fork_host.proofs.ForkedLemmas.{bad_quiet, bad_undone, copy_unnamed, giver_unnamed, safe_quiet, word_unnamed, yields_bad, yields_refused}
 use Rattle.fork_host.proofs.ForkOfferLemmas.{none_offered, nothing_met, offer_met}
 use Rattle.fork_host.proofs.TakenFromLemmas.{taken_none}
 use Rattle.fork_host.proofs.forking.fork_offer.Goals as goal
@@ -86,3 +88,25 @@ returns-in-Offer-clause-takes g c = λ context met.
     let old = c.args.vault.now in
     let is = subst (IsMet old context (ForksOffer c.args.words.0.now c.args.words.1.now c.args.words.2.now)) c.in-Offer.is met in
     subst (λ who. IsTakenFrom (visible_in old who) (visible_in old c.args.name.now) (visible_in c.take_offer.new.vault c.args.name.now)) is.named c.take_offer.ensures.takes
+
+pub returns-in_default-clause-forked : goal.returns-in_default-clause-forked
+returns-in_default-clause-forked g c = λ context met done. absurd (bad_undone c.bad_name.result c.args.words.0.now c.bad_name.ensures done)
+
+pub returns-in_default-read-clause-forked : goal.returns-in_default-read-clause-forked
+returns-in_default-read-clause-forked g c = λ context met done. absurd (bad_undone c.bad_name-in_default-read.result c.args.words.1.now c.bad_name-in_default-read.ensures done)
+
+pub returns-in_default-read-2-clause-forked : goal.returns-in_default-read-2-clause-forked
+returns-in_default-read-2-clause-forked g c = λ context met done. absurd (bad_undone c.bad_name-in_default-read-2.result c.args.words.2.now c.bad_name-in_default-read-2.ensures done)
+
+pub returns-clause-forked : goal.returns-clause-forked
+returns-clause-forked g c = λ context met done. absurd (cc)
+
+pub returns-in-Offer-clause-forked : goal.returns-in-Offer-clause-forked
+returns-in-Offer-clause-forked g c = λ context met done.
+    let old = c.args.vault.now in
+    let is = subst (IsMet old context (ForksOffer c.args.words.0.now c.args.words.1.now c.args.words.2.now)) c.in-Offer.is met in
+    record {
+      offer = offered (visible_in old c.args.words.0.now) c.in-Offer.repository;
+      stands = is.stands;
+      repositories = c.take_offer.ensures.forked done ∙ ap (λ word. insert c.args.tenant.now.repositories word c.in-Offer.repository) c.in-Some-read-2.ensures.found.0;
+    }

@@ -15,7 +15,7 @@ use Rattle.fork_host.specs.Own.{visible_in}
 use Rattle.fork_host.specs.Rows.{fault_told}
 use Rattle.fork_host.specs.Shown.{shown}
 use Rattle.fork_host.proofs.BoundLemmas.{bounded_read}
-use Rattle.fork_host.proofs.ForkedLemmas.{Walked, forked_own, forked_safe, forked_staged, forked_takes, forked_yields, none_stands, read_safe_in, read_yields}
+use Rattle.fork_host.proofs.ForkedLemmas.{Walked, forked_own, forked_repositories, forked_safe, forked_staged, forked_takes, forked_yields, none_stands, read_safe_in, read_yields}
 use Rattle.fork_host.proofs.OwnLemmas.{own_read, staged_read}
 use Rattle.fork_host.proofs.StagedLemmas.{staged_kept_still}
 use Rattle.fork_host.proofs.TakenFromLemmas.{taken_none}
@@ -58,6 +58,17 @@ returns-in-Ok-clause-own g c =
     let walked : Walked old mid c.args.giver.now c.args.repository.references names =
     subst (λ references. Walked old mid c.args.giver.now references names) c.references.ensures.references (record { shape = told.shape; kept = told.kept; read = told.read; rooted = told.rooted; found = told.found }) in
     forked_own c.args.name.now c.args.giver.now c.args.copy c.args.repository names c.args.tenant.now c.adopt.new.tenant old mid new c.adopt.result c.requires.ready.there walked c.adopt.ensures.store c.adopt.ensures.forked
+
+pub returns-in-Ok-clause-forked : goal.returns-in-Ok-clause-forked
+returns-in-Ok-clause-forked g c = λ done.
+    let old = c.args.vault.now in
+    let mid = c.reached_from.new.vault in
+    let new = c.adopt.new.vault in
+    let names = contains same_name c.in-Ok.names in
+    let told = c.in-Ok.ensures in
+    let walked : Walked old mid c.args.giver.now c.args.repository.references names =
+    subst (λ references. Walked old mid c.args.giver.now references names) c.references.ensures.references (record { shape = told.shape; kept = told.kept; read = told.read; rooted = told.rooted; found = told.found }) in
+    forked_repositories c.args.name.now c.args.giver.now c.args.copy c.args.repository names c.args.tenant.now c.adopt.new.tenant old mid new c.adopt.result c.requires.ready.there walked c.adopt.ensures.store c.adopt.ensures.forked done
 
 pub returns-in-Ok-clause-takes : goal.returns-in-Ok-clause-takes
 returns-in-Ok-clause-takes g c =
@@ -113,3 +124,9 @@ returns-in-Err-clause-takes g c =
 
 pub returns-in-Some-clause-takes : goal.returns-in-Some-clause-takes
 returns-in-Some-clause-takes g c = taken_none (visible_in c.args.vault.now c.args.giver.now) (visible_in c.args.vault.now c.args.name.now) (visible_in c.args.vault.now c.args.name.now) refl
+
+pub returns-in-Err-clause-forked : goal.returns-in-Err-clause-forked
+returns-in-Err-clause-forked g c = λ done. absurd (cc)
+
+pub returns-in-Some-clause-forked : goal.returns-in-Some-clause-forked
+returns-in-Some-clause-forked g c = λ done. absurd (cc)

@@ -17,7 +17,7 @@ use Rattle.fork_host.specs.Shown.{state_of, world_of}
 use Rattle.fork_ledger.proofs.UpdateLemmas.{found_in, written_back}
 use Rattle.fork_host.proofs.BoundLemmas.{bounded_still}
 use Rattle.fork_host.proofs.TakenFromLemmas.{taken_none, taken_shown}
-use Rattle.fork_host.proofs.WholeLemmas.{alike_of, all_stay, answered_step, offers_stay, others_stay, ready, seen_here, sent_here, unknown_step, whole_after}
+use Rattle.fork_host.proofs.WholeLemmas.{alike_of, all_stay, answered_step, forked_shown, offers_stay, others_stay, ready, seen_here, sent_here, unknown_step, whole_after}
 use Rattle.fork_host.proofs.accounts.Accounts.answer.Goals as goal
 
 pub returns-in_default-get_mut-clause-explained : goal.returns-in_default-get_mut-clause-explained
@@ -130,3 +130,19 @@ returns-clause-takes g c = λ giver word copy is.
     let old = state_of c.args.self.now c.args.vault.now in
     let new = state_of (map.from_entries (c.get_mut.follows.lender c.answer_met.new.tenant).entries) c.answer_met.new.vault in
     taken_shown old new c.requires.whole.there (returns-clause-whole g c).there giver c.args.name.now (c.answer_met.ensures.takes (met_by (world_of old) c.args.name.now) giver word copy c.in-Ok.ensures is)
+
+pub returns-in_default-clause-forked : goal.returns-in_default-clause-forked
+returns-in_default-clause-forked g c = λ giver word copy is done. absurd (cc)
+
+pub returns-in_default-get_mut-clause-forked : goal.returns-in_default-get_mut-clause-forked
+returns-in_default-get_mut-clause-forked g c = λ giver word copy is done. absurd (cc)
+
+pub returns-clause-forked : goal.returns-clause-forked
+returns-clause-forked g c = λ giver word copy is done.
+    let stays = (c.get_mut.follows.holds c.answer_met.new.tenant).3 (search rules) in
+    let entries = c.self.inside.tenants.entries in
+    let here = found_in c.args.self.now entries c.args.name.now (Some c.in-Some.tenant.now) c.self.view_is c.in-Some.ensures.value in
+    let set = written_back c.args.self.now entries (c.get_mut.follows.lender c.answer_met.new.tenant).entries c.args.name.now c.answer_met.new.tenant c.self.view_is stays.0 in
+    let old = state_of c.args.self.now c.args.vault.now in
+    let new = state_of (map.from_entries (c.get_mut.follows.lender c.answer_met.new.tenant).entries) c.answer_met.new.vault in
+    forked_shown old new c.args.name.now giver word copy c.in-Some.tenant.now c.answer_met.new.tenant here set (c.answer_met.ensures.forked (met_by (world_of old) c.args.name.now) giver word copy c.in-Ok.ensures is done)

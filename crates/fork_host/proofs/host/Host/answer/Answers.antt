@@ -12,4 +12,4 @@ returns g c =
     let new = state_of c.answer.new.self c.answer.new.vault in
     let ask = ask_of c.args.request in
     subst (λ (s : HostState). IsStep s (Asks c.args.name.now ask) c.answer.result new) c.self.view_is
-    (answered_step old new c.args.name.now ask c.answer.result c.answer.ensures.explained c.answer.ensures.whole c.answer.ensures.trusted c.answer.ensures.kept c.answer.ensures.others c.answer.ensures.offers c.answer.ensures.takes c.answer.ensures.named c.answer.ensures.seen c.answer.ensures.faults c.answer.ensures.grows)
+    (answered_step old new c.args.name.now ask c.answer.result c.answer.ensures.explained c.answer.ensures.whole c.answer.ensures.trusted c.answer.ensures.kept c.answer.ensures.others c.answer.ensures.offers c.answer.ensures.forked c.answer.ensures.takes c.answer.ensures.named c.answer.ensures.seen c.answer.ensures.faults c.answer.ensures.grows)

@@ -3,43 +3,35 @@ use Rattle.std.proofs.Common.{◌≡◌, ◌≢◌, ℕ, ◌&&◌, Bool, true, f
 use Rattle.std.specs.Ordering.{eq_by_cmp, is_eq}
 use Rattle.std.proofs.lemmas.Cmp.{tied_itself}
 use Rattle.std.specs.Option.{option_and_then}
-use Rattle.std.specs.FinMap.{get, get-insert, get-remove, insert, remove, same_map}
+use Rattle.std.specs.FinMap.{get, get-insert, get-remove, insert, same_map}
 use Rattle.git_name.specs.Name.{name_cmp}
 use Rattle.git_name.specs.Same.{same_name}
 use Rattle.git_name.proofs.Names.{name_exact, name_total}
 use Rattle.fork_request.specs.Asked.{Ask, MakesOffer, Withdraws, ForksOffer, AsksOffers}
+use Rattle.fork_request.specs.Names.{is_plain_name}
 use Rattle.fork_request.specs.Told.{is_done, is_host_fault}
+use Rattle.fork_request.specs.declared.refusal.Refusal.TheVariants.{BadName, NoOffer, UnknownTenant}
 use Rattle.fork_request.specs.declared.reply.Reply.{Reply}
 use Rattle.fork_request.specs.declared.reply.Reply.TheVariants.{Done, Refused, Failed}
-use Rattle.fork_model.specs.Answer.{answer, offer_answer, withdraw_answer}
+use Rattle.fork_model.specs.Answer.{answer, fork_offer_answer, fork_offered, named_repository, offer_answer, withdraw_answer}
 use Rattle.fork_model.specs.Context.{Context, met_by, offered_to}
-use Rattle.fork_model.specs.Disclosure.{Asked, Changes, Happening, change_in, changes_offers, happenings, looks_at_offers, word_of}
+use Rattle.fork_model.specs.Disclosure.{Asked, Changes, Happening, change_in, changes_offers, happenings, looks_at_offers, met_along, with_change, word_of}
 use Rattle.fork_model.specs.Offer.{Offer, Offers, Pair, pair_cmp}
 use Rattle.fork_model.specs.Runs.{Asks, HostAsks, Answered, Unknown, Faulted}
 use Rattle.fork_model.specs.View.{View}
-use Rattle.fork_model.specs.World.{Agree, Event, Explains, IsUnfaulted, Meeting, Steps, World, deals_with, met, told}
+use Rattle.fork_model.specs.World.{Agree, Event, Explains, HostSays, IsUnfaulted, Meeting, Steps, World, deals_with, met, told}
 use Rattle.fork_model.proofs.EntryLemmas.{is_equal, pair_exact, pair_total}
+use Rattle.fork_model.proofs.Isolation.{other_step}
 use Rattle.fork_model.proofs.Meetings.{runs_agree_met}
-use Rattle.fork_model.proofs.OfferLemmas.{tied_pairs}
+use Rattle.fork_model.proofs.OfferLemmas.{apart_pairs, tied_pairs}
 use Rattle.fork_model.proofs.OfferedLemmas.{get_offered, met_still}
 use Rattle.fork_model.proofs.SoundLemmas.{made_answer}
-
--- with another offer under a key, or none
-abbrev pub with_change : Offers → Pair → Option Offer → Offers
-with_change offers key (Some offer) = insert offers key offer
-with_change offers key None = remove offers key
 
 -- what a tenant meets behind what happened, where it met this before
 abbrev pub met_behind : Context → List Happening → Context
 met_behind context [] = context
 met_behind context (Asked ask ∷ more) = met_behind context more
 met_behind context (Changes key offer ∷ more) = met_behind (record context { offered = with_change context.offered key offer }) more
-
--- what it asks, each beside what it meets
-abbrev pub met_along : Context → List Happening → List Meeting
-met_along context [] = []
-met_along context (Asked ask ∷ more) = (context, ask) ∷ met_along context more
-met_along context (Changes key offer ∷ more) = met_along (record context { offered = with_change context.offered key offer }) more
 
 -- ---- a change under one key
 by_key : (offers : Offers) (key other : Pair) (o : Option Offer) → get (with_change offers key o) other ≡ cond (eq_by_cmp pair_cmp other key) o (get offers other)
@@ -108,6 +100,34 @@ dealt_step tenant old new giver ask reply (Answered view here told set) deals =
     ∙ stays_elsewhere old giver tenant (word_of ask) view (answer (met_by old giver) view ask).1 here (λ word. others_stay (met_by old giver) view giver tenant word ask reply deals) other apart)
 dealt_step tenant old new giver ask reply (Unknown none told stays) deals = absurd (let done = done_where_dealt tenant giver ask reply deals in let no : ⊥ = cc (sym (ap is_done told) ∙ done) in no)
 dealt_step tenant old new giver ask reply (Faulted bad stays) deals = absurd (failed_undone reply bad (done_where_dealt tenant giver ask reply deals))
+
+-- what a step leaves of what a tenant is offered: all, where it does not deal with that one
+pub offered_still : (tenant : List ℕ) (old new : World) (event : Event) (reply : Reply) → Steps old event reply new → deals_with tenant event reply ≡ false → offered_to new tenant ≡ offered_to old tenant
+offered_still tenant old new event reply step leaves = ap (λ (context : Context). context.offered) (met_still tenant old new event reply step leaves)
+
+-- and else all under other keys than the one that its request names
+pub offered_elsewhere : (tenant giver : List ℕ) (old new : World) (ask : Ask) (reply : Reply) (key : Pair) → Steps old (Asks giver ask) reply new → key ≢ (giver, word_of ask) → get (offered_to new tenant) key ≡ get (offered_to old tenant) key
+offered_elsewhere tenant giver old new ask reply key step apart = by (deals_with tenant (Asks giver ask) reply) refl
+  where
+    named : Pair
+    named = (giver, word_of ask)
+
+    by : (b : Bool) → deals_with tenant (Asks giver ask) reply ≡ b → get (offered_to new tenant) key ≡ get (offered_to old tenant) key
+    by true deals =
+        ap (λ (offers : Offers). get offers key) (dealt_step tenant old new giver ask reply step deals)
+        ∙ (by_key (offered_to old tenant) named key (get (offered_to new tenant) named) ∙ ap (λ t. cond t (get (offered_to new tenant) named) (get (offered_to old tenant) key)) (apart_pairs key named apart))
+    by false leaves = ap (λ (offers : Offers). get offers key) (offered_still tenant old new (Asks giver ask) reply step leaves)
+
+-- and the views of others
+other_name : (a b : List ℕ) → a ≢ b → eq_by_cmp name_cmp a b ≡ false
+other_name a b apart = by (eq_by_cmp name_cmp a b) refl
+  where
+    by : (t : Bool) → eq_by_cmp name_cmp a b ≡ t → t ≡ false
+    by true is = absurd (apart (name_exact a b (is_equal (name_cmp a b) is)))
+    by false is = refl
+
+pub other_view : (old new : World) (tenant other : List ℕ) (ask : Ask) (reply : Reply) → Steps old (Asks tenant ask) reply new → other ≢ tenant → get new other ≡ get old other
+other_view old new tenant other ask reply step apart = other_step name_cmp name_total met_by answer (Refused UnknownTenant) is_host_fault HostSays old new other tenant ask reply (other_name other tenant apart) step
 
 -- what is met behind a step, by whether it deals with the tenant
 changed_step : (A : Type 0) (go : Context → List Happening → A) → ((context : Context) (key : Pair) (o : Option Offer) (more : List Happening) → go context (Changes key o ∷ more) ≡ go (record context { offered = with_change context.offered key o }) more)
@@ -184,3 +204,13 @@ pub unmade : (context : Context) (view : View) (ask : Ask) → changes_offers as
 unmade context view (MakesOffer repository receiver) leaves = absurd (let no : ⊥ = cc in no)
 unmade context view (Withdraws repository receiver) leaves = absurd (let no : ⊥ = cc in no)
 unmade context view ask leaves = made_answer context view ask
+
+-- ---- what is not offered
+pub unmade_forked : (context : Context) (view : View) (giver repository copy : List ℕ) → is_plain_name 32 giver ≡ true → is_plain_name 64 repository ≡ true → is_plain_name 64 copy ≡ true → get context.offered (giver, repository) ≡ None
+    → answer context view (ForksOffer giver repository copy) ≡ (Refused (NoOffer giver repository), view)
+unfolding answer fork_offer_answer
+unmade_forked context view giver repository copy giver_right repository_right copy_right none =
+    ap (λ b. cond b (named_repository view repository (named_repository view copy (fork_offered view (giver, repository) copy (get context.offered (giver, repository))))) (Refused (BadName giver), view)) giver_right
+    ∙ (ap (λ b. cond b (named_repository view copy (fork_offered view (giver, repository) copy (get context.offered (giver, repository)))) (Refused (BadName repository), view)) repository_right
+    ∙ (ap (λ b. cond b (fork_offered view (giver, repository) copy (get context.offered (giver, repository))) (Refused (BadName copy), view)) copy_right
+    ∙ ap (fork_offered view (giver, repository) copy) none))

@@ -130,7 +130,7 @@ among_joined objects others name there = get_joined name_total objects others na
 pub tied_pairs : (a b : Pair) → eq_by_cmp pair_cmp a b ≡ true → a ≡ b
 tied_pairs a b is = pair_exact a b (is_equal (pair_cmp a b) is)
 
-apart_pairs : (a b : Pair) → a ≢ b → eq_by_cmp pair_cmp a b ≡ false
+pub apart_pairs : (a b : Pair) → a ≢ b → eq_by_cmp pair_cmp a b ≡ false
 apart_pairs a b apart = by (eq_by_cmp pair_cmp a b) refl
   where
     by : (t : Bool) → eq_by_cmp pair_cmp a b ≡ t → t ≡ false

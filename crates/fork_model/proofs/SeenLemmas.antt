@@ -1,8 +1,13 @@
--- What was sent was seen, behind the answer that took it.
+-- What was sent, or stood in an offer that was forked, was seen after the answer that took it.
 use Rattle.std.proofs.Common.{◌≡◌, ℕ, Bool, true, false, cond, zero, suc, List, [], ◌∷◌, ◌++◌, Option, Some, None, Result, Ok, Err, is_some, refl, sym, ap, subst, ◌∙◌, arith}
-use Rattle.std.specs.FinMap.{contains_key, get}
+use Rattle.std.specs.Option.{option_or}
+use Rattle.std.specs.Prelude.{nat_le, nat_lt}
+use Rattle.std.specs.FinMap.{contains_key, get, insert, len}
 use Rattle.std.specs.List.{AllByRecursion, concat}
+use Rattle.git_name.specs.Maps.{joined}
 use Rattle.git_name.specs.Object.{Object}
+use Rattle.git_name.proofs.MapLemmas.{get_joined}
+use Rattle.git_name.proofs.Names.{name_total}
 use Rattle.git_reftx.specs.Repository.{Repository}
 use Rattle.git_reftx.specs.Transaction.{References}
 use Rattle.push_stream.specs.Brief.{brief_of}
@@ -11,18 +16,19 @@ use Rattle.push_stream.specs.Upload.{UploadValue, fed}
 use Rattle.push_stream.proofs.PieceLemmas.{pieces_join}
 use Rattle.fork_push.specs.declared.refusal.PushRefusal.{PushRefusal}
 use Rattle.fork_push.specs.Push.{judged}
-use Rattle.fork_reach.specs.Objects.{with_objects}
+use Rattle.fork_reach.specs.Objects.{use_of, with_objects}
 use Rattle.fork_reach.specs.Source.{Objects}
-use Rattle.fork_request.specs.Asked.{Ask, Pushes, EndsParts}
+use Rattle.fork_request.specs.Asked.{Ask, ForksOffer, Pushes, EndsParts}
 use Rattle.fork_request.specs.Names.{is_plain_name}
-use Rattle.fork_request.specs.declared.refusal.Refusal.TheVariants.{BadName, UploadOpen}
+use Rattle.fork_request.specs.declared.refusal.Refusal.TheVariants.{BadName, OverQuota, RepositoryExists, TooMany, UploadOpen}
 use Rattle.fork_request.specs.declared.reply.Reply.{Reply}
 use Rattle.fork_request.specs.declared.reply.Reply.TheVariants.{Done, Refused}
-use Rattle.fork_model.specs.Answer.{answer, end_in, named_repository, open_upload, part_end_answer, push_answer, push_into, pushed, taken, upload_into}
+use Rattle.fork_model.specs.Answer.{answer, end_in, fork_offer_answer, fork_offered, named_repository, open_upload, part_end_answer, push_answer, push_into, pushed, taken, upload_into}
 use Rattle.fork_model.specs.Context.{Context}
-use Rattle.fork_model.specs.Provenance.{AreParts, InParts, InPush, InUpload, IsAmong, IsUploadFrom, Stays, Ends, GoesOn, WasSent, WasShown, ends_upload, part_in, parts_in}
+use Rattle.fork_model.specs.Provenance.{AreParts, InParts, InPush, InUpload, IsAmong, IsAnsweredAmong, IsOffered, IsUploadFrom, Stays, Ends, GoesOn, WasOffered, WasSent, WasShown, ends_upload, part_in, parts_in}
+use Rattle.fork_model.specs.Offer.{Offer, Pair}
 use Rattle.fork_model.specs.View.{View}
-use Rattle.fork_model.specs.World.{Exchange, Meeting, exchanges_alone}
+use Rattle.fork_model.specs.World.{Exchange, Meeting, alone, exchanges_alone}
 use Rattle.fork_model.proofs.PartLemmas.{head_is, part_or_end, tail_is}
 use Rattle.fork_model.proofs.ProvenanceLemmas.{upload_from}
 use Rattle.fork_model.proofs.TransferLemmas.{came}
@@ -155,3 +161,61 @@ pub sent_shown : (view : View) (asked : List Meeting) (name : List ℕ) (object 
 sent_shown view [] name object sent = absurd (silence_sends_nothing view name object sent)
 sent_shown view (met ∷ asked) name object sent =
     shown_next met.0 view met.1 asked (exchanges_alone (answer met.0 view met.1).1 asked) name object (sent_shown (answer met.0 view met.1).1 asked name object) sent
+
+-- ---- an offer that is forked
+held_joined : (objects others : Objects) (name : List ℕ) (object : Object) → get others name ≡ Some object → contains_key (joined objects others) name ≡ true
+held_joined objects others name object is = ap is_some (get_joined name_total objects others name) ∙ by (get objects name) (get others name) is
+  where
+    by : (o p : Option Object) → p ≡ Some object → is_some (option_or o p) ≡ true
+    by None p held = ap is_some held
+    by (Some first) p held = refl
+
+offer_shows : (view : View) (key : Pair) (copy : List ℕ) (o : Option Offer) (offer : Offer) (name : List ℕ) (object : Object) → o ≡ Some offer → get offer.objects name ≡ Some object → Shows name (fork_offered view key copy o)
+offer_shows view key copy None offer name object stands holds = λ is. absurd (cc)
+offer_shows view key copy (Some one) offer name object stands holds =
+    either name (contains_key view.repositories copy) (Refused (RepositoryExists copy), view) _ (λ is. absurd (cc))
+    (either name (nat_le 256 (len view.repositories)) (Refused TooMany, view) _ (λ is. absurd (cc))
+    (either name (nat_lt view.limit (use_of (joined view.objects one.objects))) (Refused OverQuota, view) (Done [], record view { repositories = insert view.repositories copy one.repository; objects = joined view.objects one.objects }) (λ is. absurd (cc))
+    (λ is. held_joined view.objects one.objects name object (ap (λ (p : Offer). get p.objects name) (same stands) ∙ holds))))
+  where
+    same : Some one ≡ Some offer → one ≡ offer
+    same is = cc
+
+fork_shows : (context : Context) (view : View) (giver word copy name : List ℕ) (object : Object) → IsOffered context giver word name object → Shows name (answer context view (ForksOffer giver word copy))
+unfolding answer fork_offer_answer
+fork_shows context view giver word copy name object offered =
+    either name (is_plain_name 32 giver) _ (Refused (BadName giver), view)
+    (named_shows view name word _ (named_shows view name copy _ (offer_shows view (giver, word) copy (get context.offered (giver, word)) offered.offer name object offered.stands offered.holds)))
+    (λ is. absurd (cc))
+
+-- the fork that is answered here
+forked_here : (met : Meeting) (view : View) (asked : List Meeting) (context : Context) (giver repository copy name : List ℕ) (object : Object)
+    → ◌≡◌ {A = Meeting × Reply} (met, (answer met.0 view met.1).0) ((context, ForksOffer giver repository copy), Done []) → IsOffered context giver repository name object → WasShown view (met ∷ asked) name
+forked_here met view asked context giver repository copy name object is offered = (
+  met ∷ [],
+  asked,
+  refl,
+  subst (λ (m : Meeting). Shows name (answer m.0 view m.1)) (ap (λ (x : Meeting × Reply). x.0) (sym is)) (fork_shows context view giver repository copy name object offered) (ap (λ (x : Meeting × Reply). x.1) is),
+)
+
+-- what stood in an offer that was forked was seen at some moment
+pub offered_shown : (view : View) (asked : List Meeting) (name : List ℕ) (object : Object) → WasOffered asked (alone view asked).0 name object → WasShown view asked name
+offered_shown view [] name object was = absurd (by was.taken)
+  where
+    by : IsAnsweredAmong [] [] (was.context, ForksOffer was.giver was.repository was.copy) (Done []) → ⊥
+    by (k, few, is) = omega arith
+offered_shown view (met ∷ asked) name object was = by was.taken (offered_shown after asked name object)
+  where
+    after : View
+    after = (answer met.0 view met.1).1
+
+    by : IsAnsweredAmong (met ∷ asked) ((answer met.0 view met.1).0 ∷ (alone after asked).0) (was.context, ForksOffer was.giver was.repository was.copy) (Done []) → (WasOffered asked (alone after asked).0 name object → WasShown after asked name) → WasShown view (met ∷ asked) name
+    by (zero, few, is) later = forked_here met view asked was.context was.giver was.repository was.copy name object is was.offered
+    by (suc k, few, is) later = further met.0 view met.1 asked name (later (record {
+      context = was.context;
+      giver = was.giver;
+      repository = was.repository;
+      copy = was.copy;
+      taken = (k, omega arith, is);
+      offered = was.offered;
+    }))

@@ -1,14 +1,14 @@
 -- What offers disclose to a tenant: what happens to it along a run, and which requests meet and change offers.
-use Rattle.std.specs.Prelude.{ℕ, ◌++◌, Bool, true, false, cond, List, [], ◌∷◌, Option}
+use Rattle.std.specs.Prelude.{ℕ, ◌++◌, Bool, true, false, cond, List, [], ◌∷◌, Option, None, Some}
 use Rattle.std.specs.Ordering.{eq_by_cmp}
-use Rattle.std.specs.FinMap.{get}
+use Rattle.std.specs.FinMap.{get, insert, remove}
 use Rattle.git_name.specs.Name.{name_cmp}
 use Rattle.fork_request.specs.Asked.{Ask, AsksOffers, ForksOffer, MakesOffer, Withdraws}
 use Rattle.fork_request.specs.declared.reply.Reply.{Reply}
-use Rattle.fork_model.specs.Context.{offered_to}
-use Rattle.fork_model.specs.Offer.{Offer, Pair}
+use Rattle.fork_model.specs.Context.{Context, offered_to}
+use Rattle.fork_model.specs.Offer.{Offer, Offers, Pair}
 use Rattle.fork_model.specs.Runs
-use Rattle.fork_model.specs.World.{Event, Explains, World, deals_with}
+use Rattle.fork_model.specs.World.{Event, Explains, Meeting, World, deals_with}
 
 -- what happens to a tenant: it asks, or from now on this is offered to it under this key, an offer or nothing
 pub data Happening : Type 0 where
@@ -32,6 +32,17 @@ happenings tenant old (Runs.Asks who ask ∷ steps) (reply ∷ replies) new run 
 happenings tenant old (Runs.HostAsks ask ∷ steps) (reply ∷ replies) new run = happenings tenant run.0 steps replies new run.2
 happenings tenant old [] replies new run = []
 happenings tenant old (step ∷ steps) [] new run = []
+
+-- offers with another one under a key, or with none there
+abbrev pub with_change : Offers → Pair → Option Offer → Offers
+with_change offers key (Some offer) = insert offers key offer
+with_change offers key None = remove offers key
+
+-- what a tenant asks among what happens to it, in order, each beside what it meets, where it meets this at first
+abbrev pub met_along : Context → List Happening → List Meeting
+met_along context [] = []
+met_along context (Asked ask ∷ more) = (context, ask) ∷ met_along context more
+met_along context (Changes key offer ∷ more) = met_along (record context { offered = with_change context.offered key offer }) more
 
 -- whether a request looks at what its tenant is offered
 abbrev pub looks_at_offers : Ask → Bool

@@ -1,20 +1,27 @@
 // What offers disclose, and to which requests.
-ghost use Rattle.std.specs.Prelude.{◌≡◌, ◌≢◌, false, None, ℕ, List};
+ghost use Rattle.std.specs.Prelude.{◌≡◌, ◌≢◌, false, true, None, ℕ, List};
 ghost use Rattle.std.specs.FinMap.{empty, get, insert, keys};
 ghost use Rattle.fork_request.specs.Asked.{Ask, AsksOffers, ForksOffer, MakesOffer, Withdraws};
+ghost use Rattle.fork_request.specs.Names.{is_plain_name};
+ghost use Rattle.fork_request.specs.declared.name.TheConstants.{MAX_REPOSITORY_NAME, MAX_TENANT_NAME};
+ghost use Rattle.fork_request.specs.declared.refusal.Refusal.TheVariants.{NoOffer};
 ghost use Rattle.fork_request.specs.declared.reply.Reply.{Reply};
+ghost use Rattle.fork_request.specs.declared.reply.Reply.TheVariants.{Refused};
 ghost use Rattle.fork_model.specs.Answer.{answer};
-ghost use Rattle.fork_model.specs.Context.{Context, offered_to};
-ghost use Rattle.fork_model.specs.Disclosure.{changes_offers, happenings, looks_at_offers};
+ghost use Rattle.fork_model.specs.Context.{Context, met_by, offered_to};
+ghost use Rattle.fork_model.specs.Disclosure.{changes_offers, happenings, looks_at_offers, met_along, word_of};
 ghost use Rattle.fork_model.specs.Offer.{Pair};
+ghost use Rattle.fork_model.specs.Runs.{Asks};
 ghost use Rattle.fork_model.specs.View.{View};
-ghost use Rattle.fork_model.specs.World.{Agree, Event, Explains, IsUnfaulted, World, met, told};
+ghost use Rattle.fork_model.specs.World.{Agree, Event, Explains, IsUnfaulted, Steps, World, deals_with, met, told};
 
 /// Disclosure by offer. Two runs from worlds that show a tenant alike and offer it the same, in which
 /// the same happens to it in the same order, tell it the same and leave worlds that show it alike and
 /// offer it the same, whatever else the runs and the worlds are. What happens to it is that it asks,
 /// and that offers to it are made and withdrawn: equal ones, at the same places between its requests.
-/// And it is told the same where only what it meets beside its requests is equal.
+/// That is an equal list of happenings: the order of changes at one place counts too. `replies_met` and
+/// `views_met` ask for less: what it meets beside each request is equal, in whatever order that came.
+/// `worlds_met` adds only that both runs offer it the same in the end.
 pub fn offers_disclose_what_they_hold()
     ensures replies { (tenant : List ℕ) (old new : World) (steps : List Event) (replies : List Reply)
         (old2 new2 : World) (steps2 : List Event) (replies2 : List Reply)
@@ -40,6 +47,53 @@ pub fn offers_disclose_what_they_hold()
         → (run2 : Explains old2 steps2 replies2 new2) → IsUnfaulted tenant steps2 replies2
         → get old tenant ≡ get old2 tenant → met tenant old steps replies new run ≡ met tenant old2 steps2 replies2 new2 run2
         → get new tenant ≡ get new2 tenant }
+    ensures worlds_met { (tenant : List ℕ) (old new : World) (steps : List Event) (replies : List Reply)
+        (old2 new2 : World) (steps2 : List Event) (replies2 : List Reply)
+        → (run : Explains old steps replies new) → IsUnfaulted tenant steps replies
+        → (run2 : Explains old2 steps2 replies2 new2) → IsUnfaulted tenant steps2 replies2
+        → get old tenant ≡ get old2 tenant → met tenant old steps replies new run ≡ met tenant old2 steps2 replies2 new2 run2
+        → offered_to new tenant ≡ offered_to new2 tenant
+        → Agree tenant new new2 }
+{}
+
+/// What happens to a tenant along a run, and what it met at first, settle what it meets beside each
+/// of its requests. Nothing else does: no request of another tenant, but one that makes or withdraws
+/// an offer to it.
+pub fn what_happens_settles_what_is_met()
+    ensures { (tenant : List ℕ) (old new : World) (steps : List Event) (replies : List Reply)
+        → (run : Explains old steps replies new)
+        → met tenant old steps replies new run ≡ met_along (met_by old tenant) (happenings tenant old steps replies new run) }
+{}
+
+/// A step that makes no offer to a tenant, and withdraws none, leaves what that one is offered. Any
+/// other step changes it under one key at most: the giver's name, and the repository that it names.
+pub fn a_step_offers_what_it_deals_with()
+    ensures apart { (tenant : List ℕ) (old new : World) (event : Event) (reply : Reply)
+        → Steps old event reply new → deals_with tenant event reply ≡ false
+        → offered_to new tenant ≡ offered_to old tenant }
+    ensures elsewhere { (tenant giver : List ℕ) (old new : World) (ask : Ask) (reply : Reply) (key : Pair)
+        → Steps old (Asks giver ask) reply new → key ≢ (giver, word_of ask)
+        → get (offered_to new tenant) key ≡ get (offered_to old tenant) key }
+{}
+
+/// Who forks an offer, or tries to, tells its giver nothing. The step leaves the views of all others,
+/// the giver's among them, and what every tenant is offered: the offer stands as it stood.
+pub fn forking_an_offer_tells_its_giver_nothing()
+    ensures views { (old new : World) (tenant other giver repository copy : List ℕ) (reply : Reply)
+        → Steps old (Asks tenant (ForksOffer giver repository copy)) reply new → other ≢ tenant
+        → get new other ≡ get old other }
+    ensures offers { (old new : World) (tenant receiver giver repository copy : List ℕ) (reply : Reply)
+        → Steps old (Asks tenant (ForksOffer giver repository copy)) reply new
+        → offered_to new receiver ≡ offered_to old receiver }
+{}
+
+/// Who forks what is not offered to it is told that there is no such offer, and its view stays. It is
+/// told the same whether or not there is such a giver, and whatever that one has or offers to others.
+pub fn an_offer_that_was_not_made_is_no_offer()
+    ensures { (context : Context) (view : View) (giver repository copy : List ℕ)
+        → is_plain_name MAX_TENANT_NAME giver ≡ true → is_plain_name MAX_REPOSITORY_NAME repository ≡ true → is_plain_name MAX_REPOSITORY_NAME copy ≡ true
+        → get context.offered (giver, repository) ≡ None
+        → answer context view (ForksOffer giver repository copy) ≡ (Refused (NoOffer giver repository), view) }
 {}
 
 /// `offers` and `fork-offer` alone meet what a tenant is offered: every other answer is the same,

@@ -20,8 +20,10 @@ ghost use Rattle.fork_model.specs.World.{World, Event, Explains, IsUnfaulted, Le
 ghost use Rattle.fork_model.specs.Context.{met_by};
 
 pub use crate::disclosure::{
-    a_new_tenant_changes_no_offer, offers_are_changed_by_two_requests,
-    offers_are_met_by_two_requests, offers_disclose_what_they_hold,
+    a_new_tenant_changes_no_offer, a_step_offers_what_it_deals_with,
+    an_offer_that_was_not_made_is_no_offer, forking_an_offer_tells_its_giver_nothing,
+    offers_are_changed_by_two_requests, offers_are_met_by_two_requests,
+    offers_disclose_what_they_hold, what_happens_settles_what_is_met,
 };
 pub use crate::limits::{MAX_ITEMS, MAX_OFFERS, MAX_REPOSITORIES, MAX_TENANTS};
 pub use crate::missing::what_is_lacking_is_missing;

@@ -42,7 +42,9 @@ pub fn an_upload_is_all_its_parts()
 
 ghost use Rattle.fork_model.specs.Provenance.{WasShown};
 
-/// What was sent was seen at some moment: behind the push, or the end of the upload, that brought it.
+/// What was sent was seen at some moment: after the push, or the end of the upload, that brought it.
+/// And what stood in an offer that was forked was seen too: after the fork.
 pub fn what_was_sent_was_seen()
-    ensures { (view : View) (asked : List Meeting) (name : List ℕ) (object : Object) → WasSent view (exchanges_alone view asked) name object → WasShown view asked name }
+    ensures sent { (view : View) (asked : List Meeting) (name : List ℕ) (object : Object) → WasSent view (exchanges_alone view asked) name object → WasShown view asked name }
+    ensures offered { (view : View) (asked : List Meeting) (name : List ℕ) (object : Object) → WasOffered asked (alone view asked).0 name object → WasShown view asked name }
 {}

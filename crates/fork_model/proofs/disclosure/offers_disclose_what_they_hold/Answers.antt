@@ -13,3 +13,9 @@ returns-clause-replies_met c = λ t old new steps replies old2 new2 steps2 repli
 
 pub returns-clause-views_met : goal.returns-clause-views_met
 returns-clause-views_met c = λ t old new steps replies old2 new2 steps2 replies2 run fine run2 fine2 agree same. (runs_agree_met t old new steps replies old2 new2 steps2 replies2 run fine run2 fine2 agree same).1
+
+pub returns-clause-worlds_met : goal.returns-clause-worlds_met
+returns-clause-worlds_met c = λ t old new steps replies old2 new2 steps2 replies2 run fine run2 fine2 agree same offers. record {
+  views = (runs_agree_met t old new steps replies old2 new2 steps2 replies2 run fine run2 fine2 agree same).1;
+  offers = offers;
+}

@@ -234,11 +234,11 @@ walked_references : (old mid : VaultState) (giver : List ℕ) (references : Refe
     → AreReferences (visible_in old giver) references → AreReferences all references
 walked_references old mid giver references names all walked among =
     references_alike (visible_in old giver) all references (λ reference target points there.
-      let seen = visible_in mid giver in
-      let same = ap (λ (p : Measures × Measures). p.0) (same_measures old.tenants mid.tenants giver walked.shape) in
-      let kept = stays_at seen names target (walked.rooted target (target_among references reference target points) there) in
-      let here = same_there seen (visible_in old giver) target same ∙ there in
-      ap (option_map (λ object. object.kind)) (found_among (retain_keys seen names) all target among (ap is_some kept ∙ here) ∙ kept) ∙ same_kinds seen (visible_in old giver) target same)
+    let seen = visible_in mid giver in
+    let same = ap (λ (p : Measures × Measures). p.0) (same_measures old.tenants mid.tenants giver walked.shape) in
+    let kept = stays_at seen names target (walked.rooted target (target_among references reference target points) there) in
+    let here = same_there seen (visible_in old giver) target same ∙ there in
+    ap (option_map (λ object. object.kind)) (found_among (retain_keys seen names) all target among (ap is_some kept ∙ here) ∙ kept) ∙ same_kinds seen (visible_in old giver) target same)
 
 -- a fault that an honest store does not have
 bounded_damaged : (old new : VaultState) → Gains [] old new → (IsTrue old.honest → ⊥) → IsBounded [] old new (Failed Damaged)
@@ -336,7 +336,7 @@ module _ (tenant giver copy : List ℕ) (repository : Repository) (names : List 
       let seen = visible_in mid tenant in
       let sees : visible_in new tenant ≡ joined seen (retain_keys (visible_in mid giver) names) = ap (λ (p : Private). p.visible) (changed_at mid.tenants new.tenants tenant (with_adopted (retain_keys (visible_in mid giver) names)) here set) in
       let first = orderly_measured account.repositories (visible_in old tenant) seen (shown account old tenant) (shown account new tenant) account.limit
-          (ap (λ (p : Measures × Measures). p.0) (same_measures old.tenants mid.tenants tenant walked.shape)) (alike_shown account (private_of old.tenants tenant) (private_of new.tenants tenant)) before in
+      (ap (λ (p : Measures × Measures). p.0) (same_measures old.tenants mid.tenants tenant walked.shape)) (alike_shown account (private_of old.tenants tenant) (private_of new.tenants tenant)) before in
       orderly_taken (view_of (shown account new tenant) account.repositories seen account.limit) copy repository (visible_in new tenant)
       (λ name is. ap (λ (all : Objects). get all name) sees ∙ among_joined seen (retain_keys (visible_in mid giver) names) name is) room named head
       (walked_references old mid giver repository.references names (visible_in new tenant) walked among holds) (subst (λ (all : Objects). use_of all ≤ account.limit) (sym sees) fits) first
@@ -362,8 +362,8 @@ module _ (tenant giver copy : List ℕ) (repository : Repository) (names : List 
       let offer = offered (visible_in old giver) repository in
       let after = record account { repositories = insert account.repositories copy repository } in
       let brings : joined (visible_in mid tenant) (retain_keys (visible_in mid giver) names) ≡ joined view.objects offer.objects =
-          ap (λ tenants. joined (private_of tenants tenant).visible (retain_keys (visible_in mid giver) names)) (walked.kept honest)
-          ∙ ap (joined view.objects) (walked_objects old mid giver repository.references names walked honest) in
+      ap (λ tenants. joined (private_of tenants tenant).visible (retain_keys (visible_in mid giver) names)) (walked.kept honest)
+      ∙ ap (joined view.objects) (walked_objects old mid giver repository.references names walked honest) in
       let now_is = changed_at mid.tenants new.tenants tenant (with_adopted (retain_keys (visible_in mid giver) names)) here set in
       let row = taken_row view copy offer absent room (subst (λ (all : Objects). use_of all ≤ account.limit) brings fits) in
       let stays : staged_in new tenant ≡ staged_in old tenant = ap (λ (p : Private). p.staged) now_is ∙ ap (λ tenants. (private_of tenants tenant).staged) (walked.kept honest) in
@@ -376,8 +376,8 @@ module _ (tenant giver copy : List ℕ) (repository : Repository) (names : List 
       let view = shown account old tenant in
       let offer = offered (visible_in old giver) repository in
       let brings : joined (visible_in mid tenant) (retain_keys (visible_in mid giver) names) ≡ joined view.objects offer.objects =
-          ap (λ tenants. joined (private_of tenants tenant).visible (retain_keys (visible_in mid giver) names)) (walked.kept honest)
-          ∙ ap (joined view.objects) (walked_objects old mid giver repository.references names walked honest) in
+      ap (λ tenants. joined (private_of tenants tenant).visible (retain_keys (visible_in mid giver) names)) (walked.kept honest)
+      ∙ ap (joined view.objects) (walked_objects old mid giver repository.references names walked honest) in
       let row = full_row view copy offer absent room (subst (λ (all : Objects). account.limit < use_of all) brings above) in
       Yielded (told ∙ sym (ap (λ (r : Reply × View). r.0) row)) (all_same same has honest ∙ sym (ap (λ (r : Reply × View). plain r.1) row))
   forked_yields absent room (Unforked fault told is lacks has same) honest = Faulted fault told (all_same same has honest)

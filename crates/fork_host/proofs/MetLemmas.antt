@@ -142,7 +142,7 @@ offer_met state receiver giver word who account repository orderly same here mad
     let view = shown account state.vault giver in
     let there = get_shown seen account.made (receiver, word) ∙ ap (option_map (offered seen)) made in
     let right : IsOffer seen (receiver, word) (offered seen repository) =
-        (orderly.views giver view (get_world state giver ∙ ap (option_map (λ a. shown a state.vault giver)) here)).offers (receiver, word) (offered seen repository) there in
+    (orderly.views giver view (get_world state giver ∙ ap (option_map (λ a. shown a state.vault giver)) here)).offers (receiver, word) (offered seen repository) there in
     record {
       named = same;
       stands = offer_at state receiver giver word ∙ ap (offered_by state.vault giver receiver word) here ∙ ap (option_map (offered seen)) made;

@@ -38,8 +38,8 @@ ghost use Rattle.fork_host.specs.Staged.{Came, IsStaged};
 
 use crate::forking::fork_offer;
 use crate::keeping::keep_tenant;
-use crate::meeting::Met;
 use crate::made::Made;
+use crate::meeting::Met;
 use crate::opening::bytes_of;
 use crate::own::Own;
 use crate::repositories::Repositories;

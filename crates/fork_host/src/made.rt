@@ -80,8 +80,7 @@ impl Made {
     pub(crate) fn contains(&self, receiver: &TenantName, name: &RepositoryName) -> bool
         ensures { result ≡ map.contains_key self.now (receiver.now, name.now) }
     {
-        self.offers
-            .contains_key(&(receiver.copy(), name.copy()))
+        self.offers.contains_key(&(receiver.copy(), name.copy()))
     }
 
     // Takes out the one to this receiver of the repository of this name, if it is there. It takes no memory.

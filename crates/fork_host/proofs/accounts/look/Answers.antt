@@ -17,15 +17,17 @@ use Rattle.fork_host.proofs.accounts.look.Goals as goal
 
 pub returns-in-Offers-clause-row : goal.returns-in-Offers-clause-row
 unfolding answer
-returns-in-Offers-clause-row g c = λ context met. record { yields = λ honest. yields_of _ _ _ _ (rw c.in-Offers.is
-    (c.list_offers.ensures c.args.vault.now context (private_of c.args.vault.now.tenants c.args.name.now) (subst (λ r. IsMet c.args.vault.now context (ask_of r) c.args.met) c.in-Offers.is met))) }
+returns-in-Offers-clause-row g c = λ context met. record {
+  yields = λ honest. yields_of _ _ _ _ (rw c.in-Offers.is
+      (c.list_offers.ensures c.args.vault.now context (private_of c.args.vault.now.tenants c.args.name.now) (subst (λ r. IsMet c.args.vault.now context (ask_of r) c.args.met) c.in-Offers.is met)));
+}
 
 pub returns-in-Offers-clause-safe : goal.returns-in-Offers-clause-safe
 unfolding answer
 returns-in-Offers-clause-safe g c = λ context met.
     let view = shown c.args.tenant.now c.args.vault.now c.args.name.now in
     let gives : Gives (answer context view (ask_of c.args.request)) view c.list_offers.result view = rw c.in-Offers.is
-        (c.list_offers.ensures c.args.vault.now context (private_of c.args.vault.now.tenants c.args.name.now) (subst (λ r. IsMet c.args.vault.now context (ask_of r) c.args.met) c.in-Offers.is met)) in
+    (c.list_offers.ensures c.args.vault.now context (private_of c.args.vault.now.tenants c.args.name.now) (subst (λ r. IsMet c.args.vault.now context (ask_of r) c.args.met) c.in-Offers.is met)) in
     safe_still (IsBounded [] c.args.vault.now c.args.vault.now) view c.list_offers.result (bounded_still [] c.args.vault.now c.list_offers.result (quiet_row context view view (ask_of c.args.request) c.list_offers.result gives))
 
 pub returns-in-ForkOffer-clause-row : goal.returns-in-ForkOffer-clause-row

@@ -17,25 +17,31 @@ use Rattle.fork_host.proofs.TakenFromLemmas.{taken_none}
 use Rattle.fork_host.proofs.forking.fork_offer.Goals as goal
 
 pub returns-in_default-clause-row : goal.returns-in_default-clause-row
-returns-in_default-clause-row g c = λ context met. record { yields = λ honest.
-    (let view = shown c.args.tenant.now c.args.vault.now c.args.name.now in
-    yields_bad (fork_offer_answer context view c.args.words.0.now c.args.words.1.now c.args.words.2.now) view c.args.words.0.now c.bad_name.result (giver_unnamed context view c.args.words.0.now c.args.words.1.now c.args.words.2.now (sym c.in_default.ensures.test)) c.bad_name.ensures) }
+returns-in_default-clause-row g c = λ context met. record {
+  yields = λ honest.
+      (let view = shown c.args.tenant.now c.args.vault.now c.args.name.now in
+      yields_bad (fork_offer_answer context view c.args.words.0.now c.args.words.1.now c.args.words.2.now) view c.args.words.0.now c.bad_name.result (giver_unnamed context view c.args.words.0.now c.args.words.1.now c.args.words.2.now (sym c.in_default.ensures.test)) c.bad_name.ensures);
+}
 
 pub returns-in_default-clause-safe : goal.returns-in_default-clause-safe
 returns-in_default-clause-safe g c = λ context met. safe_quiet c.args.vault.now (shown c.args.tenant.now c.args.vault.now c.args.name.now) c.bad_name.result (bad_quiet c.bad_name.result c.args.words.0.now c.bad_name.ensures)
 
 pub returns-in_default-read-clause-row : goal.returns-in_default-read-clause-row
-returns-in_default-read-clause-row g c = λ context met. record { yields = λ honest.
-    (let view = shown c.args.tenant.now c.args.vault.now c.args.name.now in
-    yields_bad (fork_offer_answer context view c.args.words.0.now c.args.words.1.now c.args.words.2.now) view c.args.words.1.now c.bad_name-in_default-read.result (word_unnamed context view c.args.words.0.now c.args.words.1.now c.args.words.2.now (sym c.in-Some.ensures.test) (sym c.in_default-read.ensures.test)) c.bad_name-in_default-read.ensures) }
+returns-in_default-read-clause-row g c = λ context met. record {
+  yields = λ honest.
+      (let view = shown c.args.tenant.now c.args.vault.now c.args.name.now in
+      yields_bad (fork_offer_answer context view c.args.words.0.now c.args.words.1.now c.args.words.2.now) view c.args.words.1.now c.bad_name-in_default-read.result (word_unnamed context view c.args.words.0.now c.args.words.1.now c.args.words.2.now (sym c.in-Some.ensures.test) (sym c.in_default-read.ensures.test)) c.bad_name-in_default-read.ensures);
+}
 
 pub returns-in_default-read-clause-safe : goal.returns-in_default-read-clause-safe
 returns-in_default-read-clause-safe g c = λ context met. safe_quiet c.args.vault.now (shown c.args.tenant.now c.args.vault.now c.args.name.now) c.bad_name-in_default-read.result (bad_quiet c.bad_name-in_default-read.result c.args.words.1.now c.bad_name-in_default-read.ensures)
 
 pub returns-in_default-read-2-clause-row : goal.returns-in_default-read-2-clause-row
-returns-in_default-read-2-clause-row g c = λ context met. record { yields = λ honest.
-    (let view = shown c.args.tenant.now c.args.vault.now c.args.name.now in
-    yields_bad (fork_offer_answer context view c.args.words.0.now c.args.words.1.now c.args.words.2.now) view c.args.words.2.now c.bad_name-in_default-read-2.result (copy_unnamed context view c.args.words.0.now c.args.words.1.now c.args.words.2.now (sym c.in-Some.ensures.test) (sym c.in-Some-read.ensures.test) (sym c.in_default-read-2.ensures.test)) c.bad_name-in_default-read-2.ensures) }
+returns-in_default-read-2-clause-row g c = λ context met. record {
+  yields = λ honest.
+      (let view = shown c.args.tenant.now c.args.vault.now c.args.name.now in
+      yields_bad (fork_offer_answer context view c.args.words.0.now c.args.words.1.now c.args.words.2.now) view c.args.words.2.now c.bad_name-in_default-read-2.result (copy_unnamed context view c.args.words.0.now c.args.words.1.now c.args.words.2.now (sym c.in-Some.ensures.test) (sym c.in-Some-read.ensures.test) (sym c.in_default-read-2.ensures.test)) c.bad_name-in_default-read-2.ensures);
+}
 
 pub returns-in_default-read-2-clause-safe : goal.returns-in_default-read-2-clause-safe
 returns-in_default-read-2-clause-safe g c = λ context met. safe_quiet c.args.vault.now (shown c.args.tenant.now c.args.vault.now c.args.name.now) c.bad_name-in_default-read-2.result (bad_quiet c.bad_name-in_default-read-2.result c.args.words.2.now c.bad_name-in_default-read-2.ensures)
@@ -55,10 +61,12 @@ returns-in-Offer-clause-safe g c = λ context met.
     c.take_offer.ensures.safe is.head (subst (λ who. AreReferences (visible_in old who) c.in-Offer.repository.references) (sym is.named) is.references)
 
 pub returns-clause-row : goal.returns-clause-row
-returns-clause-row g c = λ context met. record { yields = λ honest.
-    (let view = shown c.args.tenant.now c.args.vault.now c.args.name.now in
-    yields_refused (fork_offer_answer context view c.args.words.0.now c.args.words.1.now c.args.words.2.now) view (NoOffer c.in-Some.giver c.in-Some-read.of) (Refused (NoOffer c.in-Some.giver c.in-Some-read.of))
-    (none_offered context view c.args.words.0.now c.args.words.1.now c.args.words.2.now c.in-Some.giver c.in-Some-read.of (sym c.in-Some.ensures.test) (sym c.in-Some-read.ensures.test) (sym c.in-Some-read-2.ensures.test) c.in-Some.ensures.found.0 c.in-Some-read.ensures.found.0 (nothing_met c.args.vault.now context c.args.words.0.now c.args.words.1.now c.args.words.2.now c.args.met c.in_default-met.not-Offer met)) refl) }
+returns-clause-row g c = λ context met. record {
+  yields = λ honest.
+      (let view = shown c.args.tenant.now c.args.vault.now c.args.name.now in
+      yields_refused (fork_offer_answer context view c.args.words.0.now c.args.words.1.now c.args.words.2.now) view (NoOffer c.in-Some.giver c.in-Some-read.of) (Refused (NoOffer c.in-Some.giver c.in-Some-read.of))
+      (none_offered context view c.args.words.0.now c.args.words.1.now c.args.words.2.now c.in-Some.giver c.in-Some-read.of (sym c.in-Some.ensures.test) (sym c.in-Some-read.ensures.test) (sym c.in-Some-read-2.ensures.test) c.in-Some.ensures.found.0 c.in-Some-read.ensures.found.0 (nothing_met c.args.vault.now context c.args.words.0.now c.args.words.1.now c.args.words.2.now c.args.met c.in_default-met.not-Offer met)) refl);
+}
 
 pub returns-clause-safe : goal.returns-clause-safe
 returns-clause-safe g c = λ context met. safe_quiet c.args.vault.now (shown c.args.tenant.now c.args.vault.now c.args.name.now) (Refused (NoOffer c.in-Some.giver c.in-Some-read.of)) (inl refl)

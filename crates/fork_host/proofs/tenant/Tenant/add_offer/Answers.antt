@@ -30,5 +30,5 @@ returns-clause-row c own =
     let room : len account.made < MAX_OFFERS = (let past = c.if-len-ge-MAX_OFFERS.false in omega (arith, past, count)) in
     let set : c.insert.new.self ≡ insert c.self.inside.made pair c.args.repository = search rules in
     let new = ap (λ (a : Account). record a { made = c.insert.new.self }) c.self.view_is
-        ∙ ap (λ (m : Made). record account { made = m }) (set ∙ ap (λ (a : Account). insert a.made pair c.args.repository) c.self.view_is) in
+    ∙ ap (λ (m : Made). record account { made = m }) (set ∙ ap (λ (a : Account). insert a.made pair c.args.repository) c.self.view_is) in
     given_as _ _ _ _ (offer_made account own pair c.args.repository none room ∙ (λ i. (sym c.done.ensures i, seen_by (sym new i) own)))

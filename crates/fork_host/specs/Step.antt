@@ -25,9 +25,10 @@ TellsSeenAt world (Asks tenant ask) reply = TellsSeen (seen_in_world world tenan
 TellsSeenAt world (HostAsks request) reply = ⊤
 
 -- a step from state to state. Over an honest store it is a step of the world. Over any store the honesty stays, and the new state is
--- a host's; what is refused or failed keeps each view's shape, and a step that a tenant does not ask keeps that tenant's; `offer` and
--- `withdraw` alone change of which repositories offers are; `fork-offer` gives a repository that is offered, and what comes to be seen
--- by it is of what the giver sees; what is told under a name has it, and merge bases are names of what the tenant sees; the host faults and what is done with the store keep their bounds
+-- a host's. What is refused or failed keeps each view's shape, and a step that a tenant does not ask keeps that tenant's. `offer` and
+-- `withdraw` alone change of which repositories offers are. `fork-offer` gives a repository that is offered, and what comes to be seen
+-- by it is of what the giver sees. What is told under a name has it, and merge bases are names of what the tenant sees. The host
+-- faults, and what is done with the store, keep their bounds
 pub record IsStep (old : HostState) (event : Event) (reply : Reply) (new : HostState) : Type 0 where
   pub explained : Trusted old → Steps (world_of old) event reply (world_of new)
   pub honest : new.vault.honest ≡ old.vault.honest

@@ -18,6 +18,7 @@ use Rattle.push_stream.specs.Upload.{UploadValue, continued, upload_of}
 use Rattle.push_stream.specs.declared.upload.TheConstants.{MAX_UPLOAD}
 use Rattle.push_stream.proofs.PieceLemmas.{piece_joins}
 use Rattle.fork_model.specs.Answer.{answer, open_upload, part_answer}
+use Rattle.fork_model.specs.Context.{Context, met_by}
 use Rattle.fork_model.specs.Runs.{Answered}
 use Rattle.fork_model.specs.View.{View}
 use Rattle.fork_model.specs.World.{AreFine, Explains, Steps, World}
@@ -35,9 +36,9 @@ by_count view piece upload true is = absurd (cc)
 by_count view piece upload false is = refl
 
 -- the answer to a part
-part_told : (view : View) (front piece : List ℕ) → open_upload view.upload ≡ upload_of front → length front + length piece ≤ MAX_UPLOAD → answer view (SendsPart piece) ≡ (Done [], with_upload view (front ++ piece))
+part_told : (context : Context) (view : View) (front piece : List ℕ) → open_upload view.upload ≡ upload_of front → length front + length piece ≤ MAX_UPLOAD → answer context view (SendsPart piece) ≡ (Done [], with_upload view (front ++ piece))
 unfolding answer part_answer
-part_told view front piece is fits =
+part_told context view front piece is fits =
     ap (λ (u : UploadValue). cond {A = Reply × View} (nat_lt 33554432 (u.count + length piece)) (Refused StagedTooLong, view) (Done [], record view { upload = Some (continued u piece) })) is
     ∙ by_count view piece (upload_of front) (nat_lt 33554432 (length front + length piece)) (few_enough (length front) (length piece) fits)
     ∙ ap (λ (u : UploadValue). (Done [], record view { upload = Some u })) (piece_joins front piece)
@@ -46,7 +47,8 @@ part_told view front piece is fits =
 part_step : (world : World) (tenant front piece : List ℕ) (view : View) → get world tenant ≡ Some view → open_upload view.upload ≡ upload_of front → length front + length piece ≤ MAX_UPLOAD → IsFrame (part_frame tenant piece)
     → Steps world (event_of (part_frame tenant piece)) (Done []) (insert world tenant (with_upload view (front ++ piece)))
 part_step world tenant front piece view here is fits right =
-    let told = ap (answer view) (spelled_asked (codes "part\n" ++ piece) (SendsPart piece) right.fits refl) ∙ part_told view front piece is fits in
+    let context = met_by world tenant in
+    let told = ap (answer context view) (spelled_asked (codes "part\n" ++ piece) (SendsPart piece) right.fits refl) ∙ part_told context view front piece is fits in
     Answered view here (sym (ap (λ (row : Reply × View). row.0) told)) (sym (ap (λ (row : Reply × View). insert world tenant row.1) told))
 
 written_there : (world : World) (tenant : List ℕ) (view : View) → get (insert world tenant view) tenant ≡ Some view

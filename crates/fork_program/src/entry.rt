@@ -1,4 +1,4 @@
-ghost use Rattle.std.specs.Prelude.{◌≡◌, ◌≢◌, ℕ, IfErr, IfOk, List, OnOk, map};
+ghost use Rattle.std.specs.Prelude.{◌≡◌, ◌⊎◌, ℕ, IfErr, IfOk, List, OnOk, map};
 ghost use Rattle.std.specs.Io.KnownBytes.{Appends, Keeps};
 ghost use Rattle.fork_program.specs.Program.{Ends, IsCarriedOut, IsEndedAndTold, IsEndedUntold, ending_of};
 
@@ -61,10 +61,10 @@ fn carried_out<'a, H: Files<File = File> + Net + AllocGlobal + RandomSource, R: 
     }
 }
 
-// Gives help.
+// Gives help, or the version.
 fn help<W: Write>(alloc: Global, error: Error, writer: &mut W) -> Result<(), Fault>
     ensures ok { OnOk result ((text : List ℕ) × Appends (W.contents writer.old) (W.contents writer.new) text) }
-    ensures kept { IfErr result (λ why. why ≢ Fault.Write → (why ≡ Fault.Memory) × Keeps (W.contents writer.old) (W.contents writer.new)) }
+    ensures kept { IfErr result (λ why. (why ≡ Fault.Write) ⊎ ((why ≡ Fault.Memory) × Keeps (W.contents writer.old) (W.contents writer.new))) }
 {
     let Ok(text) = error.to_string(alloc) else {
         return Err(Fault::Memory);

@@ -17,10 +17,11 @@ class Fetch:
         self.history = {}
 
     def is_whole(self, wanted: list) -> bool:
-        """Whether all that the history here leads to is here, or need not be.
+        """Whether there is a history here, and all that it leads to is here, or need not be.
 
-        Not so where it was cut short; and not where objects are elsewhere, and one of them is wanted by its name."""
-        if self.options.refetch or self.repository.is_shallow():
+        Not so in a clone, nor where it was cut short; and not where objects are elsewhere, and one of them is wanted by
+        its name."""
+        if self.options.cloning or self.options.refetch or self.repository.is_shallow():
             return False
         return set(self.listing.refs.values()).issuperset(wanted) or not self.repository.is_partial()
 

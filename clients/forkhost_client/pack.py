@@ -13,6 +13,9 @@ NUMBERS = {"commit": 1, "tree": 2, "blob": 3, "tag": 4}
 # Fewer objects than this are unpacked, as Git does.
 FEW = 100
 PIECE = 1 << 20
+# How far zlib looks back, as a power of two, and the memory by which it finds it: most objects are small, and of the
+# time of a small one half went into clearing a larger memory.
+WINDOW, MEMORY = 13, 7
 
 
 def head(kind: str, length: int) -> bytes:
@@ -24,6 +27,11 @@ def head(kind: str, length: int) -> bytes:
         found.append(length & 127)
         length >>= 7
     return bytes(found)
+
+
+def compressed(content: bytes) -> bytes:
+    way = zlib.compressobj(zlib.Z_BEST_SPEED, zlib.DEFLATED, WINDOW, MEMORY)
+    return way.compress(content) + way.flush()
 
 
 def nameless(folder: str):
@@ -58,7 +66,7 @@ class Pack:
             return
         self.names.add(record.name)
         self.file.write(head(record.kind, len(record.content)))
-        self.file.write(zlib.compress(record.content, 1))
+        self.file.write(compressed(record.content))
         self.progress.add(1, len(record.content))
 
     def pieces(self):

@@ -8,7 +8,6 @@ from .remote import Remote
 from .repository import Repository
 from .updates import ABSENT, Update, blamed, judge
 from .uploading import send_all
-from .words import told_of_push
 
 MAX_COMMANDS = 256
 ONE_FAILED = "atomic push failed"
@@ -60,6 +59,8 @@ class Push:
                 self.listing.refs[update.ref] = update.new
 
     def blame(self, refusal: Refused, sent: Plan, updates: list) -> None:
+        from .words import told_of_push
+
         text = told_of_push(refusal, self.address, self.repository, self.remote, sent)
         for update in blamed(updates, refusal.word, refusal.detail):
             update.refuse(update.stale() if refusal.word == "stale" else text, refusal.word)

@@ -12,7 +12,6 @@ from forkhost_client.options import Options
 from forkhost_client.progress import say
 from forkhost_client.pushing import Push, chosen, refuse
 from forkhost_client.updates import ABSENT, Update
-from forkhost_client.words import told
 
 from .cache import Cache
 from .hooked import LOCK, PLACE, REPORT, REPOSITORY, TENANT
@@ -35,6 +34,8 @@ def ask(cache: Cache, updates: list, options: Options) -> None:
             listing = read_listing(remote, True)
             Push(cache.address, cache.repository, remote, listing, options).carry_out(good)
     except Refused as refusal:
+        from forkhost_client.words import told
+
         refuse(updates, told(refusal, cache.address), refusal.word)
     except Fatal as fault:
         refuse(updates, str(fault), "failed")

@@ -1,7 +1,12 @@
 # Installs what .ci/run built: make install [PREFIX=/usr/local] [DESTDIR=] [PROGRAM=PATH] [PYTHON=/usr/bin/python3].
+# Makes a package of Debian's of it: make deb [DEB=out/forkhost.deb] [ROOM=out/deb] [VERSION=..] [PROGRAM=PATH].
 PREFIX ?= /usr/local
 PROGRAM ?= crates/forkhost/out/forkhost
 PYTHON ?= /usr/bin/python3
+DEB ?= out/forkhost.deb
+ROOM ?= out/deb
+# The day of the last commit, and how many there are, below any release.
+VERSION ?= 0~$(shell git log -1 --format=%cd --date=format:%Y%m%d).$(shell git rev-list --count HEAD)
 
 BINDIR = $(PREFIX)/bin
 LIBDIR = $(PREFIX)/lib/forkhost
@@ -13,7 +18,7 @@ CLIENTS = forkhost-ask forkhost-door forkhost-shell forkhost-http git-remote-for
 MODULES = forkhost_client forkhost_front
 HOOKS = forkhost_front/hooks
 
-.PHONY: all install uninstall
+.PHONY: all install uninstall deb
 
 all:
 	@echo "build by .ci/run or rt, and then: make install"
@@ -34,6 +39,15 @@ install:
 	install -m 644 install/forkhost.sysusers "$(DESTDIR)$(USERDIR)/forkhost.conf"
 	install -m 644 install/completion "$(DESTDIR)$(COMPLETIONS)/forkhost"
 	ln -sf forkhost "$(DESTDIR)$(COMPLETIONS)/forkhost-ask"
+
+# The C library that it wants is the newest that the program names.
+deb:
+	rm -rf "$(ROOM)"
+	$(MAKE) --no-print-directory install PREFIX=/usr DESTDIR="$(ROOM)"
+	install -d "$(ROOM)/DEBIAN" "$(dir $(DEB))"
+	libc=$$(objdump -T "$(PROGRAM)" | grep -o 'GLIBC_[0-9.]*' | sort -Vu | tail -1 | cut -d_ -f2) && \
+	sed "s|@VERSION@|$(VERSION)|; s|@ARCHITECTURE@|$$(dpkg --print-architecture)|; s|@LIBC@|$$libc|" install/control > "$(ROOM)/DEBIAN/control"
+	dpkg-deb --root-owner-group --build "$(ROOM)" "$(DEB)"
 
 uninstall:
 	rm -rf "$(DESTDIR)$(LIBDIR)"

@@ -1,7 +1,6 @@
 """One connection to a host. The host serves one at a time, so it is held for one batch of requests alone."""
-import socket
-import threading
-from typing import Callable, Optional
+import _thread
+from _socket import AF_UNIX, socket
 
 from .faults import Fatal, Lost
 from .frames import DONE, LONGEST_HEAD, MAX_PAYLOAD, bytes_of, frame, length_of, not_done, text_of
@@ -38,16 +37,33 @@ class Data:
         return self.read(self.left)
 
 
-class Connection:
-    """Requests of one tenant, each answered before the next is sent; a `with` statement ends it."""
+class Timer:
+    """Does some work once after a while, beside all else, unless it is called off before."""
 
-    def __init__(self, path: str, tenant: str, on_wait: Optional[Callable[[], None]] = None):
+    def __init__(self, seconds: float, work):
+        self.lock, self.work = _thread.allocate_lock(), work
+        self.lock.acquire()
+        _thread.start_new_thread(self.wait, (seconds,))
+
+    def wait(self, seconds: float) -> None:
+        if not self.lock.acquire(timeout=seconds):
+            self.work()
+
+    def cancel(self) -> None:
+        if self.lock.locked():
+            self.lock.release()
+
+
+class Connection:
+    """Requests of one tenant, each answered before the next is sent; a `with` statement ends it.
+
+    `_socket` and `_thread` are what `socket` and `threading` stand on, which take longer to read in than a listing."""
+
+    def __init__(self, path: str, tenant: str, on_wait=None):
         self.tenant = bytes_of(tenant)
-        self.timer = threading.Timer(PATIENCE, on_wait or (lambda: None))
-        self.timer.daemon = True
-        self.stream = socket.socket(socket.AF_UNIX)
-        self.reader, self.data = self.stream.makefile("rb", PIECE), None
-        self.timer.start()
+        self.timer = Timer(PATIENCE, on_wait or (lambda: None))
+        self.stream = socket(AF_UNIX)
+        self.reader, self.data = open(self.stream.fileno(), "rb", PIECE, closefd=False), None
         try:
             self.stream.connect(path)
         except OSError as fault:

@@ -1,21 +1,21 @@
 """A door for one tenant: frames of that tenant pass to the host, and no others do.
 
 It is for a front end that knows its users. It stands before the socket, so which tenant it lets through is trusted."""
-import re
-import signal
-import socket
-from typing import BinaryIO, Optional, Tuple
+from _signal import alarm
+from _socket import AF_UNIX, socket
 
+from .address import is_tenant
 from .faults import Lost
-from .frames import BAD_FRAME, LONGEST_HEAD, MAX_PAYLOAD, bytes_of, frame, framed, length_of
+from .forms import number
+from .frames import BAD_FRAME, LONGEST_HEAD, MAX_PAYLOAD, bytes_of, frame, framed, length_of, text_of
 
 # Seconds without a byte from the user, after which the process ends, and the host is free for the next one.
 PATIENCE = 30
 PIECE = 1 << 16
 # A frame's first line: a tenant's name or `@host`, a length, and LF.
 LONGEST_LINE = 41
-WHO = "[a-z0-9][a-z0-9_-]{0,31}|@host"
-LINE = re.compile(b"(%s) (0|[1-9][0-9]{0,6})\n" % WHO.encode())
+LONGEST_NUMBER = 7
+OPERATOR = "@host"
 # To this user there are no other tenants.
 NOBODY = framed(b"no unknown-tenant\n")
 
@@ -24,24 +24,29 @@ class BadFrame(Exception):
     """What came is no frame."""
 
 
-def read_frame(source: BinaryIO) -> Optional[Tuple[bytes, bytes]]:
+def is_who(text: str) -> bool:
+    """Whether frames may be of this name."""
+    return text == OPERATOR or is_tenant(text)
+
+
+def read_frame(source) -> "tuple | None":
     """Who asks, and what; None at the end."""
-    signal.alarm(PATIENCE)
+    alarm(PATIENCE)
     line = source.readline(LONGEST_LINE)
     if not line:
         return None
-    found = LINE.fullmatch(line)
-    if not found or int(found[2]) > MAX_PAYLOAD:
+    who, _, digits = line.partition(b" ")
+    left, pieces = number(digits[:-1], LONGEST_NUMBER), []
+    if not line.endswith(b"\n") or not is_who(text_of(who)) or left is None or left > MAX_PAYLOAD:
         raise BadFrame
-    left, pieces = int(found[2]), []
     while left:
-        signal.alarm(PATIENCE)
+        alarm(PATIENCE)
         pieces.append(source.read1(min(left, PIECE)))
         left -= len(pieces[-1])
         if not pieces[-1]:
             raise BadFrame
-    signal.alarm(0)
-    return found[1], b"".join(pieces)
+    alarm(0)
+    return who, b"".join(pieces)
 
 
 class Host:
@@ -52,11 +57,11 @@ class Host:
 
     def connect(self) -> None:
         if not self.stream:
-            self.stream = socket.socket(socket.AF_UNIX)
+            self.stream = socket(AF_UNIX)
             self.stream.connect(self.path)
-            self.reader = self.stream.makefile("rb", PIECE)
+            self.reader = open(self.stream.fileno(), "rb", PIECE, closefd=False)
 
-    def carry(self, given: bytes, sink: BinaryIO) -> None:
+    def carry(self, given: bytes, sink) -> None:
         """A frame to the host, and its reply to the user as it comes."""
         self.connect()
         self.stream.sendall(given)
@@ -74,7 +79,7 @@ class Host:
         sink.flush()
 
 
-def serve(path: str, tenant: str, source: BinaryIO, sink: BinaryIO) -> None:
+def serve(path: str, tenant: str, source, sink) -> None:
     """Frames up to the end of the input, or to a bad one, which is answered as the host does."""
     host = Host(path)
     try:

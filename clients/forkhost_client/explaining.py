@@ -1,6 +1,5 @@
 """Why the host does not take an object, found by a look at the object here."""
 import re
-from typing import Optional
 
 from .repository import Repository
 
@@ -18,7 +17,7 @@ def quoted(path: str) -> str:
     return "'" + "".join(shown) + "'"
 
 
-def entry_fault(tree: bytes, path: str) -> Optional[str]:
+def entry_fault(tree: bytes, path: str) -> "str | None":
     """The first entry with a mode or a file name that the host does not take, with its path."""
     while tree:
         mode, _, rest = tree.partition(b" ")
@@ -32,7 +31,7 @@ def entry_fault(tree: bytes, path: str) -> Optional[str]:
     return None
 
 
-def line_fault(content: bytes) -> Optional[str]:
+def line_fault(content: bytes) -> "str | None":
     """The first line of a header whose ident the host does not take."""
     for line in content.partition(b"\n\n")[0].split(b"\n"):
         word, _, ident = line.partition(b" ")

@@ -1,6 +1,4 @@
 """A fetch: what Git wants, in few requests, in one pack."""
-from typing import Dict, List, Optional
-
 from .listing import Listing
 from .negotiation import MAX_EXCLUDED, MAX_ITEMS, common
 from .options import Options
@@ -16,17 +14,18 @@ class Fetch:
     def __init__(self, repository: Repository, remote: Remote, listing: Listing, options: Options, pack: Pack):
         self.repository, self.remote, self.pack = repository, remote, pack
         self.listing, self.options = listing, options
-        self.history: Dict[str, List[str]] = {}
+        self.history = {}
 
-    def is_whole(self, wanted: List[str]) -> bool:
-        """Whether all that the history here leads to is here, or need not be.
+    def is_whole(self, wanted: list) -> bool:
+        """Whether there is a history here, and all that it leads to is here, or need not be.
 
-        Not so where it was cut short; and not where objects are elsewhere, and one of them is wanted by its name."""
-        if self.options.refetch or self.repository.is_shallow():
+        Not so in a clone, nor where it was cut short; and not where objects are elsewhere, and one of them is wanted by
+        its name."""
+        if self.options.cloning or self.options.refetch or self.repository.is_shallow():
             return False
         return set(self.listing.refs.values()).issuperset(wanted) or not self.repository.is_partial()
 
-    def carry_out(self, wanted: List[str]) -> None:
+    def carry_out(self, wanted: list) -> None:
         self.history = self.repository.history() if self.is_whole(wanted) else {}
         targets = [name for name in self.targets(wanted) if name not in self.history]
         commits = [name for name in targets if self.listing.kind(name) == "commit"]
@@ -36,7 +35,7 @@ class Fetch:
         if self.options.followtags:
             self.follow_tags()
 
-    def targets(self, wanted: List[str]) -> List[str]:
+    def targets(self, wanted: list) -> list:
         """What stands behind the wanted names; tags between are here already, and need not be asked for.
 
         HEAD is the first, since most other tips stand in its history; then come commits, then all else."""
@@ -50,7 +49,7 @@ class Fetch:
         for tag in self.listing.chain(name):
             self.pack.add(tag)
 
-    def receive(self, wanted: List[str], known: List[str]) -> None:
+    def receive(self, wanted: list, known: list) -> None:
         """All that the wanted names lead to, less what the known ones do. The first one is asked for alone."""
         room = 1
         while wanted:
@@ -68,9 +67,7 @@ class Fetch:
                 self.add_chain(name)
 
 
-def fetch(
-    repository: Repository, remote: Remote, listing: Listing, wanted: List[str], options: Options
-) -> Optional[str]:
+def fetch(repository: Repository, remote: Remote, listing: Listing, wanted: list, options: Options) -> "str | None":
     """Brings what the wanted names lead to into the repository; the path of the file that holds its pack, if any."""
     with Pack(repository, Progress("Receiving objects", options.progress)) as pack:
         with remote:

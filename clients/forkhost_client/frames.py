@@ -1,17 +1,13 @@
 """Frames of requests and of replies, as bytes, and what a reply says."""
-import re
-from typing import Iterable, List, Tuple
-
 from .faults import Fatal, HostFault, Lost, Refused
+from .forms import is_small, number
 
 MAX_PAYLOAD = 1_048_576
 DONE = b"ok\n"
 BAD_FRAME = b"! bad-frame\n"
 # No line of a reply's frame is longer: the greatest number has twenty digits.
 LONGEST_HEAD = 24
-LENGTH = re.compile(rb"(0|[1-9][0-9]{0,19})\n")
-REFUSAL = re.compile(rb"no ([a-z-]+)(?: ([^ \n]+))?\n")
-FAULT = re.compile(rb"host ([a-z-]+)\n")
+LONGEST_NUMBER = 20
 
 
 def text_of(data: bytes) -> str:
@@ -27,7 +23,7 @@ def frame(who: bytes, payload: bytes) -> bytes:
     return b"%s %d\n%s" % (who, len(payload), payload)
 
 
-def frames(turns: Iterable[Tuple[bytes, bytes]]) -> bytes:
+def frames(turns) -> bytes:
     """The input of a session: who asks, and what."""
     return b"".join(frame(who, payload) for who, payload in turns)
 
@@ -36,15 +32,15 @@ def framed(reply: bytes) -> bytes:
     return b"%d\n%s" % (len(reply), reply)
 
 
-def replies(written: bytes) -> Tuple[List[bytes], bytes]:
+def replies(written: bytes) -> tuple:
     """The whole replies of an output, and what stands behind the last one."""
     found, at = [], 0
-    while head := LENGTH.match(written, at):
-        end = head.end() + int(head[1])
-        if end > len(written):
+    while (end := written.find(b"\n", at, at + LONGEST_HEAD) + 1) > 0:
+        length = number(written[at : end - 1], LONGEST_NUMBER)
+        if length is None or end + length > len(written):
             break
-        found.append(written[head.end() : end])
-        at = end
+        found.append(written[end : end + length])
+        at = end + length
     return found, written[at:]
 
 
@@ -52,17 +48,18 @@ def length_of(head: bytes) -> int:
     """The length that the first line of a reply's frame says."""
     if head == BAD_FRAME:
         raise Fatal("the host took the request for no frame, and ended the connection")
-    found = LENGTH.fullmatch(head)
-    if not found:
+    length = number(head[:-1], LONGEST_NUMBER) if head.endswith(b"\n") else None
+    if length is None:
         raise Lost("what was read is no reply of a forkhost")
-    return int(found[1])
+    return length
 
 
 def not_done(reply: bytes) -> Exception:
     """What a reply says that does not begin with `ok`."""
-    refusal, fault = REFUSAL.fullmatch(reply), FAULT.fullmatch(reply)
-    if refusal:
-        return Refused(refusal[1].decode(), text_of(refusal[2] or b""))
-    if fault:
-        return HostFault(fault[1].decode())
+    kind, *words = reply[:-1].split(b" ")
+    if reply.endswith(b"\n") and b"\n" not in reply[:-1] and words and is_small(words[0]) and all(words):
+        if kind == b"no" and len(words) <= 2:
+            return Refused(words[0].decode(), text_of(b"".join(words[1:])))
+        if kind == b"host" and len(words) == 1:
+            return HostFault(words[0].decode())
     return Lost("what was read is no reply of a forkhost")

@@ -1,6 +1,4 @@
 """The remote helper: Git's lines in, and what Git is told (gitremote-helpers(7))."""
-from typing import BinaryIO, Iterable, Iterator, List, Mapping, Optional
-
 from .address import Address
 from .connection import Connection
 from .faults import Fatal, Refused
@@ -23,10 +21,10 @@ EMPTY = (
 class Helper:
     """What a fetch and a push want is read when they are asked for: most calls are for a list alone."""
 
-    def __init__(self, address: Address, outer: Mapping[str, str]):
+    def __init__(self, address: Address, outer):
         self.address, self.repository = address, Repository(outer)
         self.options = Options(self.warn)
-        self.listing: Optional[Listing] = None
+        self.listing = None
         # Whether the repository is to be made by a push.
         self.is_wanting = False
 
@@ -39,14 +37,14 @@ class Helper:
         on_wait = lambda: self.warn("waiting: the host serves another connection")
         return Remote(Connection(self.address.socket, self.address.tenant, on_wait), self.address.repository)
 
-    def serve(self, source: BinaryIO, sink: BinaryIO) -> None:
+    def serve(self, source, sink) -> None:
         """Answers Git's lines to their end, or to an empty one between batches."""
         for line in iter(lambda: read_line(source), ""):
             for row in self.answer(line, source):
                 sink.write(bytes_of(row) + b"\n")
             sink.flush()
 
-    def answer(self, line: str, source: BinaryIO) -> Iterable[str]:
+    def answer(self, line: str, source):
         word = line.partition(" ")[0]
         if word == "option":
             return [self.options.answer(line)]
@@ -67,7 +65,7 @@ class Helper:
             is_missing = refusal.word == "no-repository"
             if is_missing and for_push and self.repository.setting(AUTOCREATE, kind="bool") == "true":
                 self.is_wanting = True
-                return Listing({}, {}, None, {})
+                return Listing({}, {})
             hint = f"; '{self.address.init()}' makes it" if is_missing else ""
             raise Fatal(self.told(refusal) + hint) from refusal
 
@@ -88,7 +86,7 @@ class Helper:
             if refusal.word != "repository-exists":
                 raise Fatal(self.told(refusal)) from refusal
 
-    def list(self, for_push: bool) -> Iterator[str]:
+    def list(self, for_push: bool):
         if for_push:
             self.want_format()
         self.listing = self.listed(for_push)
@@ -107,7 +105,7 @@ class Helper:
                 f"use one made by 'git init --object-format={FORMAT}' or by 'git clone'"
             )
 
-    def fetch(self, batch: List[str]) -> Iterator[str]:
+    def fetch(self, batch: list):
         from .fetching import fetch
 
         self.want_format()
@@ -120,7 +118,7 @@ class Helper:
         if kept:
             yield f"lock {kept}"
 
-    def push(self, batch: List[str]) -> Iterator[str]:
+    def push(self, batch: list):
         from .pushing import Push, chosen
         from .updates import read_updates
 
@@ -135,6 +133,6 @@ class Helper:
         yield from (update.row() for update in updates)
 
 
-def read_line(source: BinaryIO) -> str:
+def read_line(source) -> str:
     """A line of Git's without its end; nothing for an empty one, and at the end."""
     return text_of(source.readline()).rstrip("\n")

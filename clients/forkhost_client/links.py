@@ -1,6 +1,4 @@
 """Orders of objects in which each stands behind those that it links to."""
-from typing import Dict, Iterator, List
-
 from .records import linked
 from .repository import Repository
 
@@ -8,7 +6,7 @@ FOLDER = b"40000 "
 RAW = 32
 
 
-def behind_links(names: List[str], links: Dict[str, List[str]]) -> List[str]:
+def behind_links(names: list, links: dict) -> list:
     """The names, each behind those of them that it links to."""
     found, done = [], set()
     for top in names:
@@ -24,7 +22,7 @@ def behind_links(names: List[str], links: Dict[str, List[str]]) -> List[str]:
     return found
 
 
-def folders(tree: bytes) -> Iterator[str]:
+def folders(tree: bytes):
     """The trees to which a tree links."""
     at = 0
     while at < len(tree):
@@ -34,14 +32,14 @@ def folders(tree: bytes) -> Iterator[str]:
         at = end
 
 
-def children_first(trees: List[str], repository: Repository) -> List[str]:
+def children_first(trees: list, repository: Repository) -> list:
     wanted = set(trees)
     with repository.records(trees) as batch:
         links = {name: [other for other in folders(tree) if other in wanted] for name, tree in batch.contents()}
     return behind_links(trees, links)
 
 
-def inner_first(tags: List[str], repository: Repository) -> List[str]:
+def inner_first(tags: list, repository: Repository) -> list:
     with repository.records(tags) as batch:
         links = {name: [linked(tag).name] for name, tag in batch.contents()}
     return behind_links(tags, links)

@@ -1,24 +1,22 @@
 """What a repository of the host shows: its references, what they point at, and its HEAD."""
-from typing import Dict, Iterable, Iterator, List, NamedTuple, Optional
-
-from .records import Linked, Record, linked
+from .records import Linked, linked
 from .remote import Remote
 
 
-class Listing(NamedTuple):
-    refs: Dict[str, str]
-    # The type of each object that a reference or a tag names.
-    kinds: Dict[str, str]
-    # The branch that HEAD names, be it there or not; none where it was not asked for.
-    head: Optional[str]
-    # All tag objects behind references, with those that they name.
-    tags: Dict[str, Record]
+class Listing:
+    def __init__(self, refs: dict, kinds: dict):
+        """Each reference with the name of its object; the type of each object that a reference or a tag names."""
+        self.refs, self.kinds = refs, kinds
+        # The branch that HEAD names, be it there or not; none where it was not asked for.
+        self.head = None
+        # All tag objects behind references as records, by their names.
+        self.tags = {}
 
-    def default(self) -> Optional[str]:
+    def default(self) -> "str | None":
         """The name to which HEAD leads."""
         return self.refs.get(self.head) if self.head else None
 
-    def chain(self, name: str) -> List[Record]:
+    def chain(self, name: str) -> list:
         """The tag of this name, and the tags behind it."""
         found = []
         while name in self.tags:
@@ -35,7 +33,7 @@ class Listing(NamedTuple):
         """The type of an object, or nothing where the list does not say."""
         return self.kinds.get(name, "")
 
-    def rows(self) -> Iterator[str]:
+    def rows(self):
         """The rows of the helper's `list`, HEAD first, where its branch is there: Git could not fetch another."""
         if self.default():
             yield f"@{self.head} HEAD"
@@ -45,9 +43,9 @@ class Listing(NamedTuple):
                 yield f"{self.peeled(name).name} {ref}^{{}}"
 
 
-def read_tags(remote: Remote, names: Iterable[str]) -> Dict[str, Record]:
+def read_tags(remote: Remote, names: list) -> dict:
     """The tags of these names, and those behind them."""
-    tags: Dict[str, Record] = {}
+    tags = {}
     for name in names:
         target = Linked(name, "tag")
         while target.kind == "tag":
@@ -62,8 +60,10 @@ def read_listing(remote: Remote, for_push: bool) -> Listing:
     refs, kinds = {}, {}
     for ref, name, kind in remote.references():
         refs[ref], kinds[name] = name, kind
-    if for_push:
-        return Listing(refs, kinds, None, {})
-    tags = read_tags(remote, [name for name, kind in kinds.items() if kind == "tag"])
-    kinds.update(dict(linked(tag.content) for tag in tags.values()))
-    return Listing(refs, kinds, remote.head(), tags)
+    listing = Listing(refs, kinds)
+    if not for_push:
+        listing.tags = read_tags(remote, [name for name, kind in kinds.items() if kind == "tag"])
+        targets = [linked(tag.content) for tag in listing.tags.values()]
+        kinds.update((target.name, target.kind) for target in targets)
+        listing.head = remote.head()
+    return listing

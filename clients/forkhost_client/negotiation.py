@@ -1,6 +1,4 @@
 """What both sides have, so that what it leads to need not be sent."""
-from typing import Dict, Iterable, List, Set
-
 from .remote import Remote
 from .repository import Repository
 
@@ -13,22 +11,20 @@ MAX_COMMON = 32
 MAX_PROBES = 32
 
 
-def visible(remote: Remote, tips: List[str], listed: Set[str]) -> List[str]:
+def visible(remote: Remote, tips: list, listed: set) -> list:
     """The tips here that the tenant sees too: all that a row names, and of the others those of the newest."""
     others = [name for name in tips if name not in listed][:MAX_PROBES]
     return [name for name in tips if name in listed] + [name for name in others if remote.sees(name)]
 
 
-def frontier(history: Dict[str, List[str]], shared: Set[str]) -> List[str]:
+def frontier(history: dict, shared: set) -> list:
     """Those of the shared commits that no other one of them has as a parent."""
     both = {name: parents for name, parents in history.items() if name in shared}
     older = {parent for parents in both.values() for parent in parents}
     return [name for name in both if name not in older]
 
 
-def common(
-    repository: Repository, history: Dict[str, List[str]], remote: Remote, listed: Iterable[str], commits: List[str]
-) -> List[str]:
+def common(repository: Repository, history: dict, remote: Remote, listed: list, commits: list) -> list:
     """Commits of the history here that the tenant sees too, before a fetch of these: all that they lead to is here."""
     if not history:
         return []

@@ -1,5 +1,4 @@
 """What Git asks of the helper by `option` lines."""
-from typing import Callable, Set
 
 # Said by Git, and of no meaning here.
 PASSED_OVER = ("check-connectivity", "family", "force", "force-if-includes", "servpath")
@@ -18,14 +17,14 @@ TRUTHS = {"true": True, "false": False}
 
 
 class Options:
-    def __init__(self, warn: Callable[[str], None]):
+    def __init__(self, warn):
         self.warn = warn
         self.verbosity, self.object_format = 1, False
         self.progress = self.dry_run = self.atomic = self.followtags = self.refetch = False
         self.cloning = False
-        self.ignored: Set[str] = set()
+        self.ignored = set()
         # References that are pushed with a lease. Git has judged it by the list.
-        self.leases: Set[str] = set()
+        self.leases = set()
 
     def answer(self, line: str) -> str:
         """Takes `option NAME [VALUE]`, and gives what Git is told."""

@@ -1,11 +1,8 @@
 """A pack of objects whose number is known at its end alone, and its way into the repository."""
-import hashlib
 import os
-import subprocess
-import tempfile
 import zlib
-from typing import Iterator, List, Optional, Set
 
+from .child import ran
 from .faults import GitFailed
 from .progress import Progress
 from .records import Record
@@ -16,6 +13,9 @@ NUMBERS = {"commit": 1, "tree": 2, "blob": 3, "tag": 4}
 # Fewer objects than this are unpacked, as Git does.
 FEW = 100
 PIECE = 1 << 20
+# How far zlib looks back, as a power of two, and the memory by which it finds it: most objects are small, and of the
+# time of a small one half went into clearing a larger memory.
+WINDOW, MEMORY = 13, 7
 
 
 def head(kind: str, length: int) -> bytes:
@@ -29,14 +29,30 @@ def head(kind: str, length: int) -> bytes:
     return bytes(found)
 
 
+def compressed(content: bytes) -> bytes:
+    way = zlib.compressobj(zlib.Z_BEST_SPEED, zlib.DEFLATED, WINDOW, MEMORY)
+    return way.compress(content) + way.flush()
+
+
+def nameless(folder: str):
+    """A file without a name, in a folder."""
+    try:
+        return open(os.open(folder, os.O_TMPFILE | os.O_RDWR | os.O_CLOEXEC, 0o600), "w+b", PIECE)
+    except OSError:
+        # There are file systems on which it has a name for a moment.
+        from tempfile import TemporaryFile
+
+        return TemporaryFile(dir=folder)
+
+
 class Pack:
     """Objects, each once, in a file without a name in the folder of the repository's objects."""
 
     def __init__(self, repository: Repository, progress: Progress):
         self.repository, self.progress = repository, progress
         self.folder = repository.objects_folder()
-        self.names: Set[str] = set()
-        self.file = tempfile.TemporaryFile(dir=self.folder)
+        self.names = set()
+        self.file = nameless(self.folder)
         self.file.write(SIGN + VERSION + bytes(4))
 
     def __enter__(self) -> "Pack":
@@ -50,26 +66,28 @@ class Pack:
             return
         self.names.add(record.name)
         self.file.write(head(record.kind, len(record.content)))
-        self.file.write(zlib.compress(record.content, 1))
+        self.file.write(compressed(record.content))
         self.progress.add(1, len(record.content))
 
-    def pieces(self) -> Iterator[bytes]:
+    def pieces(self):
         self.file.seek(0)
         while piece := self.file.read(PIECE):
             yield piece
 
     def end(self) -> None:
         """Writes the number of the objects, and the sum that ends a pack."""
+        from hashlib import sha256
+
         self.file.seek(len(SIGN + VERSION))
         self.file.write(len(self.names).to_bytes(4, "big"))
-        digest = hashlib.sha256()
+        digest = sha256()
         for piece in self.pieces():
             digest.update(piece)
         self.file.write(digest.digest())
         self.file.flush()
         os.lseek(self.file.fileno(), 0, os.SEEK_SET)
 
-    def keep(self, is_clone: bool) -> Optional[str]:
+    def keep(self, is_clone: bool) -> "str | None":
         """Brings the objects into the repository; the path of the file that holds a pack, if one is held.
 
         A clone keeps its pack, however few they are, as Git's own do."""
@@ -87,9 +105,9 @@ class Pack:
         word, _, name = told.strip().partition("\t")
         return os.path.join(self.folder, "pack", f"pack-{name}.keep") if word == "keep" else None
 
-    def taken(self, command: str, words: List[str]) -> str:
-        how = {"stdout": subprocess.PIPE, "stderr": self.repository.errors, "env": self.repository.environment}
-        ran = subprocess.run(["git", command, *words], stdin=self.file, **how)
-        if ran.returncode:
+    def taken(self, command: str, words: list) -> str:
+        outer, quiet = self.repository.environment, self.repository.quiet
+        status, output = ran(["git", command, *words], outer, self.file.fileno(), quiet)
+        if status:
             raise GitFailed("Git did not take the objects that were received")
-        return ran.stdout.decode()
+        return output.decode()

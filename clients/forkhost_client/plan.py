@@ -1,10 +1,7 @@
 """Which objects a push sends, in which order, and in how many uploads."""
-from typing import Dict, Iterable, List, NamedTuple
-
 from .faults import Refused
 from .links import children_first, inner_first
 from .negotiation import visible
-from .records import Size
 from .remote import Remote
 from .repository import Repository
 
@@ -15,10 +12,10 @@ OBJECT_USE = 64
 KINDS = ("blob", "tree", "commit", "tag")
 
 
-class Plan(NamedTuple):
-    objects: List[Size]
-    # A path at which an object stands, or nothing.
-    paths: Dict[str, str]
+class Plan:
+    def __init__(self, objects: list, paths: dict):
+        """The sizes of objects in their order, and for each a path at which it stands, or nothing."""
+        self.objects, self.paths = objects, paths
 
     def use(self) -> int:
         """What the objects use where the tenant sees none of them."""
@@ -27,7 +24,7 @@ class Plan(NamedTuple):
     def length(self) -> int:
         return sum(one.record_length() for one in self.objects)
 
-    def uploads(self, room: int) -> List[List[Size]]:
+    def uploads(self, room: int) -> list:
         """The objects in their order, in runs of records of at most so many bytes."""
         runs, left = [[]], room
         for one in self.objects:
@@ -39,7 +36,7 @@ class Plan(NamedTuple):
         return runs
 
 
-def in_order(sizes: Dict[str, Size], repository: Repository) -> List[Size]:
+def in_order(sizes: dict, repository: Repository) -> list:
     """By kinds, and within one each behind what it links to, where one upload does not hold all of them."""
     by_kind = {kind: [name for name in sizes if sizes[name].kind == kind] for kind in KINDS}
     if sum(size.record_length() for size in sizes.values()) > MAX_UPLOAD // 2:
@@ -48,13 +45,13 @@ def in_order(sizes: Dict[str, Size], repository: Repository) -> List[Size]:
     return [sizes[name] for kind in KINDS for name in by_kind[kind]]
 
 
-def too_large(sizes: Iterable[Size]) -> None:
+def too_large(sizes: list) -> None:
     for size in sizes:
         if size.length > MAX_CONTENT:
             raise Refused("too-large", size.name)
 
 
-def plan(repository: Repository, remote: Remote, listed: Iterable[str], wanted: List[str]) -> Plan:
+def plan(repository: Repository, remote: Remote, listed: list, wanted: list) -> Plan:
     """What the wanted names lead to, less what commits and listed names that the tenant sees do.
 
     Names that are not here are left to the host, which may have them. Raises `Refused` with paths in its plan."""

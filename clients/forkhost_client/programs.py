@@ -1,9 +1,7 @@
 """The programs: words and the standard streams in, an exit status out. Each reads the modules that it wants alone."""
 import os
-import re
-import signal
 import sys
-from typing import List
+from _signal import SIG_DFL, SIGINT, signal
 
 from .address import read_address
 from .connection import Connection
@@ -20,7 +18,7 @@ PIECE = 1 << 16
 
 def leave_signals() -> None:
     """Ctrl-C ends a program as it ends Git, without a trace."""
-    signal.signal(signal.SIGINT, signal.SIG_DFL)
+    signal(SIGINT, SIG_DFL)
 
 
 def nobody_reads() -> None:
@@ -34,7 +32,7 @@ def fatal(text: str) -> int:
     return FATAL
 
 
-def remote_helper(words: List[str]) -> int:
+def remote_helper(words: list) -> int:
     """`git-remote-forkhost REMOTE URL`."""
     from .helper import Helper
     from .repository import NESTED
@@ -60,7 +58,7 @@ def is_word(word: str) -> bool:
     return word != "" and " " not in word and "\n" not in word
 
 
-def ask(words: List[str]) -> int:
+def ask(words: list) -> int:
     """`forkhost-ask SOCKET TENANT WORD [ARG ..]`: one request, whose body comes from standard input behind `-`."""
     leave_signals()
     try:
@@ -89,13 +87,13 @@ def ask(words: List[str]) -> int:
         return FAULT
 
 
-def door(words: List[str]) -> int:
+def door(words: list) -> int:
     """`forkhost-door SOCKET TENANT`: frames of one tenant from standard input, replies to standard output."""
-    from .door import WHO, serve
+    from .door import is_who, serve
 
     leave_signals()
     try:
-        if len(words) != 2 or not re.fullmatch(WHO, words[1]):
+        if len(words) != 2 or not is_who(words[1]):
             raise Fatal(DOOR_USAGE)
         serve(words[0], words[1], sys.stdin.buffer, sys.stdout.buffer)
         return DONE

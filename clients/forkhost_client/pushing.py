@@ -1,6 +1,4 @@
 """A push: updates in transactions, each with the objects that it wants."""
-from typing import List
-
 from .address import Address
 from .faults import Fatal, Lost, Refused
 from .listing import Listing
@@ -10,7 +8,6 @@ from .remote import Remote
 from .repository import Repository
 from .updates import ABSENT, Update, blamed, judge
 from .uploading import send_all
-from .words import told_of_push
 
 MAX_COMMANDS = 256
 ONE_FAILED = "atomic push failed"
@@ -23,7 +20,7 @@ class Push:
         self.address, self.repository, self.remote = address, repository, remote
         self.listing, self.options = listing, options
 
-    def carry_out(self, updates: List[Update]) -> None:
+    def carry_out(self, updates: list) -> None:
         """In as many transactions as it takes, deletions first, so that a name makes room for one below it."""
         due = sorted(updates, key=lambda update: update.new != ABSENT)
         try:
@@ -34,7 +31,7 @@ class Push:
         except Fatal as fault:
             refuse(due, str(fault))
 
-    def transact(self, updates: List[Update]) -> None:
+    def transact(self, updates: list) -> None:
         """One transaction; and another one without those that are refused, unless all or none are asked for."""
         while updates:
             sent = Plan([], {})
@@ -50,7 +47,7 @@ class Push:
                 refuse(updates, ONE_FAILED)
                 return
 
-    def send(self, sent: Plan, updates: List[Update]) -> None:
+    def send(self, sent: Plan, updates: list) -> None:
         if not self.options.dry_run:
             commands = "".join(update.command() for update in updates).encode("utf-8", "surrogateescape")
             send_all(self.repository, self.remote, sent, commands, self.options.progress)
@@ -61,20 +58,22 @@ class Push:
             else:
                 self.listing.refs[update.ref] = update.new
 
-    def blame(self, refusal: Refused, sent: Plan, updates: List[Update]) -> None:
+    def blame(self, refusal: Refused, sent: Plan, updates: list) -> None:
+        from .words import told_of_push
+
         text = told_of_push(refusal, self.address, self.repository, self.remote, sent)
         for update in blamed(updates, refusal.word, refusal.detail):
             update.refuse(update.stale() if refusal.word == "stale" else text, refusal.word)
 
 
-def refuse(updates: List[Update], text: str, word: str = "failed") -> None:
+def refuse(updates: list, text: str, word: str = "failed") -> None:
     """All that were not carried out, and have not been told why, were refused for this."""
     for update in updates:
         if update.is_due():
             update.refuse(text, word)
 
 
-def chosen(updates: List[Update], repository: Repository, atomic: bool) -> List[Update]:
+def chosen(updates: list, repository: Repository, atomic: bool) -> list:
     """Those that the host is to be asked for."""
     judge(updates, repository)
     good = [update for update in updates if update.is_due()]

@@ -1,58 +1,57 @@
 """Objects as records: NAME, type and size in a line, the content, and a line feed."""
-import re
-from typing import Iterator, NamedTuple
-
 from .connection import Data
 from .faults import Fatal
+from .forms import is_name, number
+from .frames import text_of
 
 LONGEST_LINE = 512
-LINE = re.compile(rb"([0-9a-f]{64}) (blob|tree|commit|tag) (0|[1-9][0-9]{0,18})")
-LINKED = re.compile(rb"object ([0-9a-f]{64})\ntype (blob|tree|commit|tag)\n")
+LONGEST_LENGTH = 19
+KINDS = ("blob", "tree", "commit", "tag")
 
 
-class Record(NamedTuple):
-    name: str
-    kind: str
-    content: bytes
+class Record:
+    def __init__(self, name: str, kind: str, content: bytes):
+        self.name, self.kind, self.content = name, kind, content
 
 
-class Size(NamedTuple):
+class Size:
     """What an object is, without its content."""
 
-    name: str
-    kind: str
-    length: int
+    def __init__(self, name: str, kind: str, length: int):
+        self.name, self.kind, self.length = name, kind, length
 
     def record_length(self) -> int:
         return len(f"{self.name} {self.kind} {self.length}\n") + self.length + 1
 
 
-class Linked(NamedTuple):
-    """The object that a tag names."""
+class Linked:
+    """An object that something names."""
 
-    name: str
-    kind: str
+    def __init__(self, name: str, kind: str):
+        self.name, self.kind = name, kind
 
 
 def read_record(data: Data) -> Record:
-    found = LINE.fullmatch(data.line(LONGEST_LINE))
-    if not found:
+    words = data.line(LONGEST_LINE).split(b" ")
+    name, kind = text_of(words[0]), text_of(b"".join(words[1:2]))
+    length = number(words[-1], LONGEST_LENGTH)
+    if len(words) != 3 or length is None or kind not in KINDS or not is_name(name):
         raise Fatal("a record of the host has a wrong line")
-    content = data.read(int(found[3]))
+    content = data.read(length)
     if data.read(1) != b"\n":
         raise Fatal("a record of the host has a wrong end")
-    return Record(found[1].decode(), found[2].decode(), content)
+    return Record(name, kind, content)
 
 
-def records(data: Data) -> Iterator[Record]:
+def records(data: Data):
     while data.left:
         yield read_record(data)
 
 
-
 def linked(tag: bytes) -> Linked:
     """What the content of a tag names."""
-    found = LINKED.match(tag)
-    if not found:
+    first, second, _ = [*tag.split(b"\n", 2), b"", b""][:3]
+    name, kind = text_of(first.removeprefix(b"object ")), text_of(second.removeprefix(b"type "))
+    if not first.startswith(b"object ") or not second.startswith(b"type ") or not is_name(name) or kind not in KINDS:
         raise Fatal("a tag does not begin as a tag does")
-    return Linked(found[1].decode(), found[2].decode())
+    return Linked(name, kind)

@@ -1,26 +1,19 @@
 """A repository of the host, over one connection: each request that the helper makes, by its name."""
-import re
-from typing import Iterable, Iterator, List, Match, Pattern, Tuple
-
 from .connection import Connection
 from .faults import Fatal, Lost, Refused
+from .forms import is_name
 from .frames import MAX_PAYLOAD
-from .records import Record, read_record, records
+from .records import KINDS, Record, read_record, records
 
 # What fits into one part of an upload.
 MAX_PART = MAX_PAYLOAD - len("part\n")
-ROW = re.compile("([0-9a-f]{64}) (blob|tree|commit|tag)\t([^ \n]+)")
-HEAD = re.compile("(refs/heads/[^ \n]+)(?: [0-9a-f]{64})?\n")
-NAMES = re.compile("(?:[0-9a-f]{64}\n)*")
-QUOTA = re.compile("([0-9]+) ([0-9]+)\n")
+BRANCHES = "refs/heads/"
 
 
-def matched(form: Pattern, text: str, word: str) -> Match:
-    """The text of a reply in its form."""
-    found = form.fullmatch(text)
-    if not found:
+def want(is_so: bool, word: str) -> None:
+    """A reply has the form that it should have."""
+    if not is_so:
         raise Fatal(f"the host's reply to {word} is of no known form")
-    return found
 
 
 class Remote:
@@ -33,18 +26,30 @@ class Remote:
     def __exit__(self, *_) -> None:
         self.connection.close()
 
-    def items(self, word: str, wanted: Iterable[str], excluded: Iterable[str]) -> str:
+    def items(self, word: str, wanted: list, excluded: list) -> str:
         return " ".join([word, self.name, *wanted, *("^" + name for name in excluded)])
 
-    def references(self) -> Iterator[Tuple[str, str, str]]:
+    def rows(self, line: str) -> list:
+        """The lines of a reply."""
+        *rows, rest = self.connection.text(line).split("\n")
+        want(not rest, line.split(" ")[0])
+        return rows
+
+    def references(self):
         """Each reference's name, its target, and the target's type."""
-        for row in self.connection.text(f"for-each-ref {self.name}").split("\n")[:-1]:
-            name, kind, ref = matched(ROW, row, "for-each-ref").groups()
+        for row in self.rows(f"for-each-ref {self.name}"):
+            target, _, ref = row.partition("\t")
+            name, _, kind = target.partition(" ")
+            want(is_name(name) and kind in KINDS and ref != "" and " " not in ref, "for-each-ref")
             yield ref, name, kind
 
     def head(self) -> str:
         """The branch that the repository's HEAD names, be it there or not."""
-        return matched(HEAD, self.connection.text(f"head {self.name}"), "head")[1]
+        rows = self.rows(f"head {self.name}")
+        branch, *names = "".join(rows).split(" ")
+        want(len(rows) == 1 and len(names) < 2 and all(map(is_name, names)), "head")
+        want(branch.startswith(BRANCHES) and branch != BRANCHES, "head")
+        return branch
 
     def object(self, name: str) -> Record:
         return read_record(self.connection.ask(f"cat-file {name}"))
@@ -59,18 +64,21 @@ class Remote:
                 raise
             return False
 
-    def revisions(self, wanted: Iterable[str], excluded: Iterable[str]) -> List[str]:
+    def revisions(self, wanted: list, excluded: list) -> list:
         """The commits that some names lead to, and others do not."""
-        return matched(NAMES, self.connection.text(self.items("rev-list", wanted, excluded)), "rev-list")[0].split()
+        names = self.rows(self.items("rev-list", wanted, excluded))
+        want(all(map(is_name, names)), "rev-list")
+        return names
 
-    def reached(self, wanted: Iterable[str], excluded: Iterable[str]) -> Iterator[Record]:
+    def reached(self, wanted: list, excluded: list):
         """The objects that some names lead to, and others do not."""
         return records(self.connection.ask(self.items("fetch", wanted, excluded)))
 
-    def quota(self) -> Tuple[int, int]:
+    def quota(self) -> tuple:
         """The tenant's use and its limit, in bytes."""
-        used, limit = matched(QUOTA, self.connection.text("quota"), "quota").groups()
-        return int(used), int(limit)
+        numbers = [word for row in self.rows("quota") for word in row.split(" ")]
+        want(len(numbers) == 2 and all(word.isascii() and word.isdigit() for word in numbers), "quota")
+        return int(numbers[0]), int(numbers[1])
 
     def change(self, line: str, body: bytes = b"") -> None:
         """A request whose reply has no data."""

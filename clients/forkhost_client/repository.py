@@ -1,136 +1,142 @@
 """The repository that Git works in, asked by Git's own commands."""
 import os
-import re
-import subprocess
-import threading
-from typing import BinaryIO, Dict, Iterable, Iterator, List, Mapping, Optional, Sequence, Tuple
 
+from .asking import Asking
+from .child import Child, in_memory, ran
 from .faults import GitFailed
 from .frames import bytes_of, text_of
-from .records import Size
 
 # Set in the children of a helper, so that a helper which a child starts can tell.
 NESTED = "FORKHOST_HELPER"
-NAME = re.compile("[0-9a-f]{64}")
+ABOUT = ("rev-parse", "--show-object-format", "--is-shallow-repository", "--git-path", "objects")
+# What the client looks at of Git's configuration, in names as `git config` prints them.
+PARTIAL = r"extensions\.partialclone|remote\..*\.promisor"
+LOOKED_AT = rf"^({PARTIAL}|(fetch|transfer)\.(unpacklimit|fsckobjects)|forkhost\.autocreate)$"
 
 
-def environment(outer: Mapping[str, str]) -> Dict[str, str]:
+def environment(outer) -> dict:
     """That of the children: no object stands for another, and none is fetched on the way."""
     return {**outer, "GIT_NO_REPLACE_OBJECTS": "1", "GIT_NO_LAZY_FETCH": "1", NESTED: "1"}
 
 
-def lines(names: Iterable[str]) -> bytes:
+def lines(names) -> bytes:
     return b"".join(bytes_of(name) + b"\n" for name in names)
 
 
 class Repository:
-    def __init__(self, outer: Mapping[str, str], quiet: bool = False):
+    def __init__(self, outer, quiet: bool = False):
         """Git's own words of a fault go to standard error, unless it is to be quiet."""
-        self.environment = environment(outer)
-        self.errors = subprocess.DEVNULL if quiet else None
+        self.environment, self.quiet = environment(outer), quiet
+        # What was asked once is kept: Git's words about it, the settings that are made, and who is asked of objects.
+        self.told, self.made, self.asking = None, None, None
+
+    def ran(self, words: tuple, given: bytes, quiet: bool) -> tuple:
+        """The status of a command of Git, and what it prints."""
+        source = in_memory(given) if given else -1
+        try:
+            status, output = ran(["git", *words], self.environment, source, quiet)
+        finally:
+            if given:
+                os.close(source)
+        return status, text_of(output)
 
     def output(self, *words: str, given: bytes = b"") -> str:
         """What a command of Git prints; one that fails says so itself."""
-        ran = self.ran(words, given, self.errors)
-        if ran.returncode:
+        status, output = self.ran(words, given, self.quiet)
+        if status:
             raise GitFailed(f"git {words[0]} failed")
-        return text_of(ran.stdout)
+        return output
 
-    def ran(self, words: Sequence[str], given: bytes, errors: Optional[int]) -> subprocess.CompletedProcess:
-        pipe = subprocess.PIPE
-        return subprocess.run(["git", *words], input=given, stdout=pipe, stderr=errors, env=self.environment)
-
-    def answer(self, *words: str, given: bytes = b"") -> Optional[str]:
+    def answer(self, *words: str, given: bytes = b"") -> "str | None":
         """What a command of Git prints, without the last line feed, or None where it fails, and then silently."""
-        ran = self.ran(words, given, subprocess.DEVNULL)
-        return text_of(ran.stdout).rstrip("\n") if ran.returncode == 0 else None
+        status, output = self.ran(words, given, True)
+        return output.rstrip("\n") if status == 0 else None
 
-    def object_format(self) -> Optional[str]:
-        return self.answer("rev-parse", "--show-object-format")
+    def about(self) -> list:
+        """Its format, whether it is cut short, and the folder of its objects; nothing where there is none."""
+        if self.told is None:
+            self.told = (self.answer(*ABOUT) or "").split("\n", 2)
+        return self.told
+
+    def object_format(self) -> str:
+        return self.about()[0]
 
     def is_shallow(self) -> bool:
-        return self.answer("rev-parse", "--is-shallow-repository") == "true"
+        return self.about()[1] == "true"
+
+    def objects_folder(self) -> str:
+        return os.path.abspath(self.about()[2])
+
+    def settings(self) -> list:
+        """Those that are looked at, and are made somewhere: mostly none."""
+        if self.made is None:
+            self.made = (self.answer("config", "--name-only", "--get-regexp", LOOKED_AT) or "").split("\n")
+        return self.made
 
     def is_partial(self) -> bool:
         """Whether objects that references lead to may be elsewhere."""
-        return self.answer("config", "--get-regexp", r"^(extensions\.partialclone|remote\..*\.promisor)$") is not None
+        return any(name.startswith(("extensions.", "remote.")) for name in self.settings())
 
-    def objects_folder(self) -> str:
-        return os.path.abspath(self.output("rev-parse", "--git-path", "objects").rstrip("\n"))
-
-    def setting(self, *names: str, kind: str) -> Optional[str]:
+    def setting(self, *names: str, kind: str) -> "str | None":
         """The value of the first of these names that is configured."""
-        values = (self.answer("config", f"--type={kind}", name) for name in names)
+        values = (self.answer("config", f"--type={kind}", name) for name in names if name.lower() in self.settings())
         return next((value for value in values if value is not None), None)
 
-    def resolve(self, revisions: List[str]) -> List[Optional[str]]:
+    def infos(self, revisions: list) -> list:
+        """What objects the revisions name, each in its place; None for what names none here."""
+        if self.asking is None:
+            self.asking = Asking(self.environment, self.quiet)
+        return self.asking.infos(revisions) if revisions else []
+
+    def resolve(self, revisions: list) -> list:
         """The names of objects here by revisions, each in its place; None for what names none."""
-        given = lines(revisions)
-        if not given:
-            return []
-        rows = self.output("cat-file", "--batch-check=%(objectname)", "--buffer", given=given).split("\n")
-        return [row if NAME.fullmatch(row) else None for row in rows[: len(revisions)]]
+        return [size and size.name for size in self.infos(revisions)]
 
-    def present(self, names: Iterable[str]) -> Dict[str, Size]:
-        """Those of the names whose objects are here."""
-        given = lines(dict.fromkeys(names))
-        if not given:
-            return {}
-        told = self.output("cat-file", "--batch-check", "--buffer", given=given)
-        rows = (row.split(" ") for row in told.splitlines())
-        return {row[0]: Size(row[0], row[1], int(row[2])) for row in rows if len(row) == 3}
+    def present(self, names) -> dict:
+        """Those of the names whose objects are here, with their sizes."""
+        return {size.name: size for size in self.infos(list(dict.fromkeys(names))) if size}
 
-    def tips(self) -> List[str]:
+    def tips(self) -> list:
         """The commits that references and HEAD lead to, the newest first."""
-        form = "%(objectname) %(objecttype) %(*objectname) %(*objecttype)"
-        rows = self.output("for-each-ref", "--sort=-committerdate", f"--format={form}").splitlines()
-        pairs = [row.split(" ") for row in rows]
-        found = [row[at] for row in pairs for at in (0, 2) if row[at + 1 : at + 2] == ["commit"]]
-        head = self.head()
-        return list(dict.fromkeys(found + ([head] if head else [])))
+        return self.output("rev-list", "--no-walk", "--all").split()
 
-    def head(self) -> Optional[str]:
-        return self.answer("rev-parse", "-q", "--verify", "HEAD^{commit}")
-
-    def history(self) -> Dict[str, List[str]]:
+    def history(self) -> dict:
         """Each commit that references and HEAD lead to, with its parents."""
-        tips = ["--all", *(["HEAD"] if self.head() else [])]
-        rows = (row.split(" ") for row in self.output("rev-list", "--parents", *tips).splitlines())
+        rows = (row.split(" ") for row in self.output("rev-list", "--parents", "--all").splitlines())
         return {name: parents for name, *parents in rows}
 
-    def reached(self, wanted: Iterable[str], excluded: Iterable[str]) -> Dict[str, str]:
+    def reached(self, wanted: list, excluded: list) -> dict:
         """Names that links lead to, each with a path at which it stands, or nothing; commits behind their parents."""
         given = lines(wanted) + lines("^" + name for name in excluded)
         words = ["rev-list", "--objects", "--topo-order", "--reverse", "--stdin"]
-        rows = (row.partition(" ") for row in self.output(*words, given=given).split("\n")[:-1])
-        paths: Dict[str, str] = {}
-        for name, _, path in rows:
+        paths = {}
+        for row in self.output(*words, given=given).split("\n")[:-1]:
+            name, _, path = row.partition(" ")
             paths.setdefault(name, path)
         return paths
 
-    def records(self, names: List[str]) -> "Batch":
+    def records(self, names: list) -> "Batch":
         return Batch(self, names)
 
 
 class Batch:
     """The records of objects as `git cat-file --batch` prints them, one after another; a `with` statement ends it."""
 
-    def __init__(self, repository: Repository, names: List[str]):
-        pipe, words = subprocess.PIPE, ["git", "cat-file", "--batch", "--buffer"]
-        self.child = subprocess.Popen(words, stdin=pipe, stdout=pipe, env=repository.environment)
-        self.feeder = threading.Thread(target=feed, args=(self.child.stdin, lines(names)), daemon=True)
-        self.feeder.start()
+    def __init__(self, repository: Repository, names: list):
+        source = in_memory(lines(names))
+        self.child = Child(["git", "cat-file", "--batch", "--buffer"], repository.environment, source)
+        os.close(source)
 
     def read(self, count: int) -> bytes:
         """So many bytes, all of which must be there."""
-        data = self.child.stdout.read(count)
+        data = self.child.output.read(count)
         if len(data) != count:
             raise GitFailed("git cat-file ended too early")
         return data
 
-    def contents(self) -> Iterator[Tuple[str, bytes]]:
+    def contents(self):
         """Each object's name and content."""
-        while line := self.child.stdout.readline():
+        while line := self.child.output.readline():
             name, _, length = line.split(b" ")
             yield name.decode(), self.read(int(length))
             self.read(1)
@@ -139,15 +145,4 @@ class Batch:
         return self
 
     def __exit__(self, *_) -> None:
-        self.child.stdout.close()
-        self.child.wait()
-        self.feeder.join()
-
-
-def feed(stream: BinaryIO, data: bytes) -> None:
-    """Gives a child its input, as far as it takes it."""
-    try:
-        with stream:
-            stream.write(data)
-    except BrokenPipeError:
-        pass
+        self.child.__exit__()

@@ -1,13 +1,10 @@
 """Changes of references that Git asks for, and what stands against each before the host is asked."""
-import re
-from typing import Container, List, Optional
-
+from .forms import is_name
 from .listing import Listing
 from .progress import say
-from .repository import NAME, Repository
+from .repository import Repository
 
 ABSENT = "0" * 64
-FORM = re.compile("push ([+]?)(.*):(.*)")
 # The host takes no longer names; a line with one could be too long to be told apart.
 LONGEST_REF = 255
 
@@ -19,7 +16,7 @@ class Update:
         self.ref, self.source, self.old, self.new, self.forced = ref, source, old, new, forced
         # Whether the host carried it out, or why it was not carried out, in words.
         self.is_done = False
-        self.refusal: Optional[str] = None
+        self.refusal = None
         # The host's word for it, or `failed` where it has none.
         self.word = "ok"
 
@@ -44,28 +41,29 @@ class Update:
         return f"error {self.ref} {self.refusal}" if self.refusal else f"ok {self.ref}"
 
 
-def read_updates(rows: List[str], listing: Listing, leases: Container[str], repository: Repository) -> List[Update]:
+def read_updates(rows: list, listing: Listing, leases: set, repository: Repository) -> list:
     """The updates that lines `push [+]SOURCE:REF` ask for; with no source, deletions.
 
     A lease is forced. A whole name stands for itself, wherever its object is."""
-    parts = [FORM.fullmatch(row).groups() for row in rows]
-    names = repository.resolve([source or ABSENT for _, source, _ in parts])
+    parts = [row.removeprefix("push ").rpartition(":") for row in rows]
+    names = repository.resolve([given.removeprefix("+") or ABSENT for given, _, _ in parts])
     updates = []
-    for (sign, source, ref), name in zip(parts, names):
-        new = (name or (source if NAME.fullmatch(source) else "")) if source else ABSENT
+    for (given, _, ref), name in zip(parts, names):
+        source = given.removeprefix("+")
+        new = (name or (source if is_name(source) else "")) if source else ABSENT
         old = listing.refs.get(ref, ABSENT)
-        updates.append(Update(ref, source, old, new, sign == "+" or ref in leases))
+        updates.append(Update(ref, source, old, new, given.startswith("+") or ref in leases))
     return updates
 
 
-def why_not(update: Update) -> Optional[str]:
+def why_not(update: Update) -> "str | None":
     """What stands against an update by itself."""
     if len(update.ref.encode("utf-8", "surrogateescape")) > LONGEST_REF:
         return f"the host takes names of references of at most {LONGEST_REF} bytes"
     return None if update.new else f"'{update.source}' names nothing here"
 
 
-def judge(updates: List[Update], repository: Repository) -> None:
+def judge(updates: list, repository: Repository) -> None:
     """Git has judged each update by the list, and leaves two of its answers to the helper, in words that it knows."""
     for update in updates:
         why = why_not(update)
@@ -85,7 +83,7 @@ def judge(updates: List[Update], repository: Repository) -> None:
             update.refuse("needs force")
 
 
-def blamed(updates: List[Update], word: str, detail: str) -> List[Update]:
+def blamed(updates: list, word: str, detail: str) -> list:
     """Those of the updates for which the host refused a transaction; all of them where it was for none alone."""
     found = []
     if word in ("bad-ref", "stale", "repeated-ref"):

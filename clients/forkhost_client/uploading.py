@@ -1,10 +1,7 @@
 """Sends objects and commands: in one frame, in one upload, or in several of which the last has the commands."""
-from typing import List
-
 from .faults import Fatal, Refused
 from .plan import MAX_UPLOAD, Plan
 from .progress import Progress, say
-from .records import Size
 from .remote import MAX_PART, Remote
 from .repository import Batch, Repository
 
@@ -21,7 +18,7 @@ def send_parts(remote: Remote, batch: Batch, commands: bytes, length: int, progr
     remote.end_upload()
 
 
-def send(repository: Repository, remote: Remote, objects: List[Size], commands: bytes, progress: Progress) -> None:
+def send(repository: Repository, remote: Remote, objects: list, commands: bytes, progress: Progress) -> None:
     """One push, all or none: the commands, an empty line, and the records."""
     length = len(commands + END) + sum(one.record_length() for one in objects)
     with repository.records([one.name for one in objects]) as batch:

@@ -1,9 +1,5 @@
 """What a user asks for over SSH: a program of Git's and a repository, or words of one request."""
-import re
-import shlex
-from typing import List, NamedTuple, Optional
-
-from forkhost_client.address import REPOSITORY
+from forkhost_client.address import repository_of
 from forkhost_client.faults import Fatal
 
 # Git's server programs, and their words behind `git`.
@@ -17,35 +13,43 @@ BY_HAND |= {"cat-file": 1, "ls-tree": 1, "rev-list": None, "merge-base": 3}
 BY_HAND |= {"offer": 2, "withdraw": 2, "offers": 0, FORKS_OFFER: 3}
 # Their words begin with an object.
 OF_OBJECTS = ("cat-file", "ls-tree")
-NAME = re.compile(rf"/*({REPOSITORY})(?:\.git)?/*")
 USAGE = "ask by 'git clone', 'git fetch' or 'git push', or for one of: " + ", ".join(BY_HAND)
 
 
-class Asked(NamedTuple):
-    word: str
-    rest: List[str]
+class Asked:
+    def __init__(self, word: str, *rest: str):
+        self.word, self.rest = word, rest
 
     def is_git(self) -> bool:
         return self.word in PROGRAMS
 
-    def repository(self) -> Optional[str]:
+    def repository(self) -> "str | None":
         """The repository that the words name: the first word, or where an offer is forked the new one. None where it is no name."""
         word = self.rest[-1 if self.word == FORKS_OFFER else 0] if self.rest and self.word not in OF_OBJECTS else ""
-        found = NAME.fullmatch(word)
-        return found[1] if found else None
+        return repository_of(word.strip("/"))
+
+
+def split(text: str) -> list:
+    """The words of a command of the shell, of which most have a form that Git gives them."""
+    word, _, rest = text.partition(" ")
+    if word in PROGRAMS and len(rest) > 1 and rest[0] == rest[-1] == "'" and "'" not in rest[1:-1]:
+        return [word, rest[1:-1]]
+    from shlex import split as split_any
+
+    return split_any(text)
 
 
 def read_asked(text: str) -> Asked:
     """`git upload-pack` is `git-upload-pack`. Raises `Fatal` where it is nothing that is done here."""
     try:
-        words = shlex.split(text)
+        words = split(text)
     except ValueError as fault:
         raise Fatal("the command's quotes do not end") from fault
     if words[:1] == ["git"] and words[1:]:
         words[:2] = ["git-" + words[1]]
     if not words:
         raise Fatal(f"there is no shell here; {USAGE}")
-    asked = Asked(words[0], words[1:])
+    asked = Asked(*words)
     if asked.word == ARCHIVE:
         raise Fatal(f"{ARCHIVE} is not served; clone the repository, and run 'git archive' there")
     if asked.is_git():

@@ -1,6 +1,4 @@
 """One request of a tenant by hand, and what becomes of its caches by it."""
-from typing import BinaryIO
-
 from forkhost_client.connection import Connection
 
 from .asked import Asked
@@ -12,7 +10,7 @@ from .settings import Settings
 PIECE = 1 << 16
 
 
-def ask(settings: Settings, asked: Asked, entry: Entry, sink: BinaryIO) -> None:
+def ask(settings: Settings, asked: Asked, entry: Entry, sink) -> None:
     """The data of the reply goes to the sink."""
     with Connection(settings.socket, entry.tenant, waiting) as connection:
         data = connection.ask(" ".join([asked.word, *asked.rest]))

@@ -1,7 +1,5 @@
 """A cache: a bare repository of Git's that has what one repository of one tenant has at the host, and nothing else."""
 import os
-import shutil
-from typing import Dict, List, Optional, Set
 
 from forkhost_client.address import Address
 from forkhost_client.connection import Connection
@@ -24,6 +22,13 @@ CONNECTED = ("rev-list", "--objects", "--quiet", "--stdin", "--not", "--all")
 # More packs than this are made fewer.
 MANY = 50
 GONE = ("no-repository", "unknown-tenant")
+
+
+def clear(folder: str, as_far_as_it_goes: bool = True) -> None:
+    """Takes away a folder with all in it."""
+    from shutil import rmtree
+
+    rmtree(folder, ignore_errors=as_far_as_it_goes)
 
 
 def waiting() -> None:
@@ -72,7 +77,9 @@ class Cache:
         """What the host shows. Where it shows no such repository, the cache goes."""
         try:
             with self.connect() as remote:
-                return read_listing(remote, True)._replace(head=remote.head())
+                listing = read_listing(remote, True)
+                listing.head = remote.head()
+                return listing
         except Refused as refusal:
             if refusal.word in GONE:
                 self.remove()
@@ -107,7 +114,7 @@ class Cache:
         left = [name for name in os.listdir(folder) if name.startswith(seal.QUARANTINE)]
         if left and self.use.try_exclusive():
             for name in left:
-                shutil.rmtree(os.path.join(folder, name), ignore_errors=True)
+                clear(os.path.join(folder, name))
         if left:
             self.use.shared()
 
@@ -116,7 +123,7 @@ class Cache:
         if os.path.lexists(self.path):
             self.tell("made-anew", why)
             is_folder = os.path.isdir(self.path) and not os.path.islink(self.path)
-            shutil.rmtree(self.path) if is_folder else os.remove(self.path)
+            clear(self.path, False) if is_folder else os.remove(self.path)
         self.repository.output("init", "-q", "--bare", *NEW)
         seal.write(self.path)
 
@@ -126,7 +133,7 @@ class Cache:
             with open(os.path.join(self.path, DOUBT), "w", encoding="ascii"):
                 pass
 
-    def references(self) -> Dict[str, str]:
+    def references(self) -> dict:
         rows = self.repository.output("for-each-ref", "--format=%(refname) %(objectname)").split("\n")
         return dict(row.split(" ") for row in rows[:-1])
 
@@ -139,7 +146,7 @@ class Cache:
             self.end_change()
         self.set_head(listing.head)
 
-    def bring(self, listing: Listing, here: Dict[str, str]) -> None:
+    def bring(self, listing: Listing, here: dict) -> None:
         """The objects of names that no reference here has."""
         from forkhost_client.fetching import fetch
         from forkhost_client.options import Options
@@ -150,10 +157,10 @@ class Cache:
             fetch(self.repository, self.connect(), listing, wanted, Options(lambda text: None))
             self.repository.output(*CONNECTED, given=lines(wanted))
 
-    def is_connected(self, wanted: List[str]) -> bool:
+    def is_connected(self, wanted: list) -> bool:
         return self.repository.answer(*CONNECTED, given=lines(wanted)) is not None
 
-    def set_references(self, here: Dict[str, str], wanted: Dict[str, str]) -> None:
+    def set_references(self, here: dict, wanted: dict) -> None:
         """Deletions first, so that a name makes room for one below it."""
         gone = [f"delete {ref}" for ref in here if ref not in wanted]
         come = [f"update {ref} {name}" for ref, name in wanted.items() if here.get(ref) != name]
@@ -163,7 +170,7 @@ class Cache:
         if len(gone) + len(come) > MANY:
             self.repository.output("pack-refs", "--all")
 
-    def set_head(self, branch: Optional[str]) -> None:
+    def set_head(self, branch: "str | None") -> None:
         with open(os.path.join(self.path, "HEAD"), "rb") as file:
             is_set = file.read() == lines([f"ref: {branch}"])
         if not is_set:
@@ -182,7 +189,7 @@ class Cache:
         seal.write(self.path)
         self.has_grown = True
 
-    def take(self, names: List[str], before: Set[str]) -> None:
+    def take(self, names: list, before: set) -> None:
         """Of what a push brought, what these names lead to belongs there, and all else goes.
 
         What the names before lead to is there."""
@@ -197,7 +204,7 @@ class Cache:
 
     def remove(self) -> None:
         """It is gone, and so are its locks where nobody else uses it. Its lock is held."""
-        shutil.rmtree(self.path, ignore_errors=True)
+        clear(self.path)
         if self.use.try_exclusive():
             os.remove(self.use.path)
             os.remove(self.lock.path)

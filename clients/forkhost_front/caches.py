@@ -1,6 +1,5 @@
 """All caches of a front end: together they have a bound in bytes, and those that were used least recently go."""
 import os
-from typing import Iterator, NamedTuple
 
 from . import seal
 from .cache import Cache
@@ -9,20 +8,19 @@ from .settings import Settings
 USED = ".use"
 
 
-class Place(NamedTuple):
-    # Nanoseconds since 1970.
-    used: int
-    tenant: str
-    name: str
+class Place:
+    def __init__(self, used: int, tenant: str, name: str):
+        """When it was used last, in nanoseconds since 1970; the tenant and the repository."""
+        self.used, self.tenant, self.name = used, tenant, name
 
 
-def places(settings: Settings) -> Iterator[Place]:
+def places(settings: Settings):
     for tenant in os.scandir(settings.caches):
         if tenant.is_dir():
             yield from places_of(settings, tenant.name)
 
 
-def places_of(settings: Settings, tenant: str) -> Iterator[Place]:
+def places_of(settings: Settings, tenant: str):
     folder = os.path.join(settings.caches, tenant)
     for entry in os.scandir(folder) if os.path.isdir(folder) else ():
         if entry.name.endswith(USED):
@@ -44,7 +42,7 @@ def remove(settings: Settings, place: Place, why: str) -> bool:
 
 def make_room(settings: Settings) -> None:
     """Removes what was used least recently, until the rest keeps within the bound."""
-    found = sorted(places(settings))
+    found = sorted(places(settings), key=lambda place: place.used)
     sizes = {place: size(settings, place) for place in found}
     total = sum(sizes.values())
     for place in found:

@@ -1,6 +1,5 @@
 """What Git's programs see in a cache: these settings, and nothing of whoever asks or runs the front end."""
 import os
-from typing import Dict
 
 HERE = os.path.dirname(os.path.realpath(__file__))
 SETTINGS = {
@@ -28,7 +27,7 @@ FIXED = {"GIT_CONFIG_GLOBAL": os.devnull, "GIT_CONFIG_NOSYSTEM": "1", "LC_ALL": 
 KEPT = ("PATH", "TMPDIR")
 
 
-def environment(cache: str, most: int) -> Dict[str, str]:
+def environment(cache: str, most: int) -> dict:
     """`most` bytes one push may bring."""
     settings = {**SETTINGS, "receive.maxInputSize": str(most)}
     found = {name: os.environ[name] for name in KEPT if name in os.environ}

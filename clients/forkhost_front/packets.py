@@ -1,13 +1,11 @@
 """Lines as Git gives them to a hook, and takes them from it (gitprotocol-common(5), pkt-line)."""
-from typing import BinaryIO, Iterable, List
-
 from forkhost_client.faults import Fatal
 
 FLUSH = b"0000"
 HEAD = 4
 
 
-def read_lines(source: BinaryIO) -> List[bytes]:
+def read_lines(source) -> list:
     """The lines up to a flush."""
     found = []
     while head := source.read(HEAD):
@@ -18,7 +16,7 @@ def read_lines(source: BinaryIO) -> List[bytes]:
     raise Fatal("git receive-pack ended too early")
 
 
-def write_lines(sink: BinaryIO, lines: Iterable[bytes]) -> None:
+def write_lines(sink, lines) -> None:
     """Lines, and a flush."""
     for line in lines:
         sink.write(b"%04x%s" % (HEAD + len(line), line))

@@ -4,7 +4,6 @@ Of all hooks this one alone is told whether all or none was asked for. `pre-rece
 it, and the process that began receive-pack lets go of the lock."""
 import os
 import sys
-from typing import BinaryIO, Iterator, List
 
 from forkhost_client.faults import Fatal, GitFailed, Refused
 from forkhost_client.frames import bytes_of, text_of
@@ -13,7 +12,6 @@ from forkhost_client.options import Options
 from forkhost_client.progress import say
 from forkhost_client.pushing import Push, chosen, refuse
 from forkhost_client.updates import ABSENT, Update
-from forkhost_client.words import told
 
 from .cache import Cache
 from .hooked import LOCK, PLACE, REPORT, REPOSITORY, TENANT
@@ -22,13 +20,13 @@ from .packets import read_lines, write_lines
 from .settings import read_settings
 
 
-def read_updates(source: BinaryIO) -> List[Update]:
+def read_updates(source) -> list:
     """Each is forced, as Git has judged it at the client's side: the host has to be as the client saw it."""
     rows = [text_of(row).split(" ", 2) for row in read_lines(source)]
     return [Update(ref, new, old, new, True) for old, new, ref in rows]
 
 
-def ask(cache: Cache, updates: List[Update], options: Options) -> None:
+def ask(cache: Cache, updates: list, options: Options) -> None:
     """Asks the host; each update is told apart whether it is done."""
     try:
         good = chosen(updates, cache.repository, options.atomic)
@@ -36,12 +34,14 @@ def ask(cache: Cache, updates: List[Update], options: Options) -> None:
             listing = read_listing(remote, True)
             Push(cache.address, cache.repository, remote, listing, options).carry_out(good)
     except Refused as refusal:
+        from forkhost_client.words import told
+
         refuse(updates, told(refusal, cache.address), refusal.word)
     except Fatal as fault:
         refuse(updates, str(fault), "failed")
 
 
-def settle(cache: Cache, updates: List[Update]) -> None:
+def settle(cache: Cache, updates: list) -> None:
     """The cache has what the host took, and nothing else. Where this fails, the next request mends it."""
     done = {update.ref: update.new for update in updates if update.is_done}
     try:
@@ -54,18 +54,18 @@ def settle(cache: Cache, updates: List[Update]) -> None:
         cache.tell("not-settled", str(fault))
 
 
-def rows(updates: List[Update]) -> Iterator[bytes]:
+def rows(updates: list):
     for update in updates:
         yield bytes_of(f"ng {update.ref} {update.refusal}" if update.refusal else f"ok {update.ref}")
 
 
-def report(updates: List[Update]) -> None:
+def report(updates: list) -> None:
     """The replies' words for the log, to whoever began receive-pack."""
     words = dict.fromkeys(update.word for update in updates)
     os.write(int(os.environ[REPORT]), ",".join(words).encode())
 
 
-def receive(source: BinaryIO, sink: BinaryIO) -> None:
+def receive(source, sink) -> None:
     settings = read_settings(os.environ[PLACE])
     cache = Cache(settings, os.environ[TENANT], os.environ[REPOSITORY], int(os.environ[LOCK]))
     features = read_lines(source)[0].partition(b"\0")[2].split(b" ")

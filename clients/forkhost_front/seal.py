@@ -1,6 +1,5 @@
 """What belongs into a cache: its files but for references, with their sizes, as they were when it was last in order."""
 import os
-from typing import Dict, Optional
 
 NAME = "seal"
 # Where Git's receive-pack keeps what comes, until it is taken or refused.
@@ -9,7 +8,7 @@ LAST = "end"
 FOLDERS = ("objects/pack", "refs")
 
 
-def files(cache: str) -> Dict[str, int]:
+def files(cache: str) -> dict:
     """The files that are there, by their paths in the cache."""
     found = {}
     for folder, folders, names in os.walk(os.path.join(cache, "objects")):
@@ -28,7 +27,7 @@ def first_line(cache: str) -> str:
     return "/".join(cache.split(os.sep)[-2:])
 
 
-def read(cache: str) -> Optional[Dict[str, int]]:
+def read(cache: str) -> "dict | None":
     """The files that belong there; None where the seal is not there, was cut, or is that of another cache."""
     try:
         with open(os.path.join(cache, NAME), encoding="ascii") as file:
@@ -49,7 +48,7 @@ def write(cache: str) -> None:
     os.rename(path + ".new", path)
 
 
-def why_spoiled(cache: str) -> Optional[str]:
+def why_spoiled(cache: str) -> "str | None":
     """What is not as it was; what came beside, by a request that broke off, is removed."""
     wanted, found = read(cache), files(cache)
     if wanted is None:

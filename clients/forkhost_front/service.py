@@ -1,28 +1,24 @@
 """A program of Git's that serves a cache, between the standard streams."""
 import os
-import subprocess
-from typing import Dict, List, Mapping, NamedTuple, Tuple
 
+from forkhost_client.child import Child
 from forkhost_client.faults import Refused
 
 from . import hooked
 from .cache import Cache
-from .caches import make_room
 from .environment import environment
 from .settings import Settings
 
 PIECE = 1 << 16
-STANDARD_OUTPUT = 1
+STANDARD_INPUT, STANDARD_OUTPUT = 0, 1
 
 
-class Served(NamedTuple):
-    status: int
-    # Bytes that went to the client.
-    bytes: int
-    # Whether the client was gone before the end.
-    is_alone: bool
-    # What the hook told of the host's replies, if it was asked.
-    words: str
+class Served:
+    def __init__(self, status: int, count: int, is_alone: bool, words: str):
+        """How the program ended, bytes that went to the client, and whether that was gone before the end.
+
+        `words` are what the hook told of the host's replies, if it was asked."""
+        self.status, self.bytes, self.is_alone, self.words = status, count, is_alone, words
 
     def word(self) -> str:
         """How it ended, for the log."""
@@ -31,7 +27,7 @@ class Served(NamedTuple):
         return self.words or ("ok" if self.status == 0 else "failed")
 
 
-def carry(source: int) -> Tuple[int, bool]:
+def carry(source: int) -> tuple:
     """Hands on what the program says; how many bytes, and whether the client went before the end."""
     count = 0
     while piece := os.read(source, PIECE):
@@ -51,7 +47,7 @@ class Service:
         self.settings, self.is_push = settings, is_push
         self.cache = Cache(settings, tenant, repository)
 
-    def serve(self, words: List[str], more: Mapping[str, str]) -> Served:
+    def serve(self, words: list, more: dict) -> Served:
         """Runs a program of Git's once the cache is as the host is; then there is room for all caches."""
         try:
             self.cache.begin()
@@ -61,6 +57,8 @@ class Service:
             has_grown = self.is_push or self.cache.has_grown
             self.cache.close()
             if has_grown:
+                from .caches import make_room
+
                 make_room(self.settings)
 
     def told(self, refusal: Refused) -> str:
@@ -69,7 +67,7 @@ class Service:
 
         return told(refusal, self.cache.address)
 
-    def outer(self, more: Mapping[str, str], told: int) -> Dict[str, str]:
+    def outer(self, more: dict, told: int) -> dict:
         """What the program and its hooks are told. Git finds the folder by its words."""
         found = {**environment(self.cache.path, self.settings.bytes), **more}
         del found["GIT_DIR"]
@@ -78,15 +76,15 @@ class Service:
         found |= {hooked.PLACE: self.settings.place}
         return found | {hooked.LOCK: str(self.cache.lock.file), hooked.REPORT: str(told)}
 
-    def run(self, words: List[str], more: Mapping[str, str]) -> Served:
+    def run(self, words: list, more: dict) -> Served:
         """The program reads what the client says itself. It and its children have the files of the locks."""
         report, told = os.pipe()
         os.set_blocking(report, False)
-        files = [told, self.cache.lock.file, self.cache.use.file]
-        child = subprocess.Popen(words, env=self.outer(more, told), stdout=subprocess.PIPE, pass_fds=files)
+        files = (told, self.cache.lock.file, self.cache.use.file)
+        child = Child(words, self.outer(more, told), STANDARD_INPUT, files=files)
         os.close(told)
-        count, is_alone = carry(child.stdout.fileno())
-        child.stdout.close()
+        count, is_alone = carry(child.output.fileno())
+        child.output.close()
         status = child.wait()
         if status and not is_alone:
             self.cache.doubt()

@@ -1,6 +1,4 @@
 """What whoever runs a front end has set: lines `NAME VALUE` of a file."""
-from typing import Dict, NamedTuple
-
 from forkhost_client.faults import Fatal
 
 PLACE = "/etc/forkhost/front"
@@ -10,22 +8,19 @@ BYTES = "10000000000"
 OPTIONAL = {"log": "", "users": "", "bytes": BYTES}
 
 
-class Settings(NamedTuple):
-    # Where they were read.
-    place: str
-    # The host's socket.
-    socket: str
-    # The folder of the caches.
-    caches: str
-    # The file of the log, or nothing where there is none.
-    log: str
-    # The file that gives users of a web server their tenants.
-    users: str
-    # So many bytes all caches have at the most.
-    bytes: int
+class Settings:
+    def __init__(self, place: str, values: dict):
+        """Where they were read, and what stood there."""
+        self.place = place
+        # The host's socket, and the folder of the caches.
+        self.socket, self.caches = values["socket"], values["caches"]
+        # The file of the log, or nothing where there is none; and that which gives users of a web server their tenants.
+        self.log, self.users = values["log"], values["users"]
+        # So many bytes all caches have at the most.
+        self.bytes = int(values["bytes"])
 
 
-def rows(path: str) -> Dict[str, str]:
+def rows(path: str) -> dict:
     """Each name with its value. A line that is empty or begins with `#` says nothing."""
     try:
         with open(path, encoding="utf-8", errors="surrogateescape") as file:
@@ -53,4 +48,4 @@ def read_settings(path: str) -> Settings:
     values = {**OPTIONAL, **found}
     if not values["bytes"].isdecimal():
         raise Fatal(f"'{path}' sets bytes to what is no number")
-    return Settings(path, **{**values, "bytes": int(values["bytes"])})
+    return Settings(path, values)

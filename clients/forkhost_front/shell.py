@@ -1,15 +1,12 @@
 """`forkhost-shell [--settings FILE] TENANT`: what sshd runs in the place of a user's command."""
 import os
-import re
 import sys
-from typing import Dict, List, Tuple
 
-from forkhost_client.address import TENANT
+from forkhost_client.address import is_tenant
 from forkhost_client.faults import Fatal, HostFault, Refused
 from forkhost_client.frames import bytes_of
 from forkhost_client.progress import say
 
-from . import by_hand
 from .asked import PROGRAMS, WRITE, read_asked
 from .log import Entry, Log
 from .service import Service
@@ -18,22 +15,24 @@ from .settings import PLACE, Settings, read_settings
 USAGE = "usage: forkhost-shell [--settings FILE] TENANT, by sshd, with the user's command in SSH_ORIGINAL_COMMAND"
 COMMAND, PROTOCOL = "SSH_ORIGINAL_COMMAND", "GIT_PROTOCOL"
 DONE, REFUSED, FATAL = 0, 1, 128
-# What Git's clients say there; nothing else is handed on.
-VERSION = re.compile("version=[0-9](?::[a-z0-9=-]+)*")
+# What Git's clients say there begins with one of these; nothing else is handed on.
+VERSIONS = ("version=0", "version=1", "version=2")
+IN_VERSION = frozenset("abcdefghijklmnopqrstuvwxyz0123456789=-:")
 
 
-def read_words(words: List[str]) -> Tuple[str, str]:
+def read_words(words: list) -> tuple:
     """The file of the settings, and the tenant."""
     place = words[1] if words[:1] == ["--settings"] and len(words) > 1 else PLACE
     rest = words[2:] if words[:1] == ["--settings"] else words
-    if len(rest) != 1 or not re.fullmatch(TENANT, rest[0]):
+    if len(rest) != 1 or not is_tenant(rest[0]):
         raise Fatal(USAGE)
     return place, rest[0]
 
 
-def protocol() -> Dict[str, str]:
+def protocol() -> dict:
     asked = os.environ.get(PROTOCOL, "")
-    return {PROTOCOL: asked} if VERSION.fullmatch(asked) else {}
+    is_version = asked.split(":")[0] in VERSIONS and IN_VERSION.issuperset(asked)
+    return {PROTOCOL: asked} if is_version else {}
 
 
 def answer(settings: Settings, entry: Entry) -> int:
@@ -42,6 +41,8 @@ def answer(settings: Settings, entry: Entry) -> int:
     entry.reply = "failed"
     entry.word, entry.repository = asked.word, asked.repository() or entry.repository
     if not asked.is_git():
+        from . import by_hand
+
         by_hand.ask(settings, asked, entry, sys.stdout.buffer)
         entry.reply = "ok"
         return DONE
@@ -55,7 +56,7 @@ def answer(settings: Settings, entry: Entry) -> int:
     return served.status
 
 
-def main(words: List[str]) -> int:
+def main(words: list) -> int:
     try:
         place, tenant = read_words(words)
         settings = read_settings(place)

@@ -1,11 +1,9 @@
 """`forkhost-http`: a CGI (RFC 3875) for a web server that knows its users. Git's own http-backend serves the caches."""
 import os
-import re
-import signal
 import sys
-from typing import Dict, List, NamedTuple, Optional
+from _signal import SIG_IGN, SIGTERM, signal
 
-from forkhost_client.address import REPOSITORY, TENANT
+from forkhost_client.address import is_tenant, repository_of
 from forkhost_client.faults import Fatal, HostFault, Refused
 from forkhost_client.progress import say
 
@@ -16,8 +14,7 @@ from .settings import PLACE, Settings, read_settings, rows
 
 SETTINGS = "FORKHOST_SETTINGS"
 LIST = "info/refs"
-FORM = re.compile(rf"/({REPOSITORY})(?:\.git)?/({LIST}|{READ}|{WRITE})")
-SERVICE = re.compile(f"service=({READ}|{WRITE})")
+SERVICE = "service="
 # What http-backend wants to know of the request (git-http-backend(1)).
 KEPT = ("REQUEST_METHOD", "QUERY_STRING", "CONTENT_TYPE", "CONTENT_LENGTH", "REMOTE_ADDR")
 KEPT += ("HTTP_CONTENT_ENCODING", "HTTP_GIT_PROTOCOL")
@@ -32,23 +29,23 @@ class Answered(Exception):
         super().__init__(text)
 
 
-class Asked(NamedTuple):
-    repository: str
-    # What of it: its references, or a program of Git's.
-    what: str
-    service: str
+class Asked:
+    def __init__(self, repository: str, what: str, service: str):
+        """What of a repository, its references or a program of Git's; and that program."""
+        self.repository, self.what, self.service = repository, what, service
 
 
 def read_asked() -> Asked:
     """By Git's smart protocol alone; files of a repository are not served."""
-    found = FORM.fullmatch(os.environ.get("PATH_INFO", ""))
-    if not found:
+    root, name, what = [*os.environ.get("PATH_INFO", "").split("/", 2), "", ""][:3]
+    repository = repository_of(name)
+    if root or not repository or what not in (LIST, READ, WRITE):
         raise Answered(MISSING, "there is no such page; a repository's address ends in its name")
-    repository, what = found.groups()
-    service = SERVICE.fullmatch(os.environ.get("QUERY_STRING", "")) if what == LIST else None
-    if what == LIST and not service:
+    query = os.environ.get("QUERY_STRING", "")
+    service = query.removeprefix(SERVICE) if what == LIST and query.startswith(SERVICE) else what
+    if service not in (READ, WRITE):
         raise Answered(FORBIDDEN, "Git's smart protocol alone is served")
-    return Asked(repository, what, service[1] if service else what)
+    return Asked(repository, what, service)
 
 
 def tenant_of(settings: Settings) -> str:
@@ -57,12 +54,12 @@ def tenant_of(settings: Settings) -> str:
     if not settings.users:
         raise Fatal(f"'{settings.place}' does not set users")
     tenant = rows(settings.users).get(user, "") if user else ""
-    if not re.fullmatch(TENANT, tenant):
+    if not is_tenant(tenant):
         raise Answered(FORBIDDEN, f"user '{user}' has no tenant here")
     return tenant
 
 
-def outer(settings: Settings, tenant: str, asked: Asked) -> Dict[str, str]:
+def outer(settings: Settings, tenant: str, asked: Asked) -> dict:
     """What http-backend is told: the folder of the tenant's caches, and what the web server says of the request."""
     found = {name: os.environ[name] for name in KEPT if name in os.environ}
     found |= {"GIT_PROJECT_ROOT": os.path.join(settings.caches, tenant), "GIT_HTTP_EXPORT_ALL": "1"}
@@ -97,7 +94,7 @@ def end(*_) -> None:
     raise ClientGone
 
 
-def judged(settings: Settings, entry: Entry) -> Optional[Answered]:
+def judged(settings: Settings, entry: Entry) -> "Answered | None":
     """Serves the request; or what it is answered."""
     try:
         entry.tenant = tenant_of(settings)
@@ -117,9 +114,9 @@ def judged(settings: Settings, entry: Entry) -> Optional[Answered]:
         return None
 
 
-def main(words: List[str]) -> int:
+def main(words: list) -> int:
     """The settings' file is named by FORKHOST_SETTINGS, which the web server sets."""
-    signal.signal(signal.SIGTERM, end)
+    signal(SIGTERM, end)
     try:
         settings = read_settings(os.environ.get(SETTINGS, PLACE))
     except Fatal as fault:
@@ -128,7 +125,7 @@ def main(words: List[str]) -> int:
         return 0
     entry = Entry(Log(settings.log), NOTHING)
     answered = judged(settings, entry)
-    signal.signal(signal.SIGTERM, signal.SIG_IGN)
+    signal(SIGTERM, SIG_IGN)
     # A web server may end the program once it has the whole answer.
     entry.write()
     if answered:

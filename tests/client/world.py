@@ -3,6 +3,7 @@ import os
 import shutil
 import signal
 import socket
+import struct
 import subprocess
 
 from forkhost_client.connection import Connection
@@ -17,6 +18,8 @@ WHO = {"NAME": "Ada", "EMAIL": "ada@example.org", "DATE": "1700000000 +0100"}
 SETTINGS = {"gc.auto": "0", "maintenance.auto": "false", "advice.detachedHead": "false", "init.defaultBranch": "main"}
 # Tests write great objects of random bytes, which no compression makes smaller.
 SETTINGS |= {"core.compression": "0"}
+# How long a reply may take, as the kernel has it.
+WAIT = struct.pack("ll", PATIENCE, 0)
 UNBORN = b"notice: HEAD points to an unborn branch (main)\n"
 
 
@@ -125,7 +128,7 @@ class World:
         """One request, without a program between; it ends as `forkhost-ask` does."""
         try:
             with Connection(self.host.socket, tenant) as connection:
-                connection.stream.settimeout(PATIENCE)
+                connection.stream.setsockopt(socket.SOL_SOCKET, socket.SO_RCVTIMEO, WAIT)
                 return done(connection.ask(" ".join(words), given).rest())
         except Refused as refusal:
             return Ran(1, b"", f"forkhost-ask: {refusal}\n".encode())

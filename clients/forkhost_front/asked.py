@@ -7,10 +7,11 @@ READ, WRITE, ARCHIVE = "git-upload-pack", "git-receive-pack", "git-upload-archiv
 PROGRAMS = {READ: "upload-pack", WRITE: "receive-pack"}
 # The new repository is its last word.
 FORKS_OFFER = "fork-offer"
-# Requests that are asked by hand, with the number of their words; none stands for one or more.
-BY_HAND = {"init": 1, "drop": 1, "fork": 2, "head": 1, "set-head": 2, "quota": 0, "prune": 0, "for-each-ref": None}
-BY_HAND |= {"cat-file": 1, "ls-tree": 1, "rev-list": None, "merge-base": 3}
-BY_HAND |= {"offer": 2, "withdraw": 2, "offers": 0, FORKS_OFFER: 3}
+# Requests that are asked by hand, and the words that they take; with `..` also more of the last.
+BY_HAND = {"init": "REPO", "drop": "REPO", "fork": "SRC DST", "head": "REPO", "set-head": "REPO REF"}
+BY_HAND |= {"offer": "REPO TENANT", "withdraw": "REPO TENANT", "offers": "", FORKS_OFFER: "GIVER REPO DST"}
+BY_HAND |= {"quota": "", "prune": "", "for-each-ref": "REPO ..", "cat-file": "NAME", "ls-tree": "NAME"}
+BY_HAND |= {"rev-list": "REPO ITEM ..", "merge-base": "REPO ITEM ITEM"}
 # Their words begin with an object.
 OF_OBJECTS = ("cat-file", "ls-tree")
 USAGE = "ask by 'git clone', 'git fetch' or 'git push', or for one of: " + ", ".join(BY_HAND)
@@ -68,8 +69,8 @@ def judge_repository(asked: Asked) -> None:
 def judge_by_hand(asked: Asked) -> None:
     if asked.word not in BY_HAND:
         raise Fatal(f"'{asked.word}' is not done here; {USAGE}")
-    count = BY_HAND[asked.word]
-    if count is not None and len(asked.rest) != count:
-        raise Fatal(f"'{asked.word}' takes {count} words")
+    words = BY_HAND[asked.word]
+    if not words.endswith("..") and len(asked.rest) != len(words.split()):
+        raise Fatal(f"'{asked.word}' takes {words or 'no words'}")
     if any(not word or " " in word or "\n" in word for word in asked.rest):
         raise Fatal("no word holds a space or a line feed")

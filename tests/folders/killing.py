@@ -283,6 +283,8 @@ def show_killed(checks, program, work):
         life = Life(checks, program, work, seed)
         host = life.started(*GRANTS)
         host.is_there()
+        # A host that has answered has saved its tenants; one that takes a connection may not have.
+        life.at_once(host, [(HOST, b"census\n")], None)
         for number in range(KILLS):
             label = f"life {seed}, kill {number}"
             life.killed(label, host)

@@ -9,11 +9,12 @@ from io import BytesIO
 
 from .address import is_tenant
 from .forms import number
-from .frames import BAD_FRAME, MAX_PAYLOAD, bytes_of, frame, framed, text_of
+from .frames import BAD_FRAME, DONE, MAX_PAYLOAD, bytes_of, frame, framed, text_of
 from .spool import told
+from .turns import Turn
 
 # Seconds without a byte of a frame that is begun, or in which too little of a reply is read, after which the process
-# ends; and those without a next frame.
+# ends; and those without a next frame, where no upload is open.
 PATIENCE, IDLE = 30, 600
 PIECE = 1 << 16
 # A reader is seen to read by pieces as small as this.
@@ -35,9 +36,9 @@ def is_who(text: str) -> bool:
     return text == OPERATOR or is_tenant(text)
 
 
-def read_line(source) -> bytes:
+def read_line(source, patience: int) -> bytes:
     """A frame's first line; nothing at the end."""
-    alarm(IDLE)
+    alarm(patience)
     first = source.read(1)
     if first in (b"", b"\n"):
         return first
@@ -45,9 +46,9 @@ def read_line(source) -> bytes:
     return first + source.readline(LONGEST_LINE - 1)
 
 
-def read_frame(source) -> "tuple | None":
+def read_frame(source, patience: int) -> "tuple | None":
     """Who asks, and what; None at the end."""
-    line = read_line(source)
+    line = read_line(source, patience)
     if not line:
         return None
     who, _, digits = line.partition(b" ")
@@ -74,11 +75,26 @@ def hand_out(reply, sink) -> None:
     alarm(0)
 
 
+def is_done(reply) -> bool:
+    reply.readline()
+    begun = reply.read(len(DONE))
+    reply.seek(0)
+    return begun == DONE
+
+
+def asked_host(path: str, turn: Turn, who: bytes, payload: bytes):
+    turn.take(payload)
+    reply = told(path, frame(who, payload))
+    turn.leave(payload, is_done(reply))
+    return reply
+
+
 def serve(path: str, tenant: str, source, sink) -> None:
     """Frames up to the end of the input, or to a bad one, which is answered as the host does."""
+    turn = Turn(f"{path}.{tenant}.turn")
     try:
-        while asked := read_frame(source):
+        while asked := read_frame(source, PATIENCE if turn.is_taken() else IDLE):
             is_theirs = asked[0] == bytes_of(tenant)
-            hand_out(told(path, frame(*asked)) if is_theirs else BytesIO(NOBODY), sink)
+            hand_out(asked_host(path, turn, *asked) if is_theirs else BytesIO(NOBODY), sink)
     except BadFrame:
         hand_out(BytesIO(BAD_FRAME), sink)

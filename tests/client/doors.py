@@ -1,6 +1,7 @@
 """Users of a door who read slowly, send slowly, or do neither: the host serves all others meanwhile."""
 import os
 import random
+import select
 import signal
 import socket
 import subprocess
@@ -12,7 +13,7 @@ from killed import great
 from live import to_end
 from making import hashed
 from program import PATIENCE
-from world import World
+from world import World, finished
 
 # Seconds in which others are answered, those after which a door ends, and those after which a busy machine has ended it.
 AT_ONCE, CUT, ENDED = 2, 30, 240
@@ -198,6 +199,29 @@ def show_patience(checks, program, folder):
     checks.same("who asked nothing asks again", doors.quota, idle.told(QUOTA))
     checks.same("and ends", (b"", 0, b""), idle.end())
     doors.world.host.ends_well(checks, "after those that stop")
+
+
+def show_two_uploads(checks, program, folder):
+    """Two users of one tenant push in parts at once: one waits for the other, and not for one who only asks."""
+    doors = Doors(checks, program, folder)
+    world, url = doors.world, f"forkhost::{doors.alice.path}/alice/r"
+    for name in ("one", "two"):
+        great(world, name, random.Random(name), count=5)
+    pushes = [world.begun("git", "push", "-q", url, name, at="source") for name in ("one", "two")]
+    checks.same("both push", [0, 0], [finished(push).status for push in pushes])
+    checks.same("both are there", world.references("source"), world.kept("r")[:3])
+    user, other = User(doors.alice), User(doors.alice)
+    part, done = frame(b"alice", b"part\nx"), framed(b"ok\n")
+    checks.same("one begins an upload", done, user.told(part))
+    other.send(frame(b"alice", b"part-drop\n"))
+    checks.same("and asks something between", doors.at_socket(QUOTA), user.told(QUOTA))
+    doors.others_are_answered("an upload is open")
+    checks.same("and goes on", done, user.told(part))
+    checks.same("another waits", [], select.select([other.stream], [], [], 0.5)[0])
+    checks.same("it is left open", (b"", 0, b""), user.end())
+    checks.same("and the other drops it", done, other.reply())
+    checks.same("which ends", (b"", 0, b""), other.end())
+    world.host.ends_well(checks, "after two uploads")
 
 
 def show_two(doors):

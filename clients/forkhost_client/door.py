@@ -1,17 +1,24 @@
 """A door for one tenant: frames of that tenant pass to the host, and no others do.
 
-It is for a front end that knows its users. It stands before the socket, so which tenant it lets through is trusted."""
+It is for a front end that knows its users. It stands before the socket, so which tenant it lets through is trusted.
+
+The host serves one connection at a time, so no user has one. A frame is read whole before the host is asked, and the
+reply is there whole, and the host is left, before a byte of it is handed out."""
 from _signal import alarm
-from _socket import AF_UNIX, socket
+from io import BytesIO
 
 from .address import is_tenant
-from .faults import Lost
 from .forms import number
-from .frames import BAD_FRAME, LONGEST_HEAD, MAX_PAYLOAD, bytes_of, frame, framed, length_of, text_of
+from .frames import BAD_FRAME, DONE, MAX_PAYLOAD, bytes_of, frame, framed, text_of
+from .spool import told
+from .turns import Turn
 
-# Seconds without a byte from the user, after which the process ends, and the host is free for the next one.
-PATIENCE = 30
+# Seconds without a byte of a frame that is begun, or in which too little of a reply is read, after which the process
+# ends; and those without a next frame, where no upload is open.
+PATIENCE, IDLE = 30, 600
 PIECE = 1 << 16
+# A reader is seen to read by pieces as small as this.
+READ = 1 << 14
 # A frame's first line: a tenant's name or `@host`, a length, and LF.
 LONGEST_LINE = 41
 LONGEST_NUMBER = 7
@@ -29,10 +36,19 @@ def is_who(text: str) -> bool:
     return text == OPERATOR or is_tenant(text)
 
 
-def read_frame(source) -> "tuple | None":
-    """Who asks, and what; None at the end."""
+def read_line(source, patience: int) -> bytes:
+    """A frame's first line; nothing at the end."""
+    alarm(patience)
+    first = source.read(1)
+    if first in (b"", b"\n"):
+        return first
     alarm(PATIENCE)
-    line = source.readline(LONGEST_LINE)
+    return first + source.readline(LONGEST_LINE - 1)
+
+
+def read_frame(source, patience: int) -> "tuple | None":
+    """Who asks, and what; None at the end."""
+    line = read_line(source, patience)
     if not line:
         return None
     who, _, digits = line.partition(b" ")
@@ -49,46 +65,36 @@ def read_frame(source) -> "tuple | None":
     return who, b"".join(pieces)
 
 
-class Host:
-    """A connection that is made when it is first wanted."""
-
-    def __init__(self, path: str):
-        self.path, self.stream, self.reader = path, None, None
-
-    def connect(self) -> None:
-        if not self.stream:
-            self.stream = socket(AF_UNIX)
-            self.stream.connect(self.path)
-            self.reader = open(self.stream.fileno(), "rb", PIECE, closefd=False)
-
-    def carry(self, given: bytes, sink) -> None:
-        """A frame to the host, and its reply to the user as it comes."""
-        self.connect()
-        self.stream.sendall(given)
-        head = self.reader.readline(LONGEST_HEAD)
-        if not head:
-            raise Lost("the host ended the connection")
-        left = length_of(head)
-        sink.write(head)
-        while left:
-            piece = self.reader.read1(min(left, PIECE))
-            if not piece:
-                raise Lost("the host ended the connection")
+def hand_out(reply, sink) -> None:
+    """A reply to the user, at whatever pace they read."""
+    with reply:
+        while piece := reply.read(READ):
+            alarm(PATIENCE)
             sink.write(piece)
-            left -= len(piece)
-        sink.flush()
+            sink.flush()
+    alarm(0)
+
+
+def is_done(reply) -> bool:
+    reply.readline()
+    begun = reply.read(len(DONE))
+    reply.seek(0)
+    return begun == DONE
+
+
+def asked_host(path: str, turn: Turn, who: bytes, payload: bytes):
+    turn.take(payload)
+    reply = told(path, frame(who, payload))
+    turn.leave(payload, is_done(reply))
+    return reply
 
 
 def serve(path: str, tenant: str, source, sink) -> None:
     """Frames up to the end of the input, or to a bad one, which is answered as the host does."""
-    host = Host(path)
+    turn = Turn(f"{path}.{tenant}.turn")
     try:
-        while asked := read_frame(source):
-            if asked[0] == bytes_of(tenant):
-                host.carry(frame(*asked), sink)
-            else:
-                sink.write(NOBODY)
-                sink.flush()
+        while asked := read_frame(source, PATIENCE if turn.is_taken() else IDLE):
+            is_theirs = asked[0] == bytes_of(tenant)
+            hand_out(asked_host(path, turn, *asked) if is_theirs else BytesIO(NOBODY), sink)
     except BadFrame:
-        sink.write(BAD_FRAME)
-        sink.flush()
+        hand_out(BytesIO(BAD_FRAME), sink)

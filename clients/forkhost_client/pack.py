@@ -4,6 +4,7 @@ import zlib
 
 from .child import ran
 from .faults import GitFailed
+from .nameless import nameless
 from .progress import Progress
 from .records import Record
 from .repository import Repository
@@ -32,17 +33,6 @@ def head(kind: str, length: int) -> bytes:
 def compressed(content: bytes) -> bytes:
     way = zlib.compressobj(zlib.Z_BEST_SPEED, zlib.DEFLATED, WINDOW, MEMORY)
     return way.compress(content) + way.flush()
-
-
-def nameless(folder: str):
-    """A file without a name, in a folder."""
-    try:
-        return open(os.open(folder, os.O_TMPFILE | os.O_RDWR | os.O_CLOEXEC, 0o600), "w+b", PIECE)
-    except OSError:
-        # There are file systems on which it has a name for a moment.
-        from tempfile import TemporaryFile
-
-        return TemporaryFile(dir=folder)
 
 
 class Pack:

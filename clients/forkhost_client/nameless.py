@@ -1,0 +1,15 @@
+"""Files without a name, which are gone with the process that has them."""
+import os
+
+PIECE = 1 << 20
+
+
+def nameless(folder: str):
+    """A new one, on the file system of a folder."""
+    try:
+        return open(os.open(folder, os.O_TMPFILE | os.O_RDWR | os.O_CLOEXEC, 0o600), "w+b", PIECE)
+    except OSError:
+        # There are file systems on which it has a name for a moment.
+        from tempfile import TemporaryFile
+
+        return TemporaryFile(dir=folder)

@@ -1,0 +1,33 @@
+"""Uploads of one tenant, one at a time: the host has one open for each tenant, and takes its parts from any connection."""
+import os
+
+# Requests that begin an upload, go on with it or end it, and those that one in between is in the way of.
+VERBS = (b"part", b"part-end", b"part-drop", b"push")
+
+
+class Turn:
+    """A lock among the doors of a tenant, by a file beside the socket. It goes with the process."""
+
+    def __init__(self, path: str):
+        self.path, self.file = path, -1
+
+    def is_taken(self) -> bool:
+        return self.file >= 0
+
+    def take(self, payload: bytes) -> None:
+        """Before a request: it waits where it is about an upload, and another door has one open."""
+        if not self.is_taken() and verb(payload) in VERBS:
+            from fcntl import LOCK_EX, flock
+
+            self.file = os.open(self.path, os.O_RDWR | os.O_CREAT | os.O_NOFOLLOW | os.O_CLOEXEC, 0o600)
+            flock(self.file, LOCK_EX)
+
+    def leave(self, payload: bytes, is_done: bool) -> None:
+        """Behind its reply: a part that is done leaves the upload open."""
+        if self.is_taken() and verb(payload) in VERBS and not (is_done and verb(payload) == b"part"):
+            os.close(self.file)
+            self.file = -1
+
+
+def verb(payload: bytes) -> bytes:
+    return payload[: payload.find(b"\n")].partition(b" ")[0]

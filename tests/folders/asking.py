@@ -75,7 +75,7 @@ class Requests:
     def payloads(self, who=None):
         """The payloads of one request, or of a few that go together; of this tenant, where there are peers."""
         pick, place = self.chance.choice, self.chance.choice(REPOSITORIES)
-        changes = [b"part", b"update-refs", b"init", b"fork", b"drop", b"prune", b"quota", b"set-head"]
+        changes = [b"part", b"update-refs", b"init", b"fork", b"drop", b"prune", b"quota", b"repos", b"set-head"]
         kind = pick([b"push"] * 4 + changes + [b"ask"] * 4 + [b"offer"] * (5 if self.peers else 0))
         if kind == b"push":
             return [b"push %s\n%s" % (place, self.push())]
@@ -96,7 +96,7 @@ class Requests:
             return [b"drop %s\n" % place] * (self.chance.random() < 0.3)
         if kind == b"offer":
             return self.offering(who, place)
-        if kind in (b"prune", b"quota"):
+        if kind in (b"prune", b"quota", b"repos"):
             return [kind + b"\n"]
         return [
             pick(
@@ -140,6 +140,6 @@ class Requests:
 def looks(history):
     """Requests that show all that a tenant has."""
     asks = [b"%s %s\n" % (word, place) for word in (b"for-each-ref", b"head") for place in REPOSITORIES]
-    asks += (b"quota\n", b"offers\n")
+    asks += (b"quota\n", b"repos\n", b"offers\n")
     asks += (b"cat-file %s\n" % name for name in history.names)
     return [(who, payload) for who in (b"alice", b"bob") for payload in asks]

@@ -14,7 +14,7 @@ SEEDS = 12
 COUNT_OWN = 40
 KINDS = [
     *(b"init", b"drop", b"fork", b"push", b"part", b"part-end", b"part-drop", b"update-refs", b"set-head", b"prune"),
-    *(b"cat-file", b"ls-tree", b"rev-list", b"merge-base", b"fetch", b"for-each-ref", b"head", b"quota", b"nothing"),
+    *(b"cat-file", b"ls-tree", b"rev-list", b"merge-base", b"fetch", b"for-each-ref", b"head", b"repos", b"quota", b"nothing"),
 ]
 
 
@@ -35,7 +35,7 @@ def one_of_each(chance, requests, history):
         [b"set-head r %s\n" % HEADS[0], b"head r\n", b"rev-list r HEAD\n", b"fetch r %s ^HEAD\n" % tip],
         [b"cat-file %s\n" % name, b"cat-file %s\n" % ABSENT],
         [b"ls-tree %s\n" % tip, b"rev-list r %s\n" % HEADS[0], b"merge-base r %s %s\n" % (HEADS[0], tip)],
-        [b"fetch r %s\n" % HEADS[0], b"for-each-ref r\n", b"quota\n"],
+        [b"fetch r %s\n" % HEADS[0], b"for-each-ref r\n", b"repos\n", b"quota\n"],
         [b"prune\n"],
         [b"nothing\n"],
     ]

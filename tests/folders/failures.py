@@ -74,7 +74,7 @@ ROWS = {
 
 def shown(live):
     """What both tenants see: use, references, offers, objects, and whether an upload is open."""
-    asks = [b"quota\n", b"for-each-ref r\n", b"for-each-ref s\n", b"offers\n", *map(cat, NAMES), b"push r\n\n"]
+    asks = [b"quota\n", b"repos\n", b"for-each-ref r\n", b"for-each-ref s\n", b"offers\n", *map(cat, NAMES), b"push r\n\n"]
     return [live.asked(who, ask) for who in (ALICE, BOB) for ask in asks]
 
 

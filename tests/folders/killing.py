@@ -34,10 +34,10 @@ def changes(payload, reply):
 def looks(history):
     """Requests that show all that the tenants have, and that change nothing."""
     asks = [b"%s %s\n" % (word, place) for word in (b"for-each-ref", b"head") for place in REPOSITORIES]
-    asks += (b"quota\n", b"offers\n")
+    asks += (b"quota\n", b"repos\n", b"offers\n")
     asks += (b"push %s\n\n" % place for place in REPOSITORIES)
     asks += (b"cat-file %s\n" % name for name in history.names)
-    return [(who, payload) for who in TENANTS for payload in asks]
+    return [(who, payload) for who in TENANTS for payload in asks] + [(HOST, b"tenants\n")]
 
 
 def limited(most):

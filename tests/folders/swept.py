@@ -50,11 +50,15 @@ def show_put_back(checks, program, folder):
 
 
 def show_newer(checks, program, folder):
-    """A swept file never takes the place of another; and one that is spoiled is found so."""
+    """A swept file never takes the place of a whole one; it does of one that is torn; and one that is spoiled is found so."""
     os.makedirs(folder.inside("swept"), exist_ok=True)
     for data in (b"", FILES[O], FILES[B]):
         write(folder.swept_path(B), data)
         is_back(checks, "a newer file is there", program, folder)
+    for torn in (b"", FILES[B][:-1], FILES[O]):
+        write(folder.swept_path(B), FILES[B])
+        write(folder.file_of(B), torn)
+        is_back(checks, "a newer file is torn", program, folder)
     folder.sweep(B)
     write(folder.swept_path(B), FILES[B][:-1])
     checks.same("a swept file is cut", failed(f"damaged {B.decode()}"), program.checked(folder.path))

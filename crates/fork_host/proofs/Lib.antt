@@ -2,6 +2,7 @@ pub mod AddingLemmas
 pub mod BetweenLemmas
 pub mod BoundLemmas
 pub mod FaultLemmas
+pub mod FigureLemmas
 pub mod ForkOfferLemmas
 pub mod ForkedLemmas
 pub mod GatherLemmas

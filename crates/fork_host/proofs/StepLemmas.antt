@@ -54,7 +54,7 @@ answered_step old new t ask reply explained whole honest kept others offers fork
 }
 
 -- the host itself was asked
-pub tended_step : (accounts : Accounts) (old new : VaultState) (request : HostRequest) (reply : Reply) → HostSays request reply ⊎ (is_host_fault reply ≡ true) → Tends request old reply new → shape_of new.tenants ≡ shape_of old.tenants
+pub tended_step : (accounts : Accounts) (old new : VaultState) (request : HostRequest) (reply : Reply) → HostSays (world_of (state_of accounts old)) request reply ⊎ (is_host_fault reply ≡ true) → Tends request old reply new → shape_of new.tenants ≡ shape_of old.tenants
     → HostFaults request reply → IsBounded [] old new reply → IsWhole (state_of accounts old) → IsStep (state_of accounts old) (HostAsks request) reply (state_of accounts new)
 tended_step accounts old new request reply says tends same faults bounded whole = record {
   explained = λ trusted. own_step (world_of (state_of accounts old)) (world_of (state_of accounts new)) request reply says (world_tended accounts old new (tends.kept trusted));
@@ -66,7 +66,7 @@ tended_step accounts old new request reply says tends same faults bounded whole 
   forked = λ tenant giver word copy is done. absurd (cc);
   takes = λ tenant giver word copy is. absurd (cc);
   named = tt;
-  seen = tt;
+  seen = says;
   faults = (faults, bounded);
   tends = tends;
 }

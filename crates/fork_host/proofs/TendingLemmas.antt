@@ -104,6 +104,6 @@ shape_tended accounts old new same t =
     ∙ ap (option_map shape_seen) (sym (get_world (state_of accounts old) t))
 
 -- a request that left the world is a step
-pub own_step : (old new : World) (request : HostRequest) (reply : Reply) → HostSays request reply ⊎ (is_host_fault reply ≡ true) → new ≡ old → Steps old (HostAsks request) reply new
+pub own_step : (old new : World) (request : HostRequest) (reply : Reply) → HostSays old request reply ⊎ (is_host_fault reply ≡ true) → new ≡ old → Steps old (HostAsks request) reply new
 own_step old new request reply (inl says) same = HostAnswered says same
 own_step old new request reply (inr fault) same = HostFaulted fault same

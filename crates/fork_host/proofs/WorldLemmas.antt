@@ -46,13 +46,17 @@ as_long : {A B : Type 0} (f : A → B) (xs : List A) → length (map f xs) ≡ l
 as_long f [] = refl
 as_long f (x ∷ xs) = ap (λ n. suc n) (as_long f xs)
 
+-- its entries
+pub entries_world : (state : HostState) → entries (world_of state) ≡ map (entry_shown state.vault) (entries state.accounts)
+unfolding world_of
+entries_world state = entries-from_sorted name_cmp (map (entry_shown state.vault) (entries state.accounts)) (subst T (sym (same_sorted state.vault (entries state.accounts))) (entries_sorted state.accounts))
+
 -- as many tenants as accounts
 pub len_world : (state : HostState) → len (world_of state) ≡ len state.accounts
 unfolding world_of
 len_world state =
     len-entries (from_sorted {R = name_cmp} (map (entry_shown state.vault) (entries state.accounts)))
-    ∙ ap length (entries-from_sorted name_cmp (map (entry_shown state.vault) (entries state.accounts)) (subst T (sym (same_sorted state.vault (entries state.accounts))) (entries_sorted state.accounts)))
-    ∙ as_long (entry_shown state.vault) (entries state.accounts) ∙ sym (len-entries state.accounts)
+    ∙ ap length (entries_world state) ∙ as_long (entry_shown state.vault) (entries state.accounts) ∙ sym (len-entries state.accounts)
 
 pub known_world : (state : HostState) (t : List ℕ) → contains_key (world_of state) t ≡ contains_key state.accounts t
 known_world state t = ap is_some (get_world state t) ∙ by (get state.accounts t)

@@ -4,7 +4,7 @@ use Rattle.git_name.specs.Object.{Object}
 use Rattle.fork_request.specs.declared.host_fault.HostFault.TheVariants.{Damaged, Memory, Collision}
 use Rattle.fork_request.specs.Told.{is_host_fault}
 use Rattle.fork_request.specs.declared.host_request.HostRequest.{HostRequest}
-use Rattle.fork_request.specs.declared.host_request.HostRequest.TheVariants.{Sweep, Collect, Census, Fsck, Bad}
+use Rattle.fork_request.specs.declared.host_request.HostRequest.TheVariants.{Sweep, Collect, Census, Fsck, Tenants, Bad}
 use Rattle.fork_request.specs.declared.reply.Reply.{Reply}
 use Rattle.fork_request.specs.declared.reply.Reply.TheVariants.{Failed}
 use Rattle.fork_model.specs.Runs.{Asks, HostAsks}
@@ -19,12 +19,13 @@ pub record NoneOfObjects (reply : Reply) : Type 0 where
   pub apart : reply ≢ Failed Collision
 
 -- the host faults of a request of the host's own: of a sweep, a collection and a check want of memory and failures of the store, of
--- the census want of memory, and of a bad request none
+-- the census and the list of tenants want of memory, and of a bad request none
 abbrev pub HostFaults : HostRequest → Reply → Type 0
 HostFaults (Sweep most) reply = NoneOfObjects reply
 HostFaults Collect reply = NoneOfObjects reply
 HostFaults Fsck reply = NoneOfObjects reply
 HostFaults Census reply = (is_host_fault reply ≡ false) ⊎ (reply ≡ Failed Memory)
+HostFaults Tenants reply = (is_host_fault reply ≡ false) ⊎ (reply ≡ Failed Memory)
 HostFaults Bad reply = is_host_fault reply ≡ false
 
 -- the objects that a step brings with it; a host's own brings none

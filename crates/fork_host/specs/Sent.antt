@@ -5,7 +5,7 @@ use Rattle.git_name.specs.Object.{Object, object_name}
 use Rattle.push_stream.specs.Stream.{sent_in, stream_of}
 use Rattle.push_stream.specs.Upload.{continued}
 use Rattle.fork_reach.specs.Source.{Objects}
-use Rattle.fork_request.specs.Asked.{Ask, Inits, Drops, Forks, Pushes, SendsPart, EndsParts, DropsParts, Updates, SetsHead, MakesOffer, Withdraws, ForksOffer, AsksObject, AsksTree, AsksRevisions, AsksBases, AsksReferences, AsksHead, AsksOffers, Fetches, AsksUse, Prunes, NoRequest}
+use Rattle.fork_request.specs.Asked.{Ask, Inits, Drops, Forks, Pushes, SendsPart, EndsParts, DropsParts, Updates, SetsHead, MakesOffer, Withdraws, ForksOffer, AsksObject, AsksTree, AsksRevisions, AsksBases, AsksReferences, AsksHead, AsksOffers, AsksRepositories, Fetches, AsksUse, Prunes, NoRequest}
 use Rattle.fork_model.specs.Answer.{open_upload}
 use Rattle.fork_model.specs.View.{View}
 use Rattle.fork_model.specs.World.{World}
@@ -31,6 +31,7 @@ sent_by view (AsksBases repository first second) = []
 sent_by view (AsksReferences repository prefix) = []
 sent_by view (AsksHead repository) = []
 sent_by view AsksOffers = []
+sent_by view AsksRepositories = []
 sent_by view (Fetches repository items) = []
 sent_by view AsksUse = []
 sent_by view Prunes = []

@@ -1,10 +1,10 @@
 -- What a step of a host is, and a run of steps (own): all that is promised of one request, from state to state.
-use Rattle.std.specs.Prelude.{◌≡◌, ◌≢◌, ℕ, false, true, List, [], ◌∷◌, Some, ⊤}
+use Rattle.std.specs.Prelude.{◌≡◌, ◌≢◌, ◌⊎◌, ℕ, false, true, List, [], ◌∷◌, Some, ⊤}
 use Rattle.fork_request.specs.Asked.{ForksOffer}
-use Rattle.fork_request.specs.Told.{is_done}
+use Rattle.fork_request.specs.Told.{is_done, is_host_fault}
 use Rattle.fork_request.specs.declared.reply.Reply.{Reply}
 use Rattle.fork_model.specs.Runs.{Asks, HostAsks}
-use Rattle.fork_model.specs.World.{Event, Steps, World}
+use Rattle.fork_model.specs.World.{Event, HostSays, Steps, World}
 use Rattle.fork_host.specs.Faults.{FaultsWithin}
 use Rattle.fork_host.specs.Forked.{ForksOffered}
 use Rattle.fork_host.specs.Given.{asker_of, changes_offers_in}
@@ -19,15 +19,16 @@ abbrev pub IsNamedAt : Event → Reply → Type 0
 IsNamedAt (Asks tenant ask) reply = IsNamedReply ask reply
 IsNamedAt (HostAsks request) reply = ⊤
 
--- and merge bases are names of what the tenant sees
+-- merge bases are names of what the tenant sees, and what is asked of the host itself is told as the world has it
 abbrev pub TellsSeenAt : World → Event → Reply → Type 0
 TellsSeenAt world (Asks tenant ask) reply = TellsSeen (seen_in_world world tenant) ask reply
-TellsSeenAt world (HostAsks request) reply = ⊤
+TellsSeenAt world (HostAsks request) reply = HostSays world request reply ⊎ (is_host_fault reply ≡ true)
 
 -- a step from state to state. Over an honest store it is a step of the world. Over any store the honesty stays, and the new state is
 -- a host's. What is refused or failed keeps each view's shape, and a step that a tenant does not ask keeps that tenant's. `offer` and
 -- `withdraw` alone change of which repositories offers are. `fork-offer` gives a repository that is offered, and what comes to be seen
--- by it is of what the giver sees. What is told under a name has it, and merge bases are names of what the tenant sees. The host
+-- by it is of what the giver sees. What is told under a name has it, merge bases are names of what the tenant sees, and what is asked of the host itself
+-- is told as the world has it. The host
 -- faults, and what is done with the store, keep their bounds
 pub record IsStep (old : HostState) (event : Event) (reply : Reply) (new : HostState) : Type 0 where
   pub explained : Trusted old → Steps (world_of old) event reply (world_of new)

@@ -1,12 +1,12 @@
--- What becomes of the catalogue and the store (own): requests of the host itself, which are sweeps, collections, the census and the
--- check, change no view; those of tenants let the catalogue grow, and no more.
+-- What becomes of the catalogue and the store (own): requests of the host itself, which are sweeps, collections, the census, the
+-- check and the list of tenants, change no view; those of tenants let the catalogue grow, and no more.
 use Rattle.std.specs.Prelude.{◌≡◌, ◌⊎◌, ◌<◌, ◌≤◌, ◌+◌, ◌*◌, ℕ, Bool, true, IsTrue, List, [], length, map, sum}
 use Rattle.std.specs.FinMap.{contains_key, get}
 use Rattle.std.specs.List.{AllByRecursion}
 use Rattle.fork_request.specs.Harms.{Harmed, harm_lines}
 use Rattle.fork_request.specs.Told.{is_done}
 use Rattle.fork_request.specs.declared.host_request.HostRequest.{HostRequest}
-use Rattle.fork_request.specs.declared.host_request.HostRequest.TheVariants.{Sweep, Collect, Census, Fsck, Bad}
+use Rattle.fork_request.specs.declared.host_request.HostRequest.TheVariants.{Sweep, Collect, Census, Fsck, Tenants, Bad}
 use Rattle.fork_request.specs.declared.refusal.Refusal.TheVariants.{BadRequest}
 use Rattle.fork_request.specs.declared.reply.Reply.{Reply}
 use Rattle.fork_request.specs.declared.reply.Reply.TheVariants.{Done, Refused, Failed}
@@ -79,6 +79,7 @@ IsTended (Sweep most) old reply new = IsSweep most old reply new
 IsTended Collect old reply new = IsCollection old reply new
 IsTended Census old reply new = IsCensus old reply new
 IsTended Fsck old reply new = IsCheck old reply new
+IsTended Tenants old reply new = new ≡ old
 IsTended Bad old reply new = (reply ≡ Refused BadRequest) × (new ≡ old)
 
 -- what a request of the host itself does: over any store with the catalogue, and over an honest one with the files

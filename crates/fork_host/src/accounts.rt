@@ -5,6 +5,7 @@ ghost use Rattle.std.specs.BTreeMap.{IsUnchanged, Updates};
 ghost use Rattle.git_name.specs.Name.{name_cmp};
 ghost use Rattle.fork_request.specs.Asked.{ask_of};
 ghost use Rattle.fork_request.specs.Told.{is_done};
+ghost use Rattle.fork_model.specs.Figures.{figure_lines};
 ghost use Rattle.fork_model.specs.Runs.{Asks};
 ghost use Rattle.fork_model.specs.Sound.{IsOrderlyWorld};
 ghost use Rattle.fork_model.specs.World.{Steps};
@@ -141,6 +142,22 @@ impl Accounts {
             keep_tenant(&mut states, state)?;
         }
         Ok(states)
+    }
+
+    // What each tenant has and may have, in numbers: a line for each.
+    pub(crate) fn figures<S: LooseFiles>(
+        &self,
+        alloc: Global,
+        vault: &Vault<S>,
+    ) -> Result<Vec<u8>, AllocError>
+        requires { IsOrderlyWorld (world_of (state_of self.now vault.now)) }
+        ensures { IfOk result (λ text. text.items ≡ figure_lines (world_of (state_of self.now vault.now))) }
+    {
+        let mut text = Vec::new(alloc);
+        for (name, tenant) in self.tenants.iter() {
+            tenant.add_figures(vault, name, &mut text)?;
+        }
+        Ok(text)
     }
 
     // The tenants that have an upload open, in the order of their names.

@@ -197,7 +197,7 @@ impl<S: LooseFiles> Host<S> {
     pub fn host_answer(&mut self, alloc: Global, request: HostRequest) -> Reply
         ensures { IsStep self.old (HostAsks request) result self.new }
     {
-        tend(alloc, &mut self.vault, request)
+        tend(alloc, &self.accounts, &mut self.vault, request)
     }
 
     ghost use Rattle.fork_host.specs.Given.{event_given, events_given};

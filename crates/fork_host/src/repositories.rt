@@ -1,4 +1,4 @@
-ghost use Rattle.std.specs.Prelude.{◌≡◌, ◌≤◌, ◌++◌, ℕ, List, [], Contains, map as mapped, OnOk, OnErr, IfOk, IfErr, Ok, Err, Some, true};
+ghost use Rattle.std.specs.Prelude.{◌≡◌, ◌≤◌, ◌++◌, ℕ, List, [], Contains, codes, flat_map, map as mapped, OnOk, OnErr, IfOk, IfErr, Ok, Err, Some, true};
 ghost use Rattle.std.specs.Option.{option_copied};
 ghost use Rattle.std.specs.FinMap as map;
 ghost use Rattle.std.specs.BTreeMap.{IsUnchanged, Updates};
@@ -7,6 +7,7 @@ ghost use Rattle.git_reftx.specs.Repository.{Repository as Shown};
 ghost use Rattle.git_reftx.specs.Transaction.{References, transacted};
 ghost use Rattle.git_reftx.specs.Judging.{TellsTransacted};
 ghost use Rattle.fork_model.specs.Answer.{targets_of};
+ghost use Rattle.fork_model.specs.Figures.{references_in};
 ghost use Rattle.fork_model.specs.declared.limits.TheConstants.{MAX_REPOSITORIES};
 ghost use Rattle.state_text.specs.States.{Ascend};
 ghost use Rattle.fork_host.specs.Keeping.{with_repositories};
@@ -139,6 +140,30 @@ impl Repositories {
             unreachable!();
         };
         repository.apply(alloc, commands, known)
+    }
+
+    // The names, ascending, each with LF.
+    pub(crate) fn names(&self, alloc: Global) -> Result<Vec<u8>, AllocError>
+        ensures { IfOk result (λ text. text.items ≡ flat_map (λ name. name ++ codes "\n") (map.keys self.now)) }
+    {
+        let mut text = Vec::new(alloc);
+        for (name, _repository) in self.repositories.iter() {
+            text.extend_from_slice(name.as_bytes())?;
+            text.push(b'\n')?;
+        }
+        Ok(text)
+    }
+
+    // How many references there are in all of them.
+    pub(crate) fn reference_count(&self) -> u128
+        ensures { result ≡ references_in self.now }
+    {
+        let _most = self.repositories.len();
+        let mut count = 0u128;
+        for repository in self.repositories.values() {
+            count += repository.references().len() as u128;
+        }
+        count
     }
 
     // The names of the objects at which references point, in the order of the repositories and of

@@ -15,6 +15,7 @@ ghost use Rattle.fork_host.specs.Sent.{sent_by, sent_names};
 ghost use Rattle.fork_host.specs.Shown.{shown};
 ghost use Rattle.fork_host.specs.Staged.{IsStaged};
 
+mod figures;
 mod heads;
 mod keeping;
 mod objects;
@@ -115,6 +116,7 @@ impl Tenant {
             Request::ForEachRef(word, prefix) => self.for_each_ref(alloc, own, word, prefix),
             Request::Head(word) => self.head(alloc, word),
             Request::Fetch(word, items) => self.fetch(alloc, own, word, items),
+            Request::Repositories => self.list_repositories(alloc),
             Request::Quota => self.quota(alloc, own),
             Request::Prune => self.prune(alloc, own),
             Request::Offers => unreachable!(),

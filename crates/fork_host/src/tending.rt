@@ -1,15 +1,19 @@
-// What is asked of the host itself: its store is swept and checked, and its catalogue is counted.
+// What is asked of the host itself: its store is swept and checked, its catalogue is counted, and its
+// tenants are listed in numbers.
 ghost use Rattle.std.specs.Prelude.{◌≡◌, ◌⊎◌, ◌≤◌, [], IfOk, length, true};
 ghost use Rattle.std.specs.Vec.{vec_capacity, vec_len};
 ghost use Rattle.std.specs.FinMap as map;
 ghost use Rattle.fork_request.specs.Harms.{harm_lines};
 ghost use Rattle.fork_request.specs.Told.{is_host_fault};
 ghost use Rattle.fork_ledger.specs.Tenants.{shape_of};
-ghost use Rattle.fork_model.specs.World.{HostSays, number_line};
+ghost use Rattle.fork_model.specs.Sound.{IsOrderlyWorld};
+ghost use Rattle.fork_model.specs.World.{HostSays, World, number_line};
 ghost use Rattle.fork_host.specs.Bounds.{IsBounded};
 ghost use Rattle.fork_host.specs.Faults.{HostFaults};
+ghost use Rattle.fork_host.specs.Shown.{state_of, world_of};
 ghost use Rattle.fork_host.specs.Swept.{Tends};
 
+use crate::accounts::Accounts;
 use crate::replies::vault_fault;
 use fork_ledger::{Harms, Vault};
 use fork_request::{ByteString, HostFault, HostRequest, Refusal, Reply};
@@ -47,7 +51,7 @@ fn told_number(text: Vec<u8>, number: u64) -> Reply
 
 // So many looks at the most.
 fn sweep<S: LooseFiles>(alloc: Global, vault: &mut Vault<S>, most: u64) -> Reply
-    ensures says { HostSays (HostRequest.Sweep most) result ⊎ (is_host_fault result ≡ true) }
+    ensures says { (world : World) → HostSays world (HostRequest.Sweep most) result ⊎ (is_host_fault result ≡ true) }
     ensures tends { Tends (HostRequest.Sweep most) vault.old result vault.new }
     ensures shape { shape_of vault.new.tenants ≡ shape_of vault.old.tenants }
     ensures faults { HostFaults (HostRequest.Sweep most) result }
@@ -64,7 +68,7 @@ fn sweep<S: LooseFiles>(alloc: Global, vault: &mut Vault<S>, most: u64) -> Reply
 
 // One whole round of looks.
 fn collect<S: LooseFiles>(alloc: Global, vault: &mut Vault<S>) -> Reply
-    ensures says { HostSays HostRequest.Collect result ⊎ (is_host_fault result ≡ true) }
+    ensures says { (world : World) → HostSays world HostRequest.Collect result ⊎ (is_host_fault result ≡ true) }
     ensures tends { Tends HostRequest.Collect vault.old result vault.new }
     ensures shape { shape_of vault.new.tenants ≡ shape_of vault.old.tenants }
     ensures faults { HostFaults HostRequest.Collect result }
@@ -81,7 +85,7 @@ fn collect<S: LooseFiles>(alloc: Global, vault: &mut Vault<S>) -> Reply
 
 // How many names are catalogued.
 fn census<S: LooseFiles>(alloc: Global, vault: &Vault<S>) -> Reply
-    ensures says { HostSays HostRequest.Census result ⊎ (is_host_fault result ≡ true) }
+    ensures says { (world : World) → HostSays world HostRequest.Census result ⊎ (is_host_fault result ≡ true) }
     ensures tends { Tends HostRequest.Census vault.now result vault.now }
     ensures faults { HostFaults HostRequest.Census result }
     ensures bounds { IsBounded [] vault.now vault.now result }
@@ -104,7 +108,7 @@ fn told_harms(alloc: Global, harms: &Harms) -> Reply
 
 // What is wrong with the files of objects that tenants hold.
 fn fsck<S: LooseFiles>(alloc: Global, vault: &mut Vault<S>) -> Reply
-    ensures says { HostSays HostRequest.Fsck result ⊎ (is_host_fault result ≡ true) }
+    ensures says { (world : World) → HostSays world HostRequest.Fsck result ⊎ (is_host_fault result ≡ true) }
     ensures tends { Tends HostRequest.Fsck vault.old result vault.new }
     ensures shape { shape_of vault.new.tenants ≡ shape_of vault.old.tenants }
     ensures faults { HostFaults HostRequest.Fsck result }
@@ -116,13 +120,29 @@ fn fsck<S: LooseFiles>(alloc: Global, vault: &mut Vault<S>) -> Reply
     }
 }
 
+// What each tenant has and may have, in numbers.
+fn tell_tenants<S: LooseFiles>(alloc: Global, accounts: &Accounts, vault: &Vault<S>) -> Reply
+    requires orderly { IsOrderlyWorld (world_of (state_of accounts.now vault.now)) }
+    ensures says { HostSays (world_of (state_of accounts.now vault.now)) HostRequest.Tenants result ⊎ (is_host_fault result ≡ true) }
+    ensures tends { Tends HostRequest.Tenants vault.now result vault.now }
+    ensures faults { HostFaults HostRequest.Tenants result }
+    ensures bounds { IsBounded [] vault.now vault.now result }
+{
+    let Ok(text) = accounts.figures(alloc, vault) else {
+        return Reply::Failed(HostFault::Memory);
+    };
+    Reply::Done(ByteString::new(text))
+}
+
 // Answers what is asked of the host itself.
 pub(crate) fn tend<S: LooseFiles>(
     alloc: Global,
+    accounts: &Accounts,
     vault: &mut Vault<S>,
     request: HostRequest,
 ) -> Reply
-    ensures says { HostSays request result ⊎ (is_host_fault result ≡ true) }
+    requires orderly { IsOrderlyWorld (world_of (state_of accounts.now vault.old)) }
+    ensures says { HostSays (world_of (state_of accounts.now vault.old)) request result ⊎ (is_host_fault result ≡ true) }
     ensures tends { Tends request vault.old result vault.new }
     ensures shape { shape_of vault.new.tenants ≡ shape_of vault.old.tenants }
     ensures faults { HostFaults request result }
@@ -133,6 +153,7 @@ pub(crate) fn tend<S: LooseFiles>(
         HostRequest::Collect => collect(alloc, vault),
         HostRequest::Census => census(alloc, vault),
         HostRequest::Fsck => fsck(alloc, vault),
+        HostRequest::Tenants => tell_tenants(alloc, accounts, vault),
         HostRequest::Bad => Reply::Refused(Refusal::BadRequest),
     }
 }

@@ -375,6 +375,13 @@ impl<S: LooseFiles> Vault<S> {
         self.holdings.names(alloc, tenant)
     }
 
+    /// How many objects a tenant sees, in linear time of what it holds.
+    pub fn seen_count(&self, tenant: &TenantName) -> usize
+        ensures { result ≡ map.len (private_of self.now.tenants tenant.now).visible }
+    {
+        self.holdings.seen_count(tenant)
+    }
+
     /// What a tenant has staged becomes visible to it. It takes no memory, and asks no store.
     pub fn publish(&mut self, tenant: &TenantName)
         ensures tenants { self.new.tenants ≡ at_tenant self.old.tenants tenant.now with_published }

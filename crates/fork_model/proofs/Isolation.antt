@@ -43,7 +43,7 @@ module _ {View Context Ask Reply : Type 0} (answer : Context → View → Ask �
 abbrev pub IsPrivate : {View Context Ask Reply : Type 0} (answer : Context → View → Ask → Reply × View) (unknown : Reply) → Option View → List (Context × Ask) → List Reply → Option View → Type 0
 IsPrivate answer unknown o asked replies last = (replies ≡ (seen answer unknown o asked).0) × (last ≡ (seen answer unknown o asked).1)
 
-module _ {Tenant View Context Ask HostAsk Reply : Type 0} (cmp : Tenant → Tenant → Ordering) (total : IsTotalOrder cmp) (meets : FinMap cmp View → Tenant → Context) (answer : Context → View → Ask → Reply × View) (unknown : Reply) (is_fault : Reply → Bool) (HostSays : HostAsk → Reply → Type 0) where
+module _ {Tenant View Context Ask HostAsk Reply : Type 0} (cmp : Tenant → Tenant → Ordering) (total : IsTotalOrder cmp) (meets : FinMap cmp View → Tenant → Context) (answer : Context → View → Ask → Reply × View) (unknown : Reply) (is_fault : Reply → Bool) (HostSays : FinMap cmp View → HostAsk → Reply → Type 0) where
   pub tied : (w : FinMap cmp View) (t u : Tenant) → eq_by_cmp cmp t u ≡ true → get w t ≡ get w u
   tied w t u same = sym (get_tied total w t u (is_equal _ same))
 

@@ -26,7 +26,7 @@ use Rattle.fork_query.specs.RevList.{revisions_of, revisions_told}
 use Rattle.fork_query.specs.Sides.{bare, is_excluded, selected, with_item, with_rest}
 use Rattle.fork_query.specs.Trees.{entries_at_end, rows_or, tree_told}
 use Rattle.fork_query.specs.Peel.{peeled}
-use Rattle.fork_request.specs.Asked.{Ask, Inits, Drops, Forks, Pushes, SendsPart, EndsParts, DropsParts, Updates, SetsHead, MakesOffer, Withdraws, ForksOffer, AsksObject, AsksTree, AsksRevisions, AsksBases, AsksReferences, AsksHead, AsksOffers, Fetches, AsksUse, Prunes, NoRequest}
+use Rattle.fork_request.specs.Asked.{Ask, Inits, Drops, Forks, Pushes, SendsPart, EndsParts, DropsParts, Updates, SetsHead, MakesOffer, Withdraws, ForksOffer, AsksObject, AsksTree, AsksRevisions, AsksBases, AsksReferences, AsksHead, AsksOffers, AsksRepositories, Fetches, AsksUse, Prunes, NoRequest}
 use Rattle.fork_request.specs.Told.{is_host_fault}
 use Rattle.fork_request.specs.declared.refusal.Refusal.{Refusal}
 use Rattle.fork_request.specs.declared.refusal.Refusal.TheVariants.{BadName, Missing, TooMany, UploadOpen}
@@ -252,6 +252,7 @@ lacking_answer context view name (Withdraws repository receiver) is = absurd is
 lacking_answer context view name (ForksOffer giver repository copy) is = absurd is
 lacking_answer context view name AsksOffers is = absurd is
 lacking_answer context view name AsksUse is = absurd is
+lacking_answer context view name AsksRepositories is = absurd is
 lacking_answer context view name Prunes is = absurd is
 lacking_answer context view name NoRequest is = absurd is
 

@@ -5,7 +5,7 @@ use Rattle.std.specs.FinMap.{contains_key, get, len, remove}
 use Rattle.std.proofs.lemmas.Bool.{and_parts}
 use Rattle.git_name.specs.Same.{same_name}
 use Rattle.git_reftx.specs.Repository.{Repository}
-use Rattle.fork_request.specs.Asked.{Ask, Inits, Drops, Forks, Pushes, SendsPart, EndsParts, DropsParts, Updates, SetsHead, MakesOffer, Withdraws, ForksOffer, AsksObject, AsksTree, AsksRevisions, AsksBases, AsksReferences, AsksHead, AsksOffers, Fetches, AsksUse, Prunes, NoRequest}
+use Rattle.fork_request.specs.Asked.{Ask, Inits, Drops, Forks, Pushes, SendsPart, EndsParts, DropsParts, Updates, SetsHead, MakesOffer, Withdraws, ForksOffer, AsksObject, AsksTree, AsksRevisions, AsksBases, AsksReferences, AsksHead, AsksOffers, AsksRepositories, Fetches, AsksUse, Prunes, NoRequest}
 use Rattle.fork_request.specs.Names.{is_plain_name}
 use Rattle.fork_request.specs.declared.refusal.Refusal.TheVariants.{BadName, NoOffer, OfferExists, TooMany}
 use Rattle.fork_request.specs.declared.reply.Reply.{Reply}
@@ -75,6 +75,7 @@ module _ (P : Pair → Offer → Type 0) (context : Context) (view : View) (new 
   each_made_answer AsksOffers = stays AsksOffers (made_answer context view AsksOffers)
   each_made_answer (Fetches repository items) = stays (Fetches repository items) (made_answer context view (Fetches repository items))
   each_made_answer AsksUse = stays AsksUse (made_answer context view AsksUse)
+  each_made_answer AsksRepositories = stays AsksRepositories (made_answer context view AsksRepositories)
   each_made_answer Prunes = stays Prunes (made_answer context view Prunes)
   each_made_answer NoRequest = stays NoRequest (made_answer context view NoRequest)
 

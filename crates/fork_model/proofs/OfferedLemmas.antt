@@ -15,7 +15,7 @@ use Rattle.git_name.proofs.HashMaps.{one_test}
 use Rattle.git_name.proofs.Names.{name_exact, name_total}
 use Rattle.git_name.proofs.SortedNames.{sorted_entries}
 use Rattle.git_name.proofs.TreeMaps.{entries_of_ordered}
-use Rattle.fork_request.specs.Asked.{Ask, Inits, Drops, Forks, Pushes, SendsPart, EndsParts, DropsParts, Updates, SetsHead, MakesOffer, Withdraws, ForksOffer, AsksObject, AsksTree, AsksRevisions, AsksBases, AsksReferences, AsksHead, AsksOffers, Fetches, AsksUse, Prunes, NoRequest}
+use Rattle.fork_request.specs.Asked.{Ask, Inits, Drops, Forks, Pushes, SendsPart, EndsParts, DropsParts, Updates, SetsHead, MakesOffer, Withdraws, ForksOffer, AsksObject, AsksTree, AsksRevisions, AsksBases, AsksReferences, AsksHead, AsksOffers, AsksRepositories, Fetches, AsksUse, Prunes, NoRequest}
 use Rattle.fork_request.specs.declared.reply.Reply.{Reply}
 use Rattle.fork_model.specs.Answer.{answer}
 use Rattle.fork_model.specs.Context.{Context, given_by, made_to, met_by, offered_to}
@@ -238,6 +238,7 @@ made_still context view giver tenant word (AsksHead repository) apart = ap (λ (
 made_still context view giver tenant word AsksOffers apart = ap (λ (made : Offers). get made (tenant, word)) (made_answer context view AsksOffers)
 made_still context view giver tenant word (Fetches repository items) apart = ap (λ (made : Offers). get made (tenant, word)) (made_answer context view (Fetches repository items))
 made_still context view giver tenant word AsksUse apart = ap (λ (made : Offers). get made (tenant, word)) (made_answer context view AsksUse)
+made_still context view giver tenant word AsksRepositories apart = ap (λ (made : Offers). get made (tenant, word)) (made_answer context view AsksRepositories)
 made_still context view giver tenant word Prunes apart = ap (λ (made : Offers). get made (tenant, word)) (made_answer context view Prunes)
 made_still context view giver tenant word NoRequest apart = ap (λ (made : Offers). get made (tenant, word)) (made_answer context view NoRequest)
 

@@ -17,7 +17,7 @@ use Rattle.fork_push.specs.Push.{judged}
 use Rattle.fork_reach.specs.Objects.{with_object, with_objects}
 use Rattle.fork_reach.specs.Reach.{is_reached, linked_names}
 use Rattle.fork_reach.specs.Source.{Objects, kind_in}
-use Rattle.fork_request.specs.Asked.{Ask, Inits, Drops, Forks, Pushes, SendsPart, EndsParts, DropsParts, Updates, SetsHead, MakesOffer, Withdraws, ForksOffer, AsksObject, AsksTree, AsksRevisions, AsksBases, AsksReferences, AsksHead, AsksOffers, Fetches, AsksUse, Prunes, NoRequest}
+use Rattle.fork_request.specs.Asked.{Ask, Inits, Drops, Forks, Pushes, SendsPart, EndsParts, DropsParts, Updates, SetsHead, MakesOffer, Withdraws, ForksOffer, AsksObject, AsksTree, AsksRevisions, AsksBases, AsksReferences, AsksHead, AsksOffers, AsksRepositories, Fetches, AsksUse, Prunes, NoRequest}
 use Rattle.fork_request.specs.Names.{is_plain_name}
 use Rattle.fork_request.specs.Told.{is_host_fault}
 use Rattle.fork_request.specs.declared.refusal.Refusal.TheVariants.{BadName, BadRef, NoRepository, NoUpload, RepositoryExists, StagedTooLong, TooMany, UploadOpen, OfferExists, NoOffer, OverQuota}
@@ -29,7 +29,7 @@ use Rattle.git_name.proofs.MapLemmas.{get_joined}
 use Rattle.git_name.proofs.Names.{name_total}
 use Rattle.fork_reach.specs.Objects.{use_of}
 use Rattle.fork_request.specs.declared.refusal.Refusal.{Refusal}
-use Rattle.fork_model.specs.Answer.{answer, both, fork_offer_answer, fork_offered, offer_answer, offer_in, offers_answer, withdraw_answer, withdrawn, without_upload, init_answer, drop_answer, fork_answer, push_answer, part_answer, part_end_answer, part_drop_answer, update_answer, set_head_answer, cat_file_answer, ls_tree_answer, rev_list_answer, merge_base_answer, fetch_answer, references_answer, head_answer, quota_answer, prune_answer, roots_of, named_repository, repository_added, dropped, copied, push_into, pushed, taken, open_upload, upload_into, end_in, upload_ended, update_in, carried_out, with_references, with_head, set_head_in, transaction_refusal, command_refusal, push_refusal}
+use Rattle.fork_model.specs.Answer.{answer, both, fork_offer_answer, fork_offered, offer_answer, offer_in, offers_answer, withdraw_answer, withdrawn, without_upload, init_answer, drop_answer, fork_answer, push_answer, part_answer, part_end_answer, part_drop_answer, update_answer, set_head_answer, cat_file_answer, ls_tree_answer, rev_list_answer, merge_base_answer, fetch_answer, references_answer, head_answer, quota_answer, repositories_answer, prune_answer, roots_of, named_repository, repository_added, dropped, copied, push_into, pushed, taken, open_upload, upload_into, end_in, upload_ended, update_in, carried_out, with_references, with_head, set_head_in, transaction_refusal, command_refusal, push_refusal}
 use Rattle.fork_model.specs.Context.{Context}
 use Rattle.fork_model.specs.Offer.{Offer, Pair}
 use Rattle.fork_model.specs.Provenance.{IsAmong, IsFrom, Seen, Pushed, Uploaded, Taken, IsUploadFrom, Stays, Ends, GoesOn, part_in, ends_upload}
@@ -228,7 +228,7 @@ module _ (context : Context) where
 
   -- each answer is such a row
   told_row : (view : View) (ask : Ask) → IsTold view ask (answer context view ask)
-  unfolding answer offer_answer withdraw_answer fork_offer_answer offers_answer init_answer drop_answer fork_answer push_answer part_end_answer update_answer set_head_answer cat_file_answer ls_tree_answer rev_list_answer merge_base_answer fetch_answer references_answer head_answer quota_answer prune_answer
+  unfolding answer offer_answer withdraw_answer fork_offer_answer offers_answer init_answer drop_answer fork_answer push_answer part_end_answer update_answer set_head_answer cat_file_answer ls_tree_answer rev_list_answer merge_base_answer fetch_answer references_answer head_answer quota_answer repositories_answer prune_answer
   told_row view (Inits word) = plain view (Inits word) _ refl refl (known view (Inits word) _ (named_row (IsQuiet view) view word _ (quiet view (Refused (BadName word))) (added_row view word new_repository)))
   told_row view (Drops word) = plain view (Drops word) _ refl refl (known view (Drops word) _ (named_row (IsQuiet view) view word _ (quiet view (Refused (BadName word))) (dropped_row view word)))
   told_row view (Forks source copy) =
@@ -274,6 +274,7 @@ module _ (context : Context) where
   told_row view (AsksHead word) = plain view (AsksHead word) _ refl refl (known view (AsksHead word) _ (named_row (IsQuiet view) view word _ (quiet view (Refused (BadName word))) (quiet view _)))
   told_row view AsksOffers = plain view AsksOffers _ refl refl (known view AsksOffers _ (quiet view _))
   told_row view AsksUse = plain view AsksUse _ refl refl (known view AsksUse _ (quiet view _))
+  told_row view AsksRepositories = plain view AsksRepositories _ refl refl (known view AsksRepositories _ (quiet view _))
   told_row view Prunes = record {
     objects = λ name object found. Seen (found_kept view.objects (is_reached (linked_names view.objects) view.objects (roots_of view)) name object found).1;
     upload = Stays refl refl refl;

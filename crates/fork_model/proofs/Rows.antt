@@ -36,14 +36,14 @@ use Rattle.fork_query.specs.Objects.{object_told}
 use Rattle.fork_query.specs.References.{listing}
 use Rattle.fork_query.specs.RevList.{revisions_told}
 use Rattle.fork_query.specs.Trees.{tree_told}
-use Rattle.fork_request.specs.Asked.{Ask, Inits, Drops, Forks, Pushes, SendsPart, EndsParts, DropsParts, Updates, SetsHead, MakesOffer, Withdraws, ForksOffer, AsksObject, AsksTree, AsksRevisions, AsksBases, AsksReferences, AsksHead, AsksOffers, Fetches, AsksUse, Prunes, NoRequest}
+use Rattle.fork_request.specs.Asked.{Ask, Inits, Drops, Forks, Pushes, SendsPart, EndsParts, DropsParts, Updates, SetsHead, MakesOffer, Withdraws, ForksOffer, AsksObject, AsksTree, AsksRevisions, AsksBases, AsksReferences, AsksHead, AsksOffers, AsksRepositories, Fetches, AsksUse, Prunes, NoRequest}
 use Rattle.fork_request.specs.Names.{IsRepositoryName, IsTenantName, is_plain_name}
 use Rattle.fork_request.proofs.NameLemmas.{plain_name}
 use Rattle.fork_request.specs.declared.refusal.Refusal.{Refusal}
 use Rattle.fork_request.specs.declared.refusal.Refusal.TheVariants.{BadName, BadRef, BadRequest, NoOffer, NoRepository, NoUpload, OfferExists, OverQuota, RepositoryExists, StagedTooLong, TooMany, UploadOpen}
 use Rattle.fork_request.specs.declared.reply.Reply.{Reply}
 use Rattle.fork_request.specs.declared.reply.Reply.TheVariants.{Done, Refused}
-use Rattle.fork_model.specs.Answer.{Finished, answer, fork_offer_answer, fork_offered, named_receiver, offer_added, offer_answer, offer_in, offer_taken, offers_answer, withdraw_answer, withdrawn, left_by, without_upload, init_answer, drop_answer, fork_answer, push_answer, part_answer, part_end_answer, part_drop_answer, update_answer, set_head_answer, cat_file_answer, ls_tree_answer, rev_list_answer, merge_base_answer, fetch_answer, references_answer, head_answer, quota_answer, prune_answer, pruned, roots_of, named_repository, repository_added, dropped, copied, push_into, pushed, taken, open_upload, upload_into, end_in, upload_ended, update_in, carried_out, with_references, with_head, set_head_in, reply_of, told_over, told_references, transaction_refusal, command_refusal, push_refusal}
+use Rattle.fork_model.specs.Answer.{Finished, answer, fork_offer_answer, fork_offered, named_receiver, offer_added, offer_answer, offer_in, offer_taken, offers_answer, withdraw_answer, withdrawn, left_by, without_upload, init_answer, drop_answer, fork_answer, push_answer, part_answer, part_end_answer, part_drop_answer, update_answer, set_head_answer, cat_file_answer, ls_tree_answer, rev_list_answer, merge_base_answer, fetch_answer, references_answer, head_answer, quota_answer, repositories_answer, prune_answer, pruned, roots_of, named_repository, repository_added, dropped, copied, push_into, pushed, taken, open_upload, upload_into, end_in, upload_ended, update_in, carried_out, with_references, with_head, set_head_in, reply_of, told_over, told_references, transaction_refusal, command_refusal, push_refusal}
 use Rattle.fork_model.specs.Context.{Context}
 use Rattle.fork_model.specs.Offer.{Offer, Offers, Pair, offered}
 use Rattle.fork_model.specs.Sound.{AreReferences, IsOffer, IsOrderly, IsReach, IsRight, IsSound, IsSoundBeside, MayTake}
@@ -535,7 +535,7 @@ module _ (context : Context) where
 
   -- each answer is such a row
   pub answer_row : (view : View) (ask : Ask) → GoesTo context view (left_by view ask) (changed_by ask) (answer context view ask)
-  unfolding answer offer_answer withdraw_answer fork_offer_answer offers_answer init_answer drop_answer fork_answer push_answer part_end_answer update_answer set_head_answer cat_file_answer ls_tree_answer rev_list_answer merge_base_answer fetch_answer references_answer head_answer quota_answer prune_answer
+  unfolding answer offer_answer withdraw_answer fork_offer_answer offers_answer init_answer drop_answer fork_answer push_answer part_end_answer update_answer set_head_answer cat_file_answer ls_tree_answer rev_list_answer merge_base_answer fetch_answer references_answer head_answer quota_answer repositories_answer prune_answer
   answer_row view (Inits word) = named_row view word (repository_added view word new_repository) (λ right. added_row view word new_repository (λ _. new_stands view.objects word right))
   answer_row view (Drops word) = named_row view word (dropped view word) (λ _. dropped_row view word)
   answer_row view (Forks source copy) =
@@ -571,5 +571,6 @@ module _ (context : Context) where
   answer_row view (AsksHead word) = named_row view word _ (λ _. over_row view word (λ repository. Ok (head_told repository)) (get view.repositories word))
   answer_row view AsksOffers = does _ refl refl (λ was. was) (λ was. was)
   answer_row view AsksUse = does _ refl refl (λ was. was) (λ was. was)
+  answer_row view AsksRepositories = does _ refl refl (λ was. was) (λ was. was)
   answer_row view Prunes = does [] refl refl (orderly_pruned view) (right_pruned view)
   answer_row view NoRequest = refuses view BadRequest

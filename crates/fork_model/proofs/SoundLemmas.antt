@@ -1,6 +1,6 @@
 -- Answers keep views in order, and right.
 use Rattle.std.proofs.Common.{◌≡◌, sym, subst, refl, ap, ◌∙◌}
-use Rattle.fork_request.specs.Asked.{Ask, Inits, Drops, Forks, Pushes, SendsPart, EndsParts, DropsParts, Updates, SetsHead, MakesOffer, Withdraws, ForksOffer, AsksObject, AsksTree, AsksRevisions, AsksBases, AsksReferences, AsksHead, AsksOffers, Fetches, AsksUse, Prunes, NoRequest}
+use Rattle.fork_request.specs.Asked.{Ask, Inits, Drops, Forks, Pushes, SendsPart, EndsParts, DropsParts, Updates, SetsHead, MakesOffer, Withdraws, ForksOffer, AsksObject, AsksTree, AsksRevisions, AsksBases, AsksReferences, AsksHead, AsksOffers, AsksRepositories, Fetches, AsksUse, Prunes, NoRequest}
 use Rattle.fork_request.specs.declared.reply.Reply.{Reply}
 use Rattle.fork_model.specs.Answer.{answer, left_by, without_upload}
 use Rattle.fork_model.specs.Context.{Context}
@@ -34,6 +34,7 @@ left_holds P without view (Fetches repository items) holds = holds
 left_holds P without view (AsksReferences repository prefix) holds = holds
 left_holds P without view (AsksHead repository) holds = holds
 left_holds P without view AsksUse holds = holds
+left_holds P without view AsksRepositories holds = holds
 left_holds P without view Prunes holds = holds
 left_holds P without view NoRequest holds = holds
 

@@ -4,7 +4,7 @@ use Rattle.std.specs.Ordering.{eq_by_cmp}
 use Rattle.std.specs.FinMap.{contains_key, get, get-insert, insert, len, len-insert}
 use Rattle.git_name.specs.Name.{name_cmp}
 use Rattle.git_name.proofs.Names.{name_total}
-use Rattle.fork_request.specs.Asked.{Ask, Inits, Drops, Forks, Pushes, SendsPart, EndsParts, DropsParts, Updates, SetsHead, MakesOffer, Withdraws, ForksOffer, AsksObject, AsksTree, AsksRevisions, AsksBases, AsksReferences, AsksHead, AsksOffers, Fetches, AsksUse, Prunes, NoRequest}
+use Rattle.fork_request.specs.Asked.{Ask, Inits, Drops, Forks, Pushes, SendsPart, EndsParts, DropsParts, Updates, SetsHead, MakesOffer, Withdraws, ForksOffer, AsksObject, AsksTree, AsksRevisions, AsksBases, AsksReferences, AsksHead, AsksOffers, AsksRepositories, Fetches, AsksUse, Prunes, NoRequest}
 use Rattle.fork_request.specs.declared.reply.Reply.{Reply}
 use Rattle.fork_model.specs.Answer.{answer, offer_answer, offers_answer, withdraw_answer}
 use Rattle.fork_model.specs.Context.{Context, met_by, nothing_offered}
@@ -72,6 +72,7 @@ unoffered context view tenant (AsksHead repository) apart = refl
 unoffered context view tenant AsksOffers apart = refl
 unoffered context view tenant (Fetches repository items) apart = refl
 unoffered context view tenant AsksUse apart = refl
+unoffered context view tenant AsksRepositories apart = refl
 unoffered context view tenant Prunes apart = refl
 unoffered context view tenant NoRequest apart = refl
 unoffered context view tenant (MakesOffer repository receiver) apart = refl

@@ -1,6 +1,6 @@
 -- What a tenant's step leaves as it was.
 use Rattle.std.proofs.Common.{◌≡◌, false, refl, sym, ap}
-use Rattle.fork_request.specs.Asked.{Ask, Inits, Drops, Forks, Pushes, SendsPart, EndsParts, DropsParts, Updates, SetsHead, MakesOffer, Withdraws, ForksOffer, AsksObject, AsksTree, AsksRevisions, AsksBases, AsksReferences, AsksHead, AsksOffers, Fetches, AsksUse, Prunes, NoRequest}
+use Rattle.fork_request.specs.Asked.{Ask, Inits, Drops, Forks, Pushes, SendsPart, EndsParts, DropsParts, Updates, SetsHead, MakesOffer, Withdraws, ForksOffer, AsksObject, AsksTree, AsksRevisions, AsksBases, AsksReferences, AsksHead, AsksOffers, AsksRepositories, Fetches, AsksUse, Prunes, NoRequest}
 use Rattle.fork_request.specs.Told.{is_done, is_host_fault}
 use Rattle.fork_request.specs.declared.reply.Reply.{Reply}
 use Rattle.fork_request.specs.declared.reply.Reply.TheVariants.{Done, Refused, Failed}
@@ -49,5 +49,6 @@ left_but_upload view (Fetches repository items) = refl
 left_but_upload view (AsksReferences repository prefix) = refl
 left_but_upload view (AsksHead repository) = refl
 left_but_upload view AsksUse = refl
+left_but_upload view AsksRepositories = refl
 left_but_upload view Prunes = refl
 left_but_upload view NoRequest = refl

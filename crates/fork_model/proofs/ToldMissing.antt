@@ -12,14 +12,14 @@ use Rattle.fork_query.specs.Objects.{object_told}
 use Rattle.fork_query.specs.RevList.{revisions_told}
 use Rattle.fork_query.specs.Trees.{entries_at_end, tree_told}
 use Rattle.fork_query.specs.Peel.{peeled}
-use Rattle.fork_request.specs.Asked.{Ask, Inits, Drops, Forks, Pushes, SendsPart, EndsParts, DropsParts, Updates, SetsHead, MakesOffer, Withdraws, ForksOffer, AsksObject, AsksTree, AsksRevisions, AsksBases, AsksReferences, AsksHead, AsksOffers, Fetches, AsksUse, Prunes, NoRequest}
+use Rattle.fork_request.specs.Asked.{Ask, Inits, Drops, Forks, Pushes, SendsPart, EndsParts, DropsParts, Updates, SetsHead, MakesOffer, Withdraws, ForksOffer, AsksObject, AsksTree, AsksRevisions, AsksBases, AsksReferences, AsksHead, AsksOffers, AsksRepositories, Fetches, AsksUse, Prunes, NoRequest}
 use Rattle.fork_request.specs.Names.{is_plain_name}
 use Rattle.fork_request.specs.declared.refusal.Refusal.TheVariants.{BadName, Missing, NoRepository, NoUpload, RepositoryExists, StagedTooLong, TooMany, NoOffer, OfferExists, OverQuota}
 use Rattle.fork_request.specs.declared.reply.Reply.{Reply}
 use Rattle.fork_request.specs.declared.reply.Reply.TheVariants.{Done, Refused}
 use Rattle.git_name.specs.Maps.{joined}
 use Rattle.fork_reach.specs.Objects.{use_of}
-use Rattle.fork_model.specs.Answer.{fork_offer_answer, fork_offered, offer_answer, offer_in, offers_answer, withdraw_answer, answer, init_answer, drop_answer, fork_answer, push_answer, part_answer, part_end_answer, part_drop_answer, update_answer, set_head_answer, cat_file_answer, ls_tree_answer, rev_list_answer, merge_base_answer, fetch_answer, references_answer, head_answer, quota_answer, prune_answer, copied, end_in, few_items, named_repository, repository_added, open_upload, push_into, told_over, told_references, update_in, without_upload, set_head_in, with_head}
+use Rattle.fork_model.specs.Answer.{fork_offer_answer, fork_offered, offer_answer, offer_in, offers_answer, withdraw_answer, answer, init_answer, drop_answer, fork_answer, push_answer, part_answer, part_end_answer, part_drop_answer, update_answer, set_head_answer, cat_file_answer, ls_tree_answer, rev_list_answer, merge_base_answer, fetch_answer, references_answer, head_answer, quota_answer, repositories_answer, prune_answer, copied, end_in, few_items, named_repository, repository_added, open_upload, push_into, told_over, told_references, update_in, without_upload, set_head_in, with_head}
 use Rattle.fork_model.specs.Offer.{Offer, Pair}
 use Rattle.fork_model.specs.Context.{Context, met_by}
 use Rattle.fork_model.specs.Missing.{IsMissing}
@@ -88,7 +88,7 @@ fork_offered_row view name key copy (Some offer) =
 
 -- request by request
 pub missing_of : (context : Context) (view : View) (name : List ℕ) (ask : Ask) → (answer context view ask).0 ≡ Refused (Missing name) → IsMissing view name ask
-unfolding answer offer_answer withdraw_answer fork_offer_answer offers_answer init_answer drop_answer fork_answer push_answer part_end_answer update_answer set_head_answer cat_file_answer ls_tree_answer rev_list_answer merge_base_answer fetch_answer references_answer head_answer quota_answer prune_answer object_told tree_told revisions_told fetch_told
+unfolding answer offer_answer withdraw_answer fork_offer_answer offers_answer init_answer drop_answer fork_answer push_answer part_end_answer update_answer set_head_answer cat_file_answer ls_tree_answer rev_list_answer merge_base_answer fetch_answer references_answer head_answer quota_answer repositories_answer prune_answer object_told tree_told revisions_told fetch_told
 missing_of context view name (AsksObject asked) is = object_of view.objects asked name (get view.objects asked) refl is
 missing_of context view name (AsksTree asked) is = tree_of view.objects asked name (entries_at_end view.objects (peeled view.objects asked)) (get view.objects asked) refl is
 missing_of context view name (AsksRevisions repository items) is =
@@ -136,6 +136,7 @@ missing_of context view name (ForksOffer giver word copy) is =
     either name _ _ (Refused (BadName giver), view) (named_never view name word _ (named_never view name copy _ (fork_offered_row view name (giver, word) copy (get context.offered (giver, word))))) (λ tells. cc) is
 missing_of context view name AsksOffers is = cc
 missing_of context view name AsksUse is = cc
+missing_of context view name AsksRepositories is = cc
 missing_of context view name Prunes is = cc
 missing_of context view name NoRequest is = cc
 

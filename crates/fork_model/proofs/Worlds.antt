@@ -21,7 +21,7 @@ module _ {K X : Type 0} {R : K → K → Ordering} (total : IsTotalOrder R) (exa
       at q true e = sym here ∙ get_tied total m q k (is_equal _ e)
       at q false e = refl
 
-module _ {Tenant View Context Ask HostAsk Reply : Type 0} (cmp : Tenant → Tenant → Ordering) (total : IsTotalOrder cmp) (exact : IsAntisymmetric cmp) (meets : FinMap cmp View → Tenant → Context) (answer : Context → View → Ask → Reply × View) (unknown : Reply) (is_fault : Reply → Bool) (HostSays : HostAsk → Reply → Type 0) where
+module _ {Tenant View Context Ask HostAsk Reply : Type 0} (cmp : Tenant → Tenant → Ordering) (total : IsTotalOrder cmp) (exact : IsAntisymmetric cmp) (meets : FinMap cmp View → Tenant → Context) (answer : Context → View → Ask → Reply × View) (unknown : Reply) (is_fault : Reply → Bool) (HostSays : FinMap cmp View → HostAsk → Reply → Type 0) where
   -- a tenant that is answered from its view, and whose view alone is set, makes a step
   pub answered : (old new : FinMap cmp View) (t : Tenant) (ask : Ask) (view : View) (reply : Reply) (view' : View) → get old t ≡ Some view → Answers answer is_fault (meets old t) view ask reply view' → new ≡ insert old t view' → TenantStep cmp meets answer unknown is_fault old t ask reply new
   answered old new t ask view reply view' here (Told told is) set = Answered view here told (set ∙ ap (insert old t) is)

@@ -34,7 +34,7 @@ use Rattle.fork_query.specs.Objects.{object_told}
 use Rattle.fork_query.specs.References.{listing}
 use Rattle.fork_query.specs.RevList.{revisions_told}
 use Rattle.fork_query.specs.Trees.{tree_told}
-use Rattle.fork_request.specs.Asked.{Ask, Inits, Drops, Forks, Pushes, SendsPart, EndsParts, DropsParts, Updates, SetsHead, MakesOffer, Withdraws, ForksOffer, AsksObject, AsksTree, AsksRevisions, AsksBases, AsksReferences, AsksHead, AsksOffers, Fetches, AsksUse, Prunes, NoRequest}
+use Rattle.fork_request.specs.Asked.{Ask, Inits, Drops, Forks, Pushes, SendsPart, EndsParts, DropsParts, Updates, SetsHead, MakesOffer, Withdraws, ForksOffer, AsksObject, AsksTree, AsksRevisions, AsksBases, AsksReferences, AsksHead, AsksOffers, AsksRepositories, Fetches, AsksUse, Prunes, NoRequest}
 use Rattle.fork_request.specs.Names.{is_plain_name}
 use Rattle.fork_request.specs.declared.refusal.Refusal.{Refusal}
 use Rattle.fork_request.specs.declared.refusal.Refusal.TheVariants.{BadRequest, BadName, RepositoryExists, NoRepository, BadRef, RepeatedRef, Stale, RefConflict, NotACommit, Missing, WrongType, OverQuota, TooMany, Syntax, WrongName, BadObject, Truncated, TooLarge, StagedTooLong, NoUpload, UploadOpen, OfferExists, NoOffer}
@@ -312,6 +312,10 @@ references_answer view word prefix = named_repository view word (told_references
 unfoldable pub head_answer : View → List ℕ → Reply × View
 head_answer view word = named_repository view word (told_over word (λ repository. Ok (head_told repository)) (get view.repositories word), view)
 
+-- `repos`: the names of the repositories, ascending, each with LF
+unfoldable pub repositories_answer : View → Reply × View
+repositories_answer view = (Done (flat_map (λ name. name ++ codes "\n") (keys view.repositories)), view)
+
 -- `quota`: what the objects use, SP, the limit, LF
 unfoldable pub quota_answer : View → Reply × View
 quota_answer view = (Done (decimal (use_of view.objects) ++ codes " " ++ decimal view.limit ++ codes "\n"), view)
@@ -357,6 +361,7 @@ answer context view (AsksReferences repository prefix) = references_answer view 
 answer context view (AsksHead repository) = head_answer view repository
 answer context view AsksOffers = offers_answer context view
 answer context view (Fetches repository items) = fetch_answer view repository items
+answer context view AsksRepositories = repositories_answer view
 answer context view AsksUse = quota_answer view
 answer context view Prunes = prune_answer view
 answer context view NoRequest = (Refused BadRequest, view)

@@ -1,6 +1,7 @@
 pub mod Answer
 pub mod Context
 pub mod Disclosure
+pub mod Figures
 pub mod Missing
 pub mod Offer
 pub mod Provenance

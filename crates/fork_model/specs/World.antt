@@ -8,12 +8,13 @@ use Rattle.fork_request.specs.Asked.{Ask, MakesOffer, Withdraws}
 use Rattle.fork_request.specs.Harms.{Harmed, harm_lines}
 use Rattle.fork_request.specs.Told.{is_done, is_host_fault}
 use Rattle.fork_request.specs.declared.host_request.HostRequest.{HostRequest}
-use Rattle.fork_request.specs.declared.host_request.HostRequest.TheVariants.{Sweep, Collect, Census, Fsck, Bad}
+use Rattle.fork_request.specs.declared.host_request.HostRequest.TheVariants.{Sweep, Collect, Census, Fsck, Tenants, Bad}
 use Rattle.fork_request.specs.declared.refusal.Refusal.TheVariants.{BadRequest, UnknownTenant}
 use Rattle.fork_request.specs.declared.reply.Reply.{Reply}
 use Rattle.fork_request.specs.declared.reply.Reply.TheVariants.{Done, Refused}
 use Rattle.fork_model.specs.Answer.{answer}
 use Rattle.fork_model.specs.Context.{Context, met_by, offered_to}
+use Rattle.fork_model.specs.Figures.{figure_lines}
 use Rattle.fork_model.specs.Runs
 use Rattle.fork_model.specs.View.{View}
 
@@ -30,13 +31,15 @@ abbrev pub number_line : ℕ → List ℕ
 number_line n = decimal n ++ codes "\n"
 
 -- what may be told of the host: how many names left its catalogue or are in it, and of a sweep no more than it looked at; what is
--- wrong with the files of objects. Which number and which harms these are the store settles, and no world. A bad request is refused
-abbrev pub HostSays : HostRequest → Reply → Type 0
-HostSays (Sweep most) reply = (n : ℕ) × (n ≤ most) × (reply ≡ Done (number_line n))
-HostSays Collect reply = (n : ℕ) × (reply ≡ Done (number_line n))
-HostSays Census reply = (n : ℕ) × (reply ≡ Done (number_line n))
-HostSays Fsck reply = (harms : Harmed) × (reply ≡ Done (harm_lines harms))
-HostSays Bad reply = reply ≡ Refused BadRequest
+-- wrong with the files of objects. Which number and which harms these are the store settles, and no world. The figures of tenants are
+-- those of the world. A bad request is refused
+abbrev pub HostSays : World → HostRequest → Reply → Type 0
+HostSays world (Sweep most) reply = (n : ℕ) × (n ≤ most) × (reply ≡ Done (number_line n))
+HostSays world Collect reply = (n : ℕ) × (reply ≡ Done (number_line n))
+HostSays world Census reply = (n : ℕ) × (reply ≡ Done (number_line n))
+HostSays world Fsck reply = (harms : Harmed) × (reply ≡ Done (harm_lines harms))
+HostSays world Tenants reply = reply ≡ Done (figure_lines world)
+HostSays world Bad reply = reply ≡ Refused BadRequest
 
 -- one step may go from the old world to the new one with this reply
 abbrev pub Steps : World → Event → Reply → World → Type 0

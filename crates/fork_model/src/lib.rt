@@ -101,7 +101,7 @@ pub fn runs_keep_worlds_sound()
 {}
 
 ghost use Rattle.std.specs.Prelude.{◌⊎◌, ◌≢◌, true};
-ghost use Rattle.fork_request.specs.declared.host_request.HostRequest.TheVariants.{Bad};
+ghost use Rattle.fork_request.specs.declared.host_request.HostRequest.TheVariants.{Bad, Tenants};
 ghost use Rattle.fork_request.specs.declared.refusal.Refusal.TheVariants.{BadRequest};
 ghost use Rattle.fork_model.specs.Runs.{HostAsks};
 ghost use Rattle.fork_model.specs.World.{Steps};
@@ -114,12 +114,15 @@ pub fn bad_host_requests_are_refused()
 
 ghost use Rattle.fork_request.specs.Told.{is_done};
 ghost use Rattle.fork_request.specs.declared.host_request.HostRequest.{HostRequest};
+ghost use Rattle.fork_model.specs.Figures.{figure_lines};
+ghost use Rattle.fork_request.specs.declared.reply.Reply.TheVariants.{Done};
 
 /// Whatever is asked of the host itself leaves the world, and what is no bad request is answered, or
-/// met by a host fault.
+/// met by a host fault. The figures that it reports of tenants are those of the world.
 pub fn host_requests_leave_the_world()
     ensures world { (old new : World) (request : HostRequest) (reply : Reply) → Steps old (HostAsks request) reply new → new ≡ old }
     ensures reply { (old new : World) (request : HostRequest) (reply : Reply) → Steps old (HostAsks request) reply new → request ≢ Bad → (is_done reply ≡ true) ⊎ (is_host_fault reply ≡ true) }
+    ensures figures { (old new : World) (reply : Reply) → Steps old (HostAsks Tenants) reply new → (reply ≡ Done (figure_lines old)) ⊎ (is_host_fault reply ≡ true) }
 {}
 
 ghost use Rattle.std.specs.Prelude.{None};

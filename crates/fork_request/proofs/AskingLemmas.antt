@@ -12,7 +12,7 @@ use Rattle.git_name.specs.Name.{IsName, name_in, same_again}
 use Rattle.git_name.specs.Text.{Lacks, split_once, words_of}
 use Rattle.git_name.proofs.ReadingLemmas.{written_name}
 use Rattle.git_name.proofs.TextLemmas.{split_once-append, split_once-none, words_of-append, words_of-plain}
-use Rattle.fork_request.specs.Asked.{Ask, NoRequest, DropsParts, AsksOffers, AsksUse, Prunes, asked, asked_alone, asked_bases, asked_cat_file, asked_drop, asked_fetch, asked_fork, asked_fork_offer, asked_head, asked_init, asked_ls_tree, asked_object, asked_offer, asked_offering, asked_part_end, asked_parts, asked_plain, asked_push, asked_query, asked_references, asked_revisions, asked_set_head, asked_tree, asked_update, asked_verb, asked_withdraw, asked_words}
+use Rattle.fork_request.specs.Asked.{Ask, NoRequest, DropsParts, AsksOffers, AsksRepositories, AsksUse, Prunes, asked, asked_alone, asked_bases, asked_cat_file, asked_drop, asked_fetch, asked_fork, asked_fork_offer, asked_head, asked_init, asked_ls_tree, asked_object, asked_offer, asked_offering, asked_part_end, asked_parts, asked_plain, asked_push, asked_query, asked_references, asked_revisions, asked_set_head, asked_tree, asked_update, asked_verb, asked_withdraw, asked_words}
 use Rattle.fork_request.specs.declared.request.TheConstants.{MAX_PAYLOAD}
 use Rattle.fork_request.specs.Spelling.{IsWord, Spells}
 use Rattle.fork_request.specs.Words.{one_or_two, pair, sole, three, word_and_items}
@@ -226,8 +226,9 @@ alone_right payload verb body is =
     by_word (Right payload) verb (codes "part") _ _ (λ v. inr (at (codes "part") v))
     (by_word (Right payload) verb (codes "part-drop") _ _ (λ v. plain_right payload body [] DropsParts (λ none. at (codes "part-drop") v ∙ ap (λ b. codes "part-drop\n" ++ b) none))
     (by_word (Right payload) verb (codes "offers") _ _ (λ v. plain_right payload body [] AsksOffers (λ none. at (codes "offers") v ∙ ap (λ b. codes "offers\n" ++ b) none))
+    (by_word (Right payload) verb (codes "repos") _ _ (λ v. plain_right payload body [] AsksRepositories (λ none. at (codes "repos") v ∙ ap (λ b. codes "repos\n" ++ b) none))
     (by_word (Right payload) verb (codes "quota") _ _ (λ v. plain_right payload body [] AsksUse (λ none. at (codes "quota") v ∙ ap (λ b. codes "quota\n" ++ b) none))
-    (by_word (Right payload) verb (codes "prune") _ _ (λ v. plain_right payload body [] Prunes (λ none. at (codes "prune") v ∙ ap (λ b. codes "prune\n" ++ b) none)) (inl refl)))))
+    (by_word (Right payload) verb (codes "prune") _ _ (λ v. plain_right payload body [] Prunes (λ none. at (codes "prune") v ∙ ap (λ b. codes "prune\n" ++ b) none)) (inl refl))))))
 
 line_right : (payload line body : List ℕ) → payload ≡ line ++ 10 ∷ body → Lacks 10 line → Right payload (asked_words (words_of line) body)
 line_right payload line body is ends = by (parted 32 line)

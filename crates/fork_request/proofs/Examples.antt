@@ -2,8 +2,8 @@
 use Rattle.std.proofs.Common.{◌≡◌, ◌++◌, ℕ, List, [], ◌∷◌, codes, refl}
 use Rattle.hex.specs.Hex.{encode_lower}
 use Rattle.git_name.specs.Text.{words_of}
-use Rattle.fork_request.specs.Asked.{AsksBases, AsksHead, AsksOffers, AsksRevisions, Fetches, ForksOffer, NoRequest, MakesOffer, SetsHead, Withdraws, asked_words, host_words}
-use Rattle.fork_request.specs.declared.host_request.HostRequest.TheVariants.{Bad, Collect, Fsck}
+use Rattle.fork_request.specs.Asked.{AsksBases, AsksHead, AsksOffers, AsksRepositories, AsksRevisions, Fetches, ForksOffer, NoRequest, MakesOffer, SetsHead, Withdraws, asked_words, host_words}
+use Rattle.fork_request.specs.declared.host_request.HostRequest.TheVariants.{Bad, Collect, Fsck, Tenants}
 use Rattle.fork_request.specs.declared.harm.Harm.TheVariants.{Lost, Damaged}
 use Rattle.fork_request.specs.declared.refusal.Refusal.TheVariants.{NoOffer, OfferExists}
 use Rattle.fork_request.specs.Harms.{harm_line}
@@ -72,6 +72,12 @@ a_word_behind_offers_is_bad = refl
 pub a_body_behind_offers_is_bad : asked_words (words_of (codes "offers")) (codes "\n") ≡ NoRequest
 a_body_behind_offers_is_bad = refl
 
+pub repositories_are_asked : asked_words (words_of (codes "repos")) [] ≡ AsksRepositories
+repositories_are_asked = refl
+
+pub a_word_behind_repos_is_bad : asked_words (words_of (codes "repos r")) [] ≡ NoRequest
+a_word_behind_repos_is_bad = refl
+
 pub an_offer_that_is_there_is_told_so : refusal_text (OfferExists (codes "bob") (codes "r")) ≡ codes "offer-exists bob/r"
 an_offer_that_is_there_is_told_so = refl
 
@@ -92,6 +98,12 @@ a_check_is_asked = refl
 
 pub a_word_behind_fsck_is_bad : host_words (words_of (codes "fsck x")) [] ≡ Bad
 a_word_behind_fsck_is_bad = refl
+
+pub tenants_are_asked : host_words (words_of (codes "tenants")) [] ≡ Tenants
+tenants_are_asked = refl
+
+pub a_body_behind_tenants_is_bad : host_words (words_of (codes "tenants")) (codes "\n") ≡ Bad
+a_body_behind_tenants_is_bad = refl
 
 pub what_is_lost_is_told_so : (name : List ℕ) → harm_line (name, Lost) ≡ codes "lost " ++ encode_lower name ++ codes "\n"
 what_is_lost_is_told_so name = refl

@@ -12,7 +12,7 @@ use Rattle.git_name.proofs.ReadingLemmas.{number_in-decimal, written_number}
 use Rattle.git_name.proofs.TextLemmas.{split_once-append, split_once-none, words_of-append, words_of-plain}
 use Rattle.fork_request.specs.Asked.{asked_host, host_alone, host_looks, host_parts, host_plain, host_sweep, host_verb, host_words}
 use Rattle.fork_request.specs.declared.host_request.HostRequest.{HostRequest}
-use Rattle.fork_request.specs.declared.host_request.HostRequest.TheVariants.{Sweep, Collect, Census, Fsck, Bad}
+use Rattle.fork_request.specs.declared.host_request.HostRequest.TheVariants.{Sweep, Collect, Census, Fsck, Tenants, Bad}
 use Rattle.fork_request.specs.declared.host_request.TheConstants.{MAX_SWEEP}
 use Rattle.fork_request.specs.declared.request.TheConstants.{MAX_PAYLOAD}
 use Rattle.fork_request.specs.Spelling.{HostSpells, IsWord}
@@ -56,7 +56,8 @@ alone_right payload verb body is =
     let at = (λ (word : List ℕ) (same : verb ≡ word). is ∙ ap (λ v. v ++ 10 ∷ body) same) in
     by_word (Right payload) verb (codes "collect") _ _ (λ v. plain_right payload body Collect (λ none. at (codes "collect") v ∙ ap (λ b. codes "collect\n" ++ b) none))
     (by_word (Right payload) verb (codes "census") _ _ (λ v. plain_right payload body Census (λ none. at (codes "census") v ∙ ap (λ b. codes "census\n" ++ b) none))
-    (by_word (Right payload) verb (codes "fsck") _ _ (λ v. plain_right payload body Fsck (λ none. at (codes "fsck") v ∙ ap (λ b. codes "fsck\n" ++ b) none)) (inl refl)))
+    (by_word (Right payload) verb (codes "fsck") _ _ (λ v. plain_right payload body Fsck (λ none. at (codes "fsck") v ∙ ap (λ b. codes "fsck\n" ++ b) none))
+    (by_word (Right payload) verb (codes "tenants") _ _ (λ v. plain_right payload body Tenants (λ none. at (codes "tenants") v ∙ ap (λ b. codes "tenants\n" ++ b) none)) (inl refl))))
 
 line_right : (payload line body : List ℕ) → payload ≡ line ++ 10 ∷ body → Lacks 10 line → Right payload (host_words (words_of line) body)
 line_right payload line body is ends = by (parted 32 line)
@@ -137,4 +138,5 @@ host_spelled payload (Sweep most) spells =
 host_spelled payload Collect spells = host_one payload (codes "collect") spells (lacks_by 32 (codes "collect") refl) (lacks_by 10 (codes "collect") refl) (let long = ap (λ (l : List ℕ). length l) spells in omega (arith, long))
 host_spelled payload Census spells = host_one payload (codes "census") spells (lacks_by 32 (codes "census") refl) (lacks_by 10 (codes "census") refl) (let long = ap (λ (l : List ℕ). length l) spells in omega (arith, long))
 host_spelled payload Fsck spells = host_one payload (codes "fsck") spells (lacks_by 32 (codes "fsck") refl) (lacks_by 10 (codes "fsck") refl) (let long = ap (λ (l : List ℕ). length l) spells in omega (arith, long))
+host_spelled payload Tenants spells = host_one payload (codes "tenants") spells (lacks_by 32 (codes "tenants") refl) (lacks_by 10 (codes "tenants") refl) (let long = ap (λ (l : List ℕ). length l) spells in omega (arith, long))
 host_spelled payload Bad spells = absurd spells

@@ -10,7 +10,7 @@ use Rattle.git_name.specs.Name.{IsName}
 use Rattle.git_name.specs.Text.{Lacks, split_once, words_of}
 use Rattle.git_name.proofs.ReadingLemmas.{name_in-encode_lower}
 use Rattle.git_name.proofs.TextLemmas.{split_once-append, words_of-append, words_of-plain}
-use Rattle.fork_request.specs.Asked.{Ask, Inits, Drops, Forks, Pushes, SendsPart, EndsParts, DropsParts, Updates, SetsHead, MakesOffer, Withdraws, ForksOffer, AsksObject, AsksTree, AsksRevisions, AsksBases, AsksReferences, AsksHead, AsksOffers, Fetches, AsksUse, Prunes, NoRequest, asked, asked_bases, asked_cat_file, asked_drop, asked_fetch, asked_fork, asked_fork_offer, asked_head, asked_init, asked_ls_tree, asked_object, asked_offer, asked_part_end, asked_parts, asked_push, asked_references, asked_revisions, asked_set_head, asked_tree, asked_update, asked_withdraw, asked_words}
+use Rattle.fork_request.specs.Asked.{Ask, Inits, Drops, Forks, Pushes, SendsPart, EndsParts, DropsParts, Updates, SetsHead, MakesOffer, Withdraws, ForksOffer, AsksObject, AsksTree, AsksRevisions, AsksBases, AsksReferences, AsksHead, AsksOffers, AsksRepositories, Fetches, AsksUse, Prunes, NoRequest, asked, asked_bases, asked_cat_file, asked_drop, asked_fetch, asked_fork, asked_fork_offer, asked_head, asked_init, asked_ls_tree, asked_object, asked_offer, asked_part_end, asked_parts, asked_push, asked_references, asked_revisions, asked_set_head, asked_tree, asked_update, asked_withdraw, asked_words}
 use Rattle.fork_request.specs.declared.request.TheConstants.{MAX_PAYLOAD}
 use Rattle.fork_request.specs.Spelling.{AreItems, IsItem, IsWord, Spells, behind_spaces}
 use Rattle.fork_request.specs.Words.{all_words, and_items, and_word, both_words, items_in, some_word}
@@ -170,6 +170,7 @@ spelled_asked payload (AsksReferences repository (Some prefix)) fits spells =
 spelled_asked payload (AsksHead repository) fits spells =
     with_word payload (codes "head") repository [] (verb_by (codes "head") refl refl) spells.0 spells.1 fits ∙ ap (λ o. asked_head o []) (some_there repository spells.0.some)
 spelled_asked payload AsksOffers fits spells = alone payload (codes "offers") [] (verb_by (codes "offers") refl refl) spells fits
+spelled_asked payload AsksRepositories fits spells = alone payload (codes "repos") [] (verb_by (codes "repos") refl refl) spells fits
 spelled_asked payload (Fetches repository items) fits spells =
     with_words payload (codes "fetch") (repository ∷ items) [] (verb_by (codes "fetch") refl refl) (words_are repository items spells.0 spells.1) spells.2 fits
     ∙ ap (λ o. asked_fetch o []) (items_read repository items spells.0 spells.1)

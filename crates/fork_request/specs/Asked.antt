@@ -5,10 +5,10 @@ use Rattle.git_name.specs.Name.{name_in}
 use Rattle.git_name.specs.Number.{number_in}
 use Rattle.git_name.specs.Text.{split_once, words_of}
 use Rattle.fork_request.specs.declared.request.Request.{Request}
-use Rattle.fork_request.specs.declared.request.Request.TheVariants.{Init, Drop, Fork, Push, Part, PartEnd, PartDrop, UpdateRefs, SetHead, Offer, Withdraw, ForkOffer, CatFile, LsTree, RevList, MergeBase, ForEachRef, Head, Offers, Fetch, Quota, Prune, Bad}
+use Rattle.fork_request.specs.declared.request.Request.TheVariants.{Init, Drop, Fork, Push, Part, PartEnd, PartDrop, UpdateRefs, SetHead, Offer, Withdraw, ForkOffer, CatFile, LsTree, RevList, MergeBase, ForEachRef, Head, Offers, Repositories, Fetch, Quota, Prune, Bad}
 use Rattle.fork_request.specs.declared.request.TheConstants.{MAX_PAYLOAD}
 use Rattle.fork_request.specs.declared.host_request.HostRequest.{HostRequest}
-use Rattle.fork_request.specs.declared.host_request.HostRequest.TheVariants.{Sweep, Collect, Census, Fsck, Bad as Bad_host}
+use Rattle.fork_request.specs.declared.host_request.HostRequest.TheVariants.{Sweep, Collect, Census, Fsck, Tenants, Bad as Bad_host}
 use Rattle.fork_request.specs.declared.host_request.TheConstants.{MAX_SWEEP}
 use Rattle.fork_request.specs.Words.{one_or_two, pair, sole, three, word_and_items}
 
@@ -33,6 +33,7 @@ pub data Ask : Type 0 where
   AsksReferences : (repository : List ℕ) (prefix : Option (List ℕ)) → Ask
   AsksHead : (repository : List ℕ) → Ask
   AsksOffers : Ask
+  AsksRepositories : Ask
   Fetches : (repository : List ℕ) (items : List (List ℕ)) → Ask
   AsksUse : Ask
   Prunes : Ask
@@ -59,6 +60,7 @@ ask_of (MergeBase repository first second) = AsksBases repository.now first.now 
 ask_of (ForEachRef repository prefix) = AsksReferences repository.now (option_map (λ word. word.now) prefix)
 ask_of (Head repository) = AsksHead repository.now
 ask_of Offers = AsksOffers
+ask_of Repositories = AsksRepositories
 ask_of (Fetch repository items) = Fetches repository.now (words_of items.now)
 ask_of Quota = AsksUse
 ask_of Prune = Prunes
@@ -202,12 +204,13 @@ asked_verb verb words body =
     else if bytes_eq verb (codes "set-head") then asked_set_head (pair words) body
     else asked_offering verb words body
 
--- by a verb that stands alone: `part` and a body, `part-drop`, `offers`, `quota`, `prune`
+-- by a verb that stands alone: `part` and a body, `part-drop`, `offers`, `repos`, `quota`, `prune`
 abbrev pub asked_alone : List ℕ → List ℕ → Ask
 asked_alone verb body =
     if bytes_eq verb (codes "part") then SendsPart body
     else if bytes_eq verb (codes "part-drop") then asked_plain DropsParts body
     else if bytes_eq verb (codes "offers") then asked_plain AsksOffers body
+    else if bytes_eq verb (codes "repos") then asked_plain AsksRepositories body
     else if bytes_eq verb (codes "quota") then asked_plain AsksUse body
     else if bytes_eq verb (codes "prune") then asked_plain Prunes body
     else NoRequest
@@ -248,12 +251,13 @@ host_sweep None body = Bad_host
 abbrev pub host_verb : List ℕ → List (List ℕ) → List ℕ → HostRequest
 host_verb verb words body = if bytes_eq verb (codes "sweep") then host_sweep (sole words) body else Bad_host
 
--- by a verb that stands alone: `collect`, `census`, `fsck`
+-- by a verb that stands alone: `collect`, `census`, `fsck`, `tenants`
 abbrev pub host_alone : List ℕ → List ℕ → HostRequest
 host_alone verb body =
     if bytes_eq verb (codes "collect") then host_plain Collect body
     else if bytes_eq verb (codes "census") then host_plain Census body
     else if bytes_eq verb (codes "fsck") then host_plain Fsck body
+    else if bytes_eq verb (codes "tenants") then host_plain Tenants body
     else Bad_host
 
 -- by the line's first word

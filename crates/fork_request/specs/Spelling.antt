@@ -3,9 +3,9 @@ use Rattle.std.specs.Prelude.{◌≡◌, ◌≢◌, ℕ, ◌≤◌, List, ◌++�
 use Rattle.std.specs.List.{flat_map}
 use Rattle.hex.specs.Hex.{encode_lower}
 use Rattle.git_name.specs.Name.{IsName}
-use Rattle.fork_request.specs.Asked.{Ask, Inits, Drops, Forks, Pushes, SendsPart, EndsParts, DropsParts, Updates, SetsHead, MakesOffer, Withdraws, ForksOffer, AsksObject, AsksTree, AsksRevisions, AsksBases, AsksReferences, AsksHead, AsksOffers, Fetches, AsksUse, Prunes, NoRequest}
+use Rattle.fork_request.specs.Asked.{Ask, Inits, Drops, Forks, Pushes, SendsPart, EndsParts, DropsParts, Updates, SetsHead, MakesOffer, Withdraws, ForksOffer, AsksObject, AsksTree, AsksRevisions, AsksBases, AsksReferences, AsksHead, AsksOffers, AsksRepositories, Fetches, AsksUse, Prunes, NoRequest}
 use Rattle.fork_request.specs.declared.host_request.HostRequest.{HostRequest}
-use Rattle.fork_request.specs.declared.host_request.HostRequest.TheVariants.{Sweep, Collect, Census, Fsck, Bad}
+use Rattle.fork_request.specs.declared.host_request.HostRequest.TheVariants.{Sweep, Collect, Census, Fsck, Tenants, Bad}
 use Rattle.fork_request.specs.declared.host_request.TheConstants.{MAX_SWEEP}
 
 -- a word of a line: some bytes, none of which is SP or LF
@@ -50,6 +50,7 @@ Spells (AsksReferences repository None) payload = IsWord repository × (payload 
 Spells (AsksReferences repository (Some prefix)) payload = IsWord repository × IsWord prefix × (payload ≡ codes "for-each-ref " ++ repository ++ codes " " ++ prefix ++ codes "\n")
 Spells (AsksHead repository) payload = IsWord repository × (payload ≡ codes "head " ++ repository ++ codes "\n")
 Spells AsksOffers payload = payload ≡ codes "offers\n"
+Spells AsksRepositories payload = payload ≡ codes "repos\n"
 Spells (Fetches repository items) payload = IsWord repository × AreItems items × (payload ≡ codes "fetch " ++ repository ++ behind_spaces items ++ codes "\n")
 Spells AsksUse payload = payload ≡ codes "quota\n"
 Spells Prunes payload = payload ≡ codes "prune\n"
@@ -61,4 +62,5 @@ HostSpells (Sweep most) payload = (most ≤ MAX_SWEEP) × (payload ≡ codes "sw
 HostSpells Collect payload = payload ≡ codes "collect\n"
 HostSpells Census payload = payload ≡ codes "census\n"
 HostSpells Fsck payload = payload ≡ codes "fsck\n"
+HostSpells Tenants payload = payload ≡ codes "tenants\n"
 HostSpells Bad payload = ⊥

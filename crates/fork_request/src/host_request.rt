@@ -21,6 +21,8 @@ pub enum HostRequest {
     Census,
     /// `fsck`: the files of all objects that some tenant holds are read, and what is wrong is told.
     Fsck,
+    /// `tenants`: what each tenant has and may have, in numbers.
+    Tenants,
     /// What is no request.
     Bad,
 }
@@ -65,6 +67,9 @@ fn read_verb(verb: &[u8], body: &[u8]) -> HostRequest
     }
     if is_word(verb, b"fsck") {
         return plain(HostRequest::Fsck, body);
+    }
+    if is_word(verb, b"tenants") {
+        return plain(HostRequest::Tenants, body);
     }
     HostRequest::Bad
 }

@@ -56,6 +56,8 @@ pub enum Request<'a> {
     Head(&'a [u8]),
     /// `offers`: the offers made to the tenant, and those that it made.
     Offers,
+    /// `repos`: the names of the tenant's repositories.
+    Repositories,
     /// `fetch REPO ITEM..`: the records of the objects that the items reach, less those that the
     /// items with `^` reach. The items stand as in `RevList`.
     Fetch(&'a [u8], &'a [u8]),
@@ -110,6 +112,9 @@ fn read_verb<'a>(verb: &'a [u8], body: &'a [u8]) -> Request<'a>
     }
     if is_word(verb, b"offers") {
         return plain(Request::Offers, body);
+    }
+    if is_word(verb, b"repos") {
+        return plain(Request::Repositories, body);
     }
     if is_word(verb, b"quota") {
         return plain(Request::Quota, body);

@@ -23,7 +23,7 @@ use Rattle.git_name.specs.Name.{name_cmp}
 use Rattle.fork_request.specs.Asked.{Ask}
 use Rattle.fork_request.specs.Told.{is_host_fault}
 use Rattle.fork_request.specs.declared.host_request.HostRequest.{HostRequest}
-use Rattle.fork_request.specs.declared.host_request.HostRequest.TheVariants.{Sweep, Collect, Census, Fsck, Bad}
+use Rattle.fork_request.specs.declared.host_request.HostRequest.TheVariants.{Sweep, Collect, Census, Fsck, Tenants, Bad}
 use Rattle.fork_request.specs.declared.refusal.Refusal.TheVariants.{UnknownTenant}
 use Rattle.fork_request.specs.declared.reply.Reply.{Reply}
 use Rattle.fork_request.specs.declared.reply.Reply.TheVariants.{Done, Refused, Failed}
@@ -54,17 +54,18 @@ same_answer old new new2 name ask reply reply2 (Answered view here told set) (Fa
 same_answer old new new2 name ask reply reply2 (Unknown none told stays) (Faulted bad stays2) fine fine2 = absurd (true_false (is_host_fault reply2) bad fine2)
 
 -- what is settled is told alike
-same_saying : (ask : HostRequest) (reply reply2 : Reply) → is_settled_host ask ≡ true → HostSays ask reply → HostSays ask reply2 → reply ≡ reply2
-same_saying Bad reply reply2 is says says2 = says ∙ sym says2
-same_saying (Sweep most) reply reply2 is says says2 = absurd (cc)
-same_saying Collect reply reply2 is says says2 = absurd (cc)
-same_saying Census reply reply2 is says says2 = absurd (cc)
-same_saying Fsck reply reply2 is says says2 = absurd (cc)
+same_saying : (world : World) (ask : HostRequest) (reply reply2 : Reply) → is_settled_host ask ≡ true → HostSays world ask reply → HostSays world ask reply2 → reply ≡ reply2
+same_saying world Tenants reply reply2 is says says2 = says ∙ sym says2
+same_saying world Bad reply reply2 is says says2 = says ∙ sym says2
+same_saying world (Sweep most) reply reply2 is says says2 = absurd (cc)
+same_saying world Collect reply reply2 is says says2 = absurd (cc)
+same_saying world Census reply reply2 is says says2 = absurd (cc)
+same_saying world Fsck reply reply2 is says says2 = absurd (cc)
 
 -- a step without a host fault has one outcome
 same_own : (old new new2 : World) (ask : HostRequest) (reply reply2 : Reply) → OwnStep is_host_fault HostSays old ask reply new → OwnStep is_host_fault HostSays old ask reply2 new2
     → is_host_fault reply ≡ false → is_host_fault reply2 ≡ false → (is_settled_host ask ≡ true → reply ≡ reply2) × (new ≡ new2)
-same_own old new new2 ask reply reply2 (HostAnswered says stays) (HostAnswered says2 stays2) fine fine2 = (λ is. same_saying ask reply reply2 is says says2, stays ∙ sym stays2)
+same_own old new new2 ask reply reply2 (HostAnswered says stays) (HostAnswered says2 stays2) fine fine2 = (λ is. same_saying old ask reply reply2 is says says2, stays ∙ sym stays2)
 same_own old new new2 ask reply reply2 (HostFaulted bad stays) other fine fine2 = absurd (true_false (is_host_fault reply) bad fine)
 same_own old new new2 ask reply reply2 (HostAnswered says stays) (HostFaulted bad stays2) fine fine2 = absurd (true_false (is_host_fault reply2) bad fine2)
 

@@ -2,7 +2,7 @@
 use Rattle.std.proofs.Common.{◌≡◌, ◌∙◌, Bool, true, false, cond, not, refl, sym, ap, ℕ, List}
 use Rattle.git_name.specs.Name.{name_cmp}
 use Rattle.git_name.proofs.Names.{name_exact, name_total}
-use Rattle.fork_request.specs.Asked.{Ask, Inits, Drops, Forks, Pushes, SendsPart, EndsParts, DropsParts, Updates, SetsHead, MakesOffer, Withdraws, ForksOffer, AsksObject, AsksTree, AsksRevisions, AsksBases, AsksReferences, AsksHead, AsksOffers, Fetches, AsksUse, Prunes, NoRequest, asked, asked_host}
+use Rattle.fork_request.specs.Asked.{Ask, Inits, Drops, Forks, Pushes, SendsPart, EndsParts, DropsParts, Updates, SetsHead, MakesOffer, Withdraws, ForksOffer, AsksObject, AsksTree, AsksRevisions, AsksBases, AsksReferences, AsksHead, AsksOffers, AsksRepositories, Fetches, AsksUse, Prunes, NoRequest, asked, asked_host}
 use Rattle.fork_request.specs.Names.{is_plain_name}
 use Rattle.fork_request.specs.declared.name.TheConstants.{MAX_REPOSITORY_NAME}
 use Rattle.fork_request.specs.Told.{is_host_fault}
@@ -10,7 +10,7 @@ use Rattle.fork_request.specs.declared.reply.Reply.{Reply}
 use Rattle.fork_request.specs.declared.reply.Reply.TheVariants.{Done, Refused, Failed}
 use Rattle.fork_request.specs.declared.refusal.Refusal.TheVariants.{UnknownTenant}
 use Rattle.std.specs.FinMap.{insert}
-use Rattle.fork_model.specs.Answer.{answer, left_by, cat_file_answer, ls_tree_answer, rev_list_answer, merge_base_answer, references_answer, head_answer, fetch_answer, quota_answer, offers_answer}
+use Rattle.fork_model.specs.Answer.{answer, left_by, cat_file_answer, ls_tree_answer, rev_list_answer, merge_base_answer, references_answer, head_answer, fetch_answer, quota_answer, repositories_answer, offers_answer}
 use Rattle.fork_model.specs.Context.{Context, met_by}
 use Rattle.fork_model.specs.Runs.{Answered, Unknown, Faulted, TenantStep}
 use Rattle.fork_model.specs.View.{View}
@@ -31,7 +31,7 @@ tested view false x y = refl
 
 -- a request that only asks leaves the view
 pub asking_leaves : (context : Context) (view : View) (ask : Ask) → only_asks ask ≡ true → (answer context view ask).1 ≡ view
-unfolding answer offers_answer cat_file_answer ls_tree_answer rev_list_answer merge_base_answer references_answer head_answer fetch_answer quota_answer
+unfolding answer offers_answer cat_file_answer ls_tree_answer rev_list_answer merge_base_answer references_answer head_answer fetch_answer quota_answer repositories_answer
 asking_leaves context view (Inits repository) is = absurd (cc)
 asking_leaves context view (Drops repository) is = absurd (cc)
 asking_leaves context view (Forks source copy) is = absurd (cc)
@@ -52,6 +52,7 @@ asking_leaves context view (AsksBases repository first second) is = tested view 
 asking_leaves context view (AsksReferences repository prefix) is = tested view (is_plain_name MAX_REPOSITORY_NAME repository) _ _
 asking_leaves context view (AsksHead repository) is = tested view (is_plain_name MAX_REPOSITORY_NAME repository) _ _
 asking_leaves context view (Fetches repository items) is = tested view (is_plain_name MAX_REPOSITORY_NAME repository) _ _
+asking_leaves context view AsksRepositories is = refl
 asking_leaves context view AsksUse is = refl
 asking_leaves context view Prunes is = absurd (cc)
 asking_leaves context view NoRequest is = refl
@@ -78,6 +79,7 @@ left_there view (AsksBases repository first second) is = refl
 left_there view (AsksReferences repository prefix) is = refl
 left_there view (AsksHead repository) is = refl
 left_there view (Fetches repository items) is = refl
+left_there view AsksRepositories is = refl
 left_there view AsksUse is = refl
 left_there view Prunes is = refl
 left_there view NoRequest is = refl

@@ -3,7 +3,7 @@ use Rattle.std.specs.Prelude.{◌≡◌, ℕ, Bool, true, false, cond, IfSome, L
 use Rattle.std.specs.List.{AllByRecursion}
 use Rattle.fork_request.specs.Told.{is_host_fault}
 use Rattle.fork_request.specs.declared.host_request.HostRequest.{HostRequest}
-use Rattle.fork_request.specs.declared.host_request.HostRequest.TheVariants.{Sweep, Collect, Census, Fsck, Bad}
+use Rattle.fork_request.specs.declared.host_request.HostRequest.TheVariants.{Sweep, Collect, Census, Fsck, Tenants, Bad}
 use Rattle.fork_request.specs.declared.reply.Reply.{Reply}
 use Rattle.fork_model.specs.Runs.{Asks, HostAsks}
 use Rattle.fork_model.specs.World.{AreFine, Event}
@@ -20,6 +20,7 @@ is_settled_host (Sweep most) = false
 is_settled_host Collect = false
 is_settled_host Census = false
 is_settled_host Fsck = false
+is_settled_host Tenants = true
 is_settled_host Bad = true
 
 -- the same of a step: what a tenant is told is always settled

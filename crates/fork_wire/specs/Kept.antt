@@ -1,6 +1,6 @@
 -- What a journal keeps of a session (own): the frames that may have changed the host.
 use Rattle.std.specs.Prelude.{◌≡◌, Result, Ok, Err, Bool, true, false, not, cond, ℕ, List, [], ◌∷◌, flat_map}
-use Rattle.fork_request.specs.Asked.{Ask, Inits, Drops, Forks, Pushes, SendsPart, EndsParts, DropsParts, Updates, SetsHead, MakesOffer, Withdraws, ForksOffer, AsksObject, AsksTree, AsksRevisions, AsksBases, AsksReferences, AsksHead, AsksOffers, Fetches, AsksUse, Prunes, NoRequest, asked}
+use Rattle.fork_request.specs.Asked.{Ask, Inits, Drops, Forks, Pushes, SendsPart, EndsParts, DropsParts, Updates, SetsHead, MakesOffer, Withdraws, ForksOffer, AsksObject, AsksTree, AsksRevisions, AsksBases, AsksReferences, AsksHead, AsksOffers, AsksRepositories, Fetches, AsksUse, Prunes, NoRequest, asked}
 use Rattle.fork_request.specs.declared.reply.Reply.{Reply}
 use Rattle.fork_request.specs.declared.reply.Reply.TheVariants.{Done, Refused, Failed}
 use Rattle.fork_frame.specs.Frame.{frame_bytes}
@@ -20,6 +20,7 @@ only_asks (AsksReferences repository prefix) = true
 only_asks (AsksHead repository) = true
 only_asks AsksOffers = true
 only_asks (Fetches repository items) = true
+only_asks AsksRepositories = true
 only_asks AsksUse = true
 only_asks NoRequest = true
 only_asks (Inits repository) = false

@@ -21,6 +21,7 @@ fn only_asks(payload: &[u8]) -> bool
         | Request::Head(_)
         | Request::Offers
         | Request::Fetch(_, _)
+        | Request::Repositories
         | Request::Quota
         | Request::Bad => true,
         Request::Init(_)

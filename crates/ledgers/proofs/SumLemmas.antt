@@ -1,5 +1,5 @@
 -- Sums over the values of a finite map.
-use Rattle.std.proofs.Common.{◌≡◌, ℕ, zero, suc, ◌+◌, ◌<◌, ◌≤◌, Bool, true, false, cond, List, [], ◌∷◌, Option, Some, None, refl, sym, ap, subst, ◌∙◌, arith, length}
+use Rattle.std.proofs.Common.{◌≡◌, ℕ, zero, suc, ◌+◌, ◌<◌, ◌≤◌, Bool, true, false, cond, List, [], ◌∷◌, Option, Some, None, is_some, refl, sym, ap, subst, ◌∙◌, arith, length}
 use Rattle.std.specs.Prelude.{sum_by}
 use Rattle.std.specs.declared.cmp.Ordering.{Ordering}
 use Rattle.std.specs.declared.cmp.Ordering.TheVariants.{Less, Equal, Greater}
@@ -10,7 +10,7 @@ use Rattle.std.specs.BTreeMap.{is_at}
 use Rattle.std.specs.Map.{lookup, keys_of, values_of}
 use Rattle.std.specs.List.{IsDistinct, cons_option}
 use Rattle.std.specs.List.Sorted.{IsStrictlySortedBy}
-use Rattle.std.specs.FinMap.{FinMap, IsAntisymmetric, empty, entries, entries-insert, from_entries, get, insert, len-empty, len-entries, same_map, values}
+use Rattle.std.specs.FinMap.{FinMap, IsAntisymmetric, empty, entries, entries-insert, from_entries, get, insert, len, len-empty, len-entries, len-insert, same_map, values}
 use Rattle.std.specs.FinMap.Entries.{by_order, put}
 use Rattle.std.proofs.lemmas.List.Sums.{sum_by-cons}
 use Rattle.std.proofs.lemmas.Map.{lookup-none}
@@ -91,6 +91,16 @@ sum_of_distinct {R = R} total exact f (e ∷ es) distinct =
     ap (worth f) (get_of_entries total es e.0 ∙ lookup-none (is_at (R e.0)) es (none_past_head (eq_by_cmp_equiv total) e.0 e es distinct ((eq_by_cmp_equiv total).refl e.0))) in
     let is = ap (λ m. sum_by f (values m)) (from_cons total exact e es) in
     omega (arith, first, rest, put, none, is)
+
+-- and there are as many of them
+pub len_of_distinct : {K X : Type 0} {R : K → K → Ordering} → IsTotalOrder R → IsAntisymmetric R → (es : List (K × X)) → IsDistinct (eq_by_cmp R) (keys_of es) → length es ≡ len (from_entries {R = R} es)
+len_of_distinct {X = X} {R = R} total exact [] distinct = sym (len-empty R X)
+len_of_distinct {R = R} total exact (e ∷ es) distinct =
+    let rest = len_of_distinct total exact es (IsDistinct-tail (eq_by_cmp R) e.0 (keys_of es) distinct) in
+    let none = get_of_entries total es e.0 ∙ lookup-none (is_at (R e.0)) es (none_past_head (eq_by_cmp_equiv total) e.0 e es distinct ((eq_by_cmp_equiv total).refl e.0)) in
+    let put = len-insert total (from_entries {R = R} es) e.0 e.1 ∙ ap (λ b. cond b (len (from_entries {R = R} es)) (len (from_entries {R = R} es) + 1)) (ap is_some none) in
+    let is = ap len (from_cons total exact e es) in
+    omega (arith, rest, put, is)
 
 -- ---- maps whose values count for the same at each key
 some_of : ℕ → Option ℕ

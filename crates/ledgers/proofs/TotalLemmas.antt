@@ -1,10 +1,10 @@
 -- What the objects of a ledger use, as its words change.
-use Rattle.std.proofs.Common.{◌≡◌, ℕ, ◌+◌, Bool, true, false, List, [], Option, None, Some, refl, sym, ap, ◌∙◌, arith, is_some}
+use Rattle.std.proofs.Common.{◌≡◌, ℕ, ◌+◌, Bool, true, false, List, [], Option, None, Some, refl, sym, ap, ◌∙◌, arith, is_some, length}
 use Rattle.std.specs.Prelude.{sum_by, if◌then◌else◌}
 use Rattle.std.specs.Map.{keys_of, values_of}
 use Rattle.std.specs.Option.{option_and_then}
 use Rattle.std.specs.List.{IsDistinct}
-use Rattle.std.specs.FinMap.{empty, from_entries, get, keys, values}
+use Rattle.std.specs.FinMap.{empty, from_entries, get, keys, len, len-entries, values}
 use Rattle.git_name.specs.declared.kind.Kind.{Kind}
 use Rattle.git_name.specs.Name.{name_cmp}
 use Rattle.git_name.proofs.Names.{name_total, name_exact}
@@ -33,6 +33,9 @@ nothing_in_all = sum_empty name_cmp use_of_word
 -- and no names
 pub no_names : (p : Word → Bool) → keys (words_that p empty) ≡ []
 no_names p = ap keys_of (entries_chosen name_total (λ _ word. kept_as (p word) word) empty ∙ ap (chosen_in (λ _ word. kept_as (p word) word)) (entries_of_none name_cmp))
+
+pub none_seen : (p : Word → Bool) → len (words_that p empty) ≡ 0
+none_seen p = len-entries (words_that p empty) ∙ ap (λ (es : List (List ℕ × Word)). length es) (entries_chosen name_total (λ _ word. kept_as (p word) word) empty ∙ ap (chosen_in (λ _ word. kept_as (p word) word)) (entries_of_none name_cmp))
 
 -- entries under different names use what the words of their finite map use
 pub used_in : (es : List (List ℕ × Word)) → IsDistinct same_name (keys_of es) → sum_by seen_use (values_of es) ≡ used_by (from_entries es)

@@ -109,6 +109,13 @@ impl Holdings {
         names_in(alloc, &self.ledgers, tenant)
     }
 
+    /// How many objects a tenant sees, in one pass over what is known of it.
+    pub fn seen_count(&self, tenant: &TenantName) -> usize
+        ensures { result ≡ map.len (words_that is_visible (ledger_at self.now.ledgers tenant.now)) }
+    {
+        seen_count_in(&self.ledgers, tenant)
+    }
+
     /// What the objects use that a tenant sees.
     pub fn used(&self, tenant: &TenantName) -> u128
         ensures { result ≡ capped (used_by (ledger_at self.now.ledgers tenant.now)) }
@@ -332,6 +339,15 @@ fn names_in(alloc: Global, ledgers: &Ledgers, tenant: &TenantName) -> Result<Vec
         return Ok(Vec::new(alloc));
     };
     ledger.names(alloc)
+}
+
+fn seen_count_in(ledgers: &Ledgers, tenant: &TenantName) -> usize
+    ensures { result ≡ map.len (words_that is_visible (ledger_at ledgers.now tenant.now)) }
+{
+    let Some(ledger) = ledgers.get(tenant) else {
+        return 0;
+    };
+    ledger.seen_count()
 }
 
 fn used_in(ledgers: &Ledgers, tenant: &TenantName) -> u128

@@ -65,6 +65,13 @@ impl Ledger {
         self.words.names(alloc)
     }
 
+    /// How many objects the tenant sees, in one pass over the words.
+    pub fn seen_count(&self) -> usize
+        ensures { result ≡ map.len (words_that is_visible self.now) }
+    {
+        self.words.seen_count()
+    }
+
     /// What the objects use that the tenant sees, in constant time.
     pub fn used(&self) -> u128
         ensures { result ≡ capped (used_by self.now) }

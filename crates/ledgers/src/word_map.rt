@@ -13,8 +13,8 @@ use crate::name_set::NameSet;
 use crate::seeing::see_coming;
 use crate::word::{Standing, Word, is_staged, standing_of, word_over};
 use crate::words::{
-    empty, keep_among, leave_out, put_staged, see_all, seen_names, unstage_all, unstage_among,
-    uses, word_at,
+    empty, keep_among, leave_out, put_staged, see_all, seen_count, seen_names, unstage_all,
+    unstage_among, uses, word_at,
 };
 use catalogue::Catalogue;
 use git_name::{Hashing, Kind, Name};
@@ -70,6 +70,13 @@ impl WordMap {
         ensures { IfOk result (λ names. names.items ≡ map.keys (words_that is_visible self.now)) }
     {
         seen_names(alloc, &self.words)
+    }
+
+    /// How many objects are seen, in one pass.
+    pub fn seen_count(&self) -> usize
+        ensures { result ≡ map.len (words_that is_visible self.now) }
+    {
+        seen_count(&self.words)
     }
 
     /// What the objects use that are seen, and what all use, in one pass.

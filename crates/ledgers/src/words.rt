@@ -1,6 +1,6 @@
 // Words by the names of their objects, hashed.
-ghost use Rattle.std.specs.Prelude.{◌≡◌, ◌≤◌, ◌+◌, ◌++◌, ◌∷◌, [], List, ℕ, OnOk, OnErr, IfOk, Some, false, not, ◌&&◌, sum_by};
-ghost use Rattle.std.specs.FinMap.{from_entries, get, keys};
+ghost use Rattle.std.specs.Prelude.{◌≡◌, ◌≤◌, ◌+◌, ◌++◌, ◌∷◌, [], List, ℕ, OnOk, OnErr, IfOk, Some, false, length, not, ◌&&◌, sum_by};
+ghost use Rattle.std.specs.FinMap.{from_entries, get, keys, len};
 ghost use Rattle.std.specs.List.{IsDistinct};
 ghost use Rattle.std.specs.Map.{keys_of, values_of};
 ghost use Rattle.std.specs.Option.{option_map_or};
@@ -186,6 +186,28 @@ pub(crate) fn seen_names(
     let mut names = seen_among(alloc, words)?;
     names.sort_unstable();
     Ok(names)
+}
+
+// How many objects are seen, in one pass.
+fn count_seen(words: &IndexMap<Name, Word, Hashing>) -> usize
+    ensures count { result ≡ length (chosen_in (λ _ word. kept_as (is_visible word) word) words.now.entries) }
+    ensures distinct { IsDistinct same_name (keys_of words.now.entries) }
+{
+    let _most = words.len();
+    let mut count = 0;
+    for (_name, word) in words {
+        if word.is_visible() {
+            count += 1;
+        }
+    }
+    count
+}
+
+// How many objects are seen.
+pub(crate) fn seen_count(words: &IndexMap<Name, Word, Hashing>) -> usize
+    ensures { result ≡ len (words_that is_visible (from_entries words.now.entries)) }
+{
+    count_seen(words)
 }
 
 // What the objects use that are seen, and what all use, in one pass.

@@ -7,6 +7,10 @@ use std::io::{ErrorKind, Read};
 use std::rt::Files;
 use std::{fs, io};
 
+/// The longest file of an object: 8 MiB of content and its header. What is longer, or is no regular file,
+/// is read as a file of no bytes, which is no object's.
+pub(crate) const MAX_FILE: u64 = 8_388_608 + 15;
+
 /// What is called so is a file that is being written. At the next start it is removed.
 pub(crate) const PART: &str = "part";
 

@@ -2,24 +2,21 @@ ghost use Rattle.std.specs.Prelude.{◌≡◌, false};
 ghost use Rattle.std.specs.FinMap as map;
 ghost use Rattle.loose_store.specs.Failures.{Counts};
 
-use crate::device::{PART, found, read_at_most, regular, settle, told};
+use crate::device::{MAX_FILE, PART, found, read_at_most, regular, settle, told};
 use crate::failures::counted;
 use crate::files::{FileFault, LooseFiles};
 use crate::journal_file::JOURNALS;
 use crate::listing::list_all;
+use crate::making::{create_folder, create_folders, open_lock, write_file};
 use crate::place::{home_of, inside, path_of};
 use crate::swept::{put_all_back, sweep_at};
 use git_name::{Hashing, Name};
 use std::alloc::Global;
-use std::fs::{File, OpenOptions};
+use std::fs::File;
 use std::io::ErrorKind;
 use std::random::RandomSource;
 use std::rt::Files;
 use std::{fs, io};
-
-/// The longest file of an object: 8 MiB of content and its header. What is longer, or is no regular file,
-/// is read as a file of no bytes, which is no object's.
-const MAX_FILE: u64 = 8_388_608 + 15;
 
 /// Files in a folder of the file system: under `objects/`, two digits, `/`, 62 digits. An object's
 /// file is whole or not there, whenever the process is killed. It is not synced, so after a loss of
@@ -41,10 +38,7 @@ pub struct Folder<R> {
 fn locked<R: Files<File = File>>(rt: &R, alloc: Global, folder: &str) -> io::Result<File> {
     let path = inside(alloc, folder, "lock")?;
     found(regular(rt, path.as_str()))?;
-    let lock = OpenOptions::new()
-        .write(true)
-        .create(true)
-        .open(rt, path.as_str())?;
+    let lock = open_lock(rt, path.as_str())?;
     lock.try_lock()?;
     Ok(lock)
 }
@@ -78,7 +72,7 @@ fn taken<R: Files<File = File> + AllocGlobal + Clone + Drop>(
         return Err(io::Error::from(ErrorKind::NotFound));
     }
     let objects = inside(alloc, folder, "objects")?;
-    fs::create_dir_all(rt, objects.as_str())?;
+    create_folders(rt, objects.as_str())?;
     let lock = locked(rt, alloc, folder)?;
     clear_parts(rt, alloc, folder)?;
     put_all_back(rt, alloc, folder)?;
@@ -123,7 +117,7 @@ fn write_in(
     bytes: &[u8],
 ) -> io::Result<()> {
     let part = inside(alloc, home, PART)?;
-    let written = fs::write(rt, part.as_str(), bytes);
+    let written = write_file(rt, part.as_str(), bytes);
     settle(rt, written, part.as_str(), path)
 }
 
@@ -139,7 +133,7 @@ fn write_at(
     if found(write_in(rt, alloc, home.as_str(), path.as_str(), bytes))?.is_some() {
         return Ok(());
     }
-    fs::create_dir(rt, home.as_str())?;
+    create_folder(rt, home.as_str())?;
     write_in(rt, alloc, home.as_str(), path.as_str(), bytes)
 }
 

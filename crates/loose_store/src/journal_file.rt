@@ -4,6 +4,7 @@ ghost use Rattle.sha2.specs.Sha256.{sha256};
 
 use crate::device::{PART, found, readable, regular, settle, told};
 use crate::files::FileFault;
+use crate::making::{create_file, create_folders};
 use crate::place::inside;
 use git_name::Name;
 use sha2::{Digest, Sha256};
@@ -51,8 +52,8 @@ fn open_in<R: Files>(
 fn begin_in<R: Files>(rt: &R, alloc: Global, folder: &str) -> io::Result<R::File> {
     let home = inside(alloc, folder, JOURNALS)?;
     let part = inside(alloc, home.as_str(), PART)?;
-    fs::create_dir_all(rt, home.as_str())?;
-    fs::create(rt, part.as_str())
+    create_folders(rt, home.as_str())?;
+    create_file(rt, part.as_str())
 }
 
 fn settle_in<R: Files>(

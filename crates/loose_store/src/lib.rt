@@ -12,6 +12,7 @@ mod fused;
 mod journal_file;
 mod laws;
 mod listing;
+mod making;
 mod memory;
 mod memory_file;
 mod place;

@@ -1,5 +1,6 @@
 use crate::device::{PART, found, read_whole, settle, told};
 use crate::files::FileFault;
+use crate::making::create_file;
 use crate::place::inside;
 use std::alloc::Global;
 use std::fs::OpenFile;
@@ -16,7 +17,7 @@ fn read_in(rt: &impl Files, alloc: Global, folder: &str) -> io::Result<Option<Ve
 }
 
 fn write_synced(rt: &impl Files, path: &str, bytes: &[u8]) -> io::Result<()> {
-    let mut file = fs::create(rt, path)?;
+    let mut file = create_file(rt, path)?;
     file.write_all(bytes)?;
     file.sync_all()
 }

@@ -1,10 +1,12 @@
 ghost use Rattle.std.specs.Prelude.{◌≡◌, IfOk, ◌∷◌, ◌++◌, codes, string_bytes};
 ghost use Rattle.hex.specs.Hex.{encode_lower};
 
-use crate::device::{found, readable, told};
+use crate::device::{MAX_FILE, found, read_at_most, readable, told};
 use crate::files::FileFault;
+use crate::making::create_folders;
 use crate::place::{home_of, inside, path_of};
 use git_name::Name;
+use sha2::{Digest, Sha256};
 use std::alloc::{AllocError, Global};
 use std::rt::Files;
 use std::{fs, io};
@@ -29,7 +31,7 @@ fn move_into(rt: &impl Files, from: &str, home: &str, to: &str) -> io::Result<()
     if found(fs::rename(rt, from, to))?.is_some() {
         return Ok(());
     }
-    fs::create_dir_all(rt, home)?;
+    create_folders(rt, home)?;
     found(fs::rename(rt, from, to))?;
     Ok(())
 }
@@ -64,11 +66,20 @@ fn swept_names<R: Files + AllocGlobal + Clone + Drop>(
     Ok(names)
 }
 
-// Puts a swept file back to its place. Where a file of its name is there, which came later, it goes.
+// Whether the object's file stands whole at this path.
+fn is_whole(rt: &impl Files, alloc: Global, path: &str, name: Name) -> io::Result<bool> {
+    let Some(bytes) = found(read_at_most(rt, alloc, path, MAX_FILE))? else {
+        return Ok(false);
+    };
+    Ok(Name::new(Sha256::digest(bytes.as_slice())) == name)
+}
+
+// Puts a swept file back to its place. Where a whole file of its name is there, which came later, it goes; a file that is torn
+// makes way, as the power may have failed before it was on the disk.
 fn put_back(rt: &impl Files, alloc: Global, folder: &str, name: Name) -> io::Result<()> {
     let path = path_of(alloc, folder, name)?;
     let swept = path_of_swept(alloc, folder, name)?;
-    if fs::exists(rt, path.as_str())? {
+    if is_whole(rt, alloc, path.as_str(), name)? {
         return fs::remove_file(rt, swept.as_str());
     }
     let home = home_of(alloc, folder, &name.as_bytes()[..1])?;

@@ -2,14 +2,14 @@
 ghost use Rattle.std.specs.Prelude.{◌≡◌};
 ghost use Rattle.std.specs.FinMap as map;
 ghost use Rattle.fork_ledger.specs.Private.{Private};
-ghost use Rattle.fork_model.specs.Answer.{repository_added, copied, drop_answer, fork_answer, init_answer};
+ghost use Rattle.fork_model.specs.Answer.{repository_added, copied, drop_answer, fork_answer, init_answer, repositories_answer};
 ghost use Rattle.fork_host.specs.Rows.{Gives};
 ghost use Rattle.fork_host.specs.Shown.{seen_by};
 
 use crate::replies::{bad_name, done};
 use crate::tenant::Tenant;
 use fork_model::MAX_REPOSITORIES;
-use fork_request::{HostFault, Refusal, Reply, RepositoryName};
+use fork_request::{ByteString, HostFault, Refusal, Reply, RepositoryName};
 use git_reftx::Repository;
 use std::alloc::Global;
 
@@ -48,6 +48,17 @@ impl Tenant {
             return Reply::Failed(HostFault::Memory);
         }
         done(alloc)
+    }
+
+    #[tactic(auto, unfolding(fork_model::specs::Answer::repositories_answer))]
+    // The names of the repositories.
+    pub(crate) fn list_repositories(&self, alloc: Global) -> Reply
+        ensures { (own : Private) → Gives (repositories_answer (seen_by self.now own)) (seen_by self.now own) result (seen_by self.now own) }
+    {
+        match self.repositories.names(alloc) {
+            Ok(names) => Reply::Done(ByteString::new(names)),
+            Err(_) => Reply::Failed(HostFault::Memory),
+        }
     }
 
     #[tactic(auto, unfolding(fork_model::specs::Answer::drop_answer))]

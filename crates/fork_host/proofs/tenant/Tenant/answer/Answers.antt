@@ -114,6 +114,10 @@ pub returns-in-Head-clause-row : goal.returns-in-Head-clause-row
 unfolding answer
 returns-in-Head-clause-row g c = record { yields = λ honest. yields_of _ _ _ _ (rw c.in-Head.is (c.head.ensures (private_by c.args.own.now))) }
 
+pub returns-in-Repositories-clause-row : goal.returns-in-Repositories-clause-row
+unfolding answer
+returns-in-Repositories-clause-row g c = record { yields = λ honest. yields_of _ _ _ _ (rw c.in-Repositories.is (c.list_repositories.ensures (private_by c.args.own.now))) }
+
 pub returns-in-Head-clause-safe : goal.returns-in-Head-clause-safe
 unfolding answer
 returns-in-Head-clause-safe g c =
@@ -121,6 +125,14 @@ returns-in-Head-clause-safe g c =
     let new = shown c.args.self.now c.args.own.now.vault.now c.args.own.now.tenant.now in
     let gives : Gives (answer (nothing_offered c.args.own.now.tenant.now) view (ask_of c.args.request)) view c.head.result new = rw c.in-Head.is (c.head.ensures (private_by c.args.own.now)) in
     safe_gives _ c.args.own.now.tenant.now view new (ask_of c.args.request) c.head.result (bounded_still (sent_by view (ask_of c.args.request)) c.args.own.now.vault.now c.head.result (quiet_row (nothing_offered c.args.own.now.tenant.now) view new (ask_of c.args.request) c.head.result gives)) gives
+
+pub returns-in-Repositories-clause-safe : goal.returns-in-Repositories-clause-safe
+unfolding answer
+returns-in-Repositories-clause-safe g c =
+    let view = shown_by c.args.self.now c.args.own.now in
+    let new = shown c.args.self.now c.args.own.now.vault.now c.args.own.now.tenant.now in
+    let gives : Gives (answer (nothing_offered c.args.own.now.tenant.now) view (ask_of c.args.request)) view c.list_repositories.result new = rw c.in-Repositories.is (c.list_repositories.ensures (private_by c.args.own.now)) in
+    safe_gives _ c.args.own.now.tenant.now view new (ask_of c.args.request) c.list_repositories.result (bounded_still (sent_by view (ask_of c.args.request)) c.args.own.now.vault.now c.list_repositories.result (quiet_row (nothing_offered c.args.own.now.tenant.now) view new (ask_of c.args.request) c.list_repositories.result gives)) gives
 
 pub returns-in-Quota-clause-row : goal.returns-in-Quota-clause-row
 unfolding answer
@@ -205,8 +217,14 @@ returns-in-SetHead-clause-staged g c = subst (λ upload. IsStaged c.args.own.now
 pub returns-in-Head-clause-own : goal.returns-in-Head-clause-own
 returns-in-Head-clause-own g c = touched_none _ c.args.own.now
 
+pub returns-in-Repositories-clause-own : goal.returns-in-Repositories-clause-own
+returns-in-Repositories-clause-own g c = touched_none _ c.args.own.now
+
 pub returns-in-Head-clause-staged : goal.returns-in-Head-clause-staged
 returns-in-Head-clause-staged g c = c.requires.staged
+
+pub returns-in-Repositories-clause-staged : goal.returns-in-Repositories-clause-staged
+returns-in-Repositories-clause-staged g c = c.requires.staged
 
 pub returns-in-Quota-clause-own : goal.returns-in-Quota-clause-own
 returns-in-Quota-clause-own g c = touched_none _ c.args.own.now

@@ -2,7 +2,7 @@
 import _thread
 from _socket import AF_UNIX, socket
 
-from .faults import Fatal, Lost
+from .faults import Fatal, Internal, Lost
 from .frames import DONE, LONGEST_HEAD, MAX_PAYLOAD, bytes_of, frame, length_of, not_done, text_of
 
 # Seconds without a first reply, after which a person is told that the host serves somebody else.
@@ -68,7 +68,8 @@ class Connection:
             self.stream.connect(path)
         except OSError as fault:
             self.close()
-            raise Fatal(f"can not reach a host at '{path}': {fault.strerror or fault}") from fault
+            text = f"can not reach a host at '{path}': {fault.strerror or fault}"
+            raise Internal(text, "the host can not be reached") from fault
 
     def __enter__(self) -> "Connection":
         return self

@@ -5,6 +5,14 @@ class Fatal(Exception):
     """The work can not go on; the text says why, for a person."""
 
 
+class Internal(Fatal):
+    """A fault whose text names places of this machine. A user who is elsewhere is told `shown` in its place."""
+
+    def __init__(self, text: str, shown: str):
+        self.shown = shown
+        super().__init__(text)
+
+
 class Lost(Fatal):
     """A reply was not read, so whether the request was carried out is not known."""
 

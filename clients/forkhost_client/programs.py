@@ -5,7 +5,7 @@ from _signal import SIG_DFL, SIGINT, signal
 
 from .address import read_address
 from .connection import Connection
-from .faults import Fatal, Refused
+from .faults import Fatal, Internal, Refused
 from .frames import bytes_of
 from .progress import say
 
@@ -97,6 +97,8 @@ def door(words: list) -> int:
             raise Fatal(DOOR_USAGE)
         serve(words[0], words[1], sys.stdin.buffer, sys.stdout.buffer)
         return DONE
+    except Internal as fault:
+        print(f"forkhost-door: {fault.shown}", file=sys.stderr)
     except Fatal as fault:
         print(f"forkhost-door: {fault}", file=sys.stderr)
     except BrokenPipeError:

@@ -107,7 +107,10 @@ def judged(settings: Settings, entry: Entry) -> "Answered | None":
         entry.reply = f"host-{fault.word}"
         return Answered(FAILED, str(fault))
     except (Fatal, OSError) as fault:
+        # The web server's log has it, and where it names places of this machine that of the front end too.
         say(str(fault))
+        if isinstance(fault, Fatal):
+            entry.log.shown(fault, entry.tenant, entry.repository)
         return Answered(FAILED, "the host can not be asked now")
     except ClientGone:
         entry.reply = "client-gone"

@@ -77,7 +77,7 @@ def show_no_room(doors):
     user = User(doors.door("alice", "small", before="ulimit -f 2000; exec "))
     doors.checks.same("what is short has room", doors.quota, user.told(QUOTA))
     user.send(FETCH)
-    said = f"forkhost-door: a reply can not be kept in '{doors.world.path('')[:-1]}': File too large\n".encode()
+    said = b"forkhost-door: a reply can not be kept: File too large\n"
     doors.checks.same("no room", (b"", 2, said), user.end())
     doors.others_are_answered("no room")
 

@@ -87,9 +87,9 @@ def show_no_log(world):
     world.write("unlogged", rows)
     more = {"SSH_ORIGINAL_COMMAND": "quota"}
     ran = world.ran(world.shell(), "--settings", world.path("unlogged"), "alice", more=more)
-    said = b"forkhost: can not write the log '%s'" % world.path("no", "log").encode()
-    wanted = (0, world.ask("alice", "quota").output, True)
-    world.checks.same("without a log", wanted, (ran.status, ran.output, ran.fault.startswith(said)))
+    said = b"forkhost: can not write the log: No such file or directory\n"
+    wanted = Ran(0, world.ask("alice", "quota").output, said)
+    world.checks.same("without a log", wanted, ran)
 
 
 NO_COMMANDS = {
@@ -171,8 +171,11 @@ def show_bound(world):
     checks.same("and goes behind its request, as all others", [], there(world))
     os.chmod(world.path("caches", "alice"), 0o755)
     ran = world.git(None, "ls-remote", world.url("a"))
-    told = (ran.status, b"open to others" in ran.fault)
+    told = (ran.status, ran.fault.startswith(b"forkhost: the front end failed\n"))
     checks.same("a folder that is open to others is not used", (128, True), told)
+    checks.same("and the user is not told which", False, world.folder.encode() in ran.fault)
+    why = f"alice fault a the folder '{world.path('caches', 'alice')}' is open to others"
+    checks.same("the log is", True, why.split() in world.logged())
     world.host.ends_well(checks, "after the bound")
 
 

@@ -1,5 +1,5 @@
 """One connection to a host. The host serves one at a time, so it is held for one batch of requests alone."""
-import _thread
+from _signal import SIGALRM, alarm, signal
 from _socket import AF_UNIX, socket
 
 from .faults import Fatal, Internal, Lost
@@ -37,31 +37,17 @@ class Data:
         return self.read(self.left)
 
 
-class Timer:
-    """Does some work once after a while, beside all else, unless it is called off before."""
-
-    def __init__(self, seconds: float, work):
-        self.lock, self.work = _thread.allocate_lock(), work
-        self.lock.acquire()
-        _thread.start_new_thread(self.wait, (seconds,))
-
-    def wait(self, seconds: float) -> None:
-        if not self.lock.acquire(timeout=seconds):
-            self.work()
-
-    def cancel(self) -> None:
-        if self.lock.locked():
-            self.lock.release()
-
-
 class Connection:
     """Requests of one tenant, each answered before the next is sent; a `with` statement ends it.
 
-    `_socket` and `_thread` are what `socket` and `threading` stand on, which take longer to read in than a listing."""
+    `_socket` and `_signal` are what `socket` and `signal` stand on, which take longer to read in than a listing."""
 
     def __init__(self, path: str, tenant: str, on_wait=None):
-        self.tenant = bytes_of(tenant)
-        self.timer = Timer(PATIENCE, on_wait or (lambda: None))
+        """`on_wait` is called once where the first reply lets wait; in the main thread, and nobody else has an alarm."""
+        self.tenant, self.is_timed = bytes_of(tenant), on_wait is not None
+        if on_wait:
+            signal(SIGALRM, lambda *_: on_wait())
+            alarm(PATIENCE)
         self.stream = socket(AF_UNIX)
         self.reader, self.data = open(self.stream.fileno(), "rb", PIECE, closefd=False), None
         try:
@@ -77,8 +63,13 @@ class Connection:
     def __exit__(self, *_) -> None:
         self.close()
 
+    def stop_waiting(self) -> None:
+        if self.is_timed:
+            alarm(0)
+            self.is_timed = False
+
     def close(self) -> None:
-        self.timer.cancel()
+        self.stop_waiting()
         self.reader.close()
         self.stream.close()
 
@@ -91,7 +82,7 @@ class Connection:
             head = self.reader.readline(LONGEST_HEAD)
         except OSError as fault:
             raise Lost(f"the host ended the connection: {fault.strerror or fault}") from fault
-        self.timer.cancel()
+        self.stop_waiting()
         if not head:
             raise Lost("the host ended the connection")
         return self.answer(length_of(head))

@@ -7,7 +7,6 @@ from .listing import Listing, read_listing
 from .options import Options
 from .progress import say
 from .remote import Remote
-from .repository import Repository
 
 CAPABILITIES = ["fetch", "push", "option", "object-format"]
 FORMAT = "sha256"
@@ -21,12 +20,23 @@ EMPTY = (
 class Helper:
     """What a fetch and a push want is read when they are asked for: most calls are for a list alone."""
 
-    def __init__(self, address: Address, outer):
-        self.address, self.repository = address, Repository(outer)
+    def __init__(self, address: Address):
+        self.address, self.place = address, None
         self.options = Options(self.warn)
         self.listing = None
         # Whether the repository is to be made by a push.
         self.is_wanting = False
+
+    @property
+    def repository(self):
+        """That in which Git runs the helper."""
+        if not self.place:
+            import os
+
+            from .repository import Repository
+
+            self.place = Repository(os.environ)
+        return self.place
 
     def warn(self, text: str) -> None:
         if self.options.verbosity > 0:

@@ -19,9 +19,8 @@ class Size:
 
     def __init__(self, name: str, kind: str, length: int):
         self.name, self.kind, self.length = name, kind, length
-
-    def record_length(self) -> int:
-        return len(f"{self.name} {self.kind} {self.length}\n") + self.length + 1
+        # The length of its record.
+        self.record = len(f"{name} {kind} {length}\n") + length + 1
 
 
 class Linked:

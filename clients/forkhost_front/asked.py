@@ -10,7 +10,7 @@ FORKS_OFFER = "fork-offer"
 # Requests that are asked by hand, and the words that they take; with `..` also more of the last.
 BY_HAND = {"init": "REPO", "drop": "REPO", "fork": "SRC DST", "head": "REPO", "set-head": "REPO REF"}
 BY_HAND |= {"offer": "REPO TENANT", "withdraw": "REPO TENANT", "offers": "", FORKS_OFFER: "GIVER REPO DST"}
-BY_HAND |= {"quota": "", "prune": "", "for-each-ref": "REPO ..", "cat-file": "NAME", "ls-tree": "NAME"}
+BY_HAND |= {"repos": "", "quota": "", "prune": "", "for-each-ref": "REPO ..", "cat-file": "NAME", "ls-tree": "NAME"}
 BY_HAND |= {"rev-list": "REPO ITEM ..", "merge-base": "REPO ITEM ITEM"}
 # Their words begin with an object.
 OF_OBJECTS = ("cat-file", "ls-tree")

@@ -24,6 +24,8 @@ def show_words(world):
     line(world, world.repository("source"), "one")
     world.succeeds("a push", world.git("source", "push", "-q", world.url("r"), "main:x", "main"))
     checks.same("fork", done(), told("fork", "r", "s"))
+    checks.same("repos", done(b"r\ns\n"), told("repos"))
+    checks.same("repos of bob", done(), world.by_hand("bob", "repos"))
     checks.same("the fork has the references", world.kept("r"), world.kept("s"))
     world.cloned("the fork", "s")
     used = world.ask("alice", "quota").output
@@ -111,6 +113,7 @@ NO_COMMANDS = {
     "init": "'init' takes REPO",
     "offer r": "'offer' takes REPO TENANT",
     "quota x": "'quota' takes no words",
+    "repos x": "'repos' takes no words",
     "init 'a b'": "no word holds a space",
     "init 'a\nb'": "no word holds a space",
     "collect": "'collect' is not done here",

@@ -13,7 +13,7 @@ PIECE = 1 << 16
 
 
 class Data:
-    """What stands behind `ok` in a reply, read as it comes."""
+    """What follows `ok` in a reply, read as it comes."""
 
     def __init__(self, reader, left: int):
         self.reader, self.left = reader, left
@@ -21,7 +21,7 @@ class Data:
     def read(self, count: int) -> bytes:
         """So many bytes, all of which the reply has."""
         if count > self.left:
-            raise Fatal("a reply of the host ends too early")
+            raise Fatal("the host's reply ends too early")
         self.left -= count
         return exactly(self.reader, count)
 
@@ -30,7 +30,7 @@ class Data:
         found = self.reader.readline(min(self.left, longest + 1))
         self.left -= len(found)
         if not found.endswith(b"\n"):
-            raise Fatal("a reply of the host has no line where one belongs")
+            raise Fatal("the host's reply lacks a line")
         return found[:-1]
 
     def rest(self) -> bytes:
@@ -54,8 +54,8 @@ class Connection:
             self.stream.connect(path)
         except OSError as fault:
             self.close()
-            text = f"can not reach a host at '{path}': {fault.strerror or fault}"
-            raise Internal(text, "the host can not be reached") from fault
+            text = f"cannot reach a host at '{path}': {fault.strerror or fault}"
+            raise Internal(text, "the host cannot be reached") from fault
 
     def __enter__(self) -> "Connection":
         return self
@@ -93,7 +93,7 @@ class Connection:
             self.data = Data(self.reader, length - len(begun))
             return self.data
         if length > LONGEST_REFUSAL:
-            raise Lost("what was read is no reply of a forkhost")
+            raise Lost("this is not a reply of a forkhost")
         raise not_done(begun + exactly(self.reader, length - len(begun)))
 
     def text(self, line: str) -> str:

@@ -2,7 +2,7 @@
 
 
 class Fatal(Exception):
-    """The work can not go on; the text says why, for a person."""
+    """The work cannot go on; the text says why, for a person."""
 
 
 class Internal(Fatal):
@@ -26,7 +26,7 @@ class HostFault(Fatal):
 
     def __init__(self, word: str):
         self.word = word
-        super().__init__(f"the host failed ({word}) and changed nothing by this request; it may be asked again")
+        super().__init__(f"the host failed ({word}) and this request changed nothing; it may be sent again")
 
 
 class Refused(Exception):

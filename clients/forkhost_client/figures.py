@@ -28,7 +28,7 @@ def figures(rows: list, names: int, word: str) -> list:
     for words in found:
         digits = [number(text.encode(), LONGEST_NUMBER) for text in words[names:]]
         if len(words) == names or None in digits or not all(map(is_tenant, words[:names])):
-            raise Fatal(f"the host's reply to {word} is of no known form")
+            raise Fatal(f"the host's reply to {word} has an unknown form")
         words[names:] = digits
     return found
 
@@ -36,7 +36,7 @@ def figures(rows: list, names: int, word: str) -> list:
 def rows(connection: Connection, word: str) -> list:
     *found, rest = connection.text(word).split("\n")
     if rest:
-        raise Fatal(f"the host's reply to {word} is of no known form")
+        raise Fatal(f"the host's reply to {word} has an unknown form")
     return found
 
 
@@ -46,7 +46,7 @@ def of_host(path: str) -> list:
         tenants = figures(rows(connection, "tenants"), 1, "tenants")
         counts = figures(rows(connection, "census"), 0, "census")
     if any(len(words) != 1 + len(OF_TENANTS) for words in tenants) or [len(words) for words in counts] != [1]:
-        raise Fatal("a reply of the host has more or fewer figures than are known")
+        raise Fatal("a reply of the host has more or fewer fields than are known")
     gauges = []
     for at, (name, about) in enumerate(OF_TENANTS.items(), 1):
         gauges.append(Gauge(f"forkhost_tenant_{name}", about, {words[0]: words[at] for words in tenants}))

@@ -12,8 +12,8 @@ CAPABILITIES = ["fetch", "push", "option", "object-format"]
 FORMAT = "sha256"
 AUTOCREATE = "forkhost.autocreate"
 EMPTY = (
-    "the repository is empty, and Git makes a clone of it in the SHA-1 format, which can not push to it; "
-    "clone by 'GIT_DEFAULT_HASH=sha256 git clone ..', or push from what 'git init --object-format=sha256' makes"
+    "the repository is empty, so Git makes the clone in the SHA-1 format, which cannot push to it; "
+    "clone by 'GIT_DEFAULT_HASH=sha256 git clone ..', or push from a repository made by 'git init --object-format=sha256'"
 )
 
 
@@ -44,7 +44,7 @@ class Helper:
 
     def connect(self) -> Remote:
         """A connection for one batch."""
-        on_wait = lambda: self.warn("waiting: the host serves another connection")
+        on_wait = lambda: self.warn("waiting: the host is serving another connection")
         return Remote(Connection(self.address.socket, self.address.tenant, on_wait), self.address.repository)
 
     def serve(self, source, sink) -> None:
@@ -65,7 +65,7 @@ class Helper:
         if word in ("fetch", "push"):
             batch = [line, *iter(lambda: read_line(source), "")]
             return [*(self.fetch(batch) if word == "fetch" else self.push(batch)), ""]
-        raise Fatal(f"Git asked for '{line}', which is not known here")
+        raise Fatal(f"Git sent '{line}', which is unknown")
 
     def listed(self, for_push: bool) -> Listing:
         try:
@@ -107,7 +107,7 @@ class Helper:
         yield from self.listing.rows()
 
     def want_format(self) -> None:
-        """A clone has its format only behind the list, so it is looked at here."""
+        """A clone has its format only after the list, so it is looked at here."""
         found = self.repository.object_format()
         if found != FORMAT:
             raise Fatal(

@@ -157,5 +157,5 @@ class Pack:
         outer, quiet = self.repository.environment, self.repository.quiet
         status, output = ran(["git", command, *words], outer, self.file.fileno(), quiet)
         if status:
-            raise GitFailed("Git did not take the objects that were received")
+            raise GitFailed("Git did not accept the received objects")
         return output.decode()

@@ -56,7 +56,7 @@ def remote_helper(words: list) -> int:
         if len(words) != 2:
             raise Fatal(HELPER_USAGE)
         if NESTED.encode() in posix.environ:
-            raise Fatal("an object is not here, and a fetch of it would wait for this one; use a complete clone")
+            raise Fatal("an object is missing here, and a fetch of it would wait for this command; use a complete clone")
         Helper(read_address(words[1])).serve(sys.stdin.buffer, sys.stdout.buffer)
         return DONE
     except Fatal as fault:
@@ -73,15 +73,15 @@ def is_word(word: str) -> bool:
 
 
 def ask(words: list) -> int:
-    """`forkhost-ask SOCKET TENANT WORD [ARG ..]`: one request, whose body comes from standard input behind `-`."""
+    """`forkhost-ask SOCKET TENANT WORD [ARG ..]`: one request, whose body comes from standard input after `-`."""
     leave_signals()
     try:
         has_body = words[3:] != [] and words[-1] == "-"
         path, tenant, *line = words[:-1] if has_body else words + [""] * (3 - len(words))
         if not all(map(is_word, [tenant, *line])):
-            raise Fatal(ASK_USAGE + "; no word holds a space or a line feed")
+            raise Fatal(ASK_USAGE + "; a word cannot contain a space or a line feed")
         body = sys.stdin.buffer.read() if has_body else b""
-        with Connection(path, tenant, lambda: say("waiting: the host serves another connection")) as connection:
+        with Connection(path, tenant, lambda: say("waiting: the host is serving another connection")) as connection:
             data = connection.ask(" ".join(line), body)
             while data.left:
                 sys.stdout.buffer.write(data.read(min(data.left, PIECE)))

@@ -14,7 +14,7 @@ def own_folder(path: str) -> str:
     except FileExistsError:
         pass
     except OSError as fault:
-        raise Internal(f"can not make the folder '{path}': {fault.strerror or fault}", FAILED) from fault
+        raise Internal(f"cannot make the folder '{path}': {fault.strerror or fault}", FAILED) from fault
     if os.stat(path).st_mode & OPEN_TO_OTHERS:
         raise Internal(f"the folder '{path}' is open to others", FAILED)
     return path

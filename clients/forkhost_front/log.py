@@ -25,7 +25,7 @@ class Log:
             try:
                 self.write(text.encode("utf-8", "backslashreplace").replace(b"\n", b" ") + b"\n")
             except OSError as fault:
-                say(f"can not write the log: {fault.strerror or fault}")
+                say(f"cannot write the log: {fault.strerror or fault}")
 
     def shown(self, fault: Fatal, tenant: str, repository: str) -> str:
         """What a user is told of a fault. They are elsewhere, so what names places of this machine stands here alone."""

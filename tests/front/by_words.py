@@ -89,34 +89,34 @@ def show_no_log(world):
     world.write("unlogged", rows)
     more = {"SSH_ORIGINAL_COMMAND": "quota"}
     ran = world.ran(world.shell(), "--settings", world.path("unlogged"), "alice", more=more)
-    said = b"forkhost: can not write the log: No such file or directory\n"
+    said = b"forkhost: cannot write the log: No such file or directory\n"
     wanted = Ran(0, world.ask("alice", "quota").output, said)
     world.checks.same("without a log", wanted, ran)
 
 
 NO_COMMANDS = {
     "": "there is no shell here",
-    "sh": "'sh' is not done here",
+    "sh": "'sh' is not a command here",
     "git-upload-archive 'r.git'": "git-upload-archive is not served",
     "git upload-archive r": "git-upload-archive is not served",
-    "git-upload-pack '../bob/r'": "is no repository's name",
+    "git-upload-pack '../bob/r'": "is not a repository name",
     "git-upload-pack '/etc'x": "repository 'etcx' of tenant 'alice' not found",
-    "git-upload-pack r --help": "is no repository's name",
-    "git-upload-pack 'r'; touch GOT": "is no repository's name",
-    "git-upload-pack '$(touch GOT)'": "is no repository's name",
-    "git-upload-pack 'R'": "is no repository's name",
-    "git-upload-pack": "is no repository's name",
-    "git-receive-pack 'r": "quotes do not end",
-    "git-shell": "'git-shell' is not done here",
-    "git gc": "'git-gc' is not done here",
-    "push r -": "'push' is not done here",
+    "git-upload-pack r --help": "is not a repository name",
+    "git-upload-pack 'r'; touch GOT": "is not a repository name",
+    "git-upload-pack '$(touch GOT)'": "is not a repository name",
+    "git-upload-pack 'R'": "is not a repository name",
+    "git-upload-pack": "is not a repository name",
+    "git-receive-pack 'r": "an unclosed quote",
+    "git-shell": "'git-shell' is not a command here",
+    "git gc": "'git-gc' is not a command here",
+    "push r -": "'push' is not a command here",
     "init": "'init' takes REPO",
     "offer r": "'offer' takes REPO TENANT",
     "quota x": "'quota' takes no words",
     "repos x": "'repos' takes no words",
-    "init 'a b'": "no word holds a space",
-    "init 'a\nb'": "no word holds a space",
-    "collect": "'collect' is not done here",
+    "init 'a b'": "a word cannot contain a space",
+    "init 'a\nb'": "a word cannot contain a space",
+    "collect": "'collect' is not a command here",
 }
 
 
@@ -136,7 +136,7 @@ def show_no_commands(world):
         world.checks.same(f"no tenant: {words}", (128, True), (ran.status, b"usage: forkhost-shell" in ran.fault))
     show_no_log(world)
     wrong = {"socket /x\n": "does not set caches", "socket /x\nsocket /y\n": "line 2 of", "what\n": "line 1 of"}
-    wrong |= {"socket /x\ncaches /y\nbytes few\n": "no number", "socket /x\ncaches /y\nelse z\n": "sets else"}
+    wrong |= {"socket /x\ncaches /y\nbytes few\n": "not a number", "socket /x\ncaches /y\nelse z\n": "sets else"}
     for text, said in wrong.items():
         world.write("wrong", text)
         ran = world.ran(world.shell(), "--settings", world.path("wrong"), "alice")

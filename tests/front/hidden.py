@@ -4,7 +4,7 @@ from making import line
 from program import Ran
 from watching import Watcher
 
-SAID = "the host can not be reached"
+SAID = "the host cannot be reached"
 
 
 def show_down(world):
@@ -55,7 +55,7 @@ def show_down_by_hand(world, socket):
 
 
 def why(socket, text, repository="r"):
-    return f"alice fault {repository} can not reach a host at '{socket}': {text}"
+    return f"alice fault {repository} cannot reach a host at '{socket}': {text}"
 
 
 def faults(world):

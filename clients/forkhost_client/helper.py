@@ -122,7 +122,7 @@ class Helper:
         wanted = [line.split(" ")[1] for line in batch]
         listing = self.listing or self.listed(False)
         try:
-            kept = fetch(self.repository, self.connect(), listing, wanted, self.options)
+            kept = fetch(self.repository, self.connect, listing, wanted, self.options)
         except Refused as refusal:
             raise Fatal(self.told(refusal)) from refusal
         if kept:

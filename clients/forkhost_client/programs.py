@@ -21,7 +21,7 @@ NESTED = "FORKHOST_HELPER"
 def run(program) -> None:
     """Runs a program by the words of the command line, and ends. Python's own end would take a sixth of a listing."""
     status = program(sys.argv[1:])
-    for stream in (sys.stdout, sys.stderr):
+    for stream in filter(None, (sys.stdout, sys.stderr)):
         try:
             stream.flush()
         except OSError:

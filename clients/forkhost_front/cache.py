@@ -154,7 +154,7 @@ class Cache:
         known = set(here.values())
         wanted = [name for name in dict.fromkeys(listing.refs.values()) if name not in known]
         if wanted and not self.is_connected(wanted):
-            fetch(self.repository, self.connect(), listing, wanted, Options(lambda text: None))
+            fetch(self.repository, self.connect, listing, wanted, Options(lambda text: None))
             self.repository.output(*CONNECTED, given=lines(wanted))
 
     def is_connected(self, wanted: list) -> bool:

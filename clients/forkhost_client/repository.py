@@ -1,10 +1,8 @@
 """The repository that Git works in, asked by Git's own commands."""
 import os
-from fcntl import F_SETPIPE_SZ
-from fcntl import fcntl as set_pipe
 
 from .asking import Asking
-from .child import Child, in_memory, ran
+from .child import Child, in_memory, ran, widen
 from .faults import GitFailed
 from .frames import bytes_of, text_of
 from .programs import NESTED
@@ -143,7 +141,7 @@ class Batch:
         self.child = Child(["git", "cat-file", "--batch", "--buffer"], repository.environment, source)
         os.close(source)
         # Git reads on, as far as a part of an upload goes, while the host takes the part before.
-        set_pipe(self.child.output.fileno(), F_SETPIPE_SZ, PIPE)
+        widen(self.child.output.fileno(), PIPE)
 
     def read(self, count: int) -> bytes:
         """So many bytes, all of which must be there."""

@@ -14,7 +14,7 @@ MANDIR = $(PREFIX)/share/man
 UNITDIR = $(PREFIX)/lib/systemd/system
 USERDIR = $(PREFIX)/lib/sysusers.d
 COMPLETIONS = $(PREFIX)/share/bash-completion/completions
-CLIENTS = forkhost-ask forkhost-door forkhost-shell forkhost-http git-remote-forkhost
+CLIENTS = forkhost-ask forkhost-door forkhost-http forkhost-metrics forkhost-shell git-remote-forkhost
 MODULES = forkhost_client forkhost_front
 HOOKS = forkhost_front/hooks
 
@@ -38,7 +38,7 @@ install:
 	sed 's|@BINDIR@|$(BINDIR)|' install/forkhost.service > "$(DESTDIR)$(UNITDIR)/forkhost.service"
 	install -m 644 install/forkhost.sysusers "$(DESTDIR)$(USERDIR)/forkhost.conf"
 	install -m 644 install/completion "$(DESTDIR)$(COMPLETIONS)/forkhost"
-	ln -sf forkhost "$(DESTDIR)$(COMPLETIONS)/forkhost-ask"
+	for client in forkhost-ask forkhost-metrics; do ln -sf forkhost "$(DESTDIR)$(COMPLETIONS)/$$client" || exit 1; done
 
 # The C library that it wants is the newest that the program names.
 deb:
@@ -53,5 +53,5 @@ uninstall:
 	rm -rf "$(DESTDIR)$(LIBDIR)"
 	rm -f "$(DESTDIR)$(BINDIR)/forkhost" $(CLIENTS:%="$(DESTDIR)$(BINDIR)/%")
 	rm -f "$(DESTDIR)$(UNITDIR)/forkhost.service" "$(DESTDIR)$(USERDIR)/forkhost.conf"
-	rm -f "$(DESTDIR)$(COMPLETIONS)/forkhost" "$(DESTDIR)$(COMPLETIONS)/forkhost-ask"
+	rm -f "$(DESTDIR)$(COMPLETIONS)/forkhost" "$(DESTDIR)$(COMPLETIONS)/forkhost-ask" "$(DESTDIR)$(COMPLETIONS)/forkhost-metrics"
 	rm -f "$(DESTDIR)$(MANDIR)"/man1/forkhost*.1 "$(DESTDIR)$(MANDIR)/man1/git-remote-forkhost.1" "$(DESTDIR)$(MANDIR)"/man7/forkhost*.7

@@ -7,6 +7,8 @@ from _signal import SIGPIPE, SIGXFSZ
 INPUT, OUTPUT, ERRORS = 0, 1, 2
 PIECE = 1 << 16
 NOTHING = (os.POSIX_SPAWN_OPEN, INPUT, os.devnull, os.O_RDONLY, 0)
+# As Linux has it; Python has it since 3.10.
+SET_PIPE_SIZE = 1031
 QUIET = (os.POSIX_SPAWN_OPEN, ERRORS, os.devnull, os.O_WRONLY, 0)
 
 
@@ -22,6 +24,16 @@ def in_memory(data: bytes) -> int:
     written(file, data)
     os.lseek(file, 0, os.SEEK_SET)
     return file
+
+
+def widen(pipe: int, size: int) -> None:
+    """Room for so many bytes in a pipe, if the kernel gives it."""
+    from fcntl import fcntl
+
+    try:
+        fcntl(pipe, SET_PIPE_SIZE, size)
+    except OSError:
+        pass
 
 
 class Child:

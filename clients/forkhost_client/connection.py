@@ -1,8 +1,8 @@
 """One connection to a host. The host serves one at a time, so it is held for one batch of requests alone."""
-import _thread
+from _signal import SIGALRM, alarm, signal
 from _socket import AF_UNIX, socket
 
-from .faults import Fatal, Lost
+from .faults import Fatal, Internal, Lost
 from .frames import DONE, LONGEST_HEAD, MAX_PAYLOAD, bytes_of, frame, length_of, not_done, text_of
 
 # Seconds without a first reply, after which a person is told that the host serves somebody else.
@@ -13,7 +13,7 @@ PIECE = 1 << 16
 
 
 class Data:
-    """What stands behind `ok` in a reply, read as it comes."""
+    """What follows `ok` in a reply, read as it comes."""
 
     def __init__(self, reader, left: int):
         self.reader, self.left = reader, left
@@ -21,7 +21,7 @@ class Data:
     def read(self, count: int) -> bytes:
         """So many bytes, all of which the reply has."""
         if count > self.left:
-            raise Fatal("a reply of the host ends too early")
+            raise Fatal("the host's reply ends too early")
         self.left -= count
         return exactly(self.reader, count)
 
@@ -30,45 +30,32 @@ class Data:
         found = self.reader.readline(min(self.left, longest + 1))
         self.left -= len(found)
         if not found.endswith(b"\n"):
-            raise Fatal("a reply of the host has no line where one belongs")
+            raise Fatal("the host's reply lacks a line")
         return found[:-1]
 
     def rest(self) -> bytes:
         return self.read(self.left)
 
 
-class Timer:
-    """Does some work once after a while, beside all else, unless it is called off before."""
-
-    def __init__(self, seconds: float, work):
-        self.lock, self.work = _thread.allocate_lock(), work
-        self.lock.acquire()
-        _thread.start_new_thread(self.wait, (seconds,))
-
-    def wait(self, seconds: float) -> None:
-        if not self.lock.acquire(timeout=seconds):
-            self.work()
-
-    def cancel(self) -> None:
-        if self.lock.locked():
-            self.lock.release()
-
-
 class Connection:
     """Requests of one tenant, each answered before the next is sent; a `with` statement ends it.
 
-    `_socket` and `_thread` are what `socket` and `threading` stand on, which take longer to read in than a listing."""
+    `_socket` and `_signal` are what `socket` and `signal` stand on, which take longer to read in than a listing."""
 
     def __init__(self, path: str, tenant: str, on_wait=None):
-        self.tenant = bytes_of(tenant)
-        self.timer = Timer(PATIENCE, on_wait or (lambda: None))
+        """`on_wait` is called once where the first reply lets wait; in the main thread, and nobody else has an alarm."""
+        self.tenant, self.is_timed = bytes_of(tenant), on_wait is not None
+        if on_wait:
+            signal(SIGALRM, lambda *_: on_wait())
+            alarm(PATIENCE)
         self.stream = socket(AF_UNIX)
         self.reader, self.data = open(self.stream.fileno(), "rb", PIECE, closefd=False), None
         try:
             self.stream.connect(path)
         except OSError as fault:
             self.close()
-            raise Fatal(f"can not reach a host at '{path}': {fault.strerror or fault}") from fault
+            text = f"cannot reach a host at '{path}': {fault.strerror or fault}"
+            raise Internal(text, "the host cannot be reached") from fault
 
     def __enter__(self) -> "Connection":
         return self
@@ -76,8 +63,13 @@ class Connection:
     def __exit__(self, *_) -> None:
         self.close()
 
+    def stop_waiting(self) -> None:
+        if self.is_timed:
+            alarm(0)
+            self.is_timed = False
+
     def close(self) -> None:
-        self.timer.cancel()
+        self.stop_waiting()
         self.reader.close()
         self.stream.close()
 
@@ -90,7 +82,7 @@ class Connection:
             head = self.reader.readline(LONGEST_HEAD)
         except OSError as fault:
             raise Lost(f"the host ended the connection: {fault.strerror or fault}") from fault
-        self.timer.cancel()
+        self.stop_waiting()
         if not head:
             raise Lost("the host ended the connection")
         return self.answer(length_of(head))
@@ -101,7 +93,7 @@ class Connection:
             self.data = Data(self.reader, length - len(begun))
             return self.data
         if length > LONGEST_REFUSAL:
-            raise Lost("what was read is no reply of a forkhost")
+            raise Lost("this is not a reply of a forkhost")
         raise not_done(begun + exactly(self.reader, length - len(begun)))
 
     def text(self, line: str) -> str:

@@ -1,4 +1,4 @@
-"""Why the host does not take an object, found by a look at the object here."""
+"""Why the host does not accept an object, found by a look at the object here."""
 import re
 
 from .repository import Repository
@@ -25,9 +25,9 @@ def entry_fault(tree: bytes, path: str) -> "str | None":
         tree = rest[RAW:]
         file = quoted((path + "/" if path else "") + name.decode("utf-8", "surrogateescape"))
         if mode not in MODES:
-            return f"the host does not take mode {mode.decode(errors='replace')} of {file}"
+            return f"the host does not accept mode {mode.decode(errors='replace')} of {file}"
         if name in NO_NAMES or b"/" in name:
-            return f"the host does not take the file name of {file}"
+            return f"the host does not accept the file name of {file}"
     return None
 
 
@@ -36,7 +36,7 @@ def line_fault(content: bytes) -> "str | None":
     for line in content.partition(b"\n\n")[0].split(b"\n"):
         word, _, ident = line.partition(b" ")
         if word in IDENTS and not IDENT.fullmatch(ident):
-            return f"the host does not take its line {quoted(line.decode('utf-8', 'surrogateescape'))}"
+            return f"the host does not accept its line {quoted(line.decode('utf-8', 'surrogateescape'))}"
     return None
 
 
@@ -46,6 +46,6 @@ def explained(repository: Repository, name: str, path: str) -> str:
         _, content = next(batch.contents(), (name, b""))
     kind = repository.answer("cat-file", "-t", name) or "object"
     if kind == "tree":
-        return entry_fault(content, path) or f"the host does not take the order of tree {name} at {quoted(path or '.')}"
-    why = line_fault(content) or "the host does not take its header"
+        return entry_fault(content, path) or f"the host does not accept the order of tree {name} at {quoted(path or '.')}"
+    why = line_fault(content) or "the host does not accept its header"
     return f"{kind} {name}: {why}"

@@ -2,7 +2,15 @@
 
 
 class Fatal(Exception):
-    """The work can not go on; the text says why, for a person."""
+    """The work cannot go on; the text says why, for a person."""
+
+
+class Internal(Fatal):
+    """A fault whose text names places of this machine. A user who is elsewhere is told `shown` in its place."""
+
+    def __init__(self, text: str, shown: str):
+        self.shown = shown
+        super().__init__(text)
 
 
 class Lost(Fatal):
@@ -18,7 +26,7 @@ class HostFault(Fatal):
 
     def __init__(self, word: str):
         self.word = word
-        super().__init__(f"the host failed ({word}) and changed nothing by this request; it may be asked again")
+        super().__init__(f"the host failed ({word}) and this request changed nothing; it may be sent again")
 
 
 class Refused(Exception):

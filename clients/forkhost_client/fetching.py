@@ -9,12 +9,14 @@ from .repository import Repository
 
 
 class Fetch:
-    """What is wanted of one repository, over one connection, into a pack."""
+    """What is wanted of one repository, over one connection, into a pack. Git is asked before the host is held."""
 
-    def __init__(self, repository: Repository, remote: Remote, listing: Listing, options: Options, pack: Pack):
-        self.repository, self.remote, self.pack = repository, remote, pack
+    def __init__(self, repository: Repository, listing: Listing, options: Options, pack: Pack, wanted: list):
+        self.repository, self.pack = repository, pack
         self.listing, self.options = listing, options
-        self.history = {}
+        self.history = repository.history() if self.is_whole(wanted) else {}
+        self.targets = [name for name in self.ends(wanted) if name not in self.history]
+        self.tips = repository.tips() if self.history and self.targets else []
 
     def is_whole(self, wanted: list) -> bool:
         """Whether there is a history here, and all that it leads to is here, or need not be.
@@ -25,17 +27,14 @@ class Fetch:
             return False
         return set(self.listing.refs.values()).issuperset(wanted) or not self.repository.is_partial()
 
-    def carry_out(self, wanted: list) -> None:
-        self.history = self.repository.history() if self.is_whole(wanted) else {}
-        targets = [name for name in self.targets(wanted) if name not in self.history]
-        commits = [name for name in targets if self.listing.kind(name) == "commit"]
-        listed = self.listing.refs.values()
-        known = common(self.repository, self.history, self.remote, listed, commits) if targets else []
-        self.receive(targets, known)
+    def carry_out(self, remote: Remote) -> None:
+        commits = [name for name in self.targets if self.listing.kind(name) == "commit"]
+        known = common(remote, self.history, self.tips, set(self.listing.refs.values()), commits)
+        self.receive(remote, known)
         if self.options.followtags:
             self.follow_tags()
 
-    def targets(self, wanted: list) -> list:
+    def ends(self, wanted: list) -> list:
         """What stands behind the wanted names; tags between are here already, and need not be asked for.
 
         HEAD is the first, since most other tips stand in its history; then come commits, then all else."""
@@ -49,12 +48,12 @@ class Fetch:
         for tag in self.listing.chain(name):
             self.pack.add(tag)
 
-    def receive(self, wanted: list, known: list) -> None:
-        """All that the wanted names lead to, less what the known ones do. The first one is asked for alone."""
-        room = 1
+    def receive(self, remote: Remote, known: list) -> None:
+        """All that the targets lead to, less what the known ones do. The first one is asked for alone."""
+        wanted, room = self.targets, 1
         while wanted:
             group = wanted[:room]
-            for record in self.remote.reached(group, known):
+            for record in remote.reached(group, known):
                 self.pack.add(record)
             known = (known + group)[:MAX_EXCLUDED]
             wanted = [name for name in wanted[room:] if name not in self.pack.names]
@@ -67,9 +66,10 @@ class Fetch:
                 self.add_chain(name)
 
 
-def fetch(repository: Repository, remote: Remote, listing: Listing, wanted: list, options: Options) -> "str | None":
+def fetch(repository: Repository, connect, listing: Listing, wanted: list, options: Options) -> "str | None":
     """Brings what the wanted names lead to into the repository; the path of the file that holds its pack, if any."""
     with Pack(repository, Progress("Receiving objects", options.progress)) as pack:
-        with remote:
-            Fetch(repository, remote, listing, options, pack).carry_out(wanted)
+        work = Fetch(repository, listing, options, pack, wanted)
+        with connect() as remote:
+            work.carry_out(remote)
         return pack.keep(options.cloning)

@@ -33,7 +33,7 @@ def framed(reply: bytes) -> bytes:
 
 
 def replies(written: bytes) -> tuple:
-    """The whole replies of an output, and what stands behind the last one."""
+    """The whole replies of an output, and what comes after the last one."""
     found, at = [], 0
     while (end := written.find(b"\n", at, at + LONGEST_HEAD) + 1) > 0:
         length = number(written[at : end - 1], LONGEST_NUMBER)
@@ -47,10 +47,10 @@ def replies(written: bytes) -> tuple:
 def length_of(head: bytes) -> int:
     """The length that the first line of a reply's frame says."""
     if head == BAD_FRAME:
-        raise Fatal("the host took the request for no frame, and ended the connection")
+        raise Fatal("the host reported a bad frame and ended the connection")
     length = number(head[:-1], LONGEST_NUMBER) if head.endswith(b"\n") else None
     if length is None:
-        raise Lost("what was read is no reply of a forkhost")
+        raise Lost("this is not a reply of a forkhost")
     return length
 
 
@@ -62,4 +62,4 @@ def not_done(reply: bytes) -> Exception:
             return Refused(words[0].decode(), text_of(b"".join(words[1:])))
         if kind == b"host" and len(words) == 1:
             return HostFault(words[0].decode())
-    return Lost("what was read is no reply of a forkhost")
+    return Lost("this is not a reply of a forkhost")

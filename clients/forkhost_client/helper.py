@@ -7,26 +7,36 @@ from .listing import Listing, read_listing
 from .options import Options
 from .progress import say
 from .remote import Remote
-from .repository import Repository
 
 CAPABILITIES = ["fetch", "push", "option", "object-format"]
 FORMAT = "sha256"
 AUTOCREATE = "forkhost.autocreate"
 EMPTY = (
-    "the repository is empty, and Git makes a clone of it in the SHA-1 format, which can not push to it; "
-    "clone by 'GIT_DEFAULT_HASH=sha256 git clone ..', or push from what 'git init --object-format=sha256' makes"
+    "the repository is empty, so Git makes the clone in the SHA-1 format, which cannot push to it; "
+    "clone by 'GIT_DEFAULT_HASH=sha256 git clone ..', or push from a repository made by 'git init --object-format=sha256'"
 )
 
 
 class Helper:
     """What a fetch and a push want is read when they are asked for: most calls are for a list alone."""
 
-    def __init__(self, address: Address, outer):
-        self.address, self.repository = address, Repository(outer)
+    def __init__(self, address: Address):
+        self.address, self.place = address, None
         self.options = Options(self.warn)
         self.listing = None
         # Whether the repository is to be made by a push.
         self.is_wanting = False
+
+    @property
+    def repository(self):
+        """That in which Git runs the helper."""
+        if not self.place:
+            import os
+
+            from .repository import Repository
+
+            self.place = Repository(os.environ)
+        return self.place
 
     def warn(self, text: str) -> None:
         if self.options.verbosity > 0:
@@ -34,7 +44,7 @@ class Helper:
 
     def connect(self) -> Remote:
         """A connection for one batch."""
-        on_wait = lambda: self.warn("waiting: the host serves another connection")
+        on_wait = lambda: self.warn("waiting: the host is serving another connection")
         return Remote(Connection(self.address.socket, self.address.tenant, on_wait), self.address.repository)
 
     def serve(self, source, sink) -> None:
@@ -55,7 +65,7 @@ class Helper:
         if word in ("fetch", "push"):
             batch = [line, *iter(lambda: read_line(source), "")]
             return [*(self.fetch(batch) if word == "fetch" else self.push(batch)), ""]
-        raise Fatal(f"Git asked for '{line}', which is not known here")
+        raise Fatal(f"Git sent '{line}', which is unknown")
 
     def listed(self, for_push: bool) -> Listing:
         try:
@@ -97,7 +107,7 @@ class Helper:
         yield from self.listing.rows()
 
     def want_format(self) -> None:
-        """A clone has its format only behind the list, so it is looked at here."""
+        """A clone has its format only after the list, so it is looked at here."""
         found = self.repository.object_format()
         if found != FORMAT:
             raise Fatal(
@@ -112,7 +122,7 @@ class Helper:
         wanted = [line.split(" ")[1] for line in batch]
         listing = self.listing or self.listed(False)
         try:
-            kept = fetch(self.repository, self.connect(), listing, wanted, self.options)
+            kept = fetch(self.repository, self.connect, listing, wanted, self.options)
         except Refused as refusal:
             raise Fatal(self.told(refusal)) from refusal
         if kept:

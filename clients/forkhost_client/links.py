@@ -1,4 +1,4 @@
-"""Orders of objects in which each stands behind those that it links to."""
+"""Orders of objects in which each comes after those that it links to."""
 from .records import linked
 from .repository import Repository
 
@@ -6,8 +6,8 @@ FOLDER = b"40000 "
 RAW = 32
 
 
-def behind_links(names: list, links: dict) -> list:
-    """The names, each behind those of them that it links to."""
+def after_links(names: list, links: dict) -> list:
+    """The names, each after those of them that it links to."""
     found, done = [], set()
     for top in names:
         due = [(top, False)]
@@ -36,10 +36,10 @@ def children_first(trees: list, repository: Repository) -> list:
     wanted = set(trees)
     with repository.records(trees) as batch:
         links = {name: [other for other in folders(tree) if other in wanted] for name, tree in batch.contents()}
-    return behind_links(trees, links)
+    return after_links(trees, links)
 
 
 def inner_first(tags: list, repository: Repository) -> list:
     with repository.records(tags) as batch:
         links = {name: [linked(tag).name] for name, tag in batch.contents()}
-    return behind_links(tags, links)
+    return after_links(tags, links)

@@ -4,10 +4,10 @@ import os
 PIECE = 1 << 20
 
 
-def nameless(folder: str):
-    """A new one, on the file system of a folder."""
+def nameless(folder: str, mode: int = 0o600):
+    """A new one, on the file system of a folder. With `mode` it may be given a name."""
     try:
-        return open(os.open(folder, os.O_TMPFILE | os.O_RDWR | os.O_CLOEXEC, 0o600), "w+b", PIECE)
+        return open(os.open(folder, os.O_TMPFILE | os.O_RDWR | os.O_CLOEXEC, mode), "w+b", PIECE)
     except OSError:
         # There are file systems on which it has a name for a moment.
         from tempfile import TemporaryFile

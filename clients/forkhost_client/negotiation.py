@@ -1,6 +1,5 @@
 """What both sides have, so that what it leads to need not be sent."""
 from .remote import Remote
-from .repository import Repository
 
 # A request names so many objects at the most.
 MAX_ITEMS = 64
@@ -24,11 +23,11 @@ def frontier(history: dict, shared: set) -> list:
     return [name for name in both if name not in older]
 
 
-def common(repository: Repository, history: dict, remote: Remote, listed: list, commits: list) -> list:
+def common(remote: Remote, history: dict, tips: list, listed: set, commits: list) -> list:
     """Commits of the history here that the tenant sees too, before a fetch of these: all that they lead to is here."""
-    if not history:
+    if not tips:
         return []
-    known = visible(remote, repository.tips(), set(listed))[:MAX_COMMON]
+    known = visible(remote, tips, listed)[:MAX_COMMON]
     asked = commits[: MAX_ITEMS - MAX_COMMON]
     far = remote.revisions(asked, known) if asked else []
     return frontier(history, {*far, *known})[:MAX_COMMON]

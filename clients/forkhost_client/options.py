@@ -10,7 +10,7 @@ IGNORED = {
     "deepen-relative": "--deepen is ignored",
     "filter": "--filter is ignored",
 }
-# The whole history, which Git asks for where it fetches tags behind all else.
+# The whole history, which Git asks for where it fetches tags after all else.
 NO_DEPTH = "0"
 BOOLEANS = ("progress", "dry-run", "atomic", "followtags", "refetch", "cloning")
 TRUTHS = {"true": True, "false": False}
@@ -48,11 +48,11 @@ class Options:
     def ignore(self, name: str) -> None:
         """Says it once; Git may ask twice."""
         if name not in self.ignored:
-            self.warn(f"{IGNORED[name]}: all of the history comes, whole")
+            self.warn(f"{IGNORED[name]}: the whole history is fetched")
         self.ignored.add(name)
 
     def take_truth(self, name: str, value: str) -> str:
         if value not in TRUTHS:
-            return "error it is true or false"
+            return "error expected true or false"
         setattr(self, name, TRUTHS[value])
         return "ok"

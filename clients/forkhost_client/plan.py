@@ -10,6 +10,13 @@ MAX_CONTENT = 8_388_608
 # What an object uses of its tenant's limit beside its content.
 OBJECT_USE = 64
 KINDS = ("blob", "tree", "commit", "tag")
+# What all objects of a kind have together at the most where they go in one upload, whatever its order.
+TOGETHER = MAX_UPLOAD // 2
+
+
+def length_of(objects: list) -> int:
+    """That of their records."""
+    return sum(one.record for one in objects)
 
 
 class Plan:
@@ -22,27 +29,30 @@ class Plan:
         return sum(one.length + OBJECT_USE for one in self.objects)
 
     def length(self) -> int:
-        return sum(one.record_length() for one in self.objects)
+        return length_of(self.objects)
 
     def uploads(self, room: int) -> list:
         """The objects in their order, in runs of records of at most so many bytes."""
-        runs, left = [[]], room
+        lengths = {kind: length_of(one for one in self.objects if one.kind == kind) for kind in KINDS}
+        runs, left, kind = [[]], room, ""
         for one in self.objects:
-            if one.record_length() > left:
+            is_first, kind = one.kind != kind, one.kind
+            wanted = lengths[kind] if is_first and lengths[kind] <= TOGETHER else one.record
+            if wanted > left:
                 runs.append([])
                 left = room
-            left -= one.record_length()
+            left -= one.record
             runs[-1].append(one)
         return runs
 
 
 def in_order(sizes: dict, repository: Repository) -> list:
-    """By kinds, and within one each behind what it links to, where one upload does not hold all of them."""
-    by_kind = {kind: [name for name in sizes if sizes[name].kind == kind] for kind in KINDS}
-    if sum(size.record_length() for size in sizes.values()) > MAX_UPLOAD // 2:
-        by_kind["tree"] = children_first(by_kind["tree"], repository)
-        by_kind["tag"] = inner_first(by_kind["tag"], repository)
-    return [sizes[name] for kind in KINDS for name in by_kind[kind]]
+    """By kinds, and within one each after what it links to, where one upload may not hold all of this kind."""
+    by_kind = {kind: [one for one in sizes.values() if one.kind == kind] for kind in KINDS}
+    for kind, order in (("tree", children_first), ("tag", inner_first)):
+        if length_of(by_kind[kind]) > TOGETHER:
+            by_kind[kind] = [sizes[name] for name in order([one.name for one in by_kind[kind]], repository)]
+    return [one for kind in KINDS for one in by_kind[kind]]
 
 
 def too_large(sizes: list) -> None:
@@ -60,5 +70,5 @@ def plan(repository: Repository, remote: Remote, listed: list, wanted: list) -> 
         return Plan([], {})
     listed = set(listed)
     known = dict.fromkeys([*repository.present(listed), *visible(remote, repository.tips(), listed)])
-    paths = repository.reached(here, known)
-    return Plan(in_order(repository.present(paths), repository), paths)
+    sizes, paths = repository.reached(here, known)
+    return Plan(in_order(sizes, repository), paths)

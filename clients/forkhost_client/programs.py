@@ -1,11 +1,11 @@
 """The programs: words and the standard streams in, an exit status out. Each reads the modules that it wants alone."""
-import os
+import posix
 import sys
 from _signal import SIG_DFL, SIGINT, signal
 
 from .address import read_address
 from .connection import Connection
-from .faults import Fatal, Refused
+from .faults import Fatal, Internal, Refused
 from .frames import bytes_of
 from .progress import say
 
@@ -14,6 +14,19 @@ ASK_USAGE = "usage: forkhost-ask SOCKET TENANT WORD [ARG ..] [-]"
 HELPER_USAGE = "usage: git-remote-forkhost REMOTE forkhost::/ABSOLUTE/SOCKET/TENANT/REPO (Git runs it)"
 DONE, REFUSED, FAULT, FATAL = 0, 1, 2, 128
 PIECE = 1 << 16
+# Set in the children of a helper, so that a helper which a child starts can tell.
+NESTED = "FORKHOST_HELPER"
+
+
+def run(program) -> None:
+    """Runs a program by the words of the command line, and ends. Python's own end would take a sixth of a listing."""
+    status = program(sys.argv[1:])
+    for stream in filter(None, (sys.stdout, sys.stderr)):
+        try:
+            stream.flush()
+        except OSError:
+            pass
+    posix._exit(status)
 
 
 def leave_signals() -> None:
@@ -23,6 +36,8 @@ def leave_signals() -> None:
 
 def nobody_reads() -> None:
     """Whoever read standard output is gone: what is left of it goes nowhere."""
+    import os
+
     os.dup2(os.open(os.devnull, os.O_WRONLY), sys.stdout.fileno())
 
 
@@ -35,15 +50,14 @@ def fatal(text: str) -> int:
 def remote_helper(words: list) -> int:
     """`git-remote-forkhost REMOTE URL`."""
     from .helper import Helper
-    from .repository import NESTED
 
     leave_signals()
     try:
         if len(words) != 2:
             raise Fatal(HELPER_USAGE)
-        if NESTED in os.environ:
-            raise Fatal("an object is not here, and a fetch of it would wait for this one; use a complete clone")
-        Helper(read_address(words[1]), os.environ).serve(sys.stdin.buffer, sys.stdout.buffer)
+        if NESTED.encode() in posix.environ:
+            raise Fatal("an object is missing here, and a fetch of it would wait for this command; use a complete clone")
+        Helper(read_address(words[1])).serve(sys.stdin.buffer, sys.stdout.buffer)
         return DONE
     except Fatal as fault:
         return fatal(str(fault))
@@ -59,15 +73,15 @@ def is_word(word: str) -> bool:
 
 
 def ask(words: list) -> int:
-    """`forkhost-ask SOCKET TENANT WORD [ARG ..]`: one request, whose body comes from standard input behind `-`."""
+    """`forkhost-ask SOCKET TENANT WORD [ARG ..]`: one request, whose body comes from standard input after `-`."""
     leave_signals()
     try:
         has_body = words[3:] != [] and words[-1] == "-"
         path, tenant, *line = words[:-1] if has_body else words + [""] * (3 - len(words))
         if not all(map(is_word, [tenant, *line])):
-            raise Fatal(ASK_USAGE + "; no word holds a space or a line feed")
+            raise Fatal(ASK_USAGE + "; a word cannot contain a space or a line feed")
         body = sys.stdin.buffer.read() if has_body else b""
-        with Connection(path, tenant, lambda: say("waiting: the host serves another connection")) as connection:
+        with Connection(path, tenant, lambda: say("waiting: the host is serving another connection")) as connection:
             data = connection.ask(" ".join(line), body)
             while data.left:
                 sys.stdout.buffer.write(data.read(min(data.left, PIECE)))
@@ -97,6 +111,8 @@ def door(words: list) -> int:
             raise Fatal(DOOR_USAGE)
         serve(words[0], words[1], sys.stdin.buffer, sys.stdout.buffer)
         return DONE
+    except Internal as fault:
+        print(f"forkhost-door: {fault.shown}", file=sys.stderr)
     except Fatal as fault:
         print(f"forkhost-door: {fault}", file=sys.stderr)
     except BrokenPipeError:

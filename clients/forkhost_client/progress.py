@@ -1,6 +1,5 @@
 """What the helper tells a person while it works, on standard error."""
 import sys
-import time
 
 # Seconds between two looks at a person's screen.
 PAUSE = 0.1
@@ -20,15 +19,17 @@ class Progress:
 
     def __init__(self, title: str, shown: bool, total: int = 0):
         """A total of bytes, where it is known."""
-        self.title, self.shown, self.total = title, shown, total
+        from time import monotonic
+
+        self.title, self.shown, self.total, self.now = title, shown, total, monotonic
         self.count = self.bytes = 0
-        self.last = time.monotonic()
+        self.last = self.now()
 
     def add(self, count: int, length: int) -> None:
         self.count += count
         self.bytes += length
-        if self.shown and time.monotonic() - self.last >= PAUSE:
-            self.last = time.monotonic()
+        if self.shown and self.now() - self.last >= PAUSE:
+            self.last = self.now()
             self.show("\r")
 
     def show(self, end: str) -> None:

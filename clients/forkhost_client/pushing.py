@@ -27,7 +27,7 @@ class Push:
             for at in range(0, len(due), MAX_COMMANDS):
                 self.transact(due[at : at + MAX_COMMANDS])
         except Lost as fault:
-            refuse(due, f"{fault}; whether it is done is not known, so fetch and look")
+            refuse(due, f"{fault}; whether the push was done is unknown, so fetch and look")
         except Fatal as fault:
             refuse(due, str(fault))
 

@@ -19,9 +19,8 @@ class Size:
 
     def __init__(self, name: str, kind: str, length: int):
         self.name, self.kind, self.length = name, kind, length
-
-    def record_length(self) -> int:
-        return len(f"{self.name} {self.kind} {self.length}\n") + self.length + 1
+        # The length of its record.
+        self.record = len(f"{name} {kind} {length}\n") + length + 1
 
 
 class Linked:
@@ -36,10 +35,10 @@ def read_record(data: Data) -> Record:
     name, kind = text_of(words[0]), text_of(b"".join(words[1:2]))
     length = number(words[-1], LONGEST_LENGTH)
     if len(words) != 3 or length is None or kind not in KINDS or not is_name(name):
-        raise Fatal("a record of the host has a wrong line")
+        raise Fatal("a record from the host has a bad header")
     content = data.read(length)
     if data.read(1) != b"\n":
-        raise Fatal("a record of the host has a wrong end")
+        raise Fatal("a record from the host has a bad end")
     return Record(name, kind, content)
 
 
@@ -53,5 +52,5 @@ def linked(tag: bytes) -> Linked:
     first, second, _ = [*tag.split(b"\n", 2), b"", b""][:3]
     name, kind = text_of(first.removeprefix(b"object ")), text_of(second.removeprefix(b"type "))
     if not first.startswith(b"object ") or not second.startswith(b"type ") or not is_name(name) or kind not in KINDS:
-        raise Fatal("a tag does not begin as a tag does")
+        raise Fatal("a tag from the host has a bad header")
     return Linked(name, kind)

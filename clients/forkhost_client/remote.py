@@ -13,7 +13,7 @@ BRANCHES = "refs/heads/"
 def want(is_so: bool, word: str) -> None:
     """A reply has the form that it should have."""
     if not is_so:
-        raise Fatal(f"the host's reply to {word} is of no known form")
+        raise Fatal(f"the host's reply to {word} has an unknown form")
 
 
 class Remote:
@@ -83,7 +83,7 @@ class Remote:
     def change(self, line: str, body: bytes = b"") -> None:
         """A request whose reply has no data."""
         if self.connection.ask(line, body).left:
-            raise Lost(f"the host's reply to {line.split(' ')[0]} is of no known form")
+            raise Lost(f"the host's reply to {line.split(' ')[0]} has an unknown form")
 
     def fits(self, length: int) -> bool:
         """Whether a body of this length is a push in one frame."""

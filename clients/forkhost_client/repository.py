@@ -2,16 +2,20 @@
 import os
 
 from .asking import Asking
-from .child import Child, in_memory, ran
+from .child import Child, in_memory, ran, widen
 from .faults import GitFailed
 from .frames import bytes_of, text_of
+from .programs import NESTED
+from .records import Size
 
-# Set in the children of a helper, so that a helper which a child starts can tell.
-NESTED = "FORKHOST_HELPER"
 ABOUT = ("rev-parse", "--show-object-format", "--is-shallow-repository", "--git-path", "objects")
+PIPE = 1 << 20
 # What the client looks at of Git's configuration, in names as `git config` prints them.
 PARTIAL = r"extensions\.partialclone|remote\..*\.promisor"
-LOOKED_AT = rf"^({PARTIAL}|(fetch|transfer)\.(unpacklimit|fsckobjects)|forkhost\.autocreate)$"
+# What links lead to, each with a path; and that with types and lengths beside.
+REACHED = ("rev-list", "--objects", "--topo-order", "--reverse", "--stdin")
+SIZED = ("cat-file", "--buffer", "--batch-check=%(objectname) %(objecttype) %(objectsize) %(rest)")
+LOOKED_AT = rf"^({PARTIAL}|core\.sharedrepository|(fetch|transfer)\.(unpacklimit|fsckobjects)|forkhost\.autocreate)$"
 
 
 def environment(outer) -> dict:
@@ -77,6 +81,10 @@ class Repository:
         """Whether objects that references lead to may be elsewhere."""
         return any(name.startswith(("extensions.", "remote.")) for name in self.settings())
 
+    def is_shared(self) -> bool:
+        """Whether the modes of its files are other than those that a process gives them."""
+        return "core.sharedrepository" in self.settings()
+
     def setting(self, *names: str, kind: str) -> "str | None":
         """The value of the first of these names that is configured."""
         values = (self.answer("config", f"--type={kind}", name) for name in names if name.lower() in self.settings())
@@ -105,15 +113,21 @@ class Repository:
         rows = (row.split(" ") for row in self.output("rev-list", "--parents", "--all").splitlines())
         return {name: parents for name, *parents in rows}
 
-    def reached(self, wanted: list, excluded: list) -> dict:
-        """Names that links lead to, each with a path at which it stands, or nothing; commits behind their parents."""
-        given = lines(wanted) + lines("^" + name for name in excluded)
-        words = ["rev-list", "--objects", "--topo-order", "--reverse", "--stdin"]
-        paths = {}
-        for row in self.output(*words, given=given).split("\n")[:-1]:
-            name, _, path = row.partition(" ")
-            paths.setdefault(name, path)
-        return paths
+    def reached(self, wanted: list, excluded: list) -> tuple:
+        """The sizes of what links lead to, by names, commits after their parents; and for each a path, or nothing.
+
+        An object that is not here has none. One command of Git lists while the other one looks at what is listed."""
+        source = in_memory(lines(wanted) + lines("^" + name for name in excluded))
+        with Child(["git", *REACHED], self.environment, source, self.quiet) as listed:
+            os.close(source)
+            with Child(["git", *SIZED], self.environment, listed.output.fileno(), self.quiet) as sized:
+                listed.output.close()
+                rows = text_of(sized.output.read()).split("\n")[:-1]
+            if listed.wait() or sized.wait():
+                raise GitFailed("git rev-list failed")
+        found = [words for words in (row.split(" ", 3) for row in rows) if len(words) == 4]
+        sizes = {name: Size(name, kind, int(length)) for name, kind, length, _ in found}
+        return sizes, {name: path for name, _, _, path in found}
 
     def records(self, names: list) -> "Batch":
         return Batch(self, names)
@@ -126,6 +140,8 @@ class Batch:
         source = in_memory(lines(names))
         self.child = Child(["git", "cat-file", "--batch", "--buffer"], repository.environment, source)
         os.close(source)
+        # Git reads on, as far as a part of an upload goes, while the host takes the part before.
+        widen(self.child.output.fileno(), PIPE)
 
     def read(self, count: int) -> bytes:
         """So many bytes, all of which must be there."""

@@ -3,7 +3,7 @@ import os
 from _socket import AF_UNIX, SHUT_WR, socket
 from io import BytesIO
 
-from .faults import Fatal, Lost
+from .faults import Internal, Lost
 from .frames import LONGEST_HEAD, length_of
 from .nameless import nameless
 
@@ -27,7 +27,7 @@ def told(path: str, given: bytes):
 
 
 def send(stream, given: bytes) -> None:
-    """All that this connection asks, so the host waits for nothing behind its reply."""
+    """All that this connection asks, so the host waits for nothing after its reply."""
     try:
         stream.sendall(given)
         stream.shutdown(SHUT_WR)
@@ -68,4 +68,5 @@ def kept(head: bytes, left: int, reader):
         file.seek(0)
         return file
     except OSError as fault:
-        raise Fatal(f"a reply can not be kept in '{folder}': {fault.strerror}") from fault
+        shown = f"a reply cannot be kept: {fault.strerror}"
+        raise Internal(f"{shown}, in '{folder}'", shown) from fault

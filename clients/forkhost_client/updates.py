@@ -59,7 +59,7 @@ def read_updates(rows: list, listing: Listing, leases: set, repository: Reposito
 def why_not(update: Update) -> "str | None":
     """What stands against an update by itself."""
     if len(update.ref.encode("utf-8", "surrogateescape")) > LONGEST_REF:
-        return f"the host takes names of references of at most {LONGEST_REF} bytes"
+        return f"the host accepts reference names of at most {LONGEST_REF} bytes"
     return None if update.new else f"'{update.source}' names nothing here"
 
 

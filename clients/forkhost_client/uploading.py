@@ -1,6 +1,6 @@
 """Sends objects and commands: in one frame, in one upload, or in several of which the last has the commands."""
 from .faults import Fatal, Refused
-from .plan import MAX_UPLOAD, Plan
+from .plan import MAX_UPLOAD, Plan, length_of
 from .progress import Progress, say
 from .remote import MAX_PART, Remote
 from .repository import Batch, Repository
@@ -18,15 +18,14 @@ def send_parts(remote: Remote, batch: Batch, commands: bytes, length: int, progr
     remote.end_upload()
 
 
-def send(repository: Repository, remote: Remote, objects: list, commands: bytes, progress: Progress) -> None:
+def send(remote: Remote, batch: Batch, objects: list, commands: bytes, progress: Progress) -> None:
     """One push, all or none: the commands, an empty line, and the records."""
-    length = len(commands + END) + sum(one.record_length() for one in objects)
-    with repository.records([one.name for one in objects]) as batch:
-        if remote.fits(length):
-            remote.push(commands + END + batch.read(length - len(commands + END)))
-            progress.add(0, length)
-        else:
-            send_parts(remote, batch, commands, length, progress)
+    length = len(commands + END) + length_of(objects)
+    if remote.fits(length):
+        remote.push(commands + END + batch.read(length - len(commands + END)))
+        progress.add(0, length)
+    else:
+        send_parts(remote, batch, commands, length, progress)
 
 
 def send_all(repository: Repository, remote: Remote, plan: Plan, commands: bytes, shown: bool) -> None:
@@ -38,12 +37,13 @@ def send_all(repository: Repository, remote: Remote, plan: Plan, commands: bytes
     uploads = plan.uploads(MAX_UPLOAD - len(commands + END))
     total = plan.length() + len(commands) + len(uploads) * len(END)
     progress = Progress("Writing objects", shown and bool(plan.objects), total)
-    for at, objects in enumerate(uploads):
-        is_last = at == len(uploads) - 1
-        try:
-            send(repository, remote, objects, commands if is_last else b"", progress)
-        except (Fatal, Refused):
-            if at:
-                say(f"objects of {at} of {len(uploads)} uploads stay in use at the host until a prune")
-            raise
+    with repository.records([one.name for one in plan.objects]) as batch:
+        for at, objects in enumerate(uploads):
+            is_last = at == len(uploads) - 1
+            try:
+                send(remote, batch, objects, commands if is_last else b"", progress)
+            except (Fatal, Refused):
+                if at:
+                    say(f"objects of {at} of {len(uploads)} uploads stay in use at the host until a prune")
+                raise
     progress.done()

@@ -8,15 +8,15 @@ from .remote import Remote
 from .repository import Repository
 
 LARGE = (
-    "take what is too large out of the commits that are pushed, by 'git rm --cached FILE' and 'git commit --amend', "
-    "or by git-filter-repo where it stands in older ones; and push again"
+    "remove what is too large from the commits that you push, by 'git rm --cached FILE' and 'git commit --amend', "
+    "or by git-filter-repo if it is in older ones; then push again"
 )
 WORDS = {
-    "bad-ref": "the host does not take this name of a reference",
-    "ref-conflict": "{detail} and a name below it can not both be there",
+    "bad-ref": "the host does not accept this reference name",
+    "ref-conflict": "{detail} and a name below it cannot both exist",
     "not-a-commit": "a branch must point at a commit",
     "too-many": "the repository would have too many references",
-    "wrong-type": "{detail} is of another type than what links to it says",
+    "wrong-type": "{detail} has another type than the link to it says",
     "missing": "tenant '{address.tenant}' sees no object {detail}",
     "unknown-tenant": "the host has no tenant '{address.tenant}'",
     "no-repository": "repository '{address.repository}' of tenant '{address.tenant}' not found",
@@ -42,7 +42,7 @@ def told_of_large(plan: Plan) -> str:
         say(f"{row}, which is too large")
     say(LARGE)
     others = f" (and {len(rows) - 1} more)" if rows[1:] else ""
-    return f"{rows[0]}{others}, and the host takes {MAX_CONTENT} at the most"
+    return f"{rows[0]}{others}, and the host accepts at most {MAX_CONTENT}"
 
 
 def told_of_push(refusal: Refused, address: Address, repository: Repository, remote: Remote, plan: Plan) -> str:

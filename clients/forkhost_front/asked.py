@@ -2,7 +2,7 @@
 from forkhost_client.address import repository_of
 from forkhost_client.faults import Fatal
 
-# Git's server programs, and their words behind `git`.
+# Git's server programs, and their words after `git`.
 READ, WRITE, ARCHIVE = "git-upload-pack", "git-receive-pack", "git-upload-archive"
 PROGRAMS = {READ: "upload-pack", WRITE: "receive-pack"}
 # The new repository is its last word.
@@ -10,11 +10,11 @@ FORKS_OFFER = "fork-offer"
 # Requests that are asked by hand, and the words that they take; with `..` also more of the last.
 BY_HAND = {"init": "REPO", "drop": "REPO", "fork": "SRC DST", "head": "REPO", "set-head": "REPO REF"}
 BY_HAND |= {"offer": "REPO TENANT", "withdraw": "REPO TENANT", "offers": "", FORKS_OFFER: "GIVER REPO DST"}
-BY_HAND |= {"quota": "", "prune": "", "for-each-ref": "REPO ..", "cat-file": "NAME", "ls-tree": "NAME"}
+BY_HAND |= {"repos": "", "quota": "", "prune": "", "for-each-ref": "REPO ..", "cat-file": "NAME", "ls-tree": "NAME"}
 BY_HAND |= {"rev-list": "REPO ITEM ..", "merge-base": "REPO ITEM ITEM"}
 # Their words begin with an object.
 OF_OBJECTS = ("cat-file", "ls-tree")
-USAGE = "ask by 'git clone', 'git fetch' or 'git push', or for one of: " + ", ".join(BY_HAND)
+USAGE = "use 'git clone', 'git fetch' or 'git push', or one of: " + ", ".join(BY_HAND)
 
 
 class Asked:
@@ -45,7 +45,7 @@ def read_asked(text: str) -> Asked:
     try:
         words = split(text)
     except ValueError as fault:
-        raise Fatal("the command's quotes do not end") from fault
+        raise Fatal("the command has an unclosed quote") from fault
     if words[:1] == ["git"] and words[1:]:
         words[:2] = ["git-" + words[1]]
     if not words:
@@ -63,14 +63,14 @@ def read_asked(text: str) -> Asked:
 def judge_repository(asked: Asked) -> None:
     if len(asked.rest) != 1 or not asked.repository():
         shown = " ".join(asked.rest)
-        raise Fatal(f"'{shown}' is no repository's name, which has letters a to z, digits, '-' and '_'")
+        raise Fatal(f"'{shown}' is not a repository name, which has letters a to z, digits, '-' and '_'")
 
 
 def judge_by_hand(asked: Asked) -> None:
     if asked.word not in BY_HAND:
-        raise Fatal(f"'{asked.word}' is not done here; {USAGE}")
+        raise Fatal(f"'{asked.word}' is not a command here; {USAGE}")
     words = BY_HAND[asked.word]
     if not words.endswith("..") and len(asked.rest) != len(words.split()):
         raise Fatal(f"'{asked.word}' takes {words or 'no words'}")
     if any(not word or " " in word or "\n" in word for word in asked.rest):
-        raise Fatal("no word holds a space or a line feed")
+        raise Fatal("a word cannot contain a space or a line feed")

@@ -32,7 +32,7 @@ def clear(folder: str, as_far_as_it_goes: bool = True) -> None:
 
 
 def waiting() -> None:
-    say("waiting: the host serves another connection")
+    say("waiting: the host is serving another connection")
 
 
 class Cache:
@@ -88,7 +88,7 @@ class Cache:
     def mend(self) -> None:
         """What a request left that broke off goes; where something lacks or is in doubt, all is made anew."""
         if not os.path.isdir(self.path):
-            self.make("it is no folder")
+            self.make("it is not a folder")
             return
         why = seal.why_spoiled(self.path)
         doubt = os.path.join(self.path, DOUBT)
@@ -154,7 +154,7 @@ class Cache:
         known = set(here.values())
         wanted = [name for name in dict.fromkeys(listing.refs.values()) if name not in known]
         if wanted and not self.is_connected(wanted):
-            fetch(self.repository, self.connect(), listing, wanted, Options(lambda text: None))
+            fetch(self.repository, self.connect, listing, wanted, Options(lambda text: None))
             self.repository.output(*CONNECTED, given=lines(wanted))
 
     def is_connected(self, wanted: list) -> bool:

@@ -1,9 +1,10 @@
 """The folders of the caches: one for each tenant, open to nobody else."""
 import os
 
-from forkhost_client.faults import Fatal
+from forkhost_client.faults import Internal
 
 OPEN_TO_OTHERS = 0o077
+FAILED = "the front end failed"
 
 
 def own_folder(path: str) -> str:
@@ -13,7 +14,7 @@ def own_folder(path: str) -> str:
     except FileExistsError:
         pass
     except OSError as fault:
-        raise Fatal(f"can not make the folder '{path}': {fault.strerror or fault}") from fault
+        raise Internal(f"cannot make the folder '{path}': {fault.strerror or fault}", FAILED) from fault
     if os.stat(path).st_mode & OPEN_TO_OTHERS:
-        raise Fatal(f"the folder '{path}' is open to others")
+        raise Internal(f"the folder '{path}' is open to others", FAILED)
     return path

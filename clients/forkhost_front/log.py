@@ -2,6 +2,7 @@
 import os
 import time
 
+from forkhost_client.faults import Fatal, Internal
 from forkhost_client.progress import say
 
 # What stands where there is nothing to tell.
@@ -24,7 +25,14 @@ class Log:
             try:
                 self.write(text.encode("utf-8", "backslashreplace").replace(b"\n", b" ") + b"\n")
             except OSError as fault:
-                say(f"can not write the log '{self.path}': {fault.strerror or fault}")
+                say(f"cannot write the log: {fault.strerror or fault}")
+
+    def shown(self, fault: Fatal, tenant: str, repository: str) -> str:
+        """What a user is told of a fault. They are elsewhere, so what names places of this machine stands here alone."""
+        if not isinstance(fault, Internal):
+            return str(fault)
+        self.line(tenant, "fault", repository, str(fault))
+        return fault.shown
 
     def write(self, line: bytes) -> None:
         file = os.open(self.path, os.O_WRONLY | os.O_APPEND | os.O_CREAT, 0o600)

@@ -5,7 +5,7 @@ it, and the process that began receive-pack lets go of the lock."""
 import os
 import sys
 
-from forkhost_client.faults import Fatal, GitFailed, Refused
+from forkhost_client.faults import Fatal, GitFailed, Internal, Refused
 from forkhost_client.frames import bytes_of, text_of
 from forkhost_client.listing import read_listing
 from forkhost_client.options import Options
@@ -38,7 +38,7 @@ def ask(cache: Cache, updates: list, options: Options) -> None:
 
         refuse(updates, told(refusal, cache.address), refusal.word)
     except Fatal as fault:
-        refuse(updates, str(fault), "failed")
+        refuse(updates, cache.log.shown(fault, cache.address.tenant, cache.address.repository), "failed")
 
 
 def settle(cache: Cache, updates: list) -> None:
@@ -83,6 +83,10 @@ def main() -> int:
     try:
         receive(sys.stdin.buffer, sys.stdout.buffer)
         return 0
-    except (Fatal, OSError) as fault:
+    except Internal as fault:
+        say(fault.shown)
+    except Fatal as fault:
         say(str(fault))
-        return 1
+    except OSError as fault:
+        say(f"the front end failed: {fault.strerror or fault}")
+    return 1

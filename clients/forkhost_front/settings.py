@@ -26,13 +26,13 @@ def rows(path: str) -> dict:
         with open(path, encoding="utf-8", errors="surrogateescape") as file:
             lines = [line.strip() for line in file]
     except OSError as fault:
-        raise Fatal(f"can not read '{path}': {fault.strerror or fault}") from fault
+        raise Fatal(f"cannot read '{path}': {fault.strerror or fault}") from fault
     found = {}
     for number, line in enumerate(lines, 1):
         if line and not line.startswith("#"):
             name, *value = line.split(None, 1)
             if not value or name in found:
-                raise Fatal(f"line {number} of '{path}' is no name with a value, or a name that was there before")
+                raise Fatal(f"line {number} of '{path}' is not a name and a value, or repeats a name")
             found[name] = value[0]
     return found
 
@@ -44,8 +44,8 @@ def read_settings(path: str) -> Settings:
             raise Fatal(f"'{path}' does not set {name}")
     for name in found:
         if name not in (*NEEDED, *OPTIONAL):
-            raise Fatal(f"'{path}' sets {name}, which is not known")
+            raise Fatal(f"'{path}' sets {name}, which is unknown")
     values = {**OPTIONAL, **found}
     if not values["bytes"].isdecimal():
-        raise Fatal(f"'{path}' sets bytes to what is no number")
+        raise Fatal(f"'{path}' sets bytes to a value that is not a number")
     return Settings(path, values)

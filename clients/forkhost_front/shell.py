@@ -74,7 +74,7 @@ def main(words: list) -> int:
         entry.reply = f"host-{fault.word}"
         say(str(fault))
     except Fatal as fault:
-        say(str(fault))
+        say(entry.log.shown(fault, tenant, entry.repository))
     except OSError as fault:
         say(f"the front end failed: {fault.strerror or fault}")
     finally:

@@ -44,7 +44,7 @@ def read_asked() -> Asked:
     query = os.environ.get("QUERY_STRING", "")
     service = query.removeprefix(SERVICE) if what == LIST and query.startswith(SERVICE) else what
     if service not in (READ, WRITE):
-        raise Answered(FORBIDDEN, "Git's smart protocol alone is served")
+        raise Answered(FORBIDDEN, "only Git's smart protocol is served")
     return Asked(repository, what, service)
 
 
@@ -107,8 +107,11 @@ def judged(settings: Settings, entry: Entry) -> "Answered | None":
         entry.reply = f"host-{fault.word}"
         return Answered(FAILED, str(fault))
     except (Fatal, OSError) as fault:
+        # The web server's log has it, and where it names places of this machine that of the front end too.
         say(str(fault))
-        return Answered(FAILED, "the host can not be asked now")
+        if isinstance(fault, Fatal):
+            entry.log.shown(fault, entry.tenant, entry.repository)
+        return Answered(FAILED, "the host cannot be asked now")
     except ClientGone:
         entry.reply = "client-gone"
         return None
@@ -121,7 +124,7 @@ def main(words: list) -> int:
         settings = read_settings(os.environ.get(SETTINGS, PLACE))
     except Fatal as fault:
         say(str(fault))
-        answer(FAILED, "the host can not be asked now")
+        answer(FAILED, "the host cannot be asked now")
         return 0
     entry = Entry(Log(settings.log), NOTHING)
     answered = judged(settings, entry)

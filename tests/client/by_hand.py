@@ -74,7 +74,7 @@ def show_asking(checks, program, folder):
         ran = world.ran("forkhost-ask", world.host.socket, *words)
         checks.same(f"by hand: {words} is no request", (2, b"", True), (*ran[:2], b"usage: forkhost-ask" in ran.fault))
     ran = world.ran("forkhost-ask", world.path("nothing"), "alice", "quota")
-    checks.same("by hand: nobody is there", (2, b"", True), (*ran[:2], b"can not reach a host" in ran.fault))
+    checks.same("by hand: nobody is there", (2, b"", True), (*ran[:2], b"cannot reach a host" in ran.fault))
     world.host.ends_well(checks, "after requests by hand")
 
 

@@ -75,10 +75,10 @@ def show_empty(checks, program, folder):
 
 
 IGNORED = {
-    "--depth=1": b"forkhost: --depth is ignored: all of the history comes, whole\n",
-    "--shallow-since=2030-01-01": b"forkhost: --shallow-since is ignored: all of the history comes, whole\n",
-    "--shallow-exclude=v": b"forkhost: --shallow-exclude is ignored: all of the history comes, whole\n",
-    "--filter=blob:none": b"forkhost: --filter is ignored: all of the history comes, whole\n",
+    "--depth=1": b"forkhost: --depth is ignored: the whole history is fetched\n",
+    "--shallow-since=2030-01-01": b"forkhost: --shallow-since is ignored: the whole history is fetched\n",
+    "--shallow-exclude=v": b"forkhost: --shallow-exclude is ignored: the whole history is fetched\n",
+    "--filter=blob:none": b"forkhost: --filter is ignored: the whole history is fetched\n",
 }
 
 

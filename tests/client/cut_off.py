@@ -14,7 +14,7 @@ def show_held(checks, program, folder):
     world = World(checks, program, folder)
     world.init("alice", "r")
     line(world, world.repository("source"), "one")
-    waiting = b"forkhost: waiting: the host serves another connection\n"
+    waiting = b"forkhost: waiting: the host is serving another connection\n"
     with socket.socket(socket.AF_UNIX) as stream:
         stream.connect(world.host.socket)
         push = ["git", "push", "-q", world.url("r")]
@@ -34,8 +34,8 @@ def show_held(checks, program, folder):
 
 
 LOST = "the host ended the connection"
-FAILED = "the host failed (store) and changed nothing by this request; it may be asked again"
-UNREAD = "what was read is no reply of a forkhost"
+FAILED = "the host failed (store) and this request changed nothing; it may be sent again"
+UNREAD = "this is not a reply of a forkhost"
 # What stands in the place of a reply's frame: how much of it, or what else; and what a person is told.
 CUTS = {
     "no reply": (lambda reply: None, LOST),
@@ -43,7 +43,7 @@ CUTS = {
     "the length alone": (lambda reply: reply[: reply.index(b"\n") + 1], LOST + " within a reply"),
     "all but a byte": (lambda reply: reply[:-1], LOST + " within a reply"),
     "half": (lambda reply: reply[: max(len(reply) // 2, reply.index(b"\n") + 2)], LOST + " within a reply"),
-    "a bad frame": (lambda reply: b"! bad-frame\n", "the host took the request for no frame, and ended the connection"),
+    "a bad frame": (lambda reply: b"! bad-frame\n", "the host reported a bad frame and ended the connection"),
     "garbage": (lambda reply: b"HTTP/1.1 400 Bad Request\r\n\r\n", UNREAD),
     "a reply of no kind": (lambda reply: b"6\nyes ok", UNREAD),
     "a length with zeros": (lambda reply: b"0003\nok\n", UNREAD),
@@ -90,7 +90,7 @@ def show_cuts(checks, program, folder):
             if word == "fetch":
                 checks.same(f"{word}: {label}: no reference has come", 1, len(world.references("other")))
             if word == "push" and text in (LOST, UNREAD):
-                checks.same(f"{word}: {label}: it may be done", True, "whether it is done is not known" in said)
+                checks.same(f"{word}: {label}: it may be done", True, "whether the push was done is unknown" in said)
             if word == "part-drop":
                 checks.same(f"{word}: {label}: the host is as before", f"{first} refs/heads/main", world.kept("r")[0])
         if word in ("for-each-ref", "fetch"):

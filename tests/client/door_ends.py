@@ -8,11 +8,11 @@ from forkhost_client.frames import frame
 from watching import Watcher
 
 LOST = b"forkhost-door: the host ended the connection\n"
-UNREAD = b"forkhost-door: what was read is no reply of a forkhost\n"
+UNREAD = b"forkhost-door: this is not a reply of a forkhost\n"
 # What is said of replies that are not whole. Others pass as they are.
 SAID = dict.fromkeys(["no reply", "the length alone", "all but a byte", "half"], LOST)
 SAID |= dict.fromkeys(["a part of the length", "garbage", "a length with zeros"], UNREAD)
-SAID["a bad frame"] = b"forkhost-door: the host took the request for no frame, and ended the connection\n"
+SAID["a bad frame"] = b"forkhost-door: the host reported a bad frame and ended the connection\n"
 
 
 class HangsUp:
@@ -77,7 +77,7 @@ def show_no_room(doors):
     user = User(doors.door("alice", "small", before="ulimit -f 2000; exec "))
     doors.checks.same("what is short has room", doors.quota, user.told(QUOTA))
     user.send(FETCH)
-    said = f"forkhost-door: a reply can not be kept in '{doors.world.path('')[:-1]}': File too large\n".encode()
+    said = b"forkhost-door: a reply cannot be kept: File too large\n"
     doors.checks.same("no room", (b"", 2, said), user.end())
     doors.others_are_answered("no room")
 

@@ -136,7 +136,7 @@ def show_gone(checks, program, folder):
     is_told = b"the host ended the connection" in ran.output
     checks.same("a push to a host that goes", (1, True), (ran.status, is_told))
     ran = world.git("source", "push", "--porcelain", world.url("r"), "main")
-    said = f"fatal: forkhost: can not reach a host at '{world.host.socket}': Connection refused\n"
+    said = f"fatal: forkhost: cannot reach a host at '{world.host.socket}': Connection refused\n"
     checks.same("a push to one that is gone", (128, said.encode()), (ran.status, ran.fault))
     world.host.begin()
     world.succeeds("the host is begun again, and so is the push", world.git("source", "push", "-q", url, "main"))

@@ -48,27 +48,27 @@ def show_objects(world, here):
     wrong = "wrong:refs/heads/wrong"
     inner = tree_of(world, "source", ("100664", "file", here.blob))
     here.branch(tree_of(world, "source", ("40000", "dir", inner)))
-    here.refused("a mode", "the host does not take mode 100664 of 'dir/file'", wrong)
+    here.refused("a mode", "the host does not accept mode 100664 of 'dir/file'", wrong)
     here.branch(tree_of(world, "source", ("100664", "new\nline", here.blob)))
-    here.refused("a mode at an odd name", "the host does not take mode 100664 of 'new\\nline'", wrong)
+    here.refused("a mode at an odd name", "the host does not accept mode 100664 of 'new\\nline'", wrong)
     inner = tree_of(world, "source", ("100644", ".git", here.blob))
     here.branch(tree_of(world, "source", ("40000", "a", tree_of(world, "source", ("40000", "b", inner)))))
-    here.refused("a file name", "the host does not take the file name of 'a/b/.git'", wrong)
+    here.refused("a file name", "the host does not accept the file name of 'a/b/.git'", wrong)
     tree = tree_of(world, "source", ("100644", "b", here.blob), ("100644", "a", here.blob))
     here.branch(tree)
-    here.refused("an order", f"the host does not take the order of tree {tree} at '.'", wrong)
+    here.refused("an order", f"the host does not accept the order of tree {tree} at '.'", wrong)
     tree = world.name("source", "main^{tree}")
     name = here.branch(tree, author=WRONG_IDENT)
-    text = f"commit {name}: the host does not take its line 'author {WRONG_IDENT}'"
+    text = f"commit {name}: the host does not accept its line 'author {WRONG_IDENT}'"
     here.refused("an ident", text, wrong)
     raw = f"object {here.tip}\ntype commit\ntag x\ntagger Ada <a@x> 01 +0000\n\nx\n"
     tag = hashed(world, "source", "tag", raw.encode(), "--literally")
-    text = f"tag {tag}: the host does not take its line 'tagger Ada <a@x> 01 +0000'"
+    text = f"tag {tag}: the host does not accept its line 'tagger Ada <a@x> 01 +0000'"
     here.refused("a tagger", text, f"{tag}:refs/tags/x")
     here.refused("one that is wrong refuses what comes with it", text, f"{tag}:refs/tags/x", "main:refs/heads/beside")
     large = hashed(world, "source", "blob", b"x" * 8_388_609)
     here.branch(tree_of(world, "source", ("40000", "dir", tree_of(world, "source", ("100644", "large", large)))))
-    here.refused("a size", "'dir/large' has 8388609 bytes, and the host takes 8388608 at the most", wrong)
+    here.refused("a size", "'dir/large' has 8388609 bytes, and the host accepts at most 8388608", wrong)
     show_large(world, here, large)
     most = hashed(world, "source", "blob", b"x" * 8_388_608)
     here.branch(tree_of(world, "source", ("100644", "most", most)))
@@ -87,7 +87,7 @@ def show_large(world, here, large):
     world.checks.same("two sizes: both are named", wanted, rows[:2])
     told = rows[2] if rows[2:] else ""
     world.checks.same("two sizes: what to do", (3, True), (len(rows), "git rm --cached FILE" in told))
-    world.checks.same("two sizes: what Git shows", True, b"(and 1 more), and the host takes 8388608" in ran.output)
+    world.checks.same("two sizes: what Git shows", True, b"(and 1 more), and the host accepts at most 8388608" in ran.output)
 
 
 def show_references(world, here):
@@ -95,10 +95,10 @@ def show_references(world, here):
     here.refused("a branch at a tree", "a branch must point at a commit", "main^{tree}:refs/heads/t")
     world.output("source", "tag", "-a", "-m", "x", "annotated", "main")
     here.refused("a branch at a tag", "a branch must point at a commit", "annotated:refs/heads/t")
-    text = "refs/heads/main and a name below it can not both be there"
+    text = "refs/heads/main and a name below it cannot both exist"
     here.refused("a name below another", text, "main:refs/heads/main/x")
     long = "refs/heads/" + "x" * 245
-    here.refused("a long name", "the host takes names of references of at most 255 bytes", f"main:{long}")
+    here.refused("a long name", "the host accepts reference names of at most 255 bytes", f"main:{long}")
     world.succeeds("the longest", world.git("source", "push", "-q", world.url("r"), f"main:{long[:-1]}"))
     absent = "ab" * 32
     lacking = f"missing necessary objects: neither this repository nor the host has object {absent}"
@@ -124,7 +124,7 @@ def show_nobody(world):
     told = {
         world.url("none"): f"fatal: forkhost: repository 'none' of tenant 'alice' not found{hint}\n",
         world.url("r", "carol"): "fatal: forkhost: the host has no tenant 'carol'\n",
-        f"forkhost::{socket}x/alice/r": f"fatal: forkhost: can not reach a host at '{socket}x': {none}\n",
+        f"forkhost::{socket}x/alice/r": f"fatal: forkhost: cannot reach a host at '{socket}x': {none}\n",
     }
     for url, text in told.items():
         for words in (["ls-remote", url], ["fetch", "-q", url], ["push", "-q", url, "main"]):

@@ -25,13 +25,13 @@ def show_web(world):
         told = asked(f"http://127.0.0.1:{world.port}/{page}", "ALICE", password("ALICE"))
         checks.same(f"page {page!r}", (404, "forkhost: there is no such page"), (told[0], told[1][:31]))
     told = asked(right.partition("?")[0], "ALICE", password("ALICE"))
-    checks.same("files of a repository", (403, "forkhost: Git's smart protocol alone is served\n"), told)
+    checks.same("files of a repository", (403, "forkhost: only Git's smart protocol is served\n"), told)
     rows = [" ".join(row[:4]) for row in world.logged()]
     wanted = {"alice info-refs r ok", "alice git-receive-pack r ok", "bob info-refs r no-repository", "- - - refused"}
     checks.same("the log has them", set(), wanted - set(rows))
     world.host.kill()
     told = asked(right, "ALICE", password("ALICE"))
-    checks.same("the host is gone", (503, "forkhost: the host can not be asked now\n"), told)
+    checks.same("the host is gone", (503, "forkhost: the host cannot be asked now\n"), told)
 
 
 def asked(url, user, word):

@@ -24,6 +24,8 @@ def show_words(world):
     line(world, world.repository("source"), "one")
     world.succeeds("a push", world.git("source", "push", "-q", world.url("r"), "main:x", "main"))
     checks.same("fork", done(), told("fork", "r", "s"))
+    checks.same("repos", done(b"r\ns\n"), told("repos"))
+    checks.same("repos of bob", done(), world.by_hand("bob", "repos"))
     checks.same("the fork has the references", world.kept("r"), world.kept("s"))
     world.cloned("the fork", "s")
     used = world.ask("alice", "quota").output
@@ -87,33 +89,34 @@ def show_no_log(world):
     world.write("unlogged", rows)
     more = {"SSH_ORIGINAL_COMMAND": "quota"}
     ran = world.ran(world.shell(), "--settings", world.path("unlogged"), "alice", more=more)
-    said = b"forkhost: can not write the log '%s'" % world.path("no", "log").encode()
-    wanted = (0, world.ask("alice", "quota").output, True)
-    world.checks.same("without a log", wanted, (ran.status, ran.output, ran.fault.startswith(said)))
+    said = b"forkhost: cannot write the log: No such file or directory\n"
+    wanted = Ran(0, world.ask("alice", "quota").output, said)
+    world.checks.same("without a log", wanted, ran)
 
 
 NO_COMMANDS = {
     "": "there is no shell here",
-    "sh": "'sh' is not done here",
+    "sh": "'sh' is not a command here",
     "git-upload-archive 'r.git'": "git-upload-archive is not served",
     "git upload-archive r": "git-upload-archive is not served",
-    "git-upload-pack '../bob/r'": "is no repository's name",
+    "git-upload-pack '../bob/r'": "is not a repository name",
     "git-upload-pack '/etc'x": "repository 'etcx' of tenant 'alice' not found",
-    "git-upload-pack r --help": "is no repository's name",
-    "git-upload-pack 'r'; touch GOT": "is no repository's name",
-    "git-upload-pack '$(touch GOT)'": "is no repository's name",
-    "git-upload-pack 'R'": "is no repository's name",
-    "git-upload-pack": "is no repository's name",
-    "git-receive-pack 'r": "quotes do not end",
-    "git-shell": "'git-shell' is not done here",
-    "git gc": "'git-gc' is not done here",
-    "push r -": "'push' is not done here",
+    "git-upload-pack r --help": "is not a repository name",
+    "git-upload-pack 'r'; touch GOT": "is not a repository name",
+    "git-upload-pack '$(touch GOT)'": "is not a repository name",
+    "git-upload-pack 'R'": "is not a repository name",
+    "git-upload-pack": "is not a repository name",
+    "git-receive-pack 'r": "an unclosed quote",
+    "git-shell": "'git-shell' is not a command here",
+    "git gc": "'git-gc' is not a command here",
+    "push r -": "'push' is not a command here",
     "init": "'init' takes REPO",
     "offer r": "'offer' takes REPO TENANT",
     "quota x": "'quota' takes no words",
-    "init 'a b'": "no word holds a space",
-    "init 'a\nb'": "no word holds a space",
-    "collect": "'collect' is not done here",
+    "repos x": "'repos' takes no words",
+    "init 'a b'": "a word cannot contain a space",
+    "init 'a\nb'": "a word cannot contain a space",
+    "collect": "'collect' is not a command here",
 }
 
 
@@ -133,7 +136,7 @@ def show_no_commands(world):
         world.checks.same(f"no tenant: {words}", (128, True), (ran.status, b"usage: forkhost-shell" in ran.fault))
     show_no_log(world)
     wrong = {"socket /x\n": "does not set caches", "socket /x\nsocket /y\n": "line 2 of", "what\n": "line 1 of"}
-    wrong |= {"socket /x\ncaches /y\nbytes few\n": "no number", "socket /x\ncaches /y\nelse z\n": "sets else"}
+    wrong |= {"socket /x\ncaches /y\nbytes few\n": "not a number", "socket /x\ncaches /y\nelse z\n": "sets else"}
     for text, said in wrong.items():
         world.write("wrong", text)
         ran = world.ran(world.shell(), "--settings", world.path("wrong"), "alice")
@@ -171,8 +174,11 @@ def show_bound(world):
     checks.same("and goes behind its request, as all others", [], there(world))
     os.chmod(world.path("caches", "alice"), 0o755)
     ran = world.git(None, "ls-remote", world.url("a"))
-    told = (ran.status, b"open to others" in ran.fault)
+    told = (ran.status, ran.fault.startswith(b"forkhost: the front end failed\n"))
     checks.same("a folder that is open to others is not used", (128, True), told)
+    checks.same("and the user is not told which", False, world.folder.encode() in ran.fault)
+    why = f"alice fault a the folder '{world.path('caches', 'alice')}' is open to others"
+    checks.same("the log is", True, why.split() in world.logged())
     world.host.ends_well(checks, "after the bound")
 
 

@@ -38,7 +38,7 @@ def show_refusals(world):
     refused(world, "a branch at a tag", {"refs/heads/t": text}, "annotated:refs/heads/t")
     blob = hashed(world, "source", "blob", random.Random(1).randbytes(9 << 20))
     large = commit_of(world, "source", tree_of(world, "source", ("100644", "large", blob)), first)
-    text = "[remote rejected] ('large' has 9437184 bytes, and the host takes 8388608 at the most)"
+    text = "[remote rejected] ('large' has 9437184 bytes, and the host accepts at most 8388608)"
     refused(world, "an object of 9 MiB", {"refs/heads/large": text}, f"{large}:refs/heads/large")
     show_quota(world, first)
     show_fsck(world, first)
@@ -94,7 +94,7 @@ def show_served(world, label, tip):
 def show_mixed(world, first, second):
     """Of several references one is refused: all of them where all or none was asked for, else that one alone."""
     words = [f"{second}:refs/tags/t", f"{first}:refs/heads/main/x"]
-    text = "[remote rejected] (refs/heads/main and a name below it can not both be there)"
+    text = "[remote rejected] (refs/heads/main and a name below it cannot both exist)"
     wanted = {"refs/tags/t": "[remote rejected] (atomic push failed)", "refs/heads/main/x": text}
     refused(world, "all or none", wanted, "--atomic", *words)
     ran, told = pushed(world, "alice", *words)

@@ -45,6 +45,8 @@ class SshWorld(FrontWorld):
 
     PROGRAMS = {"sshd": "openssh-server", "ssh": "openssh-client", "ssh-keygen": "openssh-client"}
     PROGRAMS |= {"flock": "util-linux"}
+    # How often a push is a request of the front end's.
+    ASKED = 1
 
     def wait(self):
         super().wait()

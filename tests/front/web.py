@@ -22,6 +22,8 @@ class WebWorld(FrontWorld):
     """Users are called as their tenants, but in capitals; one of them has no tenant."""
 
     PROGRAMS = {"lighttpd": "lighttpd", "git-http-backend": "git", "openssl": "openssl", "flock": "util-linux"}
+    # How often a push is a request of the front end's: for what is there, and with what comes.
+    ASKED = 2
 
     def command(self):
         server = found("lighttpd", "lighttpd")

@@ -1,4 +1,4 @@
-use Rattle.std.proofs.Common.{◌≡◌, ◌∷◌, [], ap, sym, ◌∙◌, arith, rules}
+use Rattle.std.proofs.Common.{◌≡◌, ◌∷◌, [], ap, sym, ◌∙◌, rules}
 use Rattle.std.specs.FinMap.{len}
 use Rattle.fork_model.specs.Figures.{references_in, uploaded}
 use Rattle.fork_reach.specs.Objects.{use_of}

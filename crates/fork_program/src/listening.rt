@@ -2,7 +2,7 @@ ghost use Rattle.std.specs.Prelude.{◌≡◌, IfErr};
 ghost use Rattle.fork_program.specs.Serving.{IsUnbound};
 
 use crate::fault::Fault;
-use std::alloc::Global;
+use std::alloc::{AllocError, Global};
 use std::fs::{DirBuilder, File, Files, Permissions};
 use std::io::ErrorKind;
 use std::net::Net;
@@ -73,16 +73,15 @@ fn private_room<H: Files<File = File>>(rt: &H, room: &str, inside: &str) -> io::
     Ok(folder)
 }
 
-// A socket is made with the mode that the process allows, so it is made where nobody else comes, and
-// has its place once it has its own mode.
-fn bound_at<H: Files + Net>(rt: &H, inside: &str, path: &str) -> io::Result<UnixListener> {
+// A socket is made with the mode that the process allows, so it is made where nobody else comes, and has
+// its own mode before it has its place.
+fn bound_at<H: Files + Net>(rt: &H, inside: &str) -> io::Result<UnixListener> {
     let listener = UnixListener::bind(rt, inside)?;
     fs::set_permissions(rt, inside, Permissions::from_mode(0o600))?;
-    fs::rename(rt, inside, path)?;
     Ok(listener)
 }
 
-// The same, while this process alone uses the folder in which it is made.
+// Binds a socket for this path, while this process alone uses the folder in which it is made.
 fn bound_in<H: Files<File = File> + Net>(
     rt: &H,
     room: &str,
@@ -93,17 +92,31 @@ fn bound_in<H: Files<File = File> + Net>(
     if !is_free(rt, path)? {
         return Err(io::Error::from(ErrorKind::AddrInUse));
     }
-    let listener = bound_at(rt, inside, path)?;
+    let listener = bound_at(rt, inside)?;
     Ok(Listening {
         listener,
         room: folder,
     })
 }
 
+// Where the socket of a path is made.
+fn inside_of(alloc: Global, path: &str) -> Result<String, AllocError> {
+    format!(in alloc; "{path}.lock/s")
+}
+
 fn bound<H: Files<File = File> + Net>(rt: &H, alloc: Global, path: &str) -> io::Result<Listening> {
     let room = format!(in alloc; "{path}.lock")?;
-    let inside = format!(in alloc; "{path}.lock/s")?;
+    let inside = inside_of(alloc, path)?;
     bound_in(rt, room.as_str(), inside.as_str(), path)
+}
+
+// Gives the socket its place, where that is free still.
+fn placed<H: Files + Net>(rt: &H, alloc: Global, path: &str) -> io::Result<()> {
+    let inside = inside_of(alloc, path)?;
+    if !is_free(rt, path)? {
+        return Err(io::Error::from(ErrorKind::AddrInUse));
+    }
+    fs::rename(rt, inside.as_str(), path)
 }
 
 /// How a fault of a socket is told.
@@ -116,8 +129,9 @@ pub fn of_socket(error: io::Error) -> Fault
     Fault::Socket
 }
 
-/// Listens at the path, for this user alone. A socket that nobody listens on is replaced, and anything
-/// else that stands there is left as it is.
+/// Binds a socket for this path and for this user alone. Nobody can connect before it has its place
+/// there (`show`). A socket that nobody listens on will be replaced, and anything else that stands there is
+/// left as it is.
 pub fn listen<H: Files<File = File> + Net>(
     rt: &H,
     alloc: Global,
@@ -127,6 +141,16 @@ pub fn listen<H: Files<File = File> + Net>(
 {
     match bound(rt, alloc, path) {
         Ok(listening) => Ok(listening),
+        Err(error) => Err(of_socket(error)),
+    }
+}
+
+/// Gives a socket that was bound for this path its place: from here on whoever may connect is served.
+pub fn show<H: Files<File = File> + Net>(rt: &H, alloc: Global, path: &str) -> Result<(), Fault>
+    ensures { IfErr result IsUnbound }
+{
+    match placed(rt, alloc, path) {
+        Ok(()) => Ok(()),
         Err(error) => Err(of_socket(error)),
     }
 }

@@ -7,7 +7,7 @@ use crate::connections::{serve_connections, serve_kept_connections};
 use crate::fault::Fault;
 use crate::hosts::{host_in_folder, host_in_memory};
 use crate::keep::Keep;
-use crate::listening::{Listening, listen};
+use crate::listening::{Listening, listen, show};
 use fork_command::Hosting;
 use fork_host::Host;
 use loose_store::LooseFiles;
@@ -66,12 +66,13 @@ fn serve_host<H: Files<File = File> + Net, S: LooseFiles>(
     ensures err { (hosting : Hosting) → IsHostOf hosting host.old → IfErr result (IsUnlistened hosting connections) }
 {
     let listening = listen(rt, alloc, socket)?;
+    show(rt, alloc, socket)?;
     serve_at(rt, alloc, host, listening, socket, connections)
 }
 
-// Serves connections to a host that a folder keeps, at a socket that is listened on. Its state is saved
-// before the first and behind the last, and each request is kept before its reply goes out.
-fn keep_connections<'x, H: Files<File = File> + AllocGlobal, S: LooseFiles>(
+// Serves connections to a host that a folder keeps, at a socket that was bound, and has its place once the
+// state is saved. It is saved once more behind the last, and each request is kept before its reply goes out.
+fn keep_connections<'x, H: Files<File = File> + Net + AllocGlobal, S: LooseFiles>(
     rt: &'x H,
     alloc: Global,
     dir: &'x str,
@@ -83,13 +84,8 @@ fn keep_connections<'x, H: Files<File = File> + AllocGlobal, S: LooseFiles>(
     ensures ok { (hosting : Hosting) → IsKeptHostOf hosting host.old → OnOk result (IsListened hosting connections) }
     ensures err { (hosting : Hosting) → IsKeptHostOf hosting host.old → IfErr result (IsUnlistened hosting connections) }
 {
-    let mut keep = match Keep::begin(rt, alloc, dir, host) {
-        Ok(keep) => keep,
-        Err(fault) => {
-            let _removed = fs::remove_file(rt, socket);
-            return Err(fault);
-        }
-    };
+    let mut keep = Keep::begin(rt, alloc, dir, host)?;
+    show(rt, alloc, socket)?;
     let served = serve_kept_at(rt, alloc, host, &mut keep, listening, socket, connections);
     let saved = keep.end(alloc, host, &served);
     match served {

@@ -3,10 +3,10 @@ ghost use Rattle.fork_program.specs.Serving.{IsUnbound};
 
 use crate::fault::Fault;
 use std::alloc::{AllocError, Global};
-use std::fs::{DirBuilder, File, Files, Permissions};
+use std::fs::{DirBuilder, File, Files, Metadata, Permissions};
 use std::io::ErrorKind;
 use std::net::Net;
-use std::os::unix::fs::{DirBuilderExt, FileTypeExt, PermissionsExt};
+use std::os::unix::fs::{DirBuilderExt, FileTypeExt, MetadataExt, PermissionsExt};
 use std::os::unix::net::{UnixListener, UnixStream};
 use std::{fs, io};
 
@@ -50,6 +50,46 @@ fn is_free<H: Files + Net>(rt: &H, path: &str) -> io::Result<bool> {
     }
 }
 
+// Whether this process's user has it. Where no `/proc` says who that is, the kernel does: nobody but
+// root may change the mode of what another one has.
+fn is_own<H: Files>(rt: &H, there: &Metadata) -> bool {
+    match fs::metadata(rt, "/proc/self") {
+        Ok(process) => there.uid() == process.uid(),
+        Err(_) => true,
+    }
+}
+
+// Opens the folder of this name, which is there and is this user's own; no link is followed.
+fn own_folder<H: Files<File = File>>(rt: &H, room: &str) -> io::Result<File> {
+    let there = fs::symlink_metadata(rt, room)?;
+    if !there.is_dir() || !is_own(rt, &there) {
+        return Err(io::Error::from(ErrorKind::AddrInUse));
+    }
+    let folder = File::open(rt, room)?;
+    let opened = folder.metadata()?;
+    if opened.ino() != there.ino() || opened.dev() != there.dev() {
+        return Err(io::Error::from(ErrorKind::AddrInUse));
+    }
+    Ok(folder)
+}
+
+// Takes away the socket that a process left in the folder. Anything else is left as it is.
+fn clear<H: Files>(rt: &H, inside: &str) -> io::Result<()> {
+    let left = match fs::symlink_metadata(rt, inside) {
+        Ok(left) => left,
+        Err(error) => {
+            if error.kind() == ErrorKind::NotFound {
+                return Ok(());
+            }
+            return Err(error);
+        }
+    };
+    if !left.file_type().is_socket() {
+        return Err(io::Error::from(ErrorKind::AddrInUse));
+    }
+    fs::remove_file(rt, inside)
+}
+
 // The folder that this user alone may enter and this process alone uses; no socket is in it.
 fn private_room<H: Files<File = File>>(rt: &H, room: &str, inside: &str) -> io::Result<File> {
     if let Err(error) = DirBuilder::new().mode(0o700).create(rt, room) {
@@ -57,19 +97,12 @@ fn private_room<H: Files<File = File>>(rt: &H, room: &str, inside: &str) -> io::
             return Err(error);
         }
     }
-    if !fs::metadata(rt, room)?.is_dir() {
-        return Err(io::Error::from(ErrorKind::AddrInUse));
-    }
-    let folder = File::open(rt, room)?;
+    let folder = own_folder(rt, room)?;
     if folder.try_lock().is_err() {
         return Err(io::Error::from(ErrorKind::AddrInUse));
     }
+    clear(rt, inside)?;
     folder.set_permissions(Permissions::from_mode(0o700))?;
-    if let Err(error) = fs::remove_file(rt, inside) {
-        if error.kind() != ErrorKind::NotFound {
-            return Err(error);
-        }
-    }
     Ok(folder)
 }
 

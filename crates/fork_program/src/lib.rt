@@ -14,6 +14,7 @@ mod hosts;
 mod keep;
 mod keeping;
 mod listening;
+mod patience;
 mod replaying;
 mod run;
 mod send;

@@ -2,6 +2,7 @@ ghost use Rattle.std.specs.Prelude.{◌≡◌, ◌⊎◌, ℕ, IfErr, IfOk, List
 ghost use Rattle.std.specs.Io.KnownBytes.{Appends, Keeps};
 ghost use Rattle.fork_program.specs.Program.{Ends, IsCarriedOut, IsEndedAndTold, IsEndedUntold, ending_of};
 
+use crate::changing::{add_tenant, remove_tenant, set_limit};
 use crate::check::check;
 use crate::ending::Ending;
 use crate::fault::Fault;
@@ -58,6 +59,9 @@ fn carried_out<
             Err(fault) => Ending::Failed(fault),
         },
         Command::Upgrade { dir } => done(upgrade(rt, alloc, dir, writer)),
+        Command::AddTenant { dir, grant } => done(add_tenant(rt, alloc, dir, grant)),
+        Command::SetLimit { dir, grant } => done(set_limit(rt, alloc, dir, grant)),
+        Command::RemoveTenant { dir, tenant } => done(remove_tenant(rt, alloc, dir, tenant)),
     }
 }
 

@@ -108,3 +108,26 @@ upgrade_is_asked = refl
 pub upgrade_wants_its_dir : fault_of table_app (codes "forkhost" ∷ codes "upgrade" ∷ []) ≡ MissingRequiredArgument ∷ []
 unfolding clap_on_literals table_app
 upgrade_wants_its_dir = refl
+
+-- ---- changes of tenants
+pub add_tenant_is_asked : option_map {U = Text × Option Text × Option Text} (λ p. (p.0, first_of (codes "dir") p.1, first_of (codes "tenant") p.1)) (subcommand_of table_app (codes "forkhost" ∷ codes "add-tenant" ∷ codes "--dir" ∷ codes "d" ∷ codes "alice=1" ∷ []))
+    ≡ Some (codes "add-tenant", Some (codes "d"), Some (codes "alice=1"))
+unfolding clap_on_literals table_app
+add_tenant_is_asked = refl
+
+pub remove_tenant_is_asked : option_map {U = Text × Option Text × Option Text} (λ p. (p.0, first_of (codes "dir") p.1, first_of (codes "tenant") p.1)) (subcommand_of table_app (codes "forkhost" ∷ codes "remove-tenant" ∷ codes "alice" ∷ codes "--dir=d" ∷ []))
+    ≡ Some (codes "remove-tenant", Some (codes "d"), Some (codes "alice"))
+unfolding clap_on_literals table_app
+remove_tenant_is_asked = refl
+
+pub set_limit_wants_its_tenant : fault_of table_app (codes "forkhost" ∷ codes "set-limit" ∷ codes "--dir=d" ∷ []) ≡ MissingRequiredArgument ∷ []
+unfolding clap_on_literals table_app
+set_limit_wants_its_tenant = refl
+
+pub set_limit_wants_its_dir : fault_of table_app (codes "forkhost" ∷ codes "set-limit" ∷ codes "alice=1" ∷ []) ≡ MissingRequiredArgument ∷ []
+unfolding clap_on_literals table_app
+set_limit_wants_its_dir = refl
+
+pub two_tenants_are_faulty : fault_of table_app (codes "forkhost" ∷ codes "add-tenant" ∷ codes "--dir=d" ∷ codes "alice=1" ∷ codes "bob=2" ∷ []) ≡ UnknownArgument ∷ []
+unfolding clap_on_literals table_app
+two_tenants_are_faulty = refl

@@ -3,7 +3,7 @@ use Rattle.std.proofs.Common.{◌≡◌, ◌≢◌, ◌∙◌, sym, ap, subst, a
 use Rattle.std.specs.Option.{option_map}
 use Rattle.std.specs.Str.{bytes_eq}
 use Rattle.clap.specs.Words.{Row, Text, first_of}
-use Rattle.fork_command.specs.Command.{IsCommandMet, ToCheck, ToHash, ToRun, ToServe, ToUpgrade}
+use Rattle.fork_command.specs.Command.{HasTenantWords, IsCommandMet, ToAdd, ToCheck, ToHash, ToLimit, ToRemove, ToRun, ToServe, ToUpgrade}
 use Rattle.std.proofs.lemmas.Slice.Eq.{bytes_eq-Decides}
 
 -- two halves that are known of an option's pair are the pair
@@ -23,9 +23,10 @@ abbrev pub rows_met : Option (Text × List Row) → List Row
 rows_met None = []
 rows_met (Some p) = p.1
 
-abbrev pub first_letter : Option (Text × List Row) → ℕ
-first_letter None = 0
-first_letter (Some p) = slice_index p.0 0
+-- the subcommands differ in their third letters
+abbrev pub third_letter : Option (Text × List Row) → ℕ
+third_letter None = 0
+third_letter (Some p) = slice_index p.0 2
 
 -- where no subcommand was met
 pub none_met : {X A B : Type 0} (o : Option X) (f : X → A) (g : X → B) (p : A × B) → None ≡ option_map f o → option_map {U = A × B} (λ x. (f x, g x)) o ≡ Some p → ⊥
@@ -37,16 +38,55 @@ other_letter n m is differs = absurd (differs is)
 
 -- where `check` was met, a folder is given
 pub check_met : (met : Option (Text × List Row)) (rows : List Row) → IsCommandMet met → met ≡ Some (codes "check", rows) → is_some (first_of (codes "dir") rows) ≡ true
-check_met met rows (ToHash others is) check = other_letter 104 99 (ap first_letter (sym is ∙ check)) (omega arith)
-check_met met rows (ToRun others is) check = other_letter 114 99 (ap first_letter (sym is ∙ check)) (omega arith)
-check_met met rows (ToServe others is words) check = other_letter 115 99 (ap first_letter (sym is ∙ check)) (omega arith)
-check_met met rows (ToCheck others is some) check = subst (λ (rs : List Row). is_some (first_of (codes "dir") rs) ≡ true) (ap rows_met (sym is ∙ check)) some
-check_met met rows (ToUpgrade others is some) check = other_letter 117 99 (ap first_letter (sym is ∙ check)) (omega arith)
+check_met met rows (ToHash others is) this = other_letter 115 101 (ap third_letter (sym is ∙ this)) (omega arith)
+check_met met rows (ToRun others is) this = other_letter 110 101 (ap third_letter (sym is ∙ this)) (omega arith)
+check_met met rows (ToServe others is words) this = other_letter 114 101 (ap third_letter (sym is ∙ this)) (omega arith)
+check_met met rows (ToCheck others is some) this = subst (λ (rs : List Row). is_some (first_of (codes "dir") rs) ≡ true) (ap rows_met (sym is ∙ this)) some
+check_met met rows (ToUpgrade others is some) this = other_letter 103 101 (ap third_letter (sym is ∙ this)) (omega arith)
+check_met met rows (ToAdd others is words) this = other_letter 100 101 (ap third_letter (sym is ∙ this)) (omega arith)
+check_met met rows (ToLimit others is words) this = other_letter 116 101 (ap third_letter (sym is ∙ this)) (omega arith)
+check_met met rows (ToRemove others is words) this = other_letter 109 101 (ap third_letter (sym is ∙ this)) (omega arith)
 
 -- and where `upgrade` was
 pub upgrade_met : (met : Option (Text × List Row)) (rows : List Row) → IsCommandMet met → met ≡ Some (codes "upgrade", rows) → is_some (first_of (codes "dir") rows) ≡ true
-upgrade_met met rows (ToHash others is) upgrade = other_letter 104 117 (ap first_letter (sym is ∙ upgrade)) (omega arith)
-upgrade_met met rows (ToRun others is) upgrade = other_letter 114 117 (ap first_letter (sym is ∙ upgrade)) (omega arith)
-upgrade_met met rows (ToServe others is words) upgrade = other_letter 115 117 (ap first_letter (sym is ∙ upgrade)) (omega arith)
-upgrade_met met rows (ToCheck others is some) upgrade = other_letter 99 117 (ap first_letter (sym is ∙ upgrade)) (omega arith)
-upgrade_met met rows (ToUpgrade others is some) upgrade = subst (λ (rs : List Row). is_some (first_of (codes "dir") rs) ≡ true) (ap rows_met (sym is ∙ upgrade)) some
+upgrade_met met rows (ToHash others is) this = other_letter 115 103 (ap third_letter (sym is ∙ this)) (omega arith)
+upgrade_met met rows (ToRun others is) this = other_letter 110 103 (ap third_letter (sym is ∙ this)) (omega arith)
+upgrade_met met rows (ToServe others is words) this = other_letter 114 103 (ap third_letter (sym is ∙ this)) (omega arith)
+upgrade_met met rows (ToCheck others is some) this = other_letter 101 103 (ap third_letter (sym is ∙ this)) (omega arith)
+upgrade_met met rows (ToUpgrade others is some) this = subst (λ (rs : List Row). is_some (first_of (codes "dir") rs) ≡ true) (ap rows_met (sym is ∙ this)) some
+upgrade_met met rows (ToAdd others is words) this = other_letter 100 103 (ap third_letter (sym is ∙ this)) (omega arith)
+upgrade_met met rows (ToLimit others is words) this = other_letter 116 103 (ap third_letter (sym is ∙ this)) (omega arith)
+upgrade_met met rows (ToRemove others is words) this = other_letter 109 103 (ap third_letter (sym is ∙ this)) (omega arith)
+
+-- where a tenant is to be added, the words have what it needs
+pub add_met : (met : Option (Text × List Row)) (rows : List Row) → IsCommandMet met → met ≡ Some (codes "add-tenant", rows) → HasTenantWords rows
+add_met met rows (ToHash others is) this = other_letter 115 100 (ap third_letter (sym is ∙ this)) (omega arith)
+add_met met rows (ToRun others is) this = other_letter 110 100 (ap third_letter (sym is ∙ this)) (omega arith)
+add_met met rows (ToServe others is words) this = other_letter 114 100 (ap third_letter (sym is ∙ this)) (omega arith)
+add_met met rows (ToCheck others is some) this = other_letter 101 100 (ap third_letter (sym is ∙ this)) (omega arith)
+add_met met rows (ToUpgrade others is some) this = other_letter 103 100 (ap third_letter (sym is ∙ this)) (omega arith)
+add_met met rows (ToAdd others is words) this = subst HasTenantWords (ap rows_met (sym is ∙ this)) words
+add_met met rows (ToLimit others is words) this = other_letter 116 100 (ap third_letter (sym is ∙ this)) (omega arith)
+add_met met rows (ToRemove others is words) this = other_letter 109 100 (ap third_letter (sym is ∙ this)) (omega arith)
+
+-- and where a limit is to be set
+pub limit_met : (met : Option (Text × List Row)) (rows : List Row) → IsCommandMet met → met ≡ Some (codes "set-limit", rows) → HasTenantWords rows
+limit_met met rows (ToHash others is) this = other_letter 115 116 (ap third_letter (sym is ∙ this)) (omega arith)
+limit_met met rows (ToRun others is) this = other_letter 110 116 (ap third_letter (sym is ∙ this)) (omega arith)
+limit_met met rows (ToServe others is words) this = other_letter 114 116 (ap third_letter (sym is ∙ this)) (omega arith)
+limit_met met rows (ToCheck others is some) this = other_letter 101 116 (ap third_letter (sym is ∙ this)) (omega arith)
+limit_met met rows (ToUpgrade others is some) this = other_letter 103 116 (ap third_letter (sym is ∙ this)) (omega arith)
+limit_met met rows (ToAdd others is words) this = other_letter 100 116 (ap third_letter (sym is ∙ this)) (omega arith)
+limit_met met rows (ToLimit others is words) this = subst HasTenantWords (ap rows_met (sym is ∙ this)) words
+limit_met met rows (ToRemove others is words) this = other_letter 109 116 (ap third_letter (sym is ∙ this)) (omega arith)
+
+-- and where a tenant is to be taken out
+pub remove_met : (met : Option (Text × List Row)) (rows : List Row) → IsCommandMet met → met ≡ Some (codes "remove-tenant", rows) → HasTenantWords rows
+remove_met met rows (ToHash others is) this = other_letter 115 109 (ap third_letter (sym is ∙ this)) (omega arith)
+remove_met met rows (ToRun others is) this = other_letter 110 109 (ap third_letter (sym is ∙ this)) (omega arith)
+remove_met met rows (ToServe others is words) this = other_letter 114 109 (ap third_letter (sym is ∙ this)) (omega arith)
+remove_met met rows (ToCheck others is some) this = other_letter 101 109 (ap third_letter (sym is ∙ this)) (omega arith)
+remove_met met rows (ToUpgrade others is some) this = other_letter 103 109 (ap third_letter (sym is ∙ this)) (omega arith)
+remove_met met rows (ToAdd others is words) this = other_letter 100 109 (ap third_letter (sym is ∙ this)) (omega arith)
+remove_met met rows (ToLimit others is words) this = other_letter 116 109 (ap third_letter (sym is ∙ this)) (omega arith)
+remove_met met rows (ToRemove others is words) this = subst HasTenantWords (ap rows_met (sym is ∙ this)) words

@@ -1,4 +1,4 @@
--- Words in which `clap` finds no fault give `serve`, `check` and `upgrade` what they need.
+-- Words in which `clap` finds no fault give each subcommand what it needs.
 use Rattle.std.proofs.Common.{◌≡◌, ◌||◌, not, Bool, true, false, List, [], drop, Option, Some, None, is_some, codes, refl, IfSome, slice_get, pos}
 use Rattle.std.specs.Option.{option_and_then, option_map_or}
 use Rattle.clap.specs.Words.{App, IsSignedIn, Kinds, Row, Rule, Shape, Text, built, first_of, without_minus}
@@ -10,8 +10,8 @@ use Rattle.clap.specs.Takes.{is_given}
 use Rattle.clap.specs.Walk.{Names, nothing_held, row_text, rows_after, settled, walk, walk_from}
 use Rattle.clap.specs.declared.builder.value_parser.ValueParser.TheVariants.{Signed}
 use Rattle.clap.proofs.ValueTestLemmas.{accepts-Accepts}
-use Rattle.fork_command.specs.Command.{HasServeWords}
-use Rattle.fork_command.specs.Table.{connections_rule, folder_app, needed_rule, serve_app, table_app}
+use Rattle.fork_command.specs.Command.{HasServeWords, HasTenantWords}
+use Rattle.fork_command.specs.Table.{connections_rule, folder_app, needed_rule, serve_app, table_app, tenant_app, word_rule}
 use Rattle.fork_command.proofs.GivenLemmas.{Holds, found_keeps, other_keeps, others_keep, own_keeps, row_at}
 use Rattle.fork_command.proofs.KeptLemmas.{EachKeeps, level_keeps, or_else_first, or_else_last}
 
@@ -66,6 +66,9 @@ connections_built = with_index 1 (filled connections_rule)
 abbrev dir_built : Rule
 dir_built = with_index 1 (filled (needed_rule (codes "dir")))
 
+abbrev tenant_built : Rule
+tenant_built = with_index 1 (filled (word_rule (codes "tenant")))
+
 socket_kept : EachKeeps (standing serve_app) (Holds (codes "socket") HasValue)
 unfolding table_app
 socket_kept =
@@ -110,3 +113,29 @@ folder_words name words none =
     let s = standing (folder_app name) in
     let rows = rows_after s.rules [] words in
     value_given (row_at (codes "dir") rows) (one_given (is_given (codes "dir") rows) (level_last s [] words false [] none)) (level_keeps s (Holds (codes "dir") HasValue) (dir_kept name) [] words false [] refl tt none)
+
+tenant_dir_kept : (name : Text) → EachKeeps (standing (tenant_app name)) (Holds (codes "dir") HasValue)
+unfolding table_app
+tenant_dir_kept name =
+    let s = standing (tenant_app name) in
+    found_keeps s (Holds (codes "dir") HasValue) s.rules (own_keeps s dir_built HasValue refl refl refl (λ v vs passed. refl), others_keep s (codes "dir") HasValue (drop 1 s.rules) refl)
+
+tenant_kept : (name : Text) → EachKeeps (standing (tenant_app name)) (Holds (codes "tenant") HasValue)
+unfolding table_app
+tenant_kept name =
+    let s = standing (tenant_app name) in
+    found_keeps s (Holds (codes "tenant") HasValue) s.rules (
+      other_keeps s dir_built (codes "tenant") HasValue refl refl,
+      (own_keeps s tenant_built HasValue refl refl refl (λ v vs passed. refl), others_keep s (codes "tenant") HasValue (drop 2 s.rules) refl),
+    )
+
+pub tenant_words : (name : Text) (words : List Text) → level_fault (standing (tenant_app name)) [] nothing_held words false [] ≡ [] → HasTenantWords (rows_after (standing (tenant_app name)).rules [] words)
+unfolding table_app
+tenant_words name words none =
+    let s = standing (tenant_app name) in
+    let rows = rows_after s.rules [] words in
+    let given = two_given (is_given (codes "dir") rows) (is_given (codes "tenant") rows) (level_last s [] words false [] none) in
+    record {
+      dir = value_given (row_at (codes "dir") rows) given.0 (level_keeps s (Holds (codes "dir") HasValue) (tenant_dir_kept name) [] words false [] refl tt none);
+      tenant = value_given (row_at (codes "tenant") rows) given.1 (level_keeps s (Holds (codes "tenant") HasValue) (tenant_kept name) [] words false [] refl tt none);
+    }

@@ -6,12 +6,14 @@ use Rattle.clap.specs.declared.error.kind.ErrorKind.{ErrorKind}
 use Rattle.clap.specs.declared.error.kind.ErrorKind.TheVariants.{DisplayHelp, DisplayVersion}
 use Rattle.git_name.specs.declared.kind.Kind.{Kind}
 use Rattle.git_name.specs.Kind.{type_word}
+use Rattle.fork_request.specs.Names.{IsTenantName}
+use Rattle.fork_command.specs.declared.grant.Grant.{Grant}
 use Rattle.fork_command.specs.declared.command.Command.{Command}
-use Rattle.fork_command.specs.declared.command.Command.TheVariants.{HashObject, Run, Serve, Check, Upgrade}
+use Rattle.fork_command.specs.declared.command.Command.TheVariants.{HashObject, Run, Serve, Check, Upgrade, AddTenant, SetLimit, RemoveTenant}
 use Rattle.fork_command.specs.declared.hosting.Hosting.{Hosting}
 use Rattle.fork_command.specs.declared.error.CommandError.{CommandError}
 use Rattle.fork_command.specs.declared.error.CommandError.TheVariants.{Help, Usage, BadTenant, Memory}
-use Rattle.fork_command.specs.Grant.{AreGrants, IsFirstBad}
+use Rattle.fork_command.specs.Grant.{AreGrants, IsFirstBad, IsGrant, grant_word}
 
 -- the word given as TYPE
 abbrev pub type_given : List Row → List ℕ
@@ -42,6 +44,10 @@ pub record IsServing (rows : List Row) (path : Text) (n : ℕ) (hosting : Hostin
 abbrev pub AsksOfFolder : Text → Option (Text × List Row) → Text → Type 0
 AsksOfFolder name met dir = (rows : List Row) × (met ≡ Some (name, rows)) × (first_of (codes "dir") rows ≡ Some dir)
 
+-- the same, and this word for a tenant
+abbrev pub AsksOfTenant : Text → Option (Text × List Row) → Text → Text → Type 0
+AsksOfTenant name met dir word = (rows : List Row) × (met ≡ Some (name, rows)) × (first_of (codes "dir") rows ≡ Some dir) × (first_of (codes "tenant") rows ≡ Some word)
+
 -- the subcommand that `clap` met, and the words given to it, ask for this command
 abbrev pub Asks : Option (Text × List Row) → Command → Type 0
 Asks met (HashObject kind) = (rows : List Row) × (met ≡ Some (codes "hash-object", rows)) × (type_given rows ≡ type_word kind)
@@ -49,6 +55,9 @@ Asks met (Run hosting) = (rows : List Row) × (met ≡ Some (codes "run", rows))
 Asks met (Serve socket connections hosting) = (rows : List Row) × (met ≡ Some (codes "serve", rows)) × IsServing rows socket.now connections hosting
 Asks met (Check dir) = AsksOfFolder (codes "check") met dir.now
 Asks met (Upgrade dir) = AsksOfFolder (codes "upgrade") met dir.now
+Asks met (AddTenant dir grant) = AsksOfTenant (codes "add-tenant") met dir.now (grant_word grant) × IsGrant grant
+Asks met (SetLimit dir grant) = AsksOfTenant (codes "set-limit") met dir.now (grant_word grant) × IsGrant grant
+Asks met (RemoveTenant dir tenant) = AsksOfTenant (codes "remove-tenant") met dir.now tenant × IsTenantName tenant
 
 -- the words have what `serve` needs: a socket, and a text that `clap` takes for N
 pub record HasServeWords (rows : List Row) : Type 0 where
@@ -57,6 +66,11 @@ pub record HasServeWords (rows : List Row) : Type 0 where
   pub connections : one_of (codes "connections") rows ≡ Some (without_minus text)
   pub number : IsSignedIn (pos 1) (pos 1000000) text
 
+-- the words have what the change of a tenant needs
+pub record HasTenantWords (rows : List Row) : Type 0 where
+  pub dir : is_some (first_of (codes "dir") rows) ≡ true
+  pub tenant : is_some (first_of (codes "tenant") rows) ≡ true
+
 -- `clap` met a subcommand of the table, and the words that it needs
 pub data IsCommandMet (met : Option (Text × List Row)) : Type 0 where
   ToHash : (rows : List Row) → met ≡ Some (codes "hash-object", rows) → IsCommandMet met
@@ -64,14 +78,31 @@ pub data IsCommandMet (met : Option (Text × List Row)) : Type 0 where
   ToServe : (rows : List Row) → met ≡ Some (codes "serve", rows) → HasServeWords rows → IsCommandMet met
   ToCheck : (rows : List Row) → met ≡ Some (codes "check", rows) → is_some (first_of (codes "dir") rows) ≡ true → IsCommandMet met
   ToUpgrade : (rows : List Row) → met ≡ Some (codes "upgrade", rows) → is_some (first_of (codes "dir") rows) ≡ true → IsCommandMet met
+  ToAdd : (rows : List Row) → met ≡ Some (codes "add-tenant", rows) → HasTenantWords rows → IsCommandMet met
+  ToLimit : (rows : List Row) → met ≡ Some (codes "set-limit", rows) → HasTenantWords rows → IsCommandMet met
+  ToRemove : (rows : List Row) → met ≡ Some (codes "remove-tenant", rows) → HasTenantWords rows → IsCommandMet met
 
 -- the word given as TYPE is the type of no object
 abbrev pub IsBadType : Option (Text × List Row) → Type 0
 IsBadType met = (rows : List Row) × (met ≡ Some (codes "hash-object", rows)) × ((kind : Kind) → type_given rows ≢ type_word kind)
 
--- this is the first word given to `run` or to `serve` that is no grant
-abbrev pub IsBadTenant : Option (Text × List Row) → List ℕ → Type 0
-IsBadTenant met word = (rows : List Row) × ((met ≡ Some (codes "run", rows)) ⊎ (met ≡ Some (codes "serve", rows))) × IsFirstBad word (tenants_given rows)
+-- this is the word given for a tenant and its limit, and is no grant
+abbrev pub IsNoGrant : List Row → List ℕ → Type 0
+IsNoGrant rows word = (first_of (codes "tenant") rows ≡ Some word) × ((grant : Grant) → IsGrant grant → word ≢ grant_word grant)
+
+-- this is the word given for a tenant, and is no tenant's name
+abbrev pub IsNoTenant : List Row → List ℕ → Type 0
+IsNoTenant rows word = (first_of (codes "tenant") rows ≡ Some word) × (IsTenantName word → ⊥)
+
+-- this word is refused in the place of a tenant
+pub data IsBadTenant (met : Option (Text × List Row)) (word : List ℕ) : Type 0 where
+  -- the first word given to `run` or to `serve` that is no grant
+  BadOfRun : (rows : List Row) → met ≡ Some (codes "run", rows) → IsFirstBad word (tenants_given rows) → IsBadTenant met word
+  BadOfServe : (rows : List Row) → met ≡ Some (codes "serve", rows) → IsFirstBad word (tenants_given rows) → IsBadTenant met word
+  -- the word given to the others, which is none, or no name
+  BadOfAdd : (rows : List Row) → met ≡ Some (codes "add-tenant", rows) → IsNoGrant rows word → IsBadTenant met word
+  BadOfLimit : (rows : List Row) → met ≡ Some (codes "set-limit", rows) → IsNoGrant rows word → IsBadTenant met word
+  BadOfRemove : (rows : List Row) → met ≡ Some (codes "remove-tenant", rows) → IsNoTenant rows word → IsBadTenant met word
 
 -- words of this kind ask for a text of `clap`'s: its help, or the version
 abbrev pub IsShown : ErrorKind → Type 0
@@ -90,3 +121,13 @@ IsFaulty taken met (Help error) = taken ≡ false
 IsFaulty taken met (Usage error) = (taken ≡ false) ⊎ IsBadType met
 IsFaulty taken met (BadTenant word) = Unit {0}
 IsFaulty taken met Memory = Unit {0}
+
+-- why the word given for a tenant and its limit is refused
+abbrev pub IsGrantRefused : List Row → CommandError → Type 0
+IsGrantRefused rows (BadTenant word) = IsNoGrant rows word.now
+IsGrantRefused rows error = ⊥
+
+-- why the word given for a tenant is refused
+abbrev pub IsTenantRefused : List Row → CommandError → Type 0
+IsTenantRefused rows (BadTenant word) = IsNoTenant rows word.now
+IsTenantRefused rows error = ⊥

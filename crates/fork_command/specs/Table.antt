@@ -16,6 +16,10 @@ needed_rule name = record (option_rule name) { required = true }
 abbrev pub connections_rule : Rule
 connections_rule = record (needed_rule (codes "connections")) { parser = Some (Signed (pos 1) (pos 1000000)) }
 
+-- a word in its place, which must be given
+abbrev pub word_rule : Text → Rule
+word_rule name = record (new_rule name) { action = Some Set; value_names = 1; required = true }
+
 -- `[TENANT=LIMIT ..]`
 abbrev pub tenants_rule : Rule
 tenants_rule = record (new_rule (codes "tenants")) { action = Some Append; value_names = 1 }
@@ -47,9 +51,28 @@ check_app = folder_app (codes "check")
 abbrev pub upgrade_app : App
 upgrade_app = folder_app (codes "upgrade")
 
+-- a subcommand that is given a folder and a tenant of it
+abbrev pub tenant_app : Text → App
+tenant_app name = with_rule (folder_app name) (word_rule (codes "tenant"))
+
+-- `add-tenant --dir PATH TENANT=LIMIT`, `set-limit --dir PATH TENANT=LIMIT` and `remove-tenant --dir PATH TENANT`
+abbrev pub add_tenant_app : App
+add_tenant_app = tenant_app (codes "add-tenant")
+
+abbrev pub set_limit_app : App
+set_limit_app = tenant_app (codes "set-limit")
+
+abbrev pub remove_tenant_app : App
+remove_tenant_app = tenant_app (codes "remove-tenant")
+
 -- `forkhost` and one of its subcommands
 abbrev pub top_app : App
 top_app = let top = new_app (codes "forkhost") in record top { top = record top.top { subcommand_required = true; disable_help_subcommand = true; has_version = true } }
 
+-- those that serve, and those that read or renew a folder
+abbrev pub serving_app : App
+serving_app = with_subcommand (with_subcommand (with_subcommand (with_subcommand (with_subcommand top_app hash_object_app.top) run_app.top) serve_app.top) check_app.top) upgrade_app.top
+
+-- and those that change its tenants
 unfoldable pub table_app : App
-table_app = with_subcommand (with_subcommand (with_subcommand (with_subcommand (with_subcommand top_app hash_object_app.top) run_app.top) serve_app.top) check_app.top) upgrade_app.top
+table_app = with_subcommand (with_subcommand (with_subcommand serving_app add_tenant_app.top) set_limit_app.top) remove_tenant_app.top

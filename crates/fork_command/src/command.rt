@@ -2,15 +2,18 @@ ghost use Rattle.std.specs.Prelude.{◌≡◌, ◌≢◌, ◌⊎◌, Bool, IfOk,
 ghost use Rattle.clap.specs.Words.{HasKind, Kinds, Row, Text, fault_of, first_of, found_of, kind_of, rows_of, subcommand_of, subcommand_rows_of, takes};
 ghost use Rattle.git_name.specs.declared.kind.Kind.{Kind};
 ghost use Rattle.git_name.specs.Kind.{type_word};
-ghost use Rattle.fork_command.specs.Grant.{IsBadGrant};
+ghost use Rattle.fork_request.specs.Names.{IsTenantName};
+ghost use Rattle.fork_command.specs.Grant.{IsBadGrant, IsGrant, grant_word};
 ghost use Rattle.fork_command.specs.Table.{table_app};
-ghost use Rattle.fork_command.specs.Command.{Asks, HasServeWords, IsBadType, IsFaulty, IsCommandMet, IsRefused, tenants_given};
+ghost use Rattle.fork_command.specs.Command.{Asks, AsksOfTenant, HasServeWords, HasTenantWords, IsBadType, IsFaulty, IsCommandMet, IsGrantRefused, IsRefused, IsTenantRefused, tenants_given};
 
 use crate::error::CommandError;
+use crate::grant::Grant;
 use crate::hosting::{Hosting, hosting_of};
 use crate::table::table;
 use clap::error::ErrorKind;
 use clap::{ArgMatches, Error};
+use fork_request::TenantName;
 use git_name::Kind;
 use std::alloc::Global;
 
@@ -38,6 +41,21 @@ pub enum Command<'a> {
     /// To save what a folder keeps in the newest form.
     Upgrade {
         dir: &'a str,
+    },
+    /// To add a tenant to what a folder keeps.
+    AddTenant {
+        dir: &'a str,
+        grant: Grant,
+    },
+    /// To give a tenant of what a folder keeps another limit.
+    SetLimit {
+        dir: &'a str,
+        grant: Grant,
+    },
+    /// To take a tenant out of what a folder keeps, with all that it has.
+    RemoveTenant {
+        dir: &'a str,
+        tenant: TenantName,
     },
 }
 
@@ -84,6 +102,46 @@ fn serving<'a>(alloc: Global, matches: &ArgMatches<'a>) -> Result<Command<'a>, C
     })
 }
 
+// The folder that the words give, and the tenant with its limit.
+fn granted<'a>(matches: &ArgMatches<'a>) -> Result<(&'a str, Grant), CommandError<'a>>
+    requires words { HasTenantWords (rows_of (found_of matches.now)) }
+    ensures dir { IfOk result (λ given. first_of (codes "dir") (rows_of (found_of matches.entry.now)) ≡ Some given.0.now) }
+    ensures word { IfOk result (λ given. first_of (codes "tenant") (rows_of (found_of matches.entry.now)) ≡ Some (grant_word given.1)) }
+    ensures right { IfOk result (λ given. IsGrant given.1) }
+    ensures err { IfErr result (IsGrantRefused (rows_of (found_of matches.entry.now))) }
+{
+    let Some(dir) = matches.get_str("dir") else {
+        unreachable!();
+    };
+    let Some(word) = matches.get_str("tenant") else {
+        unreachable!();
+    };
+    let Some(grant) = Grant::read(word.as_bytes()) else {
+        return Err(CommandError::BadTenant(word));
+    };
+    Ok((dir, grant))
+}
+
+// The folder that the words give, and the tenant.
+fn named<'a>(matches: &ArgMatches<'a>) -> Result<(&'a str, TenantName), CommandError<'a>>
+    requires words { HasTenantWords (rows_of (found_of matches.now)) }
+    ensures dir { IfOk result (λ given. first_of (codes "dir") (rows_of (found_of matches.entry.now)) ≡ Some given.0.now) }
+    ensures word { IfOk result (λ given. first_of (codes "tenant") (rows_of (found_of matches.entry.now)) ≡ Some given.1) }
+    ensures right { IfOk result (λ given. IsTenantName given.1) }
+    ensures err { IfErr result (IsTenantRefused (rows_of (found_of matches.entry.now))) }
+{
+    let Some(dir) = matches.get_str("dir") else {
+        unreachable!();
+    };
+    let Some(word) = matches.get_str("tenant") else {
+        unreachable!();
+    };
+    let Some(tenant) = TenantName::read(word.as_bytes()) else {
+        return Err(CommandError::BadTenant(word));
+    };
+    Ok((dir, tenant))
+}
+
 // What the words ask for that clap took; nothing where TYPE is bad.
 fn asked<'a>(
     alloc: Global,
@@ -123,6 +181,18 @@ fn asked<'a>(
         };
         return Ok(Some(Command::Upgrade { dir }));
     }
+    if name == "add-tenant" {
+        let (dir, grant) = granted(matches)?;
+        return Ok(Some(Command::AddTenant { dir, grant }));
+    }
+    if name == "set-limit" {
+        let (dir, grant) = granted(matches)?;
+        return Ok(Some(Command::SetLimit { dir, grant }));
+    }
+    if name == "remove-tenant" {
+        let (dir, tenant) = named(matches)?;
+        return Ok(Some(Command::RemoveTenant { dir, tenant }));
+    }
     unreachable!()
 }
 
@@ -137,8 +207,8 @@ fn bad_type<'a>(top: &mut clap::Command<'_>) -> CommandError<'a>
     }
 }
 
-/// What the words ask for; the first of them is the program's name. Each word in the place of
-/// TENANT=LIMIT is judged before any command is answered, and after all that `clap` judges.
+/// What the words ask for; the first of them is the program's name. Each word in the place of a
+/// tenant is judged before any command is answered, and after all that `clap` judges.
 pub fn command_of<'a>(alloc: Global, words: &'a [&'a str]) -> Result<Command<'a>, CommandError<'a>>
     ensures ok { let texts = map (λ word. word.now) words.entry.now in
         IfOk result (λ command. (fault_of table_app texts ≡ []) × Asks (subcommand_of table_app texts) command) }

@@ -7,7 +7,7 @@ pub enum CommandError<'a> {
     Help(Error),
     /// A faulty command line. The text belongs on standard error, with status 2.
     Usage(Error),
-    /// The first word in the place of TENANT=LIMIT that is none. Status 2.
+    /// The first word in the place of TENANT=LIMIT, or of TENANT, that is none. Status 2.
     BadTenant(&'a str),
     /// There was no memory.
     Memory,

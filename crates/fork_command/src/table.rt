@@ -2,7 +2,7 @@ ghost use Rattle.std.specs.Prelude.{◌≡◌, IfOk, codes, false};
 ghost use Rattle.clap.specs.Walk.{rule_of};
 ghost use Rattle.clap.specs.Words.{app_of};
 ghost use Rattle.clap.specs.declared.builder.command.Command.TheViews.{out-Command};
-ghost use Rattle.fork_command.specs.Table.{connections_rule, folder_app, hash_object_app, needed_rule, option_rule, run_app, serve_app, table_app, tenants_rule};
+ghost use Rattle.fork_command.specs.Table.{connections_rule, folder_app, hash_object_app, needed_rule, option_rule, run_app, serve_app, serving_app, table_app, tenant_app, tenants_rule, word_rule};
 
 use clap::{Arg, ArgAction, Command, value_parser};
 use std::alloc::{AllocError, Global};
@@ -102,9 +102,36 @@ fn of_folder<'a>(alloc: Global, name: &'a str, about: &'a str) -> Result<Command
         .arg(dir(alloc).required(true))
 }
 
-/// What the command line takes.
-pub(crate) fn table<'a>(alloc: Global) -> Result<Command<'a>, AllocError>
-    ensures table { IfOk result (λ c. app_of c ≡ table_app) }
+// A word in the place of a tenant.
+fn tenant<'a>(alloc: Global, shape: &'a str, help: &'a str) -> Arg<'a>
+    ensures rule { rule_of result ≡ word_rule (codes "tenant") }
+    ensures local { result.global ≡ false }
+{
+    Arg::new(alloc, "tenant")
+        .value_name(shape)
+        .help(help)
+        .required(true)
+        .action(ArgAction::Set)
+}
+
+// A subcommand that is given a folder and a tenant of it.
+fn of_tenant<'a>(
+    alloc: Global,
+    name: &'a str,
+    about: &'a str,
+    tenant: Arg<'a>,
+) -> Result<Command<'a>, AllocError>
+    requires rule { rule_of tenant ≡ word_rule (codes "tenant") }
+    requires local { tenant.global ≡ false }
+    ensures table { IfOk result (λ c. app_of c ≡ tenant_app name.entry.now) }
+    ensures local { IfOk result (λ c. (out-Command c).has_globals ≡ false) }
+{
+    of_folder(alloc, name, about)?.arg(tenant)
+}
+
+// The table with what serves, and what reads or renews a folder.
+fn serving<'a>(alloc: Global) -> Result<Command<'a>, AllocError>
+    ensures table { IfOk result (λ c. app_of c ≡ serving_app) }
 {
     let check = of_folder(
         alloc,
@@ -126,4 +153,32 @@ pub(crate) fn table<'a>(alloc: Global) -> Result<Command<'a>, AllocError>
         .subcommand(serve(alloc)?)?
         .subcommand(check)?
         .subcommand(upgrade)
+}
+
+/// What the command line takes.
+pub(crate) fn table<'a>(alloc: Global) -> Result<Command<'a>, AllocError>
+    ensures table { IfOk result (λ c. app_of c ≡ table_app) }
+{
+    let add = of_tenant(
+        alloc,
+        "add-tenant",
+        "Add a tenant to what a folder keeps",
+        tenant(alloc, "TENANT=LIMIT", "The tenant, and its limit in bytes"),
+    )?;
+    let limit = of_tenant(
+        alloc,
+        "set-limit",
+        "Give a tenant of what a folder keeps another limit",
+        tenant(alloc, "TENANT=LIMIT", "The tenant, and its limit in bytes"),
+    )?;
+    let remove = of_tenant(
+        alloc,
+        "remove-tenant",
+        "Take a tenant out of what a folder keeps, with all that it has",
+        tenant(alloc, "TENANT", "The tenant"),
+    )?;
+    serving(alloc)?
+        .subcommand(add)?
+        .subcommand(limit)?
+        .subcommand(remove)
 }

@@ -8,7 +8,7 @@ use Rattle.fork_host.specs.Shown.{HostState, Trusted, world_of}
 use Rattle.fork_model.specs.World.{World}
 use Rattle.fork_program.specs.Given.{AreFree, AreGiven, AreUngiven, IsFirstRefused, IsUnadded, with_grant, world_with}
 use Rattle.fork_program.specs.declared.fault.Fault.{Fault}
-use Rattle.fork_program.specs.declared.fault.Fault.TheVariants.{TooLarge, BadObject, BadFrame, Read, Write, Memory, Store, Socket, NoState, Unreadable, Journal, NotKept, NotSaved, Line, Lost, Damaged, Unsound, OverLimit, There, TooManyTenants}
+use Rattle.fork_program.specs.declared.fault.Fault.TheVariants.{TooLarge, BadObject, BadFrame, Read, Write, Memory, Store, Socket, NoState, Unreadable, Journal, NotKept, NotSaved, Line, Lost, Damaged, Unsound, OverLimit, There, TooManyTenants, NotThere, BelowUse}
 
 -- some of the tenants were added to a world, and the rest is still to come
 pub record Adding (grants rest : List Grant) (old world : World) : Type 0 where
@@ -97,3 +97,5 @@ not_added grants rest grant old world (Lost name) so_far why = absurd why
 not_added grants rest grant old world (Damaged name) so_far why = absurd why
 not_added grants rest grant old world (Unsound name) so_far why = absurd why
 not_added grants rest grant old world (OverLimit tenant) so_far why = absurd why
+not_added grants rest grant old world (NotThere tenant) so_far why = absurd why
+not_added grants rest grant old world (BelowUse tenant used) so_far why = absurd why

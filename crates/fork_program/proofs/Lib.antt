@@ -3,3 +3,4 @@ pub mod GivenLemmas
 pub mod HostingLemmas
 pub mod EntryLemmas
 pub mod VisitLemmas
+pub mod ChangingLemmas

@@ -11,7 +11,7 @@ use Rattle.fork_wire.specs.declared.fault.SessionFault.TheVariants as session
 use Rattle.loose_store.specs.declared.files.FileFault.{FileFault}
 use Rattle.loose_store.specs.declared.files.FileFault.TheVariants as file
 use Rattle.fork_program.specs.declared.fault.Fault.{Fault}
-use Rattle.fork_program.specs.declared.fault.Fault.TheVariants.{TooLarge, BadObject, BadFrame, Read, Write, Memory, Store, Socket, NoState, Unreadable, Journal, NotKept, NotSaved, Line, Lost, Damaged, Unsound, OverLimit, There, TooManyTenants}
+use Rattle.fork_program.specs.declared.fault.Fault.TheVariants.{TooLarge, BadObject, BadFrame, Read, Write, Memory, Store, Socket, NoState, Unreadable, Journal, NotKept, NotSaved, Line, Lost, Damaged, Unsound, OverLimit, There, TooManyTenants, NotThere, BelowUse}
 
 -- what is said of a fault
 abbrev pub said_of : Fault → List ℕ
@@ -35,6 +35,8 @@ said_of (Unsound name) = codes "unsound " ++ encode_lower name
 said_of (OverLimit tenant) = codes "over limit " ++ tenant
 said_of (There tenant) = codes "tenant " ++ tenant ++ codes " is there already"
 said_of TooManyTenants = codes "too many tenants"
+said_of (NotThere tenant) = codes "tenant " ++ tenant ++ codes " is not there"
+said_of (BelowUse tenant used) = codes "limit of " ++ tenant ++ codes " is below its use, " ++ decimal used
 
 -- the line that says it
 abbrev pub fault_line : Fault → List ℕ

@@ -6,9 +6,10 @@ use Rattle.clap.specs.declared.error.kind.ErrorKind.{ErrorKind}
 use Rattle.fork_command.specs.Command.{Asks, IsRefused, IsShown}
 use Rattle.fork_command.specs.Table.{table_app}
 use Rattle.fork_command.specs.declared.command.Command.{Command}
-use Rattle.fork_command.specs.declared.command.Command.TheVariants.{HashObject, Run, Serve, Check, Upgrade}
+use Rattle.fork_command.specs.declared.command.Command.TheVariants.{HashObject, Run, Serve, Check, Upgrade, AddTenant, SetLimit, RemoveTenant}
 use Rattle.fork_command.specs.declared.error.CommandError.TheVariants as refusal
 use Rattle.fork_frame.specs.declared.ended.Ended.TheVariants.{Clean}
+use Rattle.fork_program.specs.Changing.{IsLimitSet, IsLimitUnset, IsNotAdded, IsNotRemoved, IsTenantAdded, IsTenantRemoved}
 use Rattle.fork_program.specs.Fault.{fault_line}
 use Rattle.fork_program.specs.Hashing.{TellsName, IsUnnamed}
 use Rattle.fork_program.specs.Keeping.{IsNotUpgraded, IsUnchecked, IsUntouched, IsUpgraded, again_line, sound_line}
@@ -50,6 +51,9 @@ IsDone (Run hosting) input before after = IsSessionOf hosting input before after
 IsDone (Serve socket connections hosting) input before after = IsListened hosting connections × Keeps before after
 IsDone (Check dir) input before after = ⊥
 IsDone (Upgrade dir) input before after = IsUpgraded before after
+IsDone (AddTenant dir grant) input before after = IsTenantAdded grant × Keeps before after
+IsDone (SetLimit dir grant) input before after = IsLimitSet grant × Keeps before after
+IsDone (RemoveTenant dir tenant) input before after = IsTenantRemoved tenant × Keeps before after
 
 -- a check found the folder sound
 abbrev pub FindsSound : Command → Option (List ℕ) → Option (List ℕ) → Option (List ℕ) → Option (List ℕ) → Type 0
@@ -63,6 +67,9 @@ IsUndone (Run hosting) input left before after fault = IsUnserved hosting input 
 IsUndone (Serve socket connections hosting) input left before after fault = IsUnlistened hosting connections fault × IsUntouched input left before after
 IsUndone (Check dir) input left before after fault = IsUnchecked before after fault × Keeps input left
 IsUndone (Upgrade dir) input left before after fault = IsNotUpgraded before after fault × Keeps input left
+IsUndone (AddTenant dir grant) input left before after fault = IsNotAdded grant fault × IsUntouched input left before after
+IsUndone (SetLimit dir grant) input left before after fault = IsLimitUnset grant fault × IsUntouched input left before after
+IsUndone (RemoveTenant dir tenant) input left before after fault = IsNotRemoved tenant fault × IsUntouched input left before after
 
 -- a command was done, or a fault came
 abbrev pub ending_of : Result (Unit {0}) Fault → Ending

@@ -4,22 +4,21 @@ ghost use Rattle.fork_program.specs.Serving.{AreSomeVisits, AreVisits, IsLost, I
 use crate::fault::Fault;
 use crate::keep::Keep;
 use crate::listening::of_socket;
+use crate::patience::{Frames, Peer, Replies};
 use fork_host::Host;
 use fork_wire::{Journal, NoJournal, SessionFault, serve_kept};
 use loose_store::LooseFiles;
 use std::alloc::Global;
 use std::fs::{File, Files};
-use std::io::{BufReader, BufWriter};
+use std::io::BufWriter;
 use std::net::Shutdown;
 use std::os::unix::net::{UnixListener, UnixStream};
-use std::time::Duration;
-
-// How many seconds a peer may leave a reply unread.
-const PATIENCE: u64 = 30;
+use std::time::Clock;
 
 // Serves one session, and then ends the connection. A session that could not be kept is told; any
 // other end is the peer's own.
-fn visit<S: LooseFiles, J: Journal>(
+fn visit<H: Clock, S: LooseFiles, J: Journal>(
+    rt: &H,
     host: &mut Host<S>,
     alloc: Global,
     journal: &mut J,
@@ -30,13 +29,11 @@ fn visit<S: LooseFiles, J: Journal>(
     ensures whole { OnOk result (J.is_cut journal.new ≡ J.is_cut journal.old) }
     ensures cut { OnErr result (J.is_cut journal.new ≡ true) }
 {
-    let Ok(()) = stream.set_write_timeout(Some(Duration::from_secs(PATIENCE))) else {
+    let peer = Peer::new(rt, stream);
+    let Ok(mut reader) = Frames::new(alloc, &peer) else {
         return Ok(());
     };
-    let Ok(mut reader) = BufReader::new(alloc, stream) else {
-        return Ok(());
-    };
-    let Ok(mut writer) = BufWriter::new(alloc, stream) else {
+    let Ok(mut writer) = BufWriter::new(alloc, Replies::new(&peer)) else {
         return Ok(());
     };
     let ended = serve_kept(host, alloc, journal, &mut reader, &mut writer);
@@ -48,7 +45,8 @@ fn visit<S: LooseFiles, J: Journal>(
 }
 
 /// Serves so many connections, one after another. Whatever ends a connection ends it alone.
-pub fn serve_connections<S: LooseFiles>(
+pub fn serve_connections<H: Clock, S: LooseFiles>(
+    rt: &H,
     host: &mut Host<S>,
     alloc: Global,
     listener: &UnixListener,
@@ -61,7 +59,7 @@ pub fn serve_connections<S: LooseFiles>(
     for _ in 0..connections {
         match listener.accept() {
             Ok((stream, _)) => {
-                let _visited = visit(host, alloc, &mut NoJournal, &stream);
+                let _visited = visit(rt, host, alloc, &mut NoJournal, &stream);
             }
             Err(error) => return Err(of_socket(error)),
         }
@@ -71,7 +69,8 @@ pub fn serve_connections<S: LooseFiles>(
 
 /// Serves so many connections, and keeps what they do: the state is saved behind one where the journal
 /// has grown too long. Where anything could not be kept, nothing more is served.
-pub fn serve_kept_connections<H: Files<File = File> + AllocGlobal, S: LooseFiles>(
+pub fn serve_kept_connections<H: Files<File = File> + AllocGlobal + Clock, S: LooseFiles>(
+    rt: &H,
     host: &mut Host<S>,
     alloc: Global,
     keep: &mut Keep<'_, H>,
@@ -87,7 +86,7 @@ pub fn serve_kept_connections<H: Files<File = File> + AllocGlobal, S: LooseFiles
             Ok((stream, _)) => stream,
             Err(error) => return Err(of_socket(error)),
         };
-        visit(host, alloc, &mut keep.journal, &stream)?;
+        visit(rt, host, alloc, &mut keep.journal, &stream)?;
         keep.settle(alloc, host)?;
     }
     Ok(())

@@ -2,6 +2,7 @@ ghost use Rattle.std.specs.Prelude.{◌≡◌, ◌⊎◌, ℕ, IfErr, IfOk, List
 ghost use Rattle.std.specs.Io.KnownBytes.{Appends, Keeps};
 ghost use Rattle.fork_program.specs.Program.{Ends, IsCarriedOut, IsEndedAndTold, IsEndedUntold, ending_of};
 
+use crate::changing::{add_tenant, remove_tenant, set_limit};
 use crate::check::check;
 use crate::ending::Ending;
 use crate::fault::Fault;
@@ -17,6 +18,7 @@ use std::fs::{File, Files};
 use std::io::{Read, Write};
 use std::net::Net;
 use std::random::RandomSource;
+use std::time::Clock;
 
 /// What belongs on standard error could not be written, or not wholly. The exit status stays what it is.
 #[derive(Clone, Copy, Debug, PartialEq, Eq)]
@@ -35,13 +37,12 @@ fn done<'a>(did: Result<(), Fault>) -> Ending<'a>
 }
 
 // Carries the command out.
-fn carried_out<'a, H: Files<File = File> + Net + AllocGlobal + RandomSource, R: Read, W: Write>(
-    rt: &H,
-    alloc: Global,
-    command: Command<'_>,
-    reader: &mut R,
-    writer: &mut W,
-) -> Ending<'a>
+fn carried_out<
+    'a,
+    H: Files<File = File> + Net + AllocGlobal + RandomSource + Clock,
+    R: Read,
+    W: Write,
+>(rt: &H, alloc: Global, command: Command<'_>, reader: &mut R, writer: &mut W) -> Ending<'a>
     ensures { IsCarriedOut command.entry (R.remaining reader.old) (R.remaining reader.new)
         (W.contents writer.old) (W.contents writer.new) result }
 {
@@ -58,6 +59,9 @@ fn carried_out<'a, H: Files<File = File> + Net + AllocGlobal + RandomSource, R: 
             Err(fault) => Ending::Failed(fault),
         },
         Command::Upgrade { dir } => done(upgrade(rt, alloc, dir, writer)),
+        Command::AddTenant { dir, grant } => done(add_tenant(rt, alloc, dir, grant)),
+        Command::SetLimit { dir, grant } => done(set_limit(rt, alloc, dir, grant)),
+        Command::RemoveTenant { dir, tenant } => done(remove_tenant(rt, alloc, dir, tenant)),
     }
 }
 
@@ -73,7 +77,7 @@ fn help<W: Write>(alloc: Global, error: Error, writer: &mut W) -> Result<(), Fau
 }
 
 // Does what the words ask for.
-fn ending<'a, H: Files<File = File> + Net + AllocGlobal + RandomSource, R: Read, W: Write>(
+fn ending<'a, H: Files<File = File> + Net + AllocGlobal + RandomSource + Clock, R: Read, W: Write>(
     rt: &H,
     alloc: Global,
     words: &'a [&'a str],
@@ -98,7 +102,7 @@ fn ending<'a, H: Files<File = File> + Net + AllocGlobal + RandomSource, R: Read,
 /// Does what the words ask for, of which the first is the program's name, tells on `faults` what
 /// belongs on standard error, and answers the exit status.
 pub fn program<
-    H: Files<File = File> + Net + AllocGlobal + RandomSource,
+    H: Files<File = File> + Net + AllocGlobal + RandomSource + Clock,
     R: Read,
     W: Write,
     F: Write,

@@ -1,4 +1,4 @@
-ghost use Rattle.std.specs.Prelude.{◌≡◌, ◌++◌, OnOk};
+ghost use Rattle.std.specs.Prelude.{◌≡◌, ◌++◌, OnOk, codes};
 ghost use Rattle.std.specs.Io.KnownBytes.{Appends};
 ghost use Rattle.fork_program.specs.declared.fault.Fault.TheVariants as fault;
 ghost use Rattle.hex.specs.Hex.{encode_lower};
@@ -53,6 +53,10 @@ pub enum Fault {
     There(TenantName),
     /// There are more than 64 tenants.
     TooManyTenants,
+    /// A tenant is meant that is not there.
+    NotThere(TenantName),
+    /// The limit is below what the tenant's objects use, which is told.
+    BelowUse(TenantName, u64),
 }
 
 impl Fault {
@@ -89,8 +93,10 @@ impl Fault {
             Fault::Damaged(name) => write_name(b"damaged ", name, writer),
             Fault::Unsound(name) => write_name(b"unsound ", name, writer),
             Fault::OverLimit(tenant) => write_both(b"over limit ", tenant.as_bytes(), writer),
-            Fault::There(tenant) => write_there(tenant, writer),
+            Fault::There(tenant) => write_tenant(tenant, b" is there already", writer),
             Fault::TooManyTenants => writer.write_all(b"too many tenants"),
+            Fault::NotThere(tenant) => write_tenant(tenant, b" is not there", writer),
+            Fault::BelowUse(tenant, used) => write_use(tenant, *used, writer),
         }
     }
 }
@@ -113,12 +119,22 @@ fn write_name<W: Write>(before: &[u8], name: &Name, writer: &mut W) -> io::Resul
     write_both(before, digits.as_slice(), writer)
 }
 
-// Writes that this tenant is there already.
-fn write_there<W: Write>(tenant: &TenantName, writer: &mut W) -> io::Result<()>
-    ensures { OnOk result (Appends (W.contents writer.old) (W.contents writer.new) (said_of (fault.There tenant.now))) }
+// Writes what is said of this tenant.
+fn write_tenant<W: Write>(tenant: &TenantName, said: &[u8], writer: &mut W) -> io::Result<()>
+    ensures { OnOk result (Appends (W.contents writer.old) (W.contents writer.new) (codes "tenant " ++ tenant.now ++ said.now)) }
 {
     writer.write_all(b"tenant ")?;
     writer.write_all(tenant.as_bytes())?;
-    writer.write_all(b" is there already")?;
+    writer.write_all(said)?;
     Ok(())
+}
+
+// Writes that a limit is below what this tenant uses.
+fn write_use<W: Write>(tenant: &TenantName, used: u64, writer: &mut W) -> io::Result<()>
+    ensures { OnOk result (Appends (W.contents writer.old) (W.contents writer.new) (said_of (fault.BelowUse tenant.now used))) }
+{
+    writer.write_all(b"limit of ")?;
+    writer.write_all(tenant.as_bytes())?;
+    writer.write_all(b" is below its use, ")?;
+    write!(writer, "{used}")
 }

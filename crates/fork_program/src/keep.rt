@@ -47,14 +47,14 @@ fn closed<H: Files<File = File> + AllocGlobal, S: LooseFiles>(
     ensures cause { IfErr result (λ fault. fault ≡ Fault.NotSaved) }
     ensures text { IfOk result (λ draft. IsTextOf host.now draft.state.items) }
 {
-    let Ok(text) = fork_state::save(alloc, host) else {
+    let Ok(state) = fork_state::save(alloc, host) else {
         return Err(Fault::NotSaved);
     };
     let Ok(file) = begin_journal(rt, alloc, dir) else {
         return Err(Fault::NotSaved);
     };
     Ok(Draft {
-        state: text,
+        state,
         file,
         uploads: 0,
     })
@@ -71,16 +71,32 @@ fn drafted<H: Files<File = File> + AllocGlobal, S: LooseFiles>(
     ensures saved { IsSaved host.old host.new }
     ensures text { IfOk result (λ draft. IsTextOf host.old draft.state.items) }
 {
-    let Draft {
-        state,
-        mut file,
-        ..
-    } = closed(rt, alloc, dir, host)?;
+    let Ok(text) = fork_state::save(alloc, host) else {
+        return Err(Fault::NotSaved);
+    };
+    drafted_as(rt, alloc, dir, host, text)
+}
+
+// Drafts a state of this text, and behind it a journal that begins with the host's open uploads.
+fn drafted_as<H: Files<File = File> + AllocGlobal, S: LooseFiles>(
+    rt: &H,
+    alloc: Global,
+    dir: &str,
+    host: &mut Host<S>,
+    text: Vec<u8>,
+) -> Result<Draft, Fault>
+    ensures cause { IfErr result (λ fault. fault ≡ Fault.NotSaved) }
+    ensures saved { IsSaved host.old host.new }
+    ensures text { IfOk result (λ draft. draft.state.items ≡ text.items) }
+{
+    let Ok(mut file) = begin_journal(rt, alloc, dir) else {
+        return Err(Fault::NotSaved);
+    };
     let Ok(uploads) = write_uploads(host, alloc, &mut file) else {
         return Err(Fault::NotSaved);
     };
     Ok(Draft {
-        state,
+        state: text,
         file,
         uploads,
     })
@@ -142,6 +158,24 @@ pub fn save<H: Files<File = File> + AllocGlobal, S: LooseFiles>(
     ensures text { OnOk result ((text : List ℕ) × IsTextOf host.old text) }
 {
     let draft = drafted(rt, alloc, dir, host)?;
+    match put(rt, alloc, dir, None, draft) {
+        Ok(_settled) => Ok(()),
+        Err(fault) => Err(fault),
+    }
+}
+
+/// Saves this text in the host's folder, in the place of its state, with a journal of the host's open
+/// uploads behind it. After an `Err` the folder has its old state or this one, and what belongs to it.
+pub fn save_as<H: Files<File = File> + AllocGlobal, S: LooseFiles>(
+    rt: &H,
+    alloc: Global,
+    dir: &str,
+    host: &mut Host<S>,
+    text: Vec<u8>,
+) -> Result<(), Fault>
+    ensures cause { IfErr result (λ fault. fault ≡ Fault.NotSaved) }
+{
+    let draft = drafted_as(rt, alloc, dir, host, text)?;
     match put(rt, alloc, dir, None, draft) {
         Ok(_settled) => Ok(()),
         Err(fault) => Err(fault),

@@ -1,8 +1,10 @@
 //! What `forkhost` does for the words that it is given, over any reader and writers: it names objects,
-//! serves a session or connections to a socket, and checks or upgrades the folder that keeps a host.
+//! serves a session or connections to a socket, and checks, upgrades or changes the folder that keeps a
+//! host.
 //! How each command ends, and what it wrote till then, is said of `program`.
 #![tactic(auto)]
 
+mod changing;
 mod check;
 mod connections;
 mod content;
@@ -14,6 +16,7 @@ mod hosts;
 mod keep;
 mod keeping;
 mod listening;
+mod patience;
 mod replaying;
 mod run;
 mod send;

@@ -2,11 +2,11 @@ ghost use Rattle.std.specs.Prelude.{◌≡◌, IfErr};
 ghost use Rattle.fork_program.specs.Serving.{IsUnbound};
 
 use crate::fault::Fault;
-use std::alloc::Global;
-use std::fs::{DirBuilder, File, Files, Permissions};
+use std::alloc::{AllocError, Global};
+use std::fs::{DirBuilder, File, Files, Metadata, Permissions};
 use std::io::ErrorKind;
 use std::net::Net;
-use std::os::unix::fs::{DirBuilderExt, FileTypeExt, PermissionsExt};
+use std::os::unix::fs::{DirBuilderExt, FileTypeExt, MetadataExt, PermissionsExt};
 use std::os::unix::net::{UnixListener, UnixStream};
 use std::{fs, io};
 
@@ -50,6 +50,46 @@ fn is_free<H: Files + Net>(rt: &H, path: &str) -> io::Result<bool> {
     }
 }
 
+// Whether this process's user has it. Where no `/proc` says who that is, the kernel does: nobody but
+// root may change the mode of what another one has.
+fn is_own<H: Files>(rt: &H, there: &Metadata) -> bool {
+    match fs::metadata(rt, "/proc/self") {
+        Ok(process) => there.uid() == process.uid(),
+        Err(_) => true,
+    }
+}
+
+// Opens the folder of this name, which is there and is this user's own; no link is followed.
+fn own_folder<H: Files<File = File>>(rt: &H, room: &str) -> io::Result<File> {
+    let there = fs::symlink_metadata(rt, room)?;
+    if !there.is_dir() || !is_own(rt, &there) {
+        return Err(io::Error::from(ErrorKind::AddrInUse));
+    }
+    let folder = File::open(rt, room)?;
+    let opened = folder.metadata()?;
+    if opened.ino() != there.ino() || opened.dev() != there.dev() {
+        return Err(io::Error::from(ErrorKind::AddrInUse));
+    }
+    Ok(folder)
+}
+
+// Takes away the socket that a process left in the folder. Anything else is left as it is.
+fn clear<H: Files>(rt: &H, inside: &str) -> io::Result<()> {
+    let left = match fs::symlink_metadata(rt, inside) {
+        Ok(left) => left,
+        Err(error) => {
+            if error.kind() == ErrorKind::NotFound {
+                return Ok(());
+            }
+            return Err(error);
+        }
+    };
+    if !left.file_type().is_socket() {
+        return Err(io::Error::from(ErrorKind::AddrInUse));
+    }
+    fs::remove_file(rt, inside)
+}
+
 // The folder that this user alone may enter and this process alone uses; no socket is in it.
 fn private_room<H: Files<File = File>>(rt: &H, room: &str, inside: &str) -> io::Result<File> {
     if let Err(error) = DirBuilder::new().mode(0o700).create(rt, room) {
@@ -57,32 +97,24 @@ fn private_room<H: Files<File = File>>(rt: &H, room: &str, inside: &str) -> io::
             return Err(error);
         }
     }
-    if !fs::metadata(rt, room)?.is_dir() {
-        return Err(io::Error::from(ErrorKind::AddrInUse));
-    }
-    let folder = File::open(rt, room)?;
+    let folder = own_folder(rt, room)?;
     if folder.try_lock().is_err() {
         return Err(io::Error::from(ErrorKind::AddrInUse));
     }
+    clear(rt, inside)?;
     folder.set_permissions(Permissions::from_mode(0o700))?;
-    if let Err(error) = fs::remove_file(rt, inside) {
-        if error.kind() != ErrorKind::NotFound {
-            return Err(error);
-        }
-    }
     Ok(folder)
 }
 
-// A socket is made with the mode that the process allows, so it is made where nobody else comes, and
-// has its place once it has its own mode.
-fn bound_at<H: Files + Net>(rt: &H, inside: &str, path: &str) -> io::Result<UnixListener> {
+// A socket is made with the mode that the process allows, so it is made where nobody else comes, and has
+// its own mode before it has its place.
+fn bound_at<H: Files + Net>(rt: &H, inside: &str) -> io::Result<UnixListener> {
     let listener = UnixListener::bind(rt, inside)?;
     fs::set_permissions(rt, inside, Permissions::from_mode(0o600))?;
-    fs::rename(rt, inside, path)?;
     Ok(listener)
 }
 
-// The same, while this process alone uses the folder in which it is made.
+// Binds a socket for this path, while this process alone uses the folder in which it is made.
 fn bound_in<H: Files<File = File> + Net>(
     rt: &H,
     room: &str,
@@ -93,17 +125,31 @@ fn bound_in<H: Files<File = File> + Net>(
     if !is_free(rt, path)? {
         return Err(io::Error::from(ErrorKind::AddrInUse));
     }
-    let listener = bound_at(rt, inside, path)?;
+    let listener = bound_at(rt, inside)?;
     Ok(Listening {
         listener,
         room: folder,
     })
 }
 
+// Where the socket of a path is made.
+fn inside_of(alloc: Global, path: &str) -> Result<String, AllocError> {
+    format!(in alloc; "{path}.lock/s")
+}
+
 fn bound<H: Files<File = File> + Net>(rt: &H, alloc: Global, path: &str) -> io::Result<Listening> {
     let room = format!(in alloc; "{path}.lock")?;
-    let inside = format!(in alloc; "{path}.lock/s")?;
+    let inside = inside_of(alloc, path)?;
     bound_in(rt, room.as_str(), inside.as_str(), path)
+}
+
+// Gives the socket its place, where that is free still.
+fn placed<H: Files + Net>(rt: &H, alloc: Global, path: &str) -> io::Result<()> {
+    let inside = inside_of(alloc, path)?;
+    if !is_free(rt, path)? {
+        return Err(io::Error::from(ErrorKind::AddrInUse));
+    }
+    fs::rename(rt, inside.as_str(), path)
 }
 
 /// How a fault of a socket is told.
@@ -116,8 +162,9 @@ pub fn of_socket(error: io::Error) -> Fault
     Fault::Socket
 }
 
-/// Listens at the path, for this user alone. A socket that nobody listens on is replaced, and anything
-/// else that stands there is left as it is.
+/// Binds a socket for this path and for this user alone. Nobody can connect before it has its place
+/// there (`show`). A socket that nobody listens on will be replaced, and anything else that stands there is
+/// left as it is.
 pub fn listen<H: Files<File = File> + Net>(
     rt: &H,
     alloc: Global,
@@ -127,6 +174,16 @@ pub fn listen<H: Files<File = File> + Net>(
 {
     match bound(rt, alloc, path) {
         Ok(listening) => Ok(listening),
+        Err(error) => Err(of_socket(error)),
+    }
+}
+
+/// Gives a socket that was bound for this path its place: from here on whoever may connect is served.
+pub fn show<H: Files<File = File> + Net>(rt: &H, alloc: Global, path: &str) -> Result<(), Fault>
+    ensures { IfErr result IsUnbound }
+{
+    match placed(rt, alloc, path) {
+        Ok(()) => Ok(()),
         Err(error) => Err(of_socket(error)),
     }
 }

@@ -7,7 +7,7 @@ use crate::connections::{serve_connections, serve_kept_connections};
 use crate::fault::Fault;
 use crate::hosts::{host_in_folder, host_in_memory};
 use crate::keep::Keep;
-use crate::listening::{Listening, listen};
+use crate::listening::{Listening, listen, show};
 use fork_command::Hosting;
 use fork_host::Host;
 use loose_store::LooseFiles;
@@ -16,9 +16,10 @@ use std::fs;
 use std::fs::{File, Files};
 use std::net::Net;
 use std::random::RandomSource;
+use std::time::Clock;
 
 // Serves so many connections, and then takes the socket away.
-fn serve_at<H: Files, S: LooseFiles>(
+fn serve_at<H: Files + Clock, S: LooseFiles>(
     rt: &H,
     alloc: Global,
     host: &mut Host<S>,
@@ -30,13 +31,13 @@ fn serve_at<H: Files, S: LooseFiles>(
     ensures err { OnErr result (AreSomeVisits host.old host.new connections) }
     ensures cause { IfErr result IsUnbound }
 {
-    let served = serve_connections(host, alloc, listening.listener(), connections);
+    let served = serve_connections(rt, host, alloc, listening.listener(), connections);
     let _removed = fs::remove_file(rt, socket);
     served
 }
 
 // Serves so many connections, keeps what they do, and then takes the socket away.
-fn serve_kept_at<H: Files<File = File> + AllocGlobal, S: LooseFiles>(
+fn serve_kept_at<H: Files<File = File> + AllocGlobal + Clock, S: LooseFiles>(
     rt: &H,
     alloc: Global,
     host: &mut Host<S>,
@@ -49,13 +50,13 @@ fn serve_kept_at<H: Files<File = File> + AllocGlobal, S: LooseFiles>(
     ensures err { OnErr result (AreSomeVisits host.old host.new connections) }
     ensures cause { IfErr result (λ fault. IsUnbound fault ⊎ IsLost fault) }
 {
-    let served = serve_kept_connections(host, alloc, keep, listening.listener(), connections);
+    let served = serve_kept_connections(rt, host, alloc, keep, listening.listener(), connections);
     let _removed = fs::remove_file(rt, socket);
     served
 }
 
 // Listens at a socket, and serves connections to a host in memory.
-fn serve_host<H: Files<File = File> + Net, S: LooseFiles>(
+fn serve_host<H: Files<File = File> + Net + Clock, S: LooseFiles>(
     rt: &H,
     alloc: Global,
     host: &mut Host<S>,
@@ -66,12 +67,13 @@ fn serve_host<H: Files<File = File> + Net, S: LooseFiles>(
     ensures err { (hosting : Hosting) → IsHostOf hosting host.old → IfErr result (IsUnlistened hosting connections) }
 {
     let listening = listen(rt, alloc, socket)?;
+    show(rt, alloc, socket)?;
     serve_at(rt, alloc, host, listening, socket, connections)
 }
 
-// Serves connections to a host that a folder keeps, at a socket that is listened on. Its state is saved
-// before the first and behind the last, and each request is kept before its reply goes out.
-fn keep_connections<'x, H: Files<File = File> + AllocGlobal, S: LooseFiles>(
+// Serves connections to a host that a folder keeps, at a socket that was bound, and has its place once the
+// state is saved. It is saved once more behind the last, and each request is kept before its reply goes out.
+fn keep_connections<'x, H: Files<File = File> + Net + AllocGlobal + Clock, S: LooseFiles>(
     rt: &'x H,
     alloc: Global,
     dir: &'x str,
@@ -83,13 +85,8 @@ fn keep_connections<'x, H: Files<File = File> + AllocGlobal, S: LooseFiles>(
     ensures ok { (hosting : Hosting) → IsKeptHostOf hosting host.old → OnOk result (IsListened hosting connections) }
     ensures err { (hosting : Hosting) → IsKeptHostOf hosting host.old → IfErr result (IsUnlistened hosting connections) }
 {
-    let mut keep = match Keep::begin(rt, alloc, dir, host) {
-        Ok(keep) => keep,
-        Err(fault) => {
-            let _removed = fs::remove_file(rt, socket);
-            return Err(fault);
-        }
-    };
+    let mut keep = Keep::begin(rt, alloc, dir, host)?;
+    show(rt, alloc, socket)?;
     let served = serve_kept_at(rt, alloc, host, &mut keep, listening, socket, connections);
     let saved = keep.end(alloc, host, &served);
     match served {
@@ -99,7 +96,7 @@ fn keep_connections<'x, H: Files<File = File> + AllocGlobal, S: LooseFiles>(
 }
 
 // Listens at a socket, and serves connections to a host that a folder keeps.
-fn serve_kept_host<'x, H: Files<File = File> + Net + AllocGlobal, S: LooseFiles>(
+fn serve_kept_host<'x, H: Files<File = File> + Net + AllocGlobal + Clock, S: LooseFiles>(
     rt: &'x H,
     alloc: Global,
     dir: &'x str,
@@ -115,7 +112,7 @@ fn serve_kept_host<'x, H: Files<File = File> + Net + AllocGlobal, S: LooseFiles>
 }
 
 // Serves connections to a new host.
-fn serve_in_memory<H: Files<File = File> + Net + RandomSource>(
+fn serve_in_memory<H: Files<File = File> + Net + RandomSource + Clock>(
     rt: &H,
     alloc: Global,
     socket: &str,
@@ -130,7 +127,7 @@ fn serve_in_memory<H: Files<File = File> + Net + RandomSource>(
 }
 
 // Serves connections to the host that a folder keeps.
-fn serve_in_folder<'x, H: Files<File = File> + Net + AllocGlobal + RandomSource>(
+fn serve_in_folder<'x, H: Files<File = File> + Net + AllocGlobal + RandomSource + Clock>(
     rt: &'x H,
     alloc: Global,
     dir: &'x str,
@@ -149,7 +146,7 @@ fn serve_in_folder<'x, H: Files<File = File> + Net + AllocGlobal + RandomSource>
 /// Serves so many connections to a socket, each a session of the host that has these tenants too.
 /// What was served is saved where a folder keeps the host, but for open uploads, which end with the last
 /// connection; where the folder could not be written, it keeps all that was answered, open uploads too.
-pub fn serve<H: Files<File = File> + Net + AllocGlobal + RandomSource>(
+pub fn serve<H: Files<File = File> + Net + AllocGlobal + RandomSource + Clock>(
     rt: &H,
     alloc: Global,
     socket: &str,

@@ -10,8 +10,12 @@ use fork_request::TenantName;
 use loose_store::LooseFiles;
 use std::alloc::Global;
 
-// Adds a tenant.
-fn add<S: LooseFiles>(host: &mut Host<S>, alloc: Global, grant: Grant) -> Result<(), Fault>
+/// Adds a tenant.
+pub(crate) fn add<S: LooseFiles>(
+    host: &mut Host<S>,
+    alloc: Global,
+    grant: Grant,
+) -> Result<(), Fault>
     ensures ok { OnOk result (world_of host.new ≡ with_grant (world_of host.old) grant) }
     ensures free { OnOk result (refusal_to_add (world_of host.old) grant.tenant grant.limit ≡ None) }
     ensures err { IfErr result (IsUnadded (world_of host.old) grant) }

@@ -3,12 +3,14 @@
 //! refused.
 #![tactic(auto)]
 
+mod changing;
 mod fault;
 mod law;
+mod limiting;
 mod loading;
 mod saving;
 
 pub use crate::fault::LoadFault;
 pub use crate::law::what_is_saved_is_loaded;
 pub use crate::loading::load;
-pub use crate::saving::save;
+pub use crate::saving::{save, save_limited, save_without};

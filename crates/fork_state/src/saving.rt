@@ -1,11 +1,16 @@
-ghost use Rattle.std.specs.Prelude.{IfOk};
+ghost use Rattle.std.specs.Prelude.{◌≡◌, ◌≤◌, IfOk, IfSome, is_some};
+ghost use Rattle.std.specs.FinMap.{contains_key, remove};
+ghost use Rattle.fork_request.specs.declared.limit.TheConstants.{MAX_LIMIT};
 ghost use Rattle.state_text.specs.Kept.{states_of};
 ghost use Rattle.state_text.specs.Text.{IsStateText2};
 ghost use Rattle.fork_host.specs.Shown.{world_of};
+ghost use Rattle.fork_state.specs.Changed.{with_limit as limited};
 
+use crate::changing::{has, with_limit, without};
 use fork_host::{Host, NoMemory};
+use fork_request::TenantName;
 use loose_store::LooseFiles;
-use state_text::write;
+use state_text::{States, write};
 use std::alloc::Global;
 
 /// The state of a host, as a text of version 2. Open uploads are not in it.
@@ -13,10 +18,64 @@ pub fn save<S: LooseFiles>(alloc: Global, host: &Host<S>) -> Result<Vec<u8>, NoM
     ensures { IfOk result (λ text. IsStateText2 (states_of (world_of host.now)) text.items) }
 {
     let states = host.states(alloc)?;
+    spell(alloc, &states)
+}
+
+// The text of these states.
+fn spell(alloc: Global, states: &States) -> Result<Vec<u8>, NoMemory>
+    ensures { IfOk result (λ text. IsStateText2 states.now text.items) }
+{
     // Only for its clause: the states are right.
     let _tenants = states.as_slice();
-    let Ok(text) = write(alloc, &states) else {
+    let Ok(text) = write(alloc, states) else {
         return Err(NoMemory);
     };
     Ok(text)
+}
+
+/// The same, in which this tenant has this limit; nothing where the tenant is not there.
+pub fn save_limited<S: LooseFiles>(
+    alloc: Global,
+    host: &Host<S>,
+    tenant: &TenantName,
+    limit: u64,
+) -> Result<Option<Vec<u8>>, NoMemory>
+    requires { limit ≤ MAX_LIMIT }
+    ensures text { IfOk result (λ found. IfSome found (λ text. IsStateText2 (states_of (limited (world_of host.now) tenant.now limit)) text.items)) }
+    ensures there { IfOk result (λ found. is_some found ≡ contains_key (world_of host.now) tenant.now) }
+{
+    let states = host.states(alloc)?;
+    if !has(&states, tenant) {
+        return Ok(None);
+    }
+    let Ok(changed) = with_limit(alloc, states, tenant, limit) else {
+        return Err(NoMemory);
+    };
+    match spell(alloc, &changed) {
+        Ok(text) => Ok(Some(text)),
+        Err(fault) => Err(fault),
+    }
+}
+
+/// The same without this tenant: its repositories, what it sees and its offers are not in it. Offers that
+/// others made to it are. Nothing where the tenant is not there.
+pub fn save_without<S: LooseFiles>(
+    alloc: Global,
+    host: &Host<S>,
+    tenant: &TenantName,
+) -> Result<Option<Vec<u8>>, NoMemory>
+    ensures text { IfOk result (λ found. IfSome found (λ text. IsStateText2 (states_of (remove (world_of host.now) tenant.now)) text.items)) }
+    ensures there { IfOk result (λ found. is_some found ≡ contains_key (world_of host.now) tenant.now) }
+{
+    let states = host.states(alloc)?;
+    if !has(&states, tenant) {
+        return Ok(None);
+    }
+    let Ok(changed) = without(alloc, states, tenant) else {
+        return Err(NoMemory);
+    };
+    match spell(alloc, &changed) {
+        Ok(text) => Ok(Some(text)),
+        Err(fault) => Err(fault),
+    }
 }

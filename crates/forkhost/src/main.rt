@@ -10,7 +10,7 @@ use std::io::{BufReader, BufWriter, Write};
 use std::net::Net;
 use std::process::ExitCode;
 use std::random::RandomSource;
-use std::rt::Env;
+use std::rt::{Clock, Env};
 use std::{env, io};
 
 // The arguments of the process; none where one of them is no text, which is told.
@@ -54,7 +54,7 @@ fn hold_streams<R: Files<File = File>>(
 }
 
 // Runs the program on these words, and answers its exit status, which stays where nothing can be told.
-fn ended<R: AllocGlobal + Input + Print + Eprint + Files<File = File> + Net + RandomSource>(
+fn ended<R: AllocGlobal + Input + Print + Eprint + Files<File = File> + Net + RandomSource + Clock>(
     rt: &R,
     words: &[&str],
 ) -> io::Result<u8> {
@@ -73,9 +73,9 @@ fn ended<R: AllocGlobal + Input + Print + Eprint + Files<File = File> + Net + Ra
 }
 
 // Runs the program on what the process was given.
-fn started<R: Env + AllocGlobal + Input + Print + Eprint + Files<File = File> + Net + RandomSource>(
-    rt: &R,
-) -> io::Result<u8> {
+fn started<
+    R: Env + AllocGlobal + Input + Print + Eprint + Files<File = File> + Net + RandomSource + Clock,
+>(rt: &R) -> io::Result<u8> {
     let Some(texts) = arguments(rt)? else {
         return Ok(2);
     };

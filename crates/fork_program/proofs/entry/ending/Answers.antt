@@ -1,6 +1,7 @@
 use Rattle.std.proofs.KnownBytes.{Keeps-refl}
 use Rattle.fork_program.specs.Program.{Helped}
 use Rattle.fork_program.proofs.EntryLemmas.{ends_so, unhelped}
+use Rattle.fork_program.proofs.HostingLemmas.{untouched}
 use Rattle.fork_program.proofs.entry.ending.Goals as goal
 
 pub returns-in-Ok : goal.returns-in-Ok
@@ -17,3 +18,6 @@ pub returns-in-Err : goal.returns-in-Err
 returns-in-Err g c =
     let help = rw c.in-Err-Help.field-0-is at c.in-Err-Help.ensures.err in
     unhelped _ _ _ _ _ _ c.in-Err.fault help.0 help.1 c.in-Err.ensures.kept
+
+pub returns-in-Err-BadTenant : goal.returns-in-Err-BadTenant
+returns-in-Err-BadTenant g c = (rw c.in-Err-BadTenant.field-0-is at c.in-Err-BadTenant.ensures.err, untouched _ _)

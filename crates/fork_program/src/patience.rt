@@ -1,0 +1,178 @@
+ghost use Rattle.std.specs.Prelude.{◌≡◌, ◌+◌, ◌-◌, ◌≤◌, IfNone, IfSome};
+ghost use Rattle.std.specs.Duration.{as_nanos};
+ghost use Rattle.std.specs.Time.{instant_nanos};
+
+use std::alloc::Global;
+use std::cell::Cell;
+use std::io;
+use std::io::{BufReader, ErrorKind, Read, Write};
+use std::os::unix::net::UnixStream;
+use std::time::{Clock, Duration, Instant};
+
+// How many seconds a peer has to send a frame, once it began it, and to take a whole reply.
+const PATIENCE: u64 = 30;
+
+// So many bytes at the most are written in one call: the kernel waits anew for each piece of what it is
+// given, and of so few it makes one piece.
+const PIECE: usize = 16384;
+
+// What is waited for.
+#[derive(Clone, Copy)]
+enum Awaited {
+    // The first byte of a frame, without end.
+    Beginning,
+    // The rest of it, until then.
+    Rest(Instant),
+    // That a reply is taken, until then.
+    Taking(Instant),
+}
+
+// When what begins now has to have ended.
+fn end_of(now: Instant) -> Option<Instant>
+    ensures { IfSome result (λ end. instant_nanos end ≡ instant_nanos now + 30000000000) }
+{
+    now.checked_add(Duration::from_secs(PATIENCE))
+}
+
+// How long is left until then, where anything is.
+fn left_until(end: Instant, now: Instant) -> Option<Duration>
+    ensures left { IfSome result (λ left. as_nanos left ≡ instant_nanos end - instant_nanos now) }
+    ensures some { IfSome result (λ left. 1 ≤ as_nanos left) }
+    ensures none { IfNone result (instant_nanos end ≤ instant_nanos now) }
+{
+    let left = end.duration_since(now);
+    if left.is_zero() {
+        return None;
+    }
+    Some(left)
+}
+
+/// A connection, of which each wait ends with the time that its peer has.
+#[derive(Drop)]
+pub struct Peer<'a, H> {
+    clock: &'a H,
+    stream: &'a UnixStream,
+    awaited: Cell<Awaited>,
+}
+
+impl<'a, H: Clock> Peer<'a, H> {
+    /// Of this one nothing has come yet.
+    pub fn new(clock: &'a H, stream: &'a UnixStream) -> Peer<'a, H> {
+        Peer {
+            clock,
+            stream,
+            awaited: Cell::new(Awaited::Beginning),
+        }
+    }
+
+    fn end(&self) -> io::Result<Instant> {
+        match end_of(Instant::now(self.clock)?) {
+            Some(end) => Ok(end),
+            None => Err(io::Error::from(ErrorKind::InvalidData)),
+        }
+    }
+
+    fn left(&self, end: Instant) -> io::Result<Duration> {
+        match left_until(end, Instant::now(self.clock)?) {
+            Some(left) => Ok(left),
+            None => Err(io::Error::from(ErrorKind::TimedOut)),
+        }
+    }
+
+    // Something of a frame is there.
+    fn begin(&self) -> io::Result<()> {
+        match self.awaited.get() {
+            Awaited::Rest(_) => Ok(()),
+            _ => {
+                self.awaited.set(Awaited::Rest(self.end()?));
+                Ok(())
+            }
+        }
+    }
+
+    // Until when the reply has to be taken that is written.
+    fn taking(&self) -> io::Result<Instant> {
+        match self.awaited.get() {
+            Awaited::Taking(end) => Ok(end),
+            _ => {
+                let end = self.end()?;
+                self.awaited.set(Awaited::Taking(end));
+                Ok(end)
+            }
+        }
+    }
+}
+
+// What comes of a peer.
+#[derive(Drop)]
+struct Coming<'a, H> {
+    peer: &'a Peer<'a, H>,
+}
+
+impl<H: Clock> Read for Coming<'_, H> {
+    fn read(&mut self, buf: &mut [u8]) -> io::Result<usize> {
+        let left = match self.peer.awaited.get() {
+            Awaited::Rest(end) => Some(self.peer.left(end)?),
+            _ => None,
+        };
+        self.peer.stream.set_read_timeout(left)?;
+        let mut stream = self.peer.stream;
+        let n = stream.read(buf)?;
+        if n > 0 {
+            self.peer.begin()?;
+        }
+        Ok(n)
+    }
+}
+
+/// The frames of a peer.
+#[derive(Drop)]
+pub struct Frames<'a, H: Clock> {
+    peer: &'a Peer<'a, H>,
+    coming: BufReader<Coming<'a, H>>,
+}
+
+impl<'a, H: Clock> Frames<'a, H> {
+    /// Reads from this one.
+    pub fn new(alloc: Global, peer: &'a Peer<'a, H>) -> io::Result<Frames<'a, H>> {
+        let coming = BufReader::new(alloc, Coming { peer })?;
+        Ok(Frames { peer, coming })
+    }
+}
+
+impl<H: Clock> Read for Frames<'_, H> {
+    fn read(&mut self, buf: &mut [u8]) -> io::Result<usize> {
+        if !self.coming.buffer().is_empty() {
+            self.peer.begin()?;
+        }
+        self.coming.read(buf)
+    }
+}
+
+/// Where the replies to a peer go. One is taken wholly once it is flushed.
+#[derive(Drop)]
+pub struct Replies<'a, H> {
+    peer: &'a Peer<'a, H>,
+}
+
+impl<'a, H: Clock> Replies<'a, H> {
+    /// Writes to this one.
+    pub fn new(peer: &'a Peer<'a, H>) -> Replies<'a, H> {
+        Replies { peer }
+    }
+}
+
+impl<H: Clock> Write for Replies<'_, H> {
+    fn write(&mut self, buf: &[u8]) -> io::Result<usize> {
+        let end = self.peer.taking()?;
+        let left = self.peer.left(end)?;
+        self.peer.stream.set_write_timeout(Some(left))?;
+        let mut stream = self.peer.stream;
+        stream.write(&buf[..buf.len().min(PIECE)])
+    }
+
+    fn flush(&mut self) -> io::Result<()> {
+        self.peer.awaited.set(Awaited::Beginning);
+        Ok(())
+    }
+}

@@ -1,0 +1,7 @@
+use Rattle.std.proofs.Common.{◌≡◌}
+use Rattle.fork_host.specs.Keeping.{with_names}
+use Rattle.fork_state.proofs.limiting.keep_names.Given as goal
+
+-- with those that are left it is what it shall be
+abbrev pub invariant-loop-name : goal.invariant-loop-name
+invariant-loop-name l = with_names l.tenant l.name-iterator.rest.items ≡ with_names l.fn.tenant l.fn.names.items

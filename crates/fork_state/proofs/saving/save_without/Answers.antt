@@ -1,0 +1,23 @@
+use Rattle.std.proofs.Common.{◌≡◌, ◌∙◌, ap, false, rules, subst, true}
+use Rattle.std.specs.List.{list_any}
+use Rattle.state_text.specs.States.{States}
+use Rattle.state_text.specs.Text.{IsStateText2}
+use Rattle.fork_host.specs.Shown.{world_of}
+use Rattle.fork_state.specs.Changed.{is_name, states_without}
+use Rattle.fork_state.proofs.ChangedLemmas.{has_name, world_without}
+use Rattle.fork_state.proofs.saving.save_without.Goals as goal
+
+pub returns-then-not-has-clause-there : goal.returns-then-not-has-clause-there
+returns-then-not-has-clause-there g c =
+    let none : false ≡ c.has.result = search rules in
+    none ∙ c.has.ensures ∙ ap (λ (states : States). list_any (λ tenant. is_name c.args.tenant.now tenant.name) states) c.in_ok-states.ensures ∙ has_name (world_of c.args.host.now) c.args.tenant.now
+
+pub returns-in-Ok-spell-clause-text : goal.returns-in-Ok-spell-clause-text
+returns-in-Ok-spell-clause-text g c =
+    subst (λ (states : States). IsStateText2 states c.in-Ok-spell.text.items)
+    (c.in-Ok.ensures ∙ ap (states_without c.args.tenant.now) c.in_ok-states.ensures ∙ world_without (world_of c.args.host.now) c.args.tenant.now) c.in-Ok-spell.ensures
+
+pub returns-in-Ok-spell-clause-there : goal.returns-in-Ok-spell-clause-there
+returns-in-Ok-spell-clause-there g c =
+    let some : true ≡ c.has.result = search rules in
+    some ∙ c.has.ensures ∙ ap (λ (states : States). list_any (λ tenant. is_name c.args.tenant.now tenant.name) states) c.in_ok-states.ensures ∙ has_name (world_of c.args.host.now) c.args.tenant.now

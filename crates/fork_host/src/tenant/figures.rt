@@ -1,5 +1,5 @@
 // What the host reports of a tenant, in numbers.
-ghost use Rattle.std.specs.Prelude.{◌≡◌, ◌++◌, ◌∷◌, codes, decimal, flat_map, OnOk};
+ghost use Rattle.std.specs.Prelude.{◌≡◌, ◌++◌, codes, decimal, flat_map, OnOk};
 ghost use Rattle.fork_ledger.specs.Private.{Private};
 ghost use Rattle.fork_model.specs.Figures.{figure_line, figures_of, uploaded};
 ghost use Rattle.fork_model.specs.Sound.{IsOrderly};

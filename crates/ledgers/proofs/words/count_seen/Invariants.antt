@@ -1,5 +1,4 @@
-use Rattle.std.proofs.Common.{◌≡◌, ◌≤◌, ◌+◌, ℕ, List, length}
-use Rattle.ledgers.specs.declared.word.Word.{Word}
+use Rattle.std.proofs.Common.{◌≡◌, ◌≤◌, ◌+◌, length}
 use Rattle.ledgers.specs.Chosen.{chosen_in}
 use Rattle.ledgers.specs.Words.{is_visible, kept_as}
 use Rattle.ledgers.proofs.words.count_seen.Given as goal

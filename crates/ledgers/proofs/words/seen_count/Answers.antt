@@ -3,7 +3,6 @@ use Rattle.std.specs.FinMap as map
 use Rattle.git_name.specs.Same.{same_name}
 use Rattle.git_name.proofs.HashMaps.{distinct_by_order}
 use Rattle.git_name.proofs.Names.{name_total, name_exact}
-use Rattle.ledgers.specs.Chosen.{chosen_in}
 use Rattle.ledgers.specs.Words.{is_visible, kept_as}
 use Rattle.ledgers.proofs.ChosenLemmas.{chosen_of_distinct, distinct_chosen}
 use Rattle.ledgers.proofs.SumLemmas.{len_of_distinct}

@@ -1,6 +1,6 @@
 use Rattle.std.proofs.Common.{◌≡◌, ◌∷◌, [], ap, sym, ◌∙◌, rules}
 use Rattle.std.specs.FinMap.{len}
-use Rattle.fork_model.specs.Figures.{references_in, uploaded}
+use Rattle.fork_model.specs.Figures.{references_in}
 use Rattle.fork_reach.specs.Objects.{use_of}
 use Rattle.fork_ledger.specs.Tenants.{private_of}
 use Rattle.fork_host.specs.Own.{visible_in}

@@ -181,3 +181,16 @@ none_left old other i k past = at (nat_lt i (length other)) refl
     at true e =
         (let none : get_or old i None ≡ None = (let inside = ltb-true i (length other) e in get_or_past old i None (omega (arith, inside, past))) in
         ap (λ o. not (is_there (get_or other i None) k) && is_there o k) none ∙ nothing (is_there (get_or other i None) k) ∙ sym (ap (λ o. is_there o k) none))
+
+pub none_room : (q : ℕ) → has_room [] q ≡ false
+unfolding has_room
+none_room q = refl
+
+-- a page comes where another set has one
+pub least_room : (pages other : Pages) (n : ℕ) (page : Option (List ℕ)) → n / 4096 < length pages → HasRoomOf pages other → has_room other n ≡ true → HasRoomOf (set pages (n / 4096) page) other
+unfolding has_room
+least_room pages other n page inside within there q room = by (nat_eq (q / 4096) (n / 4096)) refl
+  where
+    by : (t : Bool) → nat_eq (q / 4096) (n / 4096) ≡ t → is_some (get_or other (q / 4096) None) ≡ true
+    by true e = ap (λ i. is_some (get_or other i None)) (eqb-true _ _ e) ∙ there
+    by false e = within q (sym (ap is_some (get_or-set_other pages (n / 4096) (q / 4096) page None (eqb-false _ _ e))) ∙ room)

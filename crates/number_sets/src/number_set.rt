@@ -1,5 +1,5 @@
 ghost use Rattle.std.specs.Prelude.{◌≡◌, ◌<◌, ◌≤◌, ℕ, ◌||◌, ◌&&◌, not, nat_eq, false, true, IfSome, IfNone, OnOk, None, get_or, length};
-ghost use Rattle.number_sets.specs.Numbers.{HasRoomOf, has, has_room};
+ghost use Rattle.number_sets.specs.Numbers.{HasRoomOf, Pages, has, has_room};
 
 use crate::page::Page;
 use crate::slot;
@@ -27,7 +27,8 @@ impl Model for NumberSet {
 impl NumberSet {
     /// No numbers.
     pub fn new(alloc: Global) -> NumberSet
-        ensures { (q : ℕ) → has result q ≡ false }
+        ensures has { (q : ℕ) → has result q ≡ false }
+        ensures room { (q : ℕ) → has_room result q ≡ false }
     {
         NumberSet {
             pages: Vec::new(alloc),
@@ -50,6 +51,7 @@ impl NumberSet {
         ensures has { (q : ℕ) → has self.new q ≡ has self.old q }
         ensures ok { OnOk result (has_room self.new n ≡ true) }
         ensures room { HasRoomOf self.old self.new }
+        ensures least { (other : Pages) → HasRoomOf self.old other → has_room other n ≡ true → HasRoomOf self.new other }
     {
         let alloc = *self.pages.allocator();
         let at = n as usize / 4096;
@@ -101,7 +103,8 @@ impl NumberSet {
 
     /// Takes all numbers out, and gives their room back.
     pub fn clear(&mut self)
-        ensures { (q : ℕ) → has self.new q ≡ false }
+        ensures has { (q : ℕ) → has self.new q ≡ false }
+        ensures room { (q : ℕ) → has_room self.new q ≡ false }
     {
         self.pages.clear();
         self.pages.shrink_to_fit();

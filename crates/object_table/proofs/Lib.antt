@@ -1,0 +1,12 @@
+pub mod AdoptLemmas
+pub mod CappedLemmas
+pub mod ChosenLemmas
+pub mod HeldLemmas
+pub mod HolderLemmas
+pub mod PlaceLemmas
+pub mod RoomLemmas
+pub mod RowLemmas
+pub mod SumLemmas
+pub mod TenantEntries
+pub mod UpdateLemmas
+pub mod ViewLemmas

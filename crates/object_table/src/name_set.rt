@@ -1,0 +1,36 @@
+ghost use Rattle.std.specs.Prelude.{◌≡◌, Bool, List, ℕ};
+
+use git_name::{Hashing, Name};
+use indexmap::IndexSet;
+use nearby::Nearby;
+
+/// A set of names.
+pub trait NameSet {
+    /// Which names are in it.
+    ghost names: { Self → List ℕ → Bool };
+
+    /// Whether this name is in it. It may be looked for near the last places first.
+    fn has(&self, nearby: &Nearby, name: Name) -> bool
+        ensures { result ≡ names self.now name };
+}
+
+impl NameSet for IndexSet<Name, Hashing> {
+    ghost use Rattle.std.specs.HashSet.{contains};
+    ghost use Rattle.git_name.specs.Same.{same_name};
+
+    ghost names = { λ set. contains same_name set };
+
+    fn has(&self, nearby: &Nearby, name: Name) -> bool {
+        nearby.holds(self, name)
+    }
+}
+
+impl NameSet for Name {
+    ghost use Rattle.git_name.specs.Same.{same_name};
+
+    ghost names = { same_name };
+
+    fn has(&self, _nearby: &Nearby, name: Name) -> bool {
+        *self == name
+    }
+}

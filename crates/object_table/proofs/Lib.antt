@@ -3,9 +3,11 @@ pub mod CappedLemmas
 pub mod ChosenLemmas
 pub mod HeldLemmas
 pub mod HolderLemmas
+pub mod NumberLemmas
 pub mod PlaceLemmas
 pub mod RoomLemmas
 pub mod RowLemmas
+pub mod SettlingLemmas
 pub mod SumLemmas
 pub mod TenantEntries
 pub mod UpdateLemmas

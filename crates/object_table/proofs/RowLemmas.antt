@@ -15,7 +15,7 @@ use Rattle.object_table.specs.Numbers.{AreNoted, AreNumbered, numbers_of}
 use Rattle.object_table.specs.Rows.{AreRows, IsUsed, Rows, row_in}
 use Rattle.object_table.proofs.PlaceLemmas.{one_name, own_name}
 
-none_is_some : {A : Type 0} (G : Type 0) (x : A) → None ≡ Some x → G
+pub none_is_some : {A : Type 0} (G : Type 0) (x : A) → None ≡ Some x → G
 none_is_some G x e = let differs : ⊥ = cc in absurd differs
 
 -- a name that has a row stands at a place
@@ -25,8 +25,8 @@ place_of (e ∷ es) q row is = by (same_name q e.0) refl is (place_of es q row)
   where
     by : (b : Bool) → same_name q e.0 ≡ b → cond b (Some e.1) (row_in es q) ≡ Some row → (row_in es q ≡ Some row → (at : ℕ) × (at < length es) × (slice_get es at ≡ Some (q, row)))
         → (at : ℕ) × (at < length (e ∷ es)) × (slice_get (e ∷ es) at ≡ Some (q, row))
-    by true same here later = (0, omega arith, (let n : e.0 ≡ q = sym (one_name q e.0 same) in let r : e.1 ≡ row = cc in (λ i. Some (n i, r i))))
-    by false apart here later = (let l = later here in (l.0 + 1, (let s = l.1 in omega (arith, s)), l.2))
+    by true same here later = (0, omega arith, (let n : e.0 ≡ q = sym (one_name q e.0 same) in let r : e.1 ≡ row = cc in let pair : ◌≡◌ {A = List ℕ × Row} e (q, row) = (λ i. (n i, r i)) in ap Some pair))
+    by false apart here later = (let l = later here in (suc l.0, (let s = l.1 in omega (arith, s)), l.2))
 
 -- and the other way round
 pub row_at : (rows : Rows) (at : ℕ) (q : List ℕ) (row : Row) → IsDistinct same_name (keys_of rows) → slice_get rows at ≡ Some (q, row) → row_in rows q ≡ Some row
@@ -57,8 +57,8 @@ are_rows rows numbers places is = record {
   numbers = λ q r one other here there same.
       let first = noted_there rows numbers places q one is here in
       let second = noted_there rows numbers places r other is there in
-      let both : Some (q, one) ≡ Some (r, other) = sym first.2 ∙ ap (λ n. slice_get rows (get_or places n 0)) same ∙ second.2 in
-      let pair : (q, one) ≡ (r, other) = cc in
+      let both : ◌≡◌ {A = Option (List ℕ × Row)} (Some (q, one)) (Some (r, other)) = sym first.2 ∙ ap (λ n. slice_get rows (get_or places n 0)) same ∙ second.2 in
+      let pair : ◌≡◌ {A = List ℕ × Row} (q, one) (r, other) = cc in
       ap (same_name q) (ap (λ p. p.0) (sym pair)) ∙ own_name q;
   small = λ q row here. (let n = (noted_there rows numbers places q row is here).0 in let even = is.noted.even in let few = is.noted.few in omega (arith, n, even, few));
   short = is.short;

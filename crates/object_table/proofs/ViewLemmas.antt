@@ -117,24 +117,22 @@ sum_settled f m new k None at = by (get m k) refl
         again q true same = sym here ∙ ap (get m) (one_name k q same)
         again q false apart = at q ∙ ap (λ b. cond b None (get m q)) apart
 
-bounded_head : (f : Word → ℕ) (most n : ℕ) (name : List ℕ) (o : Option Word) (rest : List (List ℕ × Word)) → worth f o ≤ most → sum_in f rest ≤ n * most → sum_in f (cons_option (option_map (λ y. (name, y)) o) rest) ≤ (n + 1) * most
-bounded_head f most n name None rest one all = omega (arith, all, more n most)
-  where
-    more : (n most : ℕ) → (n + 1) * most ≡ n * most + most
-    more n most = ring
-bounded_head f most n name (Some word) rest one all = (let head = sum_in-cons f (name, word) rest in omega (arith, head, one, all, more n most))
-  where
-    more : (n most : ℕ) → (n + 1) * most ≡ n * most + most
-    more n most = ring
+-- the most that an object of 64 bits of length uses, and a little more
+abbrev pub most : ℕ
+most = 18446744073709551680
 
-bounded : (f : Word → ℕ) (most : ℕ) (sets : Sets) (es : Rows) → ((at : ℕ) (p : List ℕ × Row) → slice_get es at ≡ Some p → worth f (word_in sets p.1) ≤ most) → sum_in f (chosen_in (λ _ row. word_in sets row) es) ≤ length es * most
-bounded f most sets [] each = omega arith
-bounded f most sets (e ∷ es) each = bounded_head f most (length es) e.0 (word_in sets e.1) (chosen_in (λ _ row. word_in sets row) es) (each 0 e refl) (bounded f most sets es (λ at p is. each (suc at) p is))
+bounded_head : (f : Word → ℕ) (n : ℕ) (name : List ℕ) (o : Option Word) (rest : List (List ℕ × Word)) → worth f o ≤ most → sum_in f rest ≤ n * most → sum_in f (cons_option (option_map (λ y. (name, y)) o) rest) ≤ suc n * most
+bounded_head f n name None rest one all = omega (arith, all)
+bounded_head f n name (Some word) rest one all = (let head = sum_in-cons f (name, word) rest in omega (arith, head, one, all))
+
+bounded : (f : Word → ℕ) (sets : Sets) (es : Rows) → ((at : ℕ) (p : List ℕ × Row) → slice_get es at ≡ Some p → worth f (word_in sets p.1) ≤ most) → sum_in f (chosen_in (λ _ row. word_in sets row) es) ≤ length es * most
+bounded f sets [] each = omega arith
+bounded f sets (e ∷ es) each = bounded_head f (length es) e.0 (word_in sets e.1) (chosen_in (λ _ row. word_in sets row) es) (each 0 e refl) (bounded f sets es (λ at p is. each (suc at) p is))
 
 -- no sum is greater than this much for each row
-pub sum_bounded : (f : Word → ℕ) (most : ℕ) (rows : Rows) (sets : Sets) → IsDistinct same_name (keys_of rows) → ((q : List ℕ) (row : Row) → row_in rows q ≡ Some row → worth f (word_in sets row) ≤ most)
+pub sum_bounded : (f : Word → ℕ) (rows : Rows) (sets : Sets) → IsDistinct same_name (keys_of rows) → ((q : List ℕ) (row : Row) → row_in rows q ≡ Some row → worth f (word_in sets row) ≤ most)
     → sum_by f (values (words_of rows sets)) ≤ length rows * most
-sum_bounded f most rows sets distinct each =
+sum_bounded f rows sets distinct each =
     subst (λ n. n ≤ length rows * most)
     (sum_of_distinct name_total name_exact f (chosen_in (λ _ row. word_in sets row) rows) (distinct_chosen _ (λ _ row. word_in sets row) rows (distinct_by_order (keys_of rows) distinct)))
-    (bounded f most sets rows (λ at p is. each p.0 p.1 (row_at rows at p.0 p.1 distinct is)))
+    (bounded f sets rows (λ at p is. each p.0 p.1 (row_at rows at p.0 p.1 distinct is)))

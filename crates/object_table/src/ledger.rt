@@ -60,6 +60,13 @@ impl Ledger {
         self.staged.contains(n)
     }
 
+    /// Whether the tenant sees a number, or has staged it.
+    pub(crate) fn holds(&self, n: u32) -> bool
+        ensures { result ≡ holds self.now n }
+    {
+        self.visible.contains(n) || self.staged.contains(n)
+    }
+
     /// The first number at one or after it that the tenant sees.
     pub(crate) fn next_seen(&self, from: u32) -> Option<u32>
         ensures some { IfSome result (λ n. (from ≤ n) × (has self.now.visible n ≡ true)) }

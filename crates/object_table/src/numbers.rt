@@ -33,13 +33,18 @@ pub(crate) fn extend(
 }
 
 // Two numbers change their places.
-pub(crate) fn switch(numbers: &mut [u32], places: &mut [u32], at: usize, last: usize)
-    requires noted { AreNoted numbers.old places.old }
-    requires at { at < length numbers.old }
-    requires last { last < length numbers.old }
-    ensures noted { AreNoted numbers.new places.new }
-    ensures long { length numbers.new ≡ length numbers.old }
-    ensures switched { (i : ℕ) → get_or numbers.new i 0 ≡ (if nat_eq i last then get_or numbers.old at 0 else if nat_eq i at then get_or numbers.old last 0 else get_or numbers.old i 0) }
+pub(crate) fn switch(
+    numbers: &mut Vec<u32>,
+    places: &mut Vec<u32>,
+    at: usize,
+    last: usize,
+)
+    requires noted { AreNoted numbers.old.items places.old.items }
+    requires at { at < length numbers.old.items }
+    requires last { last < length numbers.old.items }
+    ensures noted { AreNoted numbers.new.items places.new.items }
+    ensures long { length numbers.new.items ≡ length numbers.old.items }
+    ensures switched { (i : ℕ) → get_or numbers.new.items i 0 ≡ (if nat_eq i last then get_or numbers.old.items at 0 else if nat_eq i at then get_or numbers.old.items last 0 else get_or numbers.old.items i 0) }
 {
     let n = numbers[at];
     let other = numbers[last];

@@ -40,6 +40,12 @@ pub(crate) fn word_of(ledger: &Ledger, row: Row) -> Option<Word>
     })
 }
 
+fn either(a: bool, b: bool) -> bool
+    ensures { result ≡ (a || b) }
+{
+    a || b
+}
+
 // A number of holders, as one of them comes or goes.
 fn counted(count: usize, held: bool, holds: bool) -> usize
     requires fits { held ≡ false → holds ≡ true → count + 1 < 2 ^ 64 }
@@ -65,8 +71,8 @@ pub(crate) fn settle(table: &mut Table, own: &mut Ledger, row: Row, visible: boo
     ensures waits { (q : ℕ) → has_room own.new.staged q ≡ has_room own.old.staged q }
 {
     table.invariant();
-    let held = own.sees(row.number) || own.has_staged(row.number);
-    let holders = counted(row.holders, held, visible || staged);
+    let held = own.holds(row.number);
+    let holders = counted(row.holders, held, either(visible, staged));
     own.mark(row.number, size_of(row.length), visible, staged);
     table.write(Row {
         length: row.length,

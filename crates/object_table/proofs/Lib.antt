@@ -8,6 +8,7 @@ pub mod PlaceLemmas
 pub mod RoomLemmas
 pub mod RowLemmas
 pub mod SettlingLemmas
+pub mod StepLemmas
 pub mod SumLemmas
 pub mod TenantEntries
 pub mod UpdateLemmas

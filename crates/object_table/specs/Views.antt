@@ -68,6 +68,13 @@ pub record IsOne (rows : Rows) (sets : Sets) : Type 0 where
 abbrev pub HasRoom : Rows → Sets → List ℕ → Type 0
 HasRoom rows sets name = (row : Row) → row_in rows name ≡ Some row → (has_room sets.visible row.number ≡ true) × (has_room sets.staged row.number ≡ true)
 
+-- the same numbers, and the same sums
+pub record SameSets (old new : Sets) : Type 0 where
+  pub visible : (n : ℕ) → has new.visible n ≡ has old.visible n
+  pub staged : (n : ℕ) → has new.staged n ≡ has old.staged n
+  pub used : new.used ≡ old.used
+  pub total : new.total ≡ old.total
+
 -- one tenant's sets changed, and beside them who holds a name: that is counted, and nothing else changes
 pub record Moves (old new : TableState) (own after : Sets) : Type 0 where
   pub told : TellSame old.entries new.entries

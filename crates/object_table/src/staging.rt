@@ -1,11 +1,11 @@
 // Objects that come to be staged or seen by one tenant: the room is made first.
 ghost use Rattle.std.specs.Prelude.{◌≡◌, true, ℕ, OnErr, OnOk};
 ghost use Rattle.std.specs.List.{All};
-ghost use Rattle.number_sets.specs.Numbers.{has, has_room};
+ghost use Rattle.number_sets.specs.Numbers.{has_room};
 ghost use Rattle.object_table.specs.AllStaged.{all_staged_words};
 ghost use Rattle.object_table.specs.Clashes.{HasRow};
 ghost use Rattle.object_table.specs.Coming.{all_seen_words, seen_words};
-ghost use Rattle.object_table.specs.Views.{HasRoom, IsOne, Moves, words_of};
+ghost use Rattle.object_table.specs.Views.{HasRoom, IsOne, Moves, SameSets, words_of};
 ghost use Rattle.object_table.specs.Words.{staged_words};
 
 use crate::entry::Entry;
@@ -14,18 +14,26 @@ use crate::settling::settle;
 use crate::table::Table;
 use std::alloc::AllocError;
 
-// Room for the numbers of these entries' names. The tenant's objects stay as they are.
+// Room for the number of an entry's name. The tenant's objects stay as they are.
+fn reserve(table: &Table, own: &mut Ledger, entry: Entry) -> Result<(), AllocError>
+    ensures same { SameSets own.old own.new }
+    ensures ok { OnOk result (HasRoom table.now.entries own.new entry.name) }
+    ensures room { (q : ℕ) → has_room own.old.visible q ≡ true → has_room own.new.visible q ≡ true }
+    ensures waits { (q : ℕ) → has_room own.old.staged q ≡ true → has_room own.new.staged q ≡ true }
+{
+    let Some(row) = table.row(entry.name) else {
+        return Ok(());
+    };
+    own.reserve(row.number)
+}
+
+// The same of entries.
 fn reserve_all(table: &Table, own: &mut Ledger, entries: &[Entry]) -> Result<(), AllocError>
-    ensures visible { (q : ℕ) → has own.new.visible q ≡ has own.old.visible q }
-    ensures staged { (q : ℕ) → has own.new.staged q ≡ has own.old.staged q }
-    ensures used { own.new.used ≡ own.old.used }
-    ensures total { own.new.total ≡ own.old.total }
+    ensures same { SameSets own.old own.new }
     ensures ok { OnOk result (All (λ entry. HasRoom table.now.entries own.new entry.name) entries.now) }
 {
     for entry in entries {
-        if let Some(row) = table.row(entry.name) {
-            own.reserve(row.number)?;
-        }
+        reserve(table, own, *entry)?;
     }
     Ok(())
 }
@@ -41,6 +49,7 @@ fn stage_one(table: &mut Table, own: &mut Ledger, entry: Entry)
     ensures room { (q : ℕ) → has_room own.new.visible q ≡ has_room own.old.visible q }
     ensures waits { (q : ℕ) → has_room own.new.staged q ≡ has_room own.old.staged q }
 {
+    table.invariant();
     let Some(row) = table.row(entry.name) else {
         unreachable!();
     };
@@ -59,6 +68,7 @@ fn see_one(table: &mut Table, own: &mut Ledger, entry: Entry)
     ensures room { (q : ℕ) → has_room own.new.visible q ≡ has_room own.old.visible q }
     ensures waits { (q : ℕ) → has_room own.new.staged q ≡ has_room own.old.staged q }
 {
+    table.invariant();
     let Some(row) = table.row(entry.name) else {
         unreachable!();
     };
@@ -79,6 +89,7 @@ pub(crate) fn stage_entries(
     ensures moves { Moves table.old table.new own.old own.new }
     ensures one { IsOne table.new.entries own.new }
 {
+    table.invariant();
     reserve_all(table, own, entries)?;
     for entry in entries {
         stage_one(table, own, *entry);
@@ -99,6 +110,7 @@ pub(crate) fn see_entries(
     ensures moves { Moves table.old table.new own.old own.new }
     ensures one { IsOne table.new.entries own.new }
 {
+    table.invariant();
     reserve_all(table, own, entries)?;
     for entry in entries {
         see_one(table, own, *entry);

@@ -194,3 +194,12 @@ least_room pages other n page inside within there q room = by (nat_eq (q / 4096)
     by : (t : Bool) → nat_eq (q / 4096) (n / 4096) ≡ t → is_some (get_or other (q / 4096) None) ≡ true
     by true e = ap (λ i. is_some (get_or other i None)) (eqb-true _ _ e) ∙ there
     by false e = within q (sym (ap is_some (get_or-set_other pages (n / 4096) (q / 4096) page None (eqb-false _ _ e))) ∙ room)
+
+-- a number that is in a set has room there
+pub has_its_room : (pages : Pages) (q : ℕ) → has pages q ≡ true → has_room pages q ≡ true
+unfolding has has_room
+has_its_room pages q there = by (get_or pages (q / 4096) None) there
+  where
+    by : (o : Option (List ℕ)) → is_there o (q % 4096) ≡ true → is_some o ≡ true
+    by None is = absurd (let wrong : ⊥ = cc in wrong)
+    by (Some page) is = refl

@@ -1,8 +1,10 @@
 pub mod AdoptLemmas
 pub mod CappedLemmas
 pub mod ChosenLemmas
+pub mod DescribeLemmas
 pub mod HeldLemmas
 pub mod HolderLemmas
+pub mod LeavingLemmas
 pub mod NumberLemmas
 pub mod PlaceLemmas
 pub mod RoomLemmas

@@ -19,13 +19,15 @@ pub(crate) fn discard(table: &mut Table, own: &mut Ledger)
     table.invariant();
     let mut from = 0u32;
     while let Some(n) = own.next_staged(from) {
-        let Some((_, row)) = table.numbered(n) else {
+        let Some(entry) = table.numbered(n) else {
             unreachable!();
         };
+        table.invariant();
         let seen = own.sees(n);
-        settle(table, own, row, seen, false);
+        settle(table, own, entry.1, seen, false);
         from = n + 1;
     }
+    table.invariant();
     own.end_staging();
 }
 
@@ -40,12 +42,14 @@ pub(crate) fn keep_only<N: NameSet>(table: &mut Table, own: &mut Ledger, names: 
     let nearby = Nearby::new();
     let mut from = 0u32;
     while let Some(n) = own.next_seen(from) {
-        let Some((name, row)) = table.numbered(n) else {
+        let Some(entry) = table.numbered(n) else {
             unreachable!();
         };
-        let kept = names.has(&nearby, name);
+        table.invariant();
+        let kept = names.has(&nearby, entry.0);
         let staged = own.has_staged(n);
-        settle(table, own, row, kept, staged);
+        settle(table, own, entry.1, kept, staged);
         from = n + 1;
     }
+    table.invariant();
 }

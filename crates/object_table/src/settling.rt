@@ -1,8 +1,8 @@
 // How the object of one name stands with one tenant, and who is counted as holding it.
-ghost use Rattle.std.specs.Prelude.{◌≡◌, ◌<◌, ◌+◌, ◌^◌, ◌||◌, ℕ, List, true, false, Some, IfSome, IfNone, if◌then◌else◌};
+ghost use Rattle.std.specs.Prelude.{◌≡◌, ◌<◌, ◌+◌, ◌^◌, ◌||◌, ℕ, List, true, false, nat_eq, Some, IfSome, IfNone, if◌then◌else◌};
 ghost use Rattle.std.specs.FinMap.{get};
 ghost use Rattle.git_name.specs.Same.{same_name};
-ghost use Rattle.number_sets.specs.Numbers.{has_room};
+ghost use Rattle.number_sets.specs.Numbers.{has, has_room};
 ghost use Rattle.object_table.specs.Rows.{row_in};
 ghost use Rattle.object_table.specs.Views.{IsOne, Moves, standing_by, word_by, word_in, words_of};
 
@@ -67,6 +67,7 @@ pub(crate) fn settle(table: &mut Table, own: &mut Ledger, row: Row, visible: boo
     ensures words { (name : List ℕ) → row_in table.old.entries name ≡ Some row → (q : List ℕ) → get (words_of table.new.entries own.new) q ≡ (if same_name name q then word_by row visible staged else get (words_of table.old.entries own.old) q) }
     ensures moves { Moves table.old table.new own.old own.new }
     ensures one { IsOne table.new.entries own.new }
+    ensures staged { (q : ℕ) → has own.new.staged q ≡ (if nat_eq q row.number then staged else has own.old.staged q) }
     ensures room { (q : ℕ) → has_room own.new.visible q ≡ has_room own.old.visible q }
     ensures waits { (q : ℕ) → has_room own.new.staged q ≡ has_room own.old.staged q }
 {

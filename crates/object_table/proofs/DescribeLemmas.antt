@@ -1,5 +1,5 @@
 -- Rows of names that nobody holds, as they come to tell what is to be staged.
-use Rattle.std.proofs.Common.{◌≡◌, ◌⊎◌, inl, inr, ℕ, zero, suc, ◌+◌, ◌<◌, ◌≤◌, Bool, true, false, cond, nat_lt, get_or, length, take, slice_index_or, List, Option, None, Some, refl, sym, ap, subst, ◌∙◌, arith}
+use Rattle.std.proofs.Common.{◌≡◌, ◌⊎◌, inl, inr, ℕ, zero, suc, ◌+◌, ◌<◌, ◌≤◌, Bool, true, false, cond, nat_lt, get_or, length, take, slice_index_or, List, Option, None, Some, is_some, refl, sym, ap, subst, ◌∙◌, arith}
 use Rattle.std.specs.Prelude.{Contains, if◌then◌else◌}
 use Rattle.std.specs.List.{All}
 use Rattle.git_name.specs.Same.{same_name}
@@ -49,3 +49,49 @@ described_one old new name row now here nobody number holders written = record {
     gone : (q : List ℕ) → row_in old q ≡ None → (b : Bool) → same_name name q ≡ b → cond b (Some now) (row_in old q) ≡ None
     gone q absent true same = none_is_some _ row (sym absent ∙ ap (row_in old) (sym (one_name name q same)) ∙ here)
     gone q absent false same = absent
+
+-- ---- entries, one after another
+-- where nobody held the name at first, its row is of the kind and length of an entry of that name
+abbrev pub IsDescribed : Rows → Rows → List Entry → Entry → Type 0
+IsDescribed old now entries entry = (row : Row) → row_in old entry.name ≡ Some row → row.holders ≡ 0 → (other : Entry) × Contains entries other × (other.name ≡ entry.name) × HasRow now other
+
+row_kept : (mid new : Rows) (entry other : Entry) → ((q : List ℕ) → same_name entry.name q ≡ false → row_in new q ≡ row_in mid q) → same_name entry.name other.name ≡ false → HasRow mid other → HasRow new other
+row_kept mid new entry other others apart is = record { row = is.row; here = others other.name apart ∙ is.here; kinds = is.kinds; lengths = is.lengths }
+
+pub described_still : (old mid new : Rows) (entries : List Entry) (entry one : Entry) → DescribesUnheld old mid → Contains entries entry
+    → ((q : List ℕ) → same_name entry.name q ≡ false → row_in new q ≡ row_in mid q) → ((row : Row) → row_in mid entry.name ≡ Some row → row.holders ≡ 0 → HasRow new entry)
+    → IsDescribed old mid entries one → IsDescribed old new entries one
+described_still old mid new entries entry one first among others written is row here nobody = by (same_name entry.name was.0.name) refl
+  where
+    was : (other : Entry) × Contains entries other × (other.name ≡ one.name) × HasRow mid other
+    was = is row here nobody
+
+    by : (b : Bool) → same_name entry.name was.0.name ≡ b → (other : Entry) × Contains entries other × (other.name ≡ one.name) × HasRow new other
+    by true same =
+        (let named : entry.name ≡ one.name = one_name entry.name was.0.name same ∙ was.2 in
+        let before = first.free one.name row here nobody in
+        (entry, among, named, written before.0 (ap (row_in mid) named ∙ before.1) before.3))
+    by false apart = (was.0, was.1, was.2, row_kept mid new entry was.0 others apart was.3)
+
+pub described_now : (old mid new : Rows) (entries : List Entry) (entry : Entry) → DescribesUnheld old mid → Contains entries entry → ((row : Row) → row_in mid entry.name ≡ Some row → row.holders ≡ 0 → HasRow new entry) → IsDescribed old new entries entry
+described_now old mid new entries entry first among written row here nobody = (let before = first.free entry.name row here nobody in (entry, among, refl, written before.0 before.1 before.3))
+
+-- an entry whose row is another clashes
+pub row_clash : (old now : Rows) (entries : List Entry) (entry : Entry) (row : Row) → row_in old entry.name ≡ Some row → Contains entries entry → DescribesUnheld old now → IsDescribed old now entries entry → (HasRow now entry → ⊥) → RowClash old entries
+row_clash old now entries entry row here among describes described lacks = by row.holders refl
+  where
+    by : (n : ℕ) → row.holders ≡ n → RowClash old entries
+    by zero none =
+        (let other = described row here none in
+        record { entry = entry; among = among; met = inr (other.0, other.1, record { named = sym other.2; apart = λ kinds lengths. lacks (record { row = other.3.row; here = ap (row_in now) (sym other.2) ∙ other.3.here; kinds = other.3.kinds ∙ sym kinds; lengths = other.3.lengths ∙ sym lengths }) }) })
+    by (suc n) some =
+        (let more : 0 < row.holders = omega (arith, some) in
+        record { entry = entry; among = among; met = inl (row, here, more, (λ kinds lengths. lacks (record { row = row; here = describes.held entry.name row here more; kinds = kinds; lengths = lengths }))) })
+
+-- a name that is there has a row
+pub row_of_listed : (rows : Rows) (name : List ℕ) → is_some (row_in rows name) ≡ true → (row : Row) × (row_in rows name ≡ Some row)
+row_of_listed rows name there = by (row_in rows name) refl there
+  where
+    by : (o : Option Row) → row_in rows name ≡ o → is_some o ≡ true → (row : Row) × (row_in rows name ≡ Some row)
+    by None is some = absurd (let wrong : ⊥ = cc in wrong)
+    by (Some row) is some = (row, is)

@@ -28,7 +28,7 @@ abbrev pub has : List ℕ → Words → ℕ
 has q words = cond (contains_key words q) 1 0
 
 -- ---- one ledger is set
-holders_set : (m : AllWords) (t : List ℕ) (own after : Words) (q : List ℕ) → get m t ≡ Some own → holders_of (insert m t after) q + has q own ≡ holders_of m q + has q after
+pub holders_set : (m : AllWords) (t : List ℕ) (own after : Words) (q : List ℕ) → get m t ≡ Some own → holders_of (insert m t after) q + has q own ≡ holders_of m q + has q after
 unfolding holders_of
 holders_set m t own after q here = ap (λ o. count_by (λ words. contains_key words q) (values (insert m t after)) + worth (has q) o) (sym here) ∙ sum_insert name_total (has q) m t after
 

@@ -7,11 +7,13 @@ pub mod HolderLemmas
 pub mod LeavingLemmas
 pub mod NumberLemmas
 pub mod PlaceLemmas
+pub mod PublishLemmas
 pub mod RoomLemmas
 pub mod RowLemmas
 pub mod SettlingLemmas
 pub mod StepLemmas
 pub mod SumLemmas
 pub mod TenantEntries
+pub mod TenantLemmas
 pub mod UpdateLemmas
 pub mod ViewLemmas

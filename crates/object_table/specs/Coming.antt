@@ -11,10 +11,6 @@ use Rattle.object_table.specs.declared.word.Standing.TheVariants.{Visible}
 use Rattle.object_table.specs.declared.word.Word.{Word}
 use Rattle.object_table.specs.Words.{Words, is_visible, with_standing}
 
--- the words of a ledger, if there is one
-abbrev pub words_in : Option Words → Words
-words_in ledger = unwrap_or ledger empty
-
 -- what a word tells, under its name
 abbrev pub entry_under : List ℕ → Word → Entry
 entry_under name word = record { name = name; kind = word.kind; length = word.length }

@@ -1,8 +1,8 @@
 -- What a tenant's two sets of numbers say of names (own): this is what is above the table, and it knows of no number.
 use Rattle.std.specs.Prelude.{◌≡◌, ◌≤◌, ◌<◌, ◌+◌, ℕ, Bool, true, false, ◌||◌, List, Option, None, Some, refl}
 use Rattle.std.specs.Coded.{Coded, code_by, coded×, coded_list, coded_ℕ}
-use Rattle.std.specs.FinMap.{FinMap, code, contains_key, from_entries}
-use Rattle.std.specs.Option.{option_map}
+use Rattle.std.specs.FinMap.{FinMap, code, contains_key, empty, from_entries}
+use Rattle.std.specs.Option.{option_map, option_map_or}
 use Rattle.git_name.specs.Maps.{map_values}
 use Rattle.git_name.specs.Name.{name_cmp}
 use Rattle.git_name.specs.Same.{same_name}
@@ -43,6 +43,10 @@ word_in sets row = word_by row (has sets.visible row.number) (has sets.staged ro
 -- a tenant's words
 abbrev pub words_of : Rows → Sets → Words
 words_of rows sets = from_entries {R = name_cmp} (chosen_in (λ _ row. word_in sets row) rows)
+
+-- and those of one that may not be there
+abbrev pub words_under : Rows → Option Sets → Words
+words_under rows sets = option_map_or (words_of rows) sets empty
 
 -- those of all tenants
 abbrev pub all_words : Rows → FinMap name_cmp Sets → AllWords

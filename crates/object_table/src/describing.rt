@@ -1,6 +1,7 @@
 // Rows of names that nobody holds, which come to tell what is to be staged.
-ghost use Rattle.std.specs.Prelude.{◌≡◌, ◌⊎◌, true, false, Some};
+ghost use Rattle.std.specs.Prelude.{◌≡◌, ◌⊎◌, ℕ, List, true, false, Some};
 ghost use Rattle.std.specs.List.{All};
+ghost use Rattle.git_name.specs.Same.{same_name};
 ghost use Rattle.object_table.specs.AllStaged.{AreListed};
 ghost use Rattle.object_table.specs.Clashes.{DescribesUnheld, HasRow, RowClash};
 ghost use Rattle.object_table.specs.Rows.{places_of, row_in};
@@ -33,6 +34,7 @@ fn has_row(table: &Table, entry: Entry) -> bool
 fn describe(table: &mut Table, entry: Entry)
     ensures places { places_of table.new ≡ places_of table.old }
     ensures describes { DescribesUnheld table.old.entries table.new.entries }
+    ensures others { (q : List ℕ) → same_name entry.name q ≡ false → row_in table.new.entries q ≡ row_in table.old.entries q }
     ensures row { (row : Row) → row_in table.old.entries entry.name ≡ Some row → row.holders ≡ 0 → HasRow table.new.entries entry }
 {
     let Some(row) = table.row(entry.name) else {

@@ -4,10 +4,12 @@
 //! places; no number is seen from outside.
 #![tactic(auto)]
 
+mod coming;
 mod describing;
 mod entry;
 mod leaving;
 mod ledger;
+mod ledgers;
 mod name_set;
 mod numbers;
 mod row;

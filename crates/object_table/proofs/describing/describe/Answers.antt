@@ -22,3 +22,8 @@ returns-clause-row c row stands none =
       kinds = refl;
       lengths = refl;
     }
+
+pub returns-clause-others : goal.returns-clause-others
+returns-clause-others c q apart =
+    let now : Row = record { length = c.args.entry.length; holders = 0; number = c.in-Some.row.number; kind = c.args.entry.kind } in
+    c.write.ensures.rows c.args.entry.name c.in-Some.row (sym c.in-Some.ensures) refl q ∙ ap (λ b. cond b (Some now) (row_in c.args.table.now.entries q)) apart

@@ -7,20 +7,25 @@
 mod coming;
 mod describing;
 mod entry;
+mod holdings;
 mod leaving;
 mod ledger;
 mod ledgers;
+mod listing;
 mod name_set;
 mod numbers;
 mod row;
 mod rows;
 mod settling;
+mod stage_fault;
 mod staging;
 mod table;
 mod usage;
 mod word;
 
 pub use crate::entry::Entry;
+pub use crate::holdings::Holdings;
 pub use crate::name_set::NameSet;
+pub use crate::stage_fault::StageFault;
 pub use crate::usage::WORD_USE;
 pub use crate::word::{Standing, Word};

@@ -23,7 +23,7 @@ loop-entry-preserved c =
       places = c.describe.ensures.places ∙ was.places;
       describes = described_then first mid new was.describes c.describe.ensures.describes;
       described = all_more (IsDescribed first new entries) entries c.loop-entry.entry-index entry (omega arith) c.entry-item.is
-          (λ k d small. described_still first mid new entries entry _ was.describes among c.describe.ensures.others c.describe.ensures.row (was.described k d small))
+          (λ k d small. described_still first mid new entries entry (slice_index_or (take c.loop-entry.entry-index entries) k d) was.describes among c.describe.ensures.others c.describe.ensures.row (was.described k d small))
           (described_now first mid new entries entry was.describes among c.describe.ensures.row);
     }
 

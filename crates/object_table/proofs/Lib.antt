@@ -1,5 +1,6 @@
 pub mod AdoptLemmas
 pub mod CappedLemmas
+pub mod ChangeLemmas
 pub mod ChosenLemmas
 pub mod DescribeLemmas
 pub mod HeldLemmas

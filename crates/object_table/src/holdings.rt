@@ -90,7 +90,10 @@ impl Holdings {
     pub fn contains(&self, tenant: &TenantName) -> bool
         ensures { result ≡ map.contains_key self.now.ledgers tenant.now }
     {
-        self.ledgers.get(tenant).is_some()
+        let Some(_) = self.ledgers.get(tenant) else {
+            return false;
+        };
+        true
     }
 
     /// What a tenant's ledger says of a name.
@@ -427,7 +430,9 @@ fn stage_in(
     ensures places { places_of table.new ≡ places_of table.old }
 {
     table.invariant();
-    if !describe_all(table, entries) {
+    let described = describe_all(table, entries);
+    table.invariant();
+    if !described {
         return Err(StageFault::Clash);
     }
     let Ok(()) = ledgers.stage(table, tenant, entries) else {

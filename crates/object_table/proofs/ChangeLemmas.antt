@@ -11,7 +11,7 @@ use Rattle.std.proofs.lemmas.List.Elements.{All-cons, All-nil}
 use Rattle.git_name.specs.declared.kind.Kind.{Kind}
 use Rattle.git_name.specs.Name.{name_cmp}
 use Rattle.git_name.specs.Same.{same_name}
-use Rattle.git_name.proofs.MapLemmas.{get_map_values}
+use Rattle.git_name.proofs.MapLemmas.{get_map_values, map_values_empty}
 use Rattle.git_name.proofs.Names.{name_exact, name_total}
 use Rattle.number_sets.specs.Numbers.{has}
 use Rattle.object_table.specs.Clashes.{AreAs, Clash, DescribesUnheld, HasRow, IsAs, RowClash}
@@ -26,7 +26,7 @@ use Rattle.object_table.specs.Totals.{capped, total_of, used_by}
 use Rattle.object_table.specs.Views.{IsOwn, Sets, all_words, holds, standing_by, word_by, word_in, words_of, words_under}
 use Rattle.object_table.specs.Words.{Words, is_visible}
 use Rattle.object_table.proofs.AdoptLemmas.{coming_name}
-use Rattle.object_table.proofs.HolderLemmas.{by_ledger, held_at, nobody_has, someone_has}
+use Rattle.object_table.proofs.HolderLemmas.{by_ledger, held_at, no_holders, nobody_has, someone_has}
 use Rattle.object_table.proofs.PlaceLemmas.{one_name}
 use Rattle.object_table.proofs.RowLemmas.{none_is_some}
 use Rattle.object_table.proofs.TenantEntries.{changed_at, unchanged_at}
@@ -296,3 +296,10 @@ ledger_alike m t f g same = by_ledger _ (get m t)
     (λ none. unchanged_at m t f none ∙ sym (unchanged_at m t g none))
     (λ own here.
     changed_at m t own f here ∙ ap (insert m t) (ap (λ o. f (unwrap_or o empty)) (sym here) ∙ same ∙ ap (λ o. g (unwrap_or o empty)) here) ∙ sym (changed_at m t own g here))
+
+-- no names and no tenants
+pub nothing_held : (rows : Rows) (m : FinMap name_cmp Sets) → rows ≡ [] → m ≡ empty → AreHeld rows m
+nothing_held rows m no_rows no_tenants = subst (λ r. AreHeld r m) (sym no_rows) (subst (λ x. AreHeld [] x) (sym no_tenants) (record {
+    counted = λ q. sym (ap (λ x. holders_of x q) (map_values_empty name_total name_exact (words_of [])) ∙ no_holders q);
+    own = λ t sets here. none_is_some _ sets (sym (get-empty name_cmp t) ∙ here);
+  }))

@@ -6,6 +6,7 @@ pub mod DescribeLemmas
 pub mod HeldLemmas
 pub mod HolderLemmas
 pub mod LeavingLemmas
+pub mod ListingLemmas
 pub mod NumberLemmas
 pub mod PlaceLemmas
 pub mod PublishLemmas

@@ -46,7 +46,7 @@ or_later true false c = refl
 or_later false true c = refl
 or_later false false c = refl
 
-last_any : (names : List (List ℕ)) (name q : List ℕ) → is_listed (names ++ name ∷ []) q ≡ same_name q name || is_listed names q
+pub last_any : (names : List (List ℕ)) (name q : List ℕ) → is_listed (names ++ name ∷ []) q ≡ same_name q name || is_listed names q
 last_any [] name q = refl
 last_any (x ∷ xs) name q = ap (λ b. same_name q x || b) (last_any xs name q) ∙ or_later (same_name q x) (same_name q name) (is_listed xs q)
 

@@ -12,7 +12,7 @@ use crate::row::Row;
 use crate::table::Table;
 
 // Whether a row is of the kind and length of an entry.
-fn is_as(row: &Row, entry: Entry) -> bool
+pub(crate) fn is_as(row: &Row, entry: Entry) -> bool
     ensures alike { result ≡ true → (row.now.kind ≡ entry.kind) × (row.now.length ≡ entry.length) }
     ensures apart { result ≡ false → row.now.kind ≡ entry.kind → row.now.length ≡ entry.length → ⊥ }
 {

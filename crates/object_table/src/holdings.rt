@@ -16,7 +16,7 @@ ghost use Rattle.object_table.specs.Views.{all_words};
 ghost use Rattle.object_table.specs.Words.{discarded_words, is_staged, is_visible, kept_words, published_words, staged_words, words_that};
 
 use crate::coming::{coming, use_with_coming, word_under};
-use crate::describing::describe_all;
+use crate::describing::{describe_all, is_as};
 use crate::entry::Entry;
 use crate::ledgers::Ledgers;
 use crate::listing::seen_names;
@@ -168,7 +168,7 @@ impl Holdings {
         if row.holders == 0 {
             return true;
         }
-        row.kind == kind && row.length == length
+        is_as(&row, Entry { name, kind, length })
     }
 
     /// Whether what a tenant sees, with the objects of these names that another one sees beside it, uses so

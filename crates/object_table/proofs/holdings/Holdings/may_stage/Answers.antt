@@ -1,6 +1,7 @@
 use Rattle.std.proofs.Common.{◌≡◌, ◌<◌, ap, sym, subst, ◌∙◌, arith, refl}
 use Rattle.object_table.specs.Clashes.{AreAs}
 use Rattle.object_table.specs.Holders.{HoldingsState}
+use Rattle.object_table.specs.Views.{all_words}
 use Rattle.object_table.proofs.ChangeLemmas.{none_allows, row_allows, row_refuses, unheld_allows}
 use Rattle.object_table.proofs.holdings.Holdings.may_stage.Goals as goal
 
@@ -14,11 +15,16 @@ returns-then-row-eq0-clause-may c is_true =
     subst (λ (s : HoldingsState). AreAs s.ledgers c.args.name c.args.kind c.args.length) c.self.view_is
     (unheld_allows c.self.inside.table.entries c.self.inside.ledgers c.args.name c.in-Some.row c.args.kind c.args.length c.invariant.ensures.rows c.self.invariant (sym c.in-Some.ensures) c.if-row-eq0.true)
 
-pub returns-then-eq-clause-may : goal.returns-then-eq-clause-may
-returns-then-eq-clause-may c is_true = ?
+pub returns-clause-may : goal.returns-clause-may
+returns-clause-may c is_true =
+    let alike = c.is_as.ensures.alike is_true in
+    subst (λ (s : HoldingsState). AreAs s.ledgers c.args.name c.args.kind c.args.length) c.self.view_is
+    (subst (λ k. AreAs (all_words c.self.inside.table.entries c.self.inside.ledgers) c.args.name k c.args.length) alike.0
+    (subst (λ n. AreAs (all_words c.self.inside.table.entries c.self.inside.ledgers) c.args.name c.in-Some.row.kind n) alike.1
+    (row_allows c.self.inside.table.entries c.self.inside.ledgers c.args.name c.in-Some.row c.invariant.ensures.rows (sym c.in-Some.ensures))))
 
-pub returns-then-eq-clause-clash : goal.returns-then-eq-clause-clash
-returns-then-eq-clause-clash c is_false = ?
-
-pub returns-else-eq-clause-clash : goal.returns-else-eq-clause-clash
-returns-else-eq-clause-clash c is_false = ?
+pub returns-clause-clash : goal.returns-clause-clash
+returns-clause-clash c is_false as_told =
+    row_refuses c.self.inside.table.entries c.self.inside.ledgers c.args.name c.in-Some.row c.args.kind c.args.length c.invariant.ensures.rows c.self.invariant (sym c.in-Some.ensures)
+    (let some = c.if-row-eq0.false in omega (arith, some)) (c.is_as.ensures.apart is_false)
+    (subst (λ (s : HoldingsState). AreAs s.ledgers c.args.name c.args.kind c.args.length) (sym c.self.view_is) as_told)

@@ -303,3 +303,6 @@ nothing_held rows m no_rows no_tenants = subst (λ r. AreHeld r m) (sym no_rows)
     counted = λ q. sym (ap (λ x. holders_of x q) (map_values_empty name_total name_exact (words_of [])) ∙ no_holders q);
     own = λ t sets here. none_is_some _ sets (sym (get-empty name_cmp t) ∙ here);
   }))
+
+pub no_ledgers : (rows : Rows) (m : FinMap name_cmp Sets) → m ≡ empty → all_words rows m ≡ empty
+no_ledgers rows m none = ap (all_words rows) none ∙ map_values_empty name_total name_exact (words_of rows)

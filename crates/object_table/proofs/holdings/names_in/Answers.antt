@@ -17,3 +17,6 @@ returns c =
     let rows = c.args.table.now.entries in
     subst (λ w. IfOk c.seen_names.result (λ names. names.items ≡ keys (words_that is_visible w)))
     (ap (words_under rows) c.in-Some.ensures ∙ ledger_is rows c.args.ledgers.now c.args.tenant.now) c.seen_names.ensures
+
+pub seen_names-requires : goal.seen_names-requires
+seen_names-requires c = record { own = c.requires.held.own c.args.tenant.now c.in-Some.ledger.now (sym c.in-Some.ensures) }

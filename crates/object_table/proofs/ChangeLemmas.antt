@@ -1,6 +1,6 @@
 -- What ledgers are held to say, as names come and go and rows of names that nobody holds are written anew.
-use Rattle.std.proofs.Common.{◌≡◌, ◌⊎◌, inl, inr, ℕ, zero, suc, ◌+◌, ◌*◌, ◌<◌, ◌≤◌, Bool, true, false, not, ◌||◌, ◌&&◌, cond, nat_eq, nat_lt, List, [], ◌∷◌, Option, None, Some, is_some, refl, sym, ap, subst, ◌∙◌, arith}
-use Rattle.std.specs.Prelude.{Contains, min, if◌then◌else◌}
+use Rattle.std.proofs.Common.{◌≡◌, inl, inr, ℕ, zero, suc, ◌*◌, ◌<◌, ◌≤◌, Bool, true, false, not, ◌||◌, ◌&&◌, cond, List, [], ◌∷◌, Option, None, Some, is_some, refl, sym, ap, subst, ◌∙◌, arith}
+use Rattle.std.specs.Prelude.{if◌then◌else◌}
 use Rattle.std.specs.List.{All, IsDistinct, cons_option}
 use Rattle.std.specs.Map.{keys_of}
 use Rattle.std.specs.Option.{option_and_then, option_map, option_map_or, unwrap_or}
@@ -19,13 +19,12 @@ use Rattle.object_table.specs.Coming.{coming_at, coming_in, entry_under}
 use Rattle.object_table.specs.declared.entry.Entry.{Entry}
 use Rattle.object_table.specs.declared.row.Row.{Row}
 use Rattle.object_table.specs.declared.word.Word.{Word}
-use Rattle.object_table.specs.Holders.{AreHeld, holders_of, is_held_in}
+use Rattle.object_table.specs.Holders.{AreHeld, holders_of}
 use Rattle.object_table.specs.Ledgers.{AllWords, at_ledger, ledger_at, word_at}
 use Rattle.object_table.specs.Rows.{AreRows, IsUsed, Rows, count_in, row_in}
 use Rattle.object_table.specs.Totals.{capped, total_of, used_by}
-use Rattle.object_table.specs.Views.{IsOwn, Sets, all_words, holds, standing_by, word_by, word_in, words_of, words_under}
+use Rattle.object_table.specs.Views.{Sets, all_words, holds, standing_by, word_by, word_in, words_of, words_under}
 use Rattle.object_table.specs.Words.{Words, is_visible}
-use Rattle.object_table.proofs.AdoptLemmas.{coming_name}
 use Rattle.object_table.proofs.HolderLemmas.{by_ledger, held_at, no_holders, nobody_has, someone_has}
 use Rattle.object_table.proofs.PlaceLemmas.{one_name}
 use Rattle.object_table.proofs.RowLemmas.{none_is_some}
@@ -270,7 +269,7 @@ pub row_refuses : (rows : Rows) (m : FinMap name_cmp Sets) (name : List ℕ) (ro
 row_refuses rows m name row kind length are held here some apart = row_said rows m name row kind length are held here some apart
 
 pub clashes : (rows : Rows) (m : FinMap name_cmp Sets) (es : List Entry) → AreRows rows → AreHeld rows m → RowClash rows es → Clash (all_words rows m) es
-clashes rows m es are held clash = record { entry = clash.entry; among = clash.among; met = elim clash.met [ | inl row ↦ inl (row_said rows m clash.entry.name row.0 clash.entry.kind clash.entry.length are held row.1 row.2 row.3) | inr other ↦ inr other ] }
+clashes rows m es are held clash = record { entry = clash.entry; among = clash.among; met = elim clash.met [ inl row ↦ inl (row_said rows m clash.entry.name row.0 clash.entry.kind clash.entry.length are held row.1 row.2 row.3) | inr other ↦ inr other ] }
 
 -- and what may
 pub row_allows : (rows : Rows) (m : FinMap name_cmp Sets) (name : List ℕ) (row : Row) → AreRows rows → row_in rows name ≡ Some row → AreAs (all_words rows m) name row.kind row.length
@@ -300,9 +299,9 @@ ledger_alike m t f g same = by_ledger _ (get m t)
 -- no names and no tenants
 pub nothing_held : (rows : Rows) (m : FinMap name_cmp Sets) → rows ≡ [] → m ≡ empty → AreHeld rows m
 nothing_held rows m no_rows no_tenants = subst (λ r. AreHeld r m) (sym no_rows) (subst (λ x. AreHeld [] x) (sym no_tenants) (record {
-    counted = λ q. sym (ap (λ x. holders_of x q) (map_values_empty name_total name_exact (words_of [])) ∙ no_holders q);
-    own = λ t sets here. none_is_some _ sets (sym (get-empty name_cmp t) ∙ here);
-  }))
+  counted = λ q. sym (ap (λ x. holders_of x q) (map_values_empty name_total name_exact (words_of [])) ∙ no_holders q);
+  own = λ t sets here. none_is_some _ sets (sym (get-empty name_cmp t) ∙ here);
+}))
 
 pub no_ledgers : (rows : Rows) (m : FinMap name_cmp Sets) → m ≡ empty → all_words rows m ≡ empty
 no_ledgers rows m none = ap (all_words rows) none ∙ map_values_empty name_total name_exact (words_of rows)

@@ -1,9 +1,8 @@
 -- Rows of names that nobody holds, as they come to tell what is to be staged.
-use Rattle.std.proofs.Common.{◌≡◌, ◌⊎◌, inl, inr, ℕ, zero, suc, ◌+◌, ◌<◌, ◌≤◌, Bool, true, false, cond, nat_lt, get_or, length, take, slice_index_or, List, Option, None, Some, is_some, refl, sym, ap, subst, ◌∙◌, arith}
-use Rattle.std.specs.Prelude.{Contains, if◌then◌else◌}
-use Rattle.std.specs.List.{All}
+use Rattle.std.proofs.Common.{◌≡◌, inl, inr, ℕ, zero, suc, ◌<◌, Bool, true, false, cond, List, Option, None, Some, is_some, refl, sym, ap, ◌∙◌, arith}
+use Rattle.std.specs.Prelude.{Contains}
 use Rattle.git_name.specs.Same.{same_name}
-use Rattle.object_table.specs.Clashes.{AreApart, DescribesUnheld, HasRow, RowClash}
+use Rattle.object_table.specs.Clashes.{DescribesUnheld, HasRow, RowClash}
 use Rattle.object_table.specs.declared.entry.Entry.{Entry}
 use Rattle.object_table.specs.declared.row.Row.{Row}
 use Rattle.object_table.specs.Rows.{Rows, row_in}
@@ -30,10 +29,10 @@ described_then old mid new first second = record {
 pub described_one : (old new : Rows) (name : List ℕ) (row now : Row) → row_in old name ≡ Some row → row.holders ≡ 0 → now.number ≡ row.number → now.holders ≡ 0
     → ((q : List ℕ) → row_in new q ≡ cond (same_name name q) (Some now) (row_in old q)) → DescribesUnheld old new
 described_one old new name row now here nobody number holders written = record {
-    held = λ q other there some. written q ∙ held q other there some (same_name name q) refl;
-    free = λ q other there none. free q other there none (same_name name q) refl;
-    none = λ q absent. written q ∙ gone q absent (same_name name q) refl;
-  }
+  held = λ q other there some. written q ∙ held q other there some (same_name name q) refl;
+  free = λ q other there none. free q other there none (same_name name q) refl;
+  none = λ q absent. written q ∙ gone q absent (same_name name q) refl;
+}
   where
     the_row : (q : List ℕ) (other : Row) → row_in old q ≡ Some other → same_name name q ≡ true → row ≡ other
     the_row q other there same = (let both : Some row ≡ Some other = sym here ∙ ap (row_in old) (one_name name q same) ∙ there in cc)

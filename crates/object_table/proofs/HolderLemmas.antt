@@ -1,7 +1,7 @@
 -- Who holds a name, as ledgers change.
-use Rattle.std.proofs.Common.{◌≡◌, ℕ, ◌+◌, ◌<◌, ◌≤◌, List, Bool, true, false, not, Option, Some, None, cond, is_some, refl, sym, ap, ◌∙◌, arith}
+use Rattle.std.proofs.Common.{◌≡◌, ℕ, ◌+◌, ◌<◌, ◌≤◌, List, Bool, true, false, Option, Some, None, cond, is_some, refl, sym, ap, ◌∙◌, arith}
 use Rattle.std.specs.Prelude.{count_by, Result, Ok, Err, OnOk, OnErr}
-use Rattle.std.specs.Option.{option_and_then, option_map_or, unwrap_or}
+use Rattle.std.specs.Option.{unwrap_or}
 use Rattle.std.specs.Ordering.{eq_by_cmp}
 use Rattle.std.specs.Cmp.{eq_by_cmp_equiv}
 use Rattle.std.specs.FinMap.{contains_key, empty, entries, get, get-empty, get-insert, insert, len, len-entries, len-insert, values}
@@ -21,7 +21,7 @@ use Rattle.object_table.specs.Ledgers.{AllWords, at_ledger, ledger_at, with_ledg
 use Rattle.object_table.specs.Words.{Words, staged_over, staged_words}
 use Rattle.object_table.proofs.ChosenLemmas.{one_key}
 use Rattle.object_table.proofs.SumLemmas.{counts_some, sum_empty, sum_insert, worth, worth_within}
-use Rattle.object_table.proofs.TenantEntries.{changed_at, unchanged_at}
+use Rattle.object_table.proofs.TenantEntries.{changed_at}
 
 -- one, if a ledger has a word of the name
 abbrev pub has : List ℕ → Words → ℕ

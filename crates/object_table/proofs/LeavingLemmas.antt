@@ -1,24 +1,20 @@
 -- What a tenant holds is settled number by number.
-use Rattle.std.proofs.Common.{◌≡◌, ◌≢◌, ℕ, ◌+◌, ◌<◌, ◌≤◌, Bool, true, false, ◌||◌, ◌&&◌, cond, nat_eq, nat_lt, List, Option, None, Some, refl, sym, ap, subst, ◌∙◌, arith}
-use Rattle.std.specs.Prelude.{if◌then◌else◌}
-use Rattle.std.specs.List.{IsDistinct}
-use Rattle.std.specs.Map.{keys_of}
+use Rattle.std.proofs.Common.{◌≡◌, ◌≢◌, ℕ, ◌+◌, ◌<◌, ◌≤◌, Bool, true, false, cond, nat_lt, List, Option, None, Some, refl, sym, ap, ◌∙◌, arith}
 use Rattle.std.specs.Option.{option_and_then, option_map, option_map_or}
 use Rattle.std.specs.FinMap.{get, same_map}
-use Rattle.std.proofs.lemmas.Bool.{eqb-true, ltb-false, ltb-true, lt-ltb}
+use Rattle.std.proofs.lemmas.Bool.{ltb-false, ltb-true, lt-ltb}
 use Rattle.git_name.specs.Same.{same_name}
 use Rattle.git_name.proofs.Names.{name_exact, name_total}
-use Rattle.number_sets.specs.Numbers.{has}
 use Rattle.object_table.specs.Chosen.{chosen}
 use Rattle.object_table.specs.declared.row.Row.{Row}
 use Rattle.object_table.specs.declared.word.Word.{Word}
 use Rattle.object_table.specs.Rows.{AreRows, Rows, TableState, TellSame, row_in, told_of}
 use Rattle.object_table.specs.Views.{IsOne, Moves, Sets, word_by, word_in, words_of}
-use Rattle.object_table.specs.Words.{Words, kept_word, seen_word, unstaged_word}
+use Rattle.object_table.specs.Words.{kept_word, unstaged_word}
 use Rattle.object_table.proofs.ChosenLemmas.{get_chosen}
-use Rattle.object_table.proofs.PlaceLemmas.{one_name, own_name}
+use Rattle.object_table.proofs.PlaceLemmas.{one_name}
 use Rattle.object_table.proofs.StepLemmas.{moves_then}
-use Rattle.object_table.proofs.ViewLemmas.{get_words, words_told}
+use Rattle.object_table.proofs.ViewLemmas.{get_words}
 
 -- whether the number of a name is below this one; a name that has none is settled
 abbrev pub reached : Rows → ℕ → List ℕ → Bool
@@ -47,10 +43,10 @@ module _ (f : List ℕ → Word → Option Word) (first : TableState) (begun : S
 
   pub leaving_begin : AreRows first.entries → IsOne first.entries begun → IsLeaving first begun 0
   leaving_begin are one = record {
-      words = λ q. by q (row_in first.entries q) refl;
-      moves = record { told = λ q. refl; places = refl; counts = λ q. refl };
-      one = one;
-    }
+    words = λ q. by q (row_in first.entries q) refl;
+    moves = record { told = λ q. refl; places = refl; counts = λ q. refl };
+    one = one;
+  }
     where
       by : (q : List ℕ) (o : Option Row) → row_in first.entries q ≡ o → get (words_of first.entries begun) q ≡ cond (option_map_or (λ (row : Row). nat_lt row.number 0) o true) (option_and_then (f q) (get (words_of first.entries begun) q)) (get (words_of first.entries begun) q)
       by q None is = (let nothing : get (words_of first.entries begun) q ≡ None = get_words first.entries begun q are.distinct ∙ ap (option_and_then (word_in begun)) is in nothing ∙ sym (ap (option_and_then (f q)) nothing))
@@ -63,11 +59,11 @@ module _ (f : List ℕ → Word → Option Word) (first : TableState) (begun : S
       → ((q : List ℕ) → get (words_of new.entries after) q ≡ cond (same_name name q) (option_and_then (f name) (get (words_of mid.entries own) name)) (get (words_of mid.entries own) q))
       → Moves mid new own after → IsOne new.entries after → IsLeaving new after (n + 1)
   leaving_more mid new own after from n name row are was here number low idle step moves one = record {
-      words = λ q. step q ∙ by q (same_name name q) refl (row_in mid.entries q) refl
-          ∙ ap (λ b. cond b (option_and_then (f q) (get (words_of first.entries begun) q)) (get (words_of first.entries begun) q)) (sym (reached_still mid.entries new.entries (n + 1) q moves.told));
-      moves = moves_then first mid new begun own after was.moves moves;
-      one = one;
-    }
+    words = λ q. step q ∙ by q (same_name name q) refl (row_in mid.entries q) refl
+        ∙ ap (λ b. cond b (option_and_then (f q) (get (words_of first.entries begun) q)) (get (words_of first.entries begun) q)) (sym (reached_still mid.entries new.entries (n + 1) q moves.told));
+    moves = moves_then first mid new begun own after was.moves moves;
+    one = one;
+  }
     where
       at_reached : (q : List ℕ) (b : Bool) → reached mid.entries from q ≡ b → get (words_of mid.entries own) q ≡ cond b (option_and_then (f q) (old q)) (old q)
       at_reached q b is = was.words q ∙ ap (λ b. cond b (option_and_then (f q) (old q)) (old q)) is

@@ -1,11 +1,10 @@
 -- The names of what a tenant sees, number by number.
-use Rattle.std.proofs.Common.{◌≡◌, ◌≢◌, ℕ, ◌+◌, ◌<◌, ◌≤◌, Bool, true, false, ◌||◌, ◌&&◌, cond, nat_lt, List, [], ◌∷◌, ◌++◌, Option, None, Some, is_some, refl, sym, ap, subst, ◌∙◌, arith}
-use Rattle.std.specs.Prelude.{if◌then◌else◌}
+use Rattle.std.proofs.Common.{◌≡◌, ◌≢◌, ℕ, ◌+◌, ◌<◌, ◌≤◌, Bool, true, false, ◌||◌, ◌&&◌, nat_lt, List, [], ◌∷◌, ◌++◌, Option, None, Some, is_some, refl, sym, ap, ◌∙◌, arith}
 use Rattle.std.specs.List.{AllByRecursion, IsDistinct, list_any}
 use Rattle.std.specs.BTreeMap.{is_at}
 use Rattle.std.specs.Map.{keys_of}
 use Rattle.std.specs.Option.{option_and_then, option_map_or}
-use Rattle.std.specs.FinMap.{contains_key, empty, get, keys}
+use Rattle.std.specs.FinMap.{contains_key, empty, keys}
 use Rattle.std.proofs.lemmas.Bool.{lt-ltb, ltb-false, ltb-true}
 use Rattle.std.proofs.lemmas.Cmp.{nat_list_eq_equiv}
 use Rattle.git_name.specs.Name.{name_cmp}
@@ -18,9 +17,9 @@ use Rattle.object_table.specs.declared.row.Row.{Row}
 use Rattle.object_table.specs.declared.word.Word.{Word}
 use Rattle.object_table.specs.Rows.{AreRows, Rows, row_in}
 use Rattle.object_table.specs.Views.{Sets, word_by, word_in, words_of}
-use Rattle.object_table.specs.Words.{Words, is_visible, kept_as, words_that}
+use Rattle.object_table.specs.Words.{is_visible, kept_as, words_that}
 use Rattle.object_table.proofs.ChosenLemmas.{entries_chosen, get_chosen}
-use Rattle.object_table.proofs.PlaceLemmas.{last_any, one_name, own_name}
+use Rattle.object_table.proofs.PlaceLemmas.{one_name}
 use Rattle.object_table.proofs.SumLemmas.{entries_of_none}
 use Rattle.object_table.proofs.ViewLemmas.{get_words}
 

@@ -1,10 +1,10 @@
 -- Rows that are numbered, as a name comes, goes, or has its row written anew.
-use Rattle.std.proofs.Common.{◌≡◌, ◌≢◌, ℕ, zero, suc, ◌+◌, ◌-◌, ◌<◌, ◌≤◌, Bool, true, false, cond, nat_eq, nat_lt, List, [], ◌∷◌, ◌++◌, Option, None, Some, length, get_or, set, slice_get, take, map, refl, sym, ap, subst, ◌∙◌, arith, length-append, length-set}
-use Rattle.std.specs.Prelude.{swap_remove, if◌then◌else◌}
+use Rattle.std.proofs.Common.{◌≡◌, ℕ, zero, suc, ◌+◌, ◌-◌, ◌<◌, Bool, true, false, cond, nat_eq, nat_lt, List, [], ◌∷◌, ◌++◌, None, Some, length, get_or, set, slice_get, take, refl, sym, ap, subst, ◌∙◌, arith, length-append}
+use Rattle.std.specs.Prelude.{swap_remove}
 use Rattle.std.specs.List.{IsDistinct}
-use Rattle.std.specs.Map.{lookup, keys_of}
+use Rattle.std.specs.Map.{keys_of}
 use Rattle.std.proofs.Math.Seq.{get_or-append_seam}
-use Rattle.std.proofs.lemmas.Bool.{eq-eqb, eqb-false, eqb-true, ltb-false, ltb-true}
+use Rattle.std.proofs.lemmas.Bool.{eqb-false, eqb-true, ltb-false, ltb-true}
 use Rattle.std.proofs.lemmas.Cmp.{nat_list_eq_equiv}
 use Rattle.std.proofs.lemmas.List.{get_or-set_other, get_or-set_same, get_or-take, get_or_append_left, get_or_default, length-map, map-append}
 use Rattle.git_name.specs.Same.{same_name}
@@ -12,7 +12,7 @@ use Rattle.indexmap.proofs.SetLemmas.{map-swap_remove}
 use Rattle.object_table.specs.declared.row.Row.{Row}
 use Rattle.object_table.specs.Numbers.{AreNoted, AreNumbered, numbers_of}
 use Rattle.object_table.specs.Rows.{IsUsed, Rows, row_in}
-use Rattle.object_table.proofs.PlaceLemmas.{fewer, one_name, own_name}
+use Rattle.object_table.proofs.PlaceLemmas.{fewer, one_name}
 use Rattle.object_table.proofs.RowLemmas.{none_is_some, number_at, place_of}
 
 by_test : (G : Type 0) (b : Bool) → (b ≡ true → G) → (b ≡ false → G) → G
@@ -73,14 +73,14 @@ module _ (rows new : Rows) (numbers places now after : List ℕ) (name : List �
         long = omega (arith, longer, room);
         own = λ at inside. by_test _ (nat_lt at (length rows))
             (λ is_before. (let before = ltb-true at (length rows) is_before in
-              ap (λ ns. get_or ns at 0) more ∙ get_or_append_left (numbers_of rows) (row.number ∷ []) 0 at (omega (arith, before, long)) ∙ old_number at before))
+            ap (λ ns. get_or ns at 0) more ∙ get_or_append_left (numbers_of rows) (row.number ∷ []) 0 at (omega (arith, before, long)) ∙ old_number at before))
             (λ is_last. (let past = ltb-false at (length rows) is_last in
-              let last : at ≡ length rows = omega (arith, past, inside, longer) in
-              ap (λ ns. get_or ns at 0) more ∙ ap (λ i. get_or (numbers_of rows ++ row.number ∷ []) i 0) (last ∙ sym long) ∙ get_or-append_seam (numbers_of rows) row.number [] 0 ∙ number
-              ∙ ap (λ i. get_or now i 0) (sym last)));
+            let last : at ≡ length rows = omega (arith, past, inside, longer) in
+            ap (λ ns. get_or ns at 0) more ∙ ap (λ i. get_or (numbers_of rows ++ row.number ∷ []) i 0) (last ∙ sym long) ∙ get_or-append_seam (numbers_of rows) row.number [] 0 ∙ number
+            ∙ ap (λ i. get_or now i 0) (sym last)));
         short = λ q other here. by_test _ (same_name name q)
             (λ same. (let it : Some row ≡ Some other = sym (ap (λ b. cond b (Some row) (row_in rows q)) same) ∙ sym (row_last rows name row q absent) ∙ ap (λ es. row_in es q) (sym is) ∙ here in
-              let one : row ≡ other = cc in let none = ap (λ (r : Row). r.length) (sym one) ∙ short in omega (arith, none)))
+            let one : row ≡ other = cc in let none = ap (λ (r : Row). r.length) (sym one) ∙ short in omega (arith, none)))
             (λ apart. h.short q other (sym (ap (λ b. cond b (Some row) (row_in rows q)) apart) ∙ sym (row_last rows name row q absent) ∙ ap (λ es. row_in es q) (sym is) ∙ here));
       }
 
@@ -89,12 +89,12 @@ pub numbered_out : (rows new : Rows) (numbers places now after : List ℕ) (at :
     → length now ≡ length numbers → ((i : ℕ) → get_or now i 0 ≡ cond (nat_eq i (length rows - 1)) (get_or numbers at 0) (cond (nat_eq i at) (get_or numbers (length rows - 1) 0) (get_or numbers i 0)))
     → IsDistinct same_name (keys_of new) → ((q : List ℕ) → row_in new q ≡ cond (same_name p.0 q) None (row_in rows q)) → AreNumbered new now after
 numbered_out rows new numbers places now after at p h inside here is noted even switched distinct rows_left = record {
-    distinct = distinct;
-    noted = noted;
-    long = (let long = h.long in omega (arith, shorter, long, even));
-    own = λ i within. own_at i (omega (arith, within, shorter)) (nat_eq i at) refl;
-    short = λ q row there. h.short q row (left_there q row (same_name p.0 q) (sym (rows_left q) ∙ there));
-  }
+  distinct = distinct;
+  noted = noted;
+  long = (let long = h.long in omega (arith, shorter, long, even));
+  own = λ i within. own_at i (omega (arith, within, shorter)) (nat_eq i at) refl;
+  short = λ q row there. h.short q row (left_there q row (same_name p.0 q) (sym (rows_left q) ∙ there));
+}
   where
     shorter : length new + 1 ≡ length rows
     shorter = fewer rows new p at inside is

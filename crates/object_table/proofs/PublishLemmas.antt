@@ -1,23 +1,19 @@
 -- What is staged comes to be seen, and a tenant that holds nothing comes.
-use Rattle.std.proofs.Common.{◌≡◌, ℕ, ◌+◌, ◌<◌, ◌≤◌, Bool, true, false, ◌||◌, cond, List, Option, None, Some, is_some, refl, sym, ap, subst, ◌∙◌, arith}
-use Rattle.std.specs.Prelude.{if◌then◌else◌}
-use Rattle.std.specs.List.{IsDistinct}
-use Rattle.std.specs.Map.{keys_of}
-use Rattle.std.specs.Option.{option_and_then, option_map, option_map_or}
+use Rattle.std.proofs.Common.{◌≡◌, ℕ, ◌+◌, ◌<◌, ◌≤◌, Bool, true, false, ◌||◌, cond, List, Option, None, Some, is_some, refl, sym, ap, subst, ◌∙◌}
+use Rattle.std.specs.Option.{option_and_then, option_map}
 use Rattle.std.specs.Ordering.{eq_by_cmp}
 use Rattle.std.specs.FinMap.{FinMap, contains_key, empty, get, get-empty, get-insert, insert, same_map}
 use Rattle.git_name.specs.Name.{name_cmp}
-use Rattle.git_name.specs.Same.{same_name}
 use Rattle.git_name.proofs.MapLemmas.{get_map_values, map_values_insert}
 use Rattle.git_name.proofs.Names.{name_exact, name_total}
 use Rattle.number_sets.specs.Numbers.{has}
 use Rattle.object_table.specs.Holders.{AreHeld, holders_of}
-use Rattle.object_table.specs.Ledgers.{AllWords, with_ledger}
+use Rattle.object_table.specs.Ledgers.{with_ledger}
 use Rattle.object_table.specs.declared.row.Row.{Row}
 use Rattle.object_table.specs.declared.word.Word.{Word}
 use Rattle.object_table.specs.Rows.{AreRows, Rows, TableState, count_in, one_if, row_in}
 use Rattle.object_table.specs.Totals.{seen_use, total_of, use_of_word, used_by}
-use Rattle.object_table.specs.Views.{IsOne, IsOwn, Moves, Sets, all_words, holds, word_by, word_in, words_of}
+use Rattle.object_table.specs.Views.{IsOne, IsOwn, Moves, Sets, all_words, word_by, word_in, words_of}
 use Rattle.object_table.specs.Words.{Words, published_words, seen_word}
 use Rattle.object_table.proofs.ChosenLemmas.{get_chosen}
 use Rattle.object_table.proofs.HolderLemmas.{added_holders}
@@ -116,9 +112,9 @@ module _ (rows : Rows) (m : FinMap name_cmp Sets) (t : List ℕ) (own : Sets) (a
 
   pub added_held : AreHeld rows (insert m t own)
   added_held = record {
-      counted = λ q. held.counted q ∙ sym (ap (λ x. holders_of x q) added_is ∙ added_holders (all_words rows m) t q);
-      own = λ q sets there. own_at q sets (eq_by_cmp name_cmp q t) (sym (get-insert name_total m t own q) ∙ there);
-    }
+    counted = λ q. held.counted q ∙ sym (ap (λ x. holders_of x q) added_is ∙ added_holders (all_words rows m) t q);
+    own = λ q sets there. own_at q sets (eq_by_cmp name_cmp q t) (sym (get-insert name_total m t own q) ∙ there);
+  }
     where
       fresh : IsOwn rows own
       fresh = record {

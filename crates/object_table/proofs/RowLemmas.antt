@@ -1,18 +1,14 @@
 -- Rows and their numbers.
-use Rattle.std.proofs.Common.{◌≡◌, ◌≢◌, ℕ, zero, suc, ◌+◌, ◌-◌, ◌<◌, ◌≤◌, ◌^◌, Bool, true, false, cond, nat_eq, nat_lt, List, [], ◌∷◌, ◌++◌, Option, None, Some, length, get_or, set, slice_get, take, map, refl, sym, ap, subst, ◌∙◌, arith, length-append}
-use Rattle.std.specs.Prelude.{swap_remove, if◌then◌else◌}
-use Rattle.std.specs.Option.{option_map, option_map_or}
+use Rattle.std.proofs.Common.{◌≡◌, ℕ, zero, suc, ◌<◌, Bool, true, false, cond, List, [], ◌∷◌, Option, None, Some, length, get_or, slice_get, refl, sym, ap, ◌∙◌, arith}
 use Rattle.std.specs.List.{IsDistinct}
-use Rattle.std.specs.Map.{lookup, keys_of}
-use Rattle.std.proofs.lemmas.Bool.{eq-eqb, eqb-false, eqb-true}
-use Rattle.std.proofs.lemmas.List.{length-map, map-append}
+use Rattle.std.specs.Map.{keys_of}
 use Rattle.std.proofs.lemmas.Map.Entries.{lookup_from_place}
 use Rattle.std.proofs.lemmas.Cmp.{nat_list_eq_equiv}
 use Rattle.git_name.specs.Same.{same_name}
 use Rattle.indexmap.specs.IndexMap.{set_value_at}
 use Rattle.object_table.specs.declared.row.Row.{Row}
-use Rattle.object_table.specs.Numbers.{AreNoted, AreNumbered, numbers_of}
-use Rattle.object_table.specs.Rows.{AreRows, IsUsed, Rows, row_in}
+use Rattle.object_table.specs.Numbers.{AreNumbered, numbers_of}
+use Rattle.object_table.specs.Rows.{AreRows, Rows, row_in}
 use Rattle.object_table.proofs.PlaceLemmas.{one_name, own_name}
 
 pub none_is_some : {A : Type 0} (G : Type 0) (x : A) → None ≡ Some x → G

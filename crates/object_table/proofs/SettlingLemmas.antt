@@ -1,23 +1,20 @@
 -- The object of one name comes to stand otherwise with one tenant.
-use Rattle.std.proofs.Common.{◌≡◌, ◌≢◌, ℕ, ◌+◌, ◌*◌, ◌<◌, ◌≤◌, ◌^◌, Bool, true, false, ◌||◌, cond, nat_eq, List, [], ◌∷◌, Option, None, Some, is_some, length, refl, sym, ap, subst, ◌∙◌, arith}
-use Rattle.std.specs.Prelude.{sum_by, if◌then◌else◌}
+use Rattle.std.proofs.Common.{◌≡◌, ℕ, ◌+◌, ◌*◌, ◌<◌, ◌≤◌, Bool, true, false, ◌||◌, cond, nat_eq, List, Option, None, Some, is_some, refl, sym, ap, subst, ◌∙◌, arith}
 use Rattle.std.specs.List.{IsDistinct}
 use Rattle.std.specs.Map.{keys_of}
 use Rattle.std.specs.Option.{option_and_then, option_map, option_map_or}
-use Rattle.std.specs.FinMap.{contains_key, get, values}
+use Rattle.std.specs.FinMap.{contains_key, get}
 use Rattle.std.proofs.lemmas.Bool.{eq-eqb, eqb-true}
 use Rattle.git_name.specs.Same.{same_name}
 use Rattle.number_sets.specs.Numbers.{has}
 use Rattle.object_table.specs.declared.row.Row.{Row}
 use Rattle.object_table.specs.declared.usage.TheConstants.{WORD_USE}
-use Rattle.object_table.specs.declared.word.Word.{Word}
 use Rattle.object_table.specs.Rows.{AreRows, IsUsed, Rows, TableState, TellSame, count_in, one_if, places_of, row_in, told_of}
 use Rattle.object_table.specs.Totals.{seen_use, total_of, use_of_word, used_by}
 use Rattle.object_table.specs.Views.{IsOne, IsOwn, Moves, Sets, holds, word_by, word_in, words_of}
 use Rattle.object_table.proofs.PlaceLemmas.{one_name, own_name}
-use Rattle.object_table.proofs.RowLemmas.{none_is_some, one_used}
 use Rattle.object_table.proofs.SumLemmas.{worth, worth_within}
-use Rattle.object_table.proofs.ViewLemmas.{get_words, most, seen_there, sum_bounded, sum_settled, told_row, use_there, used_still, word_there}
+use Rattle.object_table.proofs.ViewLemmas.{get_words, most, seen_there, sum_bounded, sum_settled, use_there, used_still, word_there}
 
 -- ---- before the step
 module _ (rows : Rows) (own : Sets) (name : List ℕ) (row : Row) (are : AreRows rows) (here : row_in rows name ≡ Some row) (one : IsOne rows own) where

@@ -1,26 +1,24 @@
 -- Steps of one tenant's sets, one after another.
-use Rattle.std.proofs.Common.{◌≡◌, ℕ, ◌+◌, ◌<◌, ◌≤◌, Bool, true, false, ◌||◌, cond, nat_lt, get_or, take, length, slice_index_or, List, Option, None, Some, is_some, refl, sym, ap, subst, ◌∙◌, arith}
+use Rattle.std.proofs.Common.{◌≡◌, ℕ, ◌+◌, ◌<◌, ◌≤◌, Bool, true, false, ◌||◌, cond, nat_lt, get_or, take, length, slice_index_or, List, Option, None, Some, refl, sym, ap, subst, ◌∙◌, arith}
 use Rattle.std.specs.List.{IsDistinct}
 use Rattle.std.specs.Map.{keys_of}
-use Rattle.std.specs.Option.{option_and_then, option_map}
+use Rattle.std.specs.Option.{option_and_then}
 use Rattle.std.specs.FinMap.{contains_key, get, insert, get-insert, same_map}
 use Rattle.std.proofs.lemmas.Bool.{ltb-false, ltb-true}
 use Rattle.std.proofs.lemmas.List.{get_or-take, get_or_default, length-take-le}
-use Rattle.git_name.specs.Name.{name_cmp}
 use Rattle.git_name.specs.Same.{same_name}
 use Rattle.git_name.proofs.Names.{name_exact, name_total}
-use Rattle.number_sets.specs.Numbers.{has, has_room}
+use Rattle.number_sets.specs.Numbers.{has_room}
 use Rattle.object_table.specs.Clashes.{HasRow}
 use Rattle.object_table.specs.Coming.{seen_over, seen_words}
 use Rattle.object_table.specs.declared.entry.Entry.{Entry}
 use Rattle.object_table.specs.declared.row.Row.{Row}
 use Rattle.object_table.specs.declared.word.Word.{Word}
-use Rattle.object_table.specs.Rows.{Rows, TableState, TellSame, count_in, one_if, row_in, told_of}
+use Rattle.object_table.specs.Rows.{Rows, TableState, TellSame, count_in, one_if, row_in}
 use Rattle.object_table.specs.Totals.{total_of, used_by}
-use Rattle.object_table.specs.Views.{HasRoom, IsOne, IsOwn, Moves, SameSets, Sets, holds, word_by, word_in, words_of}
+use Rattle.object_table.specs.Views.{HasRoom, IsOne, Moves, SameSets, Sets, word_by, word_in, words_of}
 use Rattle.object_table.specs.Words.{Words, staged_over, staged_words}
 use Rattle.object_table.proofs.HolderLemmas.{same_tests}
-use Rattle.object_table.proofs.PlaceLemmas.{one_name}
 use Rattle.object_table.proofs.ViewLemmas.{told_row, told_then, words_alike}
 
 -- ---- the same sets

@@ -1,16 +1,10 @@
 -- A tree of tenants' ledgers, seen as the finite map that it is.
-use Rattle.std.proofs.Common.{◌≡◌, ℕ, Bool, true, false, cond, List, Option, None, Some, refl, sym, ap, ◌∙◌, is_some}
+use Rattle.std.proofs.Common.{◌≡◌, ℕ, cond, List, None, Some, ap, ◌∙◌, is_some}
 use Rattle.std.specs.Option.{unwrap_or}
-use Rattle.std.specs.Map.{lookup}
-use Rattle.std.specs.BTreeMap.{is_at}
-use Rattle.std.specs.Cmp.{eq_by_cmp_equiv}
-use Rattle.std.specs.FinMap.{contains_key, empty, from_entries, get, get-empty, get-insert, insert}
+use Rattle.std.specs.FinMap.{empty, get, get-empty, insert}
 use Rattle.git_name.specs.Name.{name_cmp}
-use Rattle.git_name.proofs.Names.{name_total}
-use Rattle.object_table.specs.declared.word.Word.{Word}
 use Rattle.object_table.specs.Words.{Words}
-use Rattle.object_table.specs.Ledgers.{AllWords, at_ledger, ledger_at, with_ledger, word_at}
-use Rattle.object_table.proofs.UpdateLemmas.{found_in, written_back, insert_same}
+use Rattle.object_table.specs.Ledgers.{AllWords, at_ledger, word_at}
 
 -- a tenant that is there
 pub changed_at : (ledgers : AllWords) (t : List ℕ) (own : Words) (change : Words → Words) → get ledgers t ≡ Some own → at_ledger ledgers t change ≡ insert ledgers t (change own)

@@ -1,12 +1,10 @@
 -- The ledgers of all tenants, as one tenant's sets change or the rows do.
-use Rattle.std.proofs.Common.{◌≡◌, ℕ, suc, [], ◌∷◌, ◌+◌, ◌<◌, ◌≤◌, Bool, true, false, cond, List, Option, None, Some, is_some, refl, sym, ap, subst, ◌∙◌, arith, length}
+use Rattle.std.proofs.Common.{◌≡◌, ℕ, suc, [], ◌∷◌, ◌+◌, ◌<◌, ◌≤◌, Bool, true, false, cond, List, None, Some, refl, sym, ap, subst, ◌∙◌, arith, length}
 use Rattle.std.specs.List.{IsDistinct}
-use Rattle.std.specs.Map.{keys_of, lookup}
-use Rattle.std.specs.BTreeMap.{is_at}
+use Rattle.std.specs.Map.{keys_of}
 use Rattle.std.specs.Ordering.{eq_by_cmp}
-use Rattle.std.specs.Cmp.{eq_by_cmp_equiv}
-use Rattle.std.specs.Option.{option_map, option_map_or, unwrap_or}
-use Rattle.std.specs.FinMap.{FinMap, contains_key, empty, entries, from_entries, get, get-empty, get-insert, insert, len, len-entries, same_map}
+use Rattle.std.specs.Option.{option_map}
+use Rattle.std.specs.FinMap.{FinMap, contains_key, entries, get, get-insert, insert, len, len-entries}
 use Rattle.std.proofs.lemmas.Bool.{ltb-true}
 use Rattle.git_name.specs.Maps.{map_values, mapped}
 use Rattle.git_name.specs.Name.{name_cmp}
@@ -14,13 +12,13 @@ use Rattle.git_name.specs.Same.{same_name}
 use Rattle.git_name.proofs.MapLemmas.{entries_map_values, get_map_values, map_values_insert}
 use Rattle.git_name.proofs.Names.{name_exact, name_total}
 use Rattle.object_table.specs.Holders.{AreHeld, holders_of}
-use Rattle.object_table.specs.Ledgers.{AllWords, at_ledger, ledger_at}
-use Rattle.object_table.specs.Rows.{AreRows, Rows, TableState, TellSame, count_in, one_if}
+use Rattle.object_table.specs.Ledgers.{at_ledger}
+use Rattle.object_table.specs.Rows.{AreRows, Rows, TableState, count_in, one_if}
 use Rattle.object_table.specs.Totals.{total_of, used_by}
-use Rattle.object_table.specs.Views.{IsOne, IsOwn, Moves, Sets, all_words, holds, words_of}
+use Rattle.object_table.specs.Views.{IsOne, IsOwn, Moves, Sets, all_words, words_of}
 use Rattle.object_table.specs.Words.{Words}
 use Rattle.object_table.proofs.HolderLemmas.{few_holders, few_others, holders_set, held_by}
-use Rattle.object_table.proofs.TenantEntries.{changed_at, unchanged_at}
+use Rattle.object_table.proofs.TenantEntries.{changed_at}
 use Rattle.object_table.proofs.UpdateLemmas.{insert_same}
 use Rattle.object_table.proofs.ViewLemmas.{used_still, words_told}
 
@@ -41,10 +39,10 @@ as_many rows m = len-entries (all_words rows m) ∙ ap length (entries_map_value
 -- what one tenant's ledger knows of itself
 pub one_of : (rows : Rows) (m : FinMap name_cmp Sets) (t : List ℕ) (own : Sets) → AreHeld rows m → get m t ≡ Some own → len m < 18446744073709551616 → IsOne rows own
 one_of rows m t own held here few = record {
-    own = held.own t own here;
-    some = λ q. some_at q (contains_key (words_of rows own) q) refl;
-    fits = λ q. fits_at q (contains_key (words_of rows own) q) refl;
-  }
+  own = held.own t own here;
+  some = λ q. some_at q (contains_key (words_of rows own) q) refl;
+  fits = λ q. fits_at q (contains_key (words_of rows own) q) refl;
+}
   where
     there : get (all_words rows m) t ≡ Some (words_of rows own)
     there = words_at rows m t own here
@@ -82,13 +80,13 @@ module _ (old new : TableState) (m : FinMap name_cmp Sets) (t : List ℕ) (own a
 
   pub held_moved : AreHeld new.entries (insert m t after)
   held_moved = record {
-      counted = λ q.
-          (let counted = held.counted q in let step = moves.counts q in
-          let set = holders_set (all_words old.entries m) t (words_of old.entries own) (words_of new.entries after) q (words_at old.entries m t own here) in
-          let is = ap (λ x. holders_of x q) all_set in
-          omega (arith, counted, step, set, is));
-      own = λ q sets there. own_at q sets (eq_by_cmp name_cmp q t) (sym (get-insert name_total m t after q) ∙ there);
-    }
+    counted = λ q.
+        (let counted = held.counted q in let step = moves.counts q in
+        let set = holders_set (all_words old.entries m) t (words_of old.entries own) (words_of new.entries after) q (words_at old.entries m t own here) in
+        let is = ap (λ x. holders_of x q) all_set in
+        omega (arith, counted, step, set, is));
+    own = λ q sets there. own_at q sets (eq_by_cmp name_cmp q t) (sym (get-insert name_total m t after q) ∙ there);
+  }
     where
       own_at : (q : List ℕ) (sets : Sets) (b : Bool) → cond b (Some after) (get m q) ≡ Some sets → IsOwn new.entries sets
       own_at q sets true is = (let same : after ≡ sets = cc in subst (IsOwn new.entries) same one.own)

@@ -1,24 +1,21 @@
 -- What a tenant's sets say of names, as rows and sets change.
-use Rattle.std.proofs.Common.{◌≡◌, ◌≢◌, ℕ, suc, ◌+◌, ◌*◌, ◌<◌, ◌≤◌, Bool, true, false, ◌||◌, cond, nat_eq, List, [], ◌∷◌, Option, None, Some, is_some, length, slice_get, refl, sym, ap, subst, ◌∙◌, arith}
-use Rattle.std.specs.Prelude.{sum_by, if◌then◌else◌}
+use Rattle.std.proofs.Common.{◌≡◌, ℕ, suc, ◌+◌, ◌*◌, ◌≤◌, Bool, true, false, ◌||◌, cond, List, [], ◌∷◌, Option, None, Some, is_some, length, slice_get, refl, sym, ap, subst, ◌∙◌, arith}
+use Rattle.std.specs.Prelude.{sum_by}
 use Rattle.std.specs.List.{IsDistinct, cons_option}
-use Rattle.std.specs.Map.{keys_of, lookup, values_of}
-use Rattle.std.specs.Option.{option_and_then, option_map, option_map_or}
-use Rattle.std.specs.FinMap.{FinMap, contains_key, from_entries, get, get-insert, insert, same_map, values}
-use Rattle.std.proofs.lemmas.Bool.{eq-eqb, eqb-true}
-use Rattle.git_name.specs.Maps.{map_values}
+use Rattle.std.specs.Map.{keys_of}
+use Rattle.std.specs.Option.{option_and_then, option_map}
+use Rattle.std.specs.FinMap.{from_entries, get, get-insert, insert, same_map, values}
 use Rattle.git_name.specs.Name.{name_cmp}
 use Rattle.git_name.specs.Same.{same_name}
 use Rattle.git_name.proofs.HashMaps.{distinct_by_order, get_of_hashed, one_name}
 use Rattle.git_name.proofs.Names.{name_exact, name_total}
-use Rattle.number_sets.specs.Numbers.{has}
-use Rattle.object_table.specs.Chosen.{chosen, chosen_in}
+use Rattle.object_table.specs.Chosen.{chosen_in}
 use Rattle.object_table.specs.declared.row.Row.{Row}
 use Rattle.object_table.specs.declared.usage.TheConstants.{WORD_USE}
 use Rattle.object_table.specs.declared.word.Word.{Word}
-use Rattle.object_table.specs.Rows.{AreRows, IsUsed, Rows, TellSame, count_in, row_in, told_of}
-use Rattle.object_table.specs.Totals.{seen_use, total_of, use_of_word, used_by}
-use Rattle.object_table.specs.Views.{Sets, all_words, holds, word_by, word_in, words_of}
+use Rattle.object_table.specs.Rows.{IsUsed, Rows, TellSame, row_in, told_of}
+use Rattle.object_table.specs.Totals.{seen_use, use_of_word}
+use Rattle.object_table.specs.Views.{Sets, word_by, word_in, words_of}
 use Rattle.object_table.specs.Words.{Words}
 use Rattle.object_table.proofs.ChosenLemmas.{chosen_of_distinct, distinct_chosen, get_chosen}
 use Rattle.object_table.proofs.HolderLemmas.{same_tests}

@@ -1,10 +1,10 @@
 -- What comes to a ledger that is to see what another one shows, name by name (own).
-use Rattle.std.specs.Prelude.{◌≡◌, ◌+◌, ◌&&◌, ℕ, true, false, not, Option, None, Some, List, [], ◌∷◌, if◌then◌else◌}
-use Rattle.std.specs.FinMap.{empty, get, insert}
-use Rattle.std.specs.List.{AllByRecursion, filter_map}
-use Rattle.std.specs.Option.{option_map_or, unwrap_or}
+use Rattle.std.specs.Prelude.{◌+◌, ◌&&◌, ℕ, false, not, Option, None, Some, List, [], ◌∷◌, if◌then◌else◌}
+use Rattle.std.specs.FinMap.{get, insert}
+use Rattle.std.specs.List.{filter_map}
+use Rattle.std.specs.Option.{option_map_or}
 use Rattle.git_name.specs.declared.kind.Kind.{Kind}
-use Rattle.object_table.specs.Adopted.{IsAlike, seen_too}
+use Rattle.object_table.specs.Adopted.{seen_too}
 use Rattle.object_table.specs.declared.entry.Entry.{Entry}
 use Rattle.object_table.specs.declared.usage.TheConstants.{WORD_USE}
 use Rattle.object_table.specs.declared.word.Standing.TheVariants.{Visible}

@@ -1,7 +1,6 @@
 -- What the objects of a ledger use, kept beside its words (own).
-use Rattle.std.specs.Prelude.{◌≡◌, ◌+◌, ℕ, Option, false, is_some, min, sum_by, if◌then◌else◌}
+use Rattle.std.specs.Prelude.{◌+◌, ℕ, min, sum_by, if◌then◌else◌}
 use Rattle.std.specs.FinMap.{values}
-use Rattle.std.specs.Option.{option_map_or}
 use Rattle.object_table.specs.declared.usage.TheConstants.{WORD_USE}
 use Rattle.object_table.specs.declared.word.Word.{Word}
 use Rattle.object_table.specs.Words.{Words, is_visible}

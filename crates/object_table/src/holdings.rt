@@ -53,11 +53,7 @@ impl Model for Holdings {
 
 impl Holdings {
     /// No tenants, and these names in their order, which nobody holds.
-    pub fn over(
-        alloc: Global,
-        hashing: Hashing,
-        names: &[Name],
-    ) -> Result<Holdings, AllocError>
+    pub fn over(alloc: Global, hashing: Hashing, names: &[Name]) -> Result<Holdings, AllocError>
         ensures ledgers { IfOk result (λ h. h.ledgers ≡ map.empty) }
         ensures listed { IfOk result (λ h. (q : List ℕ) → is_listed (places_of h.catalogue).names q ≡ is_listed names.now q) }
         ensures place { IfOk result (λ h. (places_of h.catalogue).place ≡ 0) }

@@ -33,12 +33,7 @@ pub(crate) fn extend(
 }
 
 // Two numbers change their places.
-pub(crate) fn switch(
-    numbers: &mut Vec<u32>,
-    places: &mut Vec<u32>,
-    at: usize,
-    last: usize,
-)
+pub(crate) fn switch(numbers: &mut Vec<u32>, places: &mut Vec<u32>, at: usize, last: usize)
     requires noted { AreNoted numbers.old.items places.old.items }
     requires at { at < length numbers.old.items }
     requires last { last < length numbers.old.items }

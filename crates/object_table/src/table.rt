@@ -94,7 +94,11 @@ impl Table {
         let Some(entry) = entry_at(&self.rows, self.places[number as usize] as usize) else {
             return None;
         };
-        if entry.1.number == number { Some(entry) } else { None }
+        if entry.1.number == number {
+            Some(entry)
+        } else {
+            None
+        }
     }
 
     /// Enters a name at the last place, held by nobody, unless it is there.
@@ -157,10 +161,10 @@ impl Table {
         let Some(entry) = entry_at(&self.rows, at) else {
             return None;
         };
-        if entry.1.holders > 0 {
-            Some(entry.0)
-        } else {
+        if entry.1.holders == 0 {
             None
+        } else {
+            Some(entry.0)
         }
     }
 

@@ -1,4 +1,4 @@
-use Rattle.std.proofs.Common.{◌≡◌, ◌≤◌, ◌<◌, ◌+◌, ◌-◌, ℕ, None, get_or, length}
+use Rattle.std.proofs.Common.{◌≡◌, ◌≤◌, ◌+◌, ◌-◌, ℕ, None, get_or, length}
 use Rattle.number_sets.proofs.number_set.lengthen.Given as goal
 
 abbrev pub invariant-loop-pages : goal.invariant-loop-pages

@@ -1,9 +1,8 @@
-use Rattle.std.proofs.Common.{◌≡◌, Some, None, ap, sym, ◌∙◌}
+use Rattle.std.proofs.Common.{ap, sym, ◌∙◌}
 use Rattle.std.specs.FinMap.{get, get-empty}
 use Rattle.std.specs.Option.{option_and_then, option_copied}
 use Rattle.git_name.specs.Name.{name_cmp}
-use Rattle.object_table.specs.Rows.{row_in}
-use Rattle.object_table.specs.Views.{word_in, words_of, words_under}
+use Rattle.object_table.specs.Views.{word_in, words_under}
 use Rattle.object_table.proofs.ViewLemmas.{get_words}
 use Rattle.object_table.proofs.coming.word_under.Goals as goal
 

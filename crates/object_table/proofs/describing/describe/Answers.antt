@@ -1,5 +1,4 @@
-use Rattle.std.proofs.Common.{◌≡◌, ◌≤◌, ◌<◌, Some, None, sym, ap, refl, ◌∙◌, arith, cond, true}
-use Rattle.git_name.specs.Same.{same_name}
+use Rattle.std.proofs.Common.{Some, sym, ap, refl, ◌∙◌, arith, cond}
 use Rattle.object_table.specs.declared.row.Row.{Row}
 use Rattle.object_table.specs.Rows.{row_in}
 use Rattle.object_table.proofs.DescribeLemmas.{described_one}

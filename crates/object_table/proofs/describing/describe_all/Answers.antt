@@ -1,8 +1,8 @@
-use Rattle.std.proofs.Common.{◌≡◌, ◌<◌, ◌≤◌, ◌+◌, ℕ, List, true, ap, sym, refl, subst, ◌∙◌, arith, take, length, slice_index_or, is_some}
+use Rattle.std.proofs.Common.{◌≡◌, true, sym, subst, ◌∙◌, arith, take, slice_index_or, is_some}
 use Rattle.std.specs.Prelude.{Contains}
 use Rattle.std.specs.List.{All}
 use Rattle.std.proofs.lemmas.List.{take_all}
-use Rattle.object_table.specs.Clashes.{DescribesUnheld, HasRow}
+use Rattle.object_table.specs.Clashes.{HasRow}
 use Rattle.object_table.specs.declared.entry.Entry.{Entry}
 use Rattle.object_table.specs.Rows.{row_in}
 use Rattle.object_table.proofs.DescribeLemmas.{IsDescribed, described_now, described_still, described_then, row_clash, row_of_listed}

@@ -1,5 +1,4 @@
-use Rattle.std.proofs.Common.{◌≡◌, ap, sym, ◌∙◌, refl, nat_le, None, true, arith}
-use Rattle.std.specs.FinMap.{get}
+use Rattle.std.proofs.Common.{◌≡◌, ap, sym, ◌∙◌, nat_le, true, arith}
 use Rattle.object_table.specs.Totals.{total_of}
 use Rattle.object_table.specs.Views.{words_under}
 use Rattle.object_table.proofs.ChangeLemmas.{ledger_is}

@@ -1,6 +1,6 @@
-use Rattle.std.proofs.Common.{◌≡◌, ap, sym, subst, ◌∙◌, None, [], refl}
+use Rattle.std.proofs.Common.{◌≡◌, ap, sym, subst, ◌∙◌}
 use Rattle.std.specs.Prelude.{IfOk}
-use Rattle.std.specs.FinMap.{empty, get, keys}
+use Rattle.std.specs.FinMap.{keys}
 use Rattle.object_table.specs.Views.{words_under}
 use Rattle.object_table.specs.Words.{is_visible, words_that}
 use Rattle.object_table.proofs.ChangeLemmas.{ledger_is}

@@ -1,4 +1,4 @@
-use Rattle.std.proofs.Common.{◌≡◌, ap, subst, sym, ◌∙◌}
+use Rattle.std.proofs.Common.{ap, ◌∙◌}
 use Rattle.object_table.specs.AllStaged.{all_staged_words}
 use Rattle.object_table.specs.Ledgers.{at_ledger}
 use Rattle.object_table.proofs.ChangeLemmas.{clashes, described_all, described_held}

@@ -1,4 +1,4 @@
-use Rattle.std.proofs.Common.{◌≡◌, ap, sym, ◌∙◌, refl}
+use Rattle.std.proofs.Common.{ap, sym, ◌∙◌}
 use Rattle.object_table.specs.Totals.{capped, used_by}
 use Rattle.object_table.specs.Views.{words_under}
 use Rattle.object_table.proofs.ChangeLemmas.{capped_small, ledger_is}

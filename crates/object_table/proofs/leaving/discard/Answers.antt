@@ -1,12 +1,10 @@
-use Rattle.std.proofs.Common.{◌≡◌, ◌≤◌, ◌<◌, ◌+◌, ℕ, Bool, true, false, nat_eq, nat_lt, Some, refl, sym, ap, subst, ◌∙◌, arith, cond}
+use Rattle.std.proofs.Common.{◌≡◌, ◌<◌, ◌+◌, ℕ, Bool, true, false, nat_eq, nat_lt, refl, sym, ap, ◌∙◌, arith, cond}
 use Rattle.std.specs.FinMap.{get}
 use Rattle.std.specs.Option.{option_and_then}
 use Rattle.std.proofs.lemmas.Bool.{ltb-false, ltb-true}
 use Rattle.git_name.specs.Same.{same_name}
 use Rattle.number_sets.specs.Numbers.{has, has_room}
 use Rattle.number_sets.proofs.PageLemmas.{has_its_room}
-use Rattle.object_table.specs.declared.row.Row.{Row}
-use Rattle.object_table.specs.Rows.{row_in}
 use Rattle.object_table.specs.Views.{word_by, words_of}
 use Rattle.object_table.specs.Words.{unstaged_word}
 use Rattle.object_table.proofs.LeavingLemmas.{leaving_end, leaving_more, none_at_all, unstaged_by, unstaged_idle}
@@ -34,8 +32,8 @@ loop-n-preserved c =
       leaving = leaving_more (λ _ word. unstaged_word word) c.args.table.now c.args.own.now c.loop-n.table c.settle.new.table own c.settle.new.own c.loop-n.from n entry.0 entry.1 are was.leaving here number c.in-Some.ensures.some.0
           (λ q other at low high. unstaged_idle other (has own.visible other.number) (has own.staged other.number) (c.in-Some.ensures.first other.number low high))
           (λ q. step.words entry.0 here q ∙ ap (λ o. cond (same_name entry.0 q) o (get (words_of rows own) q))
-            (unstaged_by entry.1 c.sees-seen.result (has own.staged entry.1.number) ∙ ap (λ b. option_and_then unstaged_word (word_by entry.1 b (has own.staged entry.1.number))) (c.sees-seen.ensures ∙ ap (has own.visible) (sym number))
-            ∙ ap (option_and_then unstaged_word) (sym (word_before rows own entry.0 entry.1 are here was.leaving.one))))
+          (unstaged_by entry.1 c.sees-seen.result (has own.staged entry.1.number) ∙ ap (λ b. option_and_then unstaged_word (word_by entry.1 b (has own.staged entry.1.number))) (c.sees-seen.ensures ∙ ap (has own.visible) (sym number))
+          ∙ ap (option_and_then unstaged_word) (sym (word_before rows own entry.0 entry.1 are here was.leaving.one))))
           step.moves step.one;
       gone = λ m low. step.staged m ∙ gone_at m low (nat_eq m entry.1.number) refl;
       small = (let s = are.small entry.0 entry.1 here in omega (arith, s, number));
@@ -57,10 +55,10 @@ returns-clause-words c =
     let rows = c.loop-n.table.entries in
     let own = c.loop-n.own in
     words_same rows own c.end_staging.new.self c.invariant-2.ensures.rows.distinct (record {
-        visible = λ n. ap (λ ps. has ps n) c.end_staging.ensures.visible;
-        staged = λ n. c.end_staging.ensures.staged n ∙ sym (none_at_all (has own.staged) c.loop-n.from c.loop-n.invariant.gone c.in_default.ensures.none n);
-        used = c.end_staging.ensures.used;
-        total = c.end_staging.ensures.total;
-      })
+      visible = λ n. ap (λ ps. has ps n) c.end_staging.ensures.visible;
+      staged = λ n. c.end_staging.ensures.staged n ∙ sym (none_at_all (has own.staged) c.loop-n.from c.loop-n.invariant.gone c.in_default.ensures.none n);
+      used = c.end_staging.ensures.used;
+      total = c.end_staging.ensures.total;
+    })
     ∙ leaving_end (λ _ word. unstaged_word word) c.args.table.now c.args.own.now c.loop-n.table own c.loop-n.from c.invariant-2.ensures.rows c.loop-n.invariant.leaving
-      (λ q row here low. unstaged_idle row (has own.visible row.number) (has own.staged row.number) (c.in_default.ensures.none row.number low))
+    (λ q row here low. unstaged_idle row (has own.visible row.number) (has own.staged row.number) (c.in_default.ensures.none row.number low))

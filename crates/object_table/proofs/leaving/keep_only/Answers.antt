@@ -1,4 +1,4 @@
-use Rattle.std.proofs.Common.{◌≡◌, ◌≤◌, ◌<◌, ◌+◌, ℕ, Bool, true, false, nat_eq, nat_lt, Some, refl, sym, ap, subst, ◌∙◌, arith, cond}
+use Rattle.std.proofs.Common.{sym, ap, ◌∙◌, arith, cond}
 use Rattle.std.specs.FinMap.{get}
 use Rattle.std.specs.Option.{option_and_then}
 use Rattle.git_name.specs.Same.{same_name}
@@ -34,9 +34,9 @@ loop-n-preserved g c =
       leaving = leaving_more (λ name word. kept_word (names name) word) c.args.table.now c.args.own.now c.loop-n.table c.settle.new.table own c.settle.new.own c.loop-n.from n entry.0 entry.1 are was.leaving here number c.in-Some.ensures.some.0
           (λ q other at low high. kept_idle other (names q) (has own.visible other.number) (has own.staged other.number) (c.in-Some.ensures.first other.number low high))
           (λ q. step.words entry.0 here q ∙ ap (λ o. cond (same_name entry.0 q) o (get (words_of rows own) q))
-            (ap (λ b. word_by entry.1 b c.has_staged-staged.result) c.has-kept.ensures ∙ ap (word_by entry.1 (names entry.0)) (c.has_staged-staged.ensures ∙ ap (has own.staged) (sym number))
-            ∙ kept_by entry.1 (names entry.0) (has own.visible entry.1.number) (has own.staged entry.1.number) (ap (has own.visible) number ∙ c.in-Some.ensures.some.1)
-            ∙ ap (option_and_then (kept_word (names entry.0))) (sym (word_before rows own entry.0 entry.1 are here was.leaving.one))))
+          (ap (λ b. word_by entry.1 b c.has_staged-staged.result) c.has-kept.ensures ∙ ap (word_by entry.1 (names entry.0)) (c.has_staged-staged.ensures ∙ ap (has own.staged) (sym number))
+          ∙ kept_by entry.1 (names entry.0) (has own.visible entry.1.number) (has own.staged entry.1.number) (ap (has own.visible) number ∙ c.in-Some.ensures.some.1)
+          ∙ ap (option_and_then (kept_word (names entry.0))) (sym (word_before rows own entry.0 entry.1 are here was.leaving.one))))
           step.moves step.one;
       small = (let s = are.small entry.0 entry.1 here in omega (arith, s, number));
     }

@@ -1,4 +1,4 @@
-use Rattle.std.proofs.Common.{◌≡◌, ◌<◌, ◌≤◌, ◌-◌, ℕ, false}
+use Rattle.std.proofs.Common.{◌≤◌, ◌-◌}
 use Rattle.object_table.specs.Words.{kept_word}
 use Rattle.object_table.proofs.LeavingLemmas.{IsLeaving}
 use Rattle.object_table.proofs.leaving.keep_only.Given as goal

@@ -1,4 +1,4 @@
-use Rattle.std.proofs.Common.{◌≡◌, ◌<◌, ◌≤◌, ◌+◌, ◌∙◌, ◌||◌, ap, sym, subst, arith, refl, false}
+use Rattle.std.proofs.Common.{◌∙◌, ◌||◌, ap, sym, subst, arith}
 use Rattle.std.specs.List.{IsDistinct}
 use Rattle.git_name.specs.Same.{is_listed, same_name}
 use Rattle.object_table.proofs.ListingLemmas.{all_below, below_more, below_none, distinct_last, distinct_none, not_below}

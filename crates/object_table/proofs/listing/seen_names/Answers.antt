@@ -1,4 +1,4 @@
-use Rattle.std.proofs.Common.{◌≡◌, ap, ◌∙◌}
+use Rattle.std.proofs.Common.{◌∙◌}
 use Rattle.git_name.proofs.SortedNames.{sorted_entries, sorted_keys}
 use Rattle.object_table.specs.Views.{words_of}
 use Rattle.object_table.specs.Words.{is_visible, words_that}

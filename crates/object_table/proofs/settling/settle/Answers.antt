@@ -1,11 +1,7 @@
-use Rattle.std.proofs.Common.{◌≡◌, ◌≤◌, ◌<◌, ◌+◌, ◌*◌, ◌||◌, ◌∙◌, sym, ap, subst, refl, arith, true, false, cond, ℕ}
+use Rattle.std.proofs.Common.{◌≤◌, ◌+◌, ◌||◌, ◌∙◌, sym, ap, subst, refl, arith, cond}
 use Rattle.number_sets.specs.Numbers.{has}
-use Rattle.object_table.specs.declared.row.Row.{Row}
-use Rattle.object_table.specs.declared.usage.TheConstants.{WORD_USE}
-use Rattle.object_table.specs.Rows.{IsUsed, told_of}
 use Rattle.object_table.specs.Views.{holds}
 use Rattle.object_table.proofs.SettlingLemmas.{holders_fit, holders_some, is_one, moves, seen_within, size_fits, total_small, use_within, used_small, word_at}
-use Rattle.object_table.proofs.ViewLemmas.{most}
 use Rattle.object_table.proofs.settling.settle.Goals as goal
 
 pub counted-holders-requires-clause-fits : goal.counted-holders-requires-clause-fits

@@ -1,7 +1,6 @@
-use Rattle.std.proofs.Common.{◌<◌, ◌≤◌, ◌+◌, ℕ, arith, take, length, slice_index_or, subst, ap, sym}
+use Rattle.std.proofs.Common.{arith, subst}
 use Rattle.std.proofs.lemmas.List.{take_all}
 use Rattle.std.specs.List.{All}
-use Rattle.object_table.specs.declared.entry.Entry.{Entry}
 use Rattle.object_table.specs.Views.{HasRoom}
 use Rattle.object_table.proofs.StepLemmas.{all_more, room_more, sets_then}
 use Rattle.object_table.proofs.staging.reserve_all.Goals as goal

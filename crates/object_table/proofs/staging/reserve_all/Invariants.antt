@@ -1,4 +1,4 @@
-use Rattle.std.proofs.Common.{◌<◌, ℕ, take}
+use Rattle.std.proofs.Common.{take}
 use Rattle.std.specs.List.{All}
 use Rattle.object_table.specs.Views.{HasRoom, SameSets}
 use Rattle.object_table.proofs.staging.reserve_all.Given as goal

@@ -1,11 +1,9 @@
-use Rattle.std.proofs.Common.{◌≡◌, ◌<◌, ◌+◌, ◌∷◌, ap, drop, length, get_or, subst, sym, ◌∙◌, arith}
+use Rattle.std.proofs.Common.{◌+◌, ◌∷◌, ap, drop, subst, sym, ◌∙◌, arith}
 use Rattle.std.proofs.lemmas.List.{drop_more}
-use Rattle.std.specs.List.{All}
 use Rattle.object_table.specs.AllStaged.{all_staged_words}
-use Rattle.object_table.specs.Clashes.{HasRow}
 use Rattle.object_table.specs.declared.entry.Entry.{Entry}
 use Rattle.object_table.specs.Views.{HasRoom, words_of}
-use Rattle.object_table.proofs.StepLemmas.{moves_same, moves_then, one_same, room_still, row_still, words_same}
+use Rattle.object_table.proofs.StepLemmas.{moves_then, room_still, row_still}
 use Rattle.object_table.proofs.staging.stage_entries.Goals as goal
 
 pub stage_one-requires-clause-room : goal.stage_one-requires-clause-room

@@ -1,4 +1,4 @@
-use Rattle.std.proofs.Common.{◌≡◌, ◌≤◌, ◌/◌, ◌%◌, sym, ap, ◌∙◌, refl, rules, arith, length, None}
+use Rattle.std.proofs.Common.{◌/◌, ◌%◌, sym, ap, ◌∙◌, refl, arith, None}
 use Rattle.std.proofs.lemmas.List.{get_or_read_under}
 use Rattle.number_sets.specs.Numbers.{has}
 use Rattle.number_sets.proofs.PageLemmas.{in_page, past_has}

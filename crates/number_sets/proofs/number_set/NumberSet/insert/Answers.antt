@@ -1,5 +1,4 @@
-use Rattle.std.proofs.Common.{◌≡◌, ◌<◌, ◌/◌, ◌%◌, ◌||◌, ap, ◌∙◌, refl, sym, rules, arith, length, None, get_or, nat_eq, is_some, true}
-use Rattle.std.specs.Vec.{vec_len}
+use Rattle.std.proofs.Common.{◌≡◌, ◌/◌, ◌%◌, ◌||◌, ap, ◌∙◌, refl, arith, None, get_or, nat_eq, is_some}
 use Rattle.std.proofs.lemmas.List.{get_or_read_under}
 use Rattle.number_sets.specs.Numbers.{has, has_room, is_there}
 use Rattle.number_sets.proofs.PageLemmas.{page_set, room_same, room_there, same_room}

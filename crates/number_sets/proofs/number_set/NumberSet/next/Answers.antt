@@ -1,4 +1,4 @@
-use Rattle.std.proofs.Common.{◌≡◌, ◌≤◌, ◌<◌, ◌/◌, ◌%◌, ◌+◌, ◌*◌, ◌∙◌, ℕ, Bool, None, refl, sym, ap, rules, arith, get_or, length, nat_lt, true, false}
+use Rattle.std.proofs.Common.{◌≡◌, ◌≤◌, ◌/◌, ◌%◌, ◌∙◌, Bool, None, refl, sym, ap, arith, get_or, nat_lt, true, false}
 use Rattle.std.proofs.lemmas.Bool.{ltb-true, ltb-false}
 use Rattle.std.proofs.lemmas.List.{get_or_read_under}
 use Rattle.number_sets.specs.Numbers.{has, is_there}
@@ -31,9 +31,11 @@ loop-begin-preserved c =
     let begin = c.loop-begin.begin in
     let page = c.index.result.now in
     let read : page ≡ get_or pages (begin / 4096) None = get_or_read_under pages (begin / 4096) _ page None c.index.ensures (omega arith) refl in
-    let low = c.loop-begin.invariant.0 in
-    (omega (arith, low), page_first (has c.args.self.now) (is_there page) c.args.from begin low c.loop-begin.invariant.1
-    (λ q same. ap (λ w. has w q) (sym c.self.view_is) ∙ in_page pages q (begin / 4096) (q % 4096) page same refl read) 4096 (omega arith) c.in_default.ensures.none)
+    let low = c.loop-begin.invariant.0 in (
+      omega (arith, low),
+      page_first (has c.args.self.now) (is_there page) c.args.from begin low c.loop-begin.invariant.1
+          (λ q same. ap (λ w. has w q) (sym c.self.view_is) ∙ in_page pages q (begin / 4096) (q % 4096) page same refl read) 4096 (omega arith) c.in_default.ensures.none,
+    )
 
 pub returns-clause-none : goal.returns-clause-none
 returns-clause-none c q high = by (nat_lt q c.loop-begin.begin) refl

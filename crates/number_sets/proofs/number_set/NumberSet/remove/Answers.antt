@@ -1,4 +1,4 @@
-use Rattle.std.proofs.Common.{◌≡◌, ◌<◌, ◌/◌, ◌%◌, ◌&&◌, not, ap, ◌∙◌, refl, sym, rules, arith, length, None, get_or, nat_eq, is_some, true}
+use Rattle.std.proofs.Common.{◌≡◌, ◌<◌, ◌/◌, ◌%◌, ◌&&◌, not, ap, ◌∙◌, refl, sym, arith, length, None, get_or, nat_eq, is_some}
 use Rattle.std.proofs.lemmas.List.{get_or_read_under}
 use Rattle.number_sets.specs.Numbers.{has, has_room, is_there}
 use Rattle.number_sets.proofs.PageLemmas.{none_out, page_set, past_has, room_same, same_room}

@@ -1,7 +1,7 @@
-use Rattle.std.proofs.Common.{◌≡◌, ◌<◌, ◌/◌, ◌%◌, Bool, true, false, refl, sym, ap, ◌∙◌, rules, arith, None, get_or, length, is_some, nat_eq, cond, ℕ}
+use Rattle.std.proofs.Common.{◌≡◌, ◌<◌, ◌/◌, refl, sym, ap, ◌∙◌, None, get_or, length, is_some}
 use Rattle.std.proofs.lemmas.List.{get_or_read_under}
 use Rattle.std.proofs.lemmas.Result.{on_ok_weaker}
-use Rattle.number_sets.specs.Numbers.{HasRoomOf, has, has_room, is_there}
+use Rattle.number_sets.specs.Numbers.{has, has_room, is_there}
 use Rattle.number_sets.proofs.PageLemmas.{filled_has, filled_room, filled_there, least_room, same_has, same_room}
 use Rattle.number_sets.proofs.number_set.NumberSet.reserve.Goals as goal
 

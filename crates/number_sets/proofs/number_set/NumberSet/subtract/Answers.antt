@@ -1,4 +1,4 @@
-use Rattle.std.proofs.Common.{◌≡◌, ◌≤◌, ◌/◌, ◌%◌, ◌&&◌, not, Bool, true, false, sym, ap, ◌∙◌, refl, rules, arith, length, get_or, ℕ, None, is_some, min}
+use Rattle.std.proofs.Common.{◌≡◌, ◌/◌, ◌%◌, ◌&&◌, not, ap, ◌∙◌, arith, length, None}
 use Rattle.number_sets.specs.Numbers.{has, has_room, is_there}
 use Rattle.number_sets.proofs.PageLemmas.{none_left, same_room}
 use Rattle.number_sets.proofs.PartLemmas.{mixed_end}

@@ -1,5 +1,5 @@
-use Rattle.std.proofs.Common.{◌≡◌, ◌≤◌, ◌/◌, ◌%◌, ◌*◌, ◌||◌, Bool, true, false, sym, ap, ◌∙◌, refl, rules, arith, length, get_or, ℕ, None, is_some, min}
-use Rattle.std.proofs.lemmas.List.{get_or_past, get_or_read_under}
+use Rattle.std.proofs.Common.{◌≡◌, ◌/◌, ◌%◌, ◌||◌, sym, ap, ◌∙◌, refl, arith, length, get_or, None, is_some}
+use Rattle.std.proofs.lemmas.List.{get_or_read_under}
 use Rattle.number_sets.specs.Numbers.{has, has_room, is_there}
 use Rattle.number_sets.proofs.PageLemmas.{none_united, room_at, same_room}
 use Rattle.number_sets.proofs.PartLemmas.{mixed_end}

@@ -1,4 +1,4 @@
-use Rattle.std.proofs.Common.{◌≡◌, ap, ◌∙◌, rules, replicate}
+use Rattle.std.proofs.Common.{ap, ◌∙◌}
 use Rattle.number_sets.specs.Numbers.{is_in}
 use Rattle.number_sets.proofs.PageLemmas.{zeros_lack}
 use Rattle.number_sets.proofs.page.Page.new.Goals as goal

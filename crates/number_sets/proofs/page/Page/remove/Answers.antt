@@ -1,4 +1,4 @@
-use Rattle.std.proofs.Common.{◌≡◌, ◌<◌, ◌/◌, ◌%◌, ◌&&◌, not, nat_eq, sym, ap, ◌∙◌, refl, rules, arith, get_or, length}
+use Rattle.std.proofs.Common.{◌≡◌, ◌/◌, ◌%◌, ◌&&◌, not, nat_eq, sym, ap, ◌∙◌, refl, rules, arith, get_or, length}
 use Rattle.number_sets.specs.Numbers.{has_bit, is_in}
 use Rattle.number_sets.proofs.PageLemmas.{word_set}
 use Rattle.number_sets.proofs.page.Page.remove.Goals as goal

@@ -1,13 +1,11 @@
-use Rattle.std.proofs.Common.{◌≡◌, ap, subst, sym, ◌∙◌}
-use Rattle.std.specs.FinMap.{get}
+use Rattle.std.proofs.Common.{ap, subst, sym, ◌∙◌}
 use Rattle.std.specs.HashSet.{contains}
 use Rattle.std.specs.List.{All}
 use Rattle.std.proofs.lemmas.Result.{on_ok_weaker}
-use Rattle.git_name.specs.Same.{is_listed, same_name}
+use Rattle.git_name.specs.Same.{same_name}
 use Rattle.object_table.specs.Adopted.{adopted_words, offered_words}
 use Rattle.object_table.specs.Clashes.{HasRow}
 use Rattle.object_table.specs.Coming.{all_seen_words, coming_in}
-use Rattle.object_table.specs.Holders.{HoldingsState}
 use Rattle.object_table.specs.Ledgers.{at_ledger, ledger_at}
 use Rattle.object_table.specs.Views.{all_words, words_under}
 use Rattle.object_table.proofs.AdoptLemmas.{adopted_is}

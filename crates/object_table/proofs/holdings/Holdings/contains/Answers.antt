@@ -1,4 +1,4 @@
-use Rattle.std.proofs.Common.{◌≡◌, ap, sym, ◌∙◌, is_some}
+use Rattle.std.proofs.Common.{ap, sym, ◌∙◌, is_some}
 use Rattle.std.specs.FinMap.{contains_key}
 use Rattle.object_table.specs.Holders.{HoldingsState}
 use Rattle.object_table.proofs.ChangeLemmas.{there_is}

@@ -1,4 +1,4 @@
-use Rattle.std.proofs.Common.{◌≡◌, ◌+◌, ap, nat_le, ◌∙◌, sym}
+use Rattle.std.proofs.Common.{◌+◌, ap, nat_le, ◌∙◌, sym}
 use Rattle.std.specs.Prelude.{sum_by}
 use Rattle.std.specs.HashSet.{contains}
 use Rattle.git_name.specs.Same.{same_name}
@@ -22,6 +22,6 @@ returns c =
     let own = ap (words_under rows) c.get-own.ensures ∙ ledger_is rows tenants c.args.to.now in
     let used = c.used-used.ensures ∙ ap (λ (s : HoldingsState). capped (used_by (ledger_at s.ledgers c.args.to.now))) (sym c.self.view_is) in
     ap (λ n. nat_le n c.args.limit) (c.use_with_coming.ensures (used_by (ledger_at m c.args.to.now)) used ∙ (λ i. capped (used_by (ledger_at m c.args.to.now) + sum_by use_of_entry (coming_in (shown i) (own i) c.args.names.now.keys)))
-      ∙ ap capped (room_is (ledger_at m c.args.from.now) (ledger_at m c.args.to.now) c.args.names.now.keys c.as_slice-unique.ensures.unique))
+    ∙ ap capped (room_is (ledger_at m c.args.from.now) (ledger_at m c.args.to.now) c.args.names.now.keys c.as_slice-unique.ensures.unique))
     ∙ capped_within _ c.args.limit c.ranges.limit.fits
     ∙ ap (λ (s : HoldingsState). nat_le (total_of (shown_beside (offered_words (contains same_name c.args.names.now) (ledger_at s.ledgers c.args.from.now)) (ledger_at s.ledgers c.args.to.now))) c.args.limit) c.self.view_is

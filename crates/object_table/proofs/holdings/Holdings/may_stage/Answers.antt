@@ -1,4 +1,4 @@
-use Rattle.std.proofs.Common.{◌≡◌, ◌<◌, ap, sym, subst, ◌∙◌, arith, refl}
+use Rattle.std.proofs.Common.{sym, subst, ◌∙◌, arith}
 use Rattle.object_table.specs.Clashes.{AreAs}
 use Rattle.object_table.specs.Holders.{HoldingsState}
 use Rattle.object_table.specs.Views.{all_words}

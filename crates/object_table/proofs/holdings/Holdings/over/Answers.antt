@@ -1,8 +1,7 @@
-use Rattle.std.proofs.Common.{◌≡◌, ◌∙◌, ◌<◌, ◌≤◌, ap, arith, sym, refl}
+use Rattle.std.proofs.Common.{◌∙◌, ap}
 use Rattle.std.specs.Map.{keys_of}
 use Rattle.git_name.specs.Same.{is_listed}
 use Rattle.object_table.specs.Rows.{places_of}
-use Rattle.object_table.specs.Views.{all_words}
 use Rattle.object_table.proofs.ChangeLemmas.{no_ledgers, nothing_held}
 use Rattle.object_table.proofs.PlaceLemmas.{listed_next}
 use Rattle.object_table.proofs.holdings.Holdings.over.Goals as goal

@@ -1,4 +1,4 @@
-use Rattle.std.proofs.Common.{◌≡◌, ap, sym, ◌∙◌}
+use Rattle.std.proofs.Common.{ap, ◌∙◌}
 use Rattle.std.specs.FinMap.{get}
 use Rattle.object_table.specs.Holders.{HoldingsState}
 use Rattle.object_table.specs.Ledgers.{word_at}

@@ -1,4 +1,4 @@
-use Rattle.std.proofs.Common.{◌≡◌, ◌∙◌, ap, subst, sym, is_some, true, false, refl}
+use Rattle.std.proofs.Common.{◌≡◌, ◌∙◌, ap, subst, sym, is_some, false, refl}
 use Rattle.std.specs.FinMap.{contains_key, from_entries, insert}
 use Rattle.object_table.specs.Holders.{AreHeld}
 use Rattle.object_table.specs.Views.{all_words}

@@ -1,10 +1,10 @@
-use Rattle.std.proofs.Common.{◌≡◌, ◌<◌, ◌∙◌, ap, rules, subst, sym, arith, None, Some}
-use Rattle.std.specs.FinMap.{from_entries, get, insert, len}
+use Rattle.std.proofs.Common.{◌≡◌, ◌∙◌, ap, rules, subst, sym, arith, None, Some}
+use Rattle.std.specs.FinMap.{from_entries, get, insert}
 use Rattle.object_table.specs.Words.{discarded_words}
 use Rattle.object_table.specs.Holders.{AreHeld}
-use Rattle.object_table.specs.Views.{IsOne, all_words}
+use Rattle.object_table.specs.Views.{all_words}
 use Rattle.object_table.proofs.TenantEntries.{unchanged_at}
-use Rattle.object_table.proofs.TenantLemmas.{held_moved, ledger_moved, ledger_stays, no_words_at, one_of}
+use Rattle.object_table.proofs.TenantLemmas.{held_moved, ledger_moved, no_words_at, one_of}
 use Rattle.object_table.proofs.UpdateLemmas.{found_in, written_back}
 use Rattle.object_table.proofs.ledgers.Ledgers.discard.Goals as goal
 

@@ -1,4 +1,4 @@
-use Rattle.std.proofs.Common.{◌≡◌, ◌||◌, ◌∷◌, ◌++◌, [], ◌∙◌, ◌<◌, ◌≤◌, ◌+◌, None, Some, Option, Bool, true, false, length, length-append, get_or, sym, ap, refl, subst, rules, arith, cond, ℕ, List}
+use Rattle.std.proofs.Common.{◌≡◌, ◌||◌, ◌∷◌, ◌++◌, [], ◌∙◌, ◌<◌, ◌+◌, length, length-append, get_or, sym, ap, refl, subst, rules, arith}
 use Rattle.std.specs.Map.{keys_of}
 use Rattle.std.proofs.lemmas.List.{get_or_read_under, map-append}
 use Rattle.git_name.specs.declared.kind.Kind.TheVariants.{Blob}
@@ -8,7 +8,7 @@ use Rattle.looks.specs.Places.{Places}
 use Rattle.looks.proofs.GrowthLemmas.{grows_one}
 use Rattle.object_table.specs.declared.row.Row.{Row}
 use Rattle.object_table.specs.Rows.{IsUsed, TableState, places_of, row_in}
-use Rattle.object_table.proofs.NumberLemmas.{fresh_number, fresh_row, kept_row, numbered_last, row_last}
+use Rattle.object_table.proofs.NumberLemmas.{fresh_number, fresh_row, kept_row, numbered_last}
 use Rattle.object_table.proofs.PlaceLemmas.{listed_last, listed_lookup, listed_there, none_of}
 use Rattle.object_table.proofs.table.Table.enter.Goals as goal
 
@@ -70,6 +70,7 @@ invariant_of-self-2 c =
     let numbers = c.extend.new.numbers.items in
     let room : length old < length numbers = (let r = c.in_ok-extend.ensures.ok in let l = c.len-at.ensures.len in omega (arith, r, l)) in
     let number : c.index.result.now ≡ get_or numbers (length old) 0 = get_or_read_under numbers c.len-at.result _ c.index.result.now 0 c.index.ensures (c.in_ok-extend.ensures.ok) refl ∙ ap (λ n. get_or numbers n 0) c.len-at.ensures.len in
-    let longer : length c.put_last.new.rows.entries ≡ length old + 1 = ap length is ∙ length-append old ((c.args.name, row) ∷ []) in
-    (numbered_last old c.put_last.new.rows.entries c.self.inside.numbers.items c.self.inside.places.items numbers c.extend.new.places.items c.args.name row c.self.invariant.0 absent c.extend.ensures.noted room c.extend.ensures.kept number is refl c.put_last.ensures.distinct,
-    (let before = c.self.invariant.1 in omega (arith, longer, before)))
+    let longer : length c.put_last.new.rows.entries ≡ length old + 1 = ap length is ∙ length-append old ((c.args.name, row) ∷ []) in (
+      numbered_last old c.put_last.new.rows.entries c.self.inside.numbers.items c.self.inside.places.items numbers c.extend.new.places.items c.args.name row c.self.invariant.0 absent c.extend.ensures.noted room c.extend.ensures.kept number is refl c.put_last.ensures.distinct,
+      (let before = c.self.invariant.1 in omega (arith, longer, before)),
+    )

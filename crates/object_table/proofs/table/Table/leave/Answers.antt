@@ -4,7 +4,7 @@ use Rattle.std.specs.Prelude.{nat_lt, if◌then◌else◌}
 use Rattle.git_name.specs.Same.{is_listed, same_name}
 use Rattle.looks.specs.Places.{looked_at}
 use Rattle.object_table.specs.Rows.{TableState, places_of, LooksNextAt, row_in}
-use Rattle.object_table.proofs.PlaceLemmas.{entry_there, leaves, stays_within, looked_is, fewer, listed_left}
+use Rattle.object_table.proofs.PlaceLemmas.{entry_there, leaves, stays_within, looked_is, listed_left}
 use Rattle.object_table.proofs.NumberLemmas.{inside_of, numbered_out}
 use Rattle.object_table.proofs.table.Table.leave.Goals as goal
 
@@ -45,9 +45,10 @@ invariant_of-self c =
     let there = entry_there inside.entries next.front next.back c.args.name next.whole in
     let here = ap (slice_get inside.entries) (at ∙ sym next.at) ∙ there.1 in
     let rows = inside.entries in
-    let back = stays_within rows c.take_out.new.rows.entries (c.args.name, there.0) c.looked_place-at.result next.front next.back (c.take_out.ensures.entries (c.args.name, there.0) here) next.whole (next.at ∙ sym at) in
-    (numbered_out rows c.take_out.new.rows.entries c.self.inside.numbers.items c.self.inside.places.items c.switch.new.numbers.items c.switch.new.places.items c.looked_place-at.result (c.args.name, there.0) c.self.invariant.0 (inside_of rows c.looked_place-at.result (c.args.name, there.0) here) here
-      (c.take_out.ensures.entries (c.args.name, there.0) here) c.switch.ensures.noted c.switch.ensures.long
-      (λ i. c.switch.ensures.switched i ∙ ap (λ n. if nat_eq i (n - 1) then get_or c.self.inside.numbers.items c.looked_place-at.result 0 else (if nat_eq i c.looked_place-at.result then get_or c.self.inside.numbers.items (n - 1) 0 else get_or c.self.inside.numbers.items i 0)) c.len-last.ensures.len)
-      c.take_out.ensures.distinct (c.take_out.ensures.updates (c.args.name, there.0) here).0,
-    back)
+    let back = stays_within rows c.take_out.new.rows.entries (c.args.name, there.0) c.looked_place-at.result next.front next.back (c.take_out.ensures.entries (c.args.name, there.0) here) next.whole (next.at ∙ sym at) in (
+      numbered_out rows c.take_out.new.rows.entries c.self.inside.numbers.items c.self.inside.places.items c.switch.new.numbers.items c.switch.new.places.items c.looked_place-at.result (c.args.name, there.0) c.self.invariant.0 (inside_of rows c.looked_place-at.result (c.args.name, there.0) here) here
+          (c.take_out.ensures.entries (c.args.name, there.0) here) c.switch.ensures.noted c.switch.ensures.long
+          (λ i. c.switch.ensures.switched i ∙ ap (λ n. if nat_eq i (n - 1) then get_or c.self.inside.numbers.items c.looked_place-at.result 0 else (if nat_eq i c.looked_place-at.result then get_or c.self.inside.numbers.items (n - 1) 0 else get_or c.self.inside.numbers.items i 0)) c.len-last.ensures.len)
+          c.take_out.ensures.distinct (c.take_out.ensures.updates (c.args.name, there.0) here).0,
+      back,
+    )

@@ -1,4 +1,4 @@
-use Rattle.std.proofs.Common.{◌≡◌, ◌<◌, ◌≤◌, ◌∙◌, Some, None, Option, List, ℕ, sym, ap, refl, subst, arith, get_or, length, slice_get}
+use Rattle.std.proofs.Common.{◌≡◌, ◌∙◌, Some, Option, List, ℕ, sym, ap, refl, subst, arith, get_or, slice_get}
 use Rattle.std.proofs.lemmas.List.{get_or_read_under}
 use Rattle.object_table.specs.declared.row.Row.{Row}
 use Rattle.object_table.specs.Rows.{IsUsed, TableState, row_in}

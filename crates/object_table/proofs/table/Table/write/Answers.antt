@@ -1,12 +1,10 @@
-use Rattle.std.proofs.Common.{◌≡◌, ◌<◌, ◌≤◌, ◌∙◌, Some, None, Option, List, ℕ, sym, ap, refl, subst, arith, get_or, length, slice_get, cond}
-use Rattle.std.specs.Map.{keys_of}
+use Rattle.std.proofs.Common.{◌≡◌, ◌∙◌, Some, sym, ap, refl, subst, arith, get_or, length, slice_get}
 use Rattle.std.specs.Prelude.{if◌then◌else◌}
 use Rattle.std.proofs.lemmas.List.{get_or_read_under, length-map}
 use Rattle.git_name.specs.Same.{same_name}
-use Rattle.object_table.specs.declared.row.Row.{Row}
-use Rattle.object_table.specs.Rows.{AreRows, IsUsed, TableState, row_in}
+use Rattle.object_table.specs.Rows.{IsUsed, TableState, row_in}
 use Rattle.object_table.proofs.NumberLemmas.{numbered_written}
-use Rattle.object_table.proofs.RowLemmas.{are_rows, noted_there, one_used, row_at}
+use Rattle.object_table.proofs.RowLemmas.{noted_there}
 use Rattle.object_table.proofs.table.Table.write.Goals as goal
 
 pub index-requires : goal.index-requires
@@ -49,6 +47,7 @@ invariant_of-self c =
     let same = is.same in
     let read : c.index.result.now ≡ get_or places c.args.row.number 0 = get_or_read_under places c.args.row.number _ c.index.result.now 0 c.index.ensures (omega (arith, within, same)) refl in
     let spot : slice_get rows c.index.result.now ≡ Some (is.name, is.row) = ap (slice_get rows) (read ∙ ap (λ n. get_or places n 0) (sym is.same)) ∙ there.2 in
-    let long : length c.write_at.new.rows.entries ≡ length rows = sym (length-map c.write_at.new.rows.entries (λ e. e.0)) ∙ ap length c.write_at.ensures.keys ∙ length-map rows (λ e. e.0) in
-    (numbered_written rows c.write_at.new.rows.entries c.self.inside.numbers.items places is.name c.args.row c.self.invariant.0 c.write_at.ensures.keys (c.write_at.ensures.numbers (is.name, is.row) spot (sym is.same)) (c.write_at.ensures.rows (is.name, is.row) spot) (search arith),
-    (let before = c.self.invariant.1 in omega (arith, long, before)))
+    let long : length c.write_at.new.rows.entries ≡ length rows = sym (length-map c.write_at.new.rows.entries (λ e. e.0)) ∙ ap length c.write_at.ensures.keys ∙ length-map rows (λ e. e.0) in (
+      numbered_written rows c.write_at.new.rows.entries c.self.inside.numbers.items places is.name c.args.row c.self.invariant.0 c.write_at.ensures.keys (c.write_at.ensures.numbers (is.name, is.row) spot (sym is.same)) (c.write_at.ensures.rows (is.name, is.row) spot) (search arith),
+      (let before = c.self.invariant.1 in omega (arith, long, before)),
+    )

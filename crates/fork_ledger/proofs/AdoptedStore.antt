@@ -9,12 +9,12 @@ use Rattle.git_name.proofs.MapLemmas.{get_joined}
 use Rattle.git_name.proofs.Names.{name_total}
 use Rattle.fork_reach.specs.Objects.{measure_of}
 use Rattle.fork_reach.specs.Source.{Objects}
-use Rattle.ledgers.specs.Adopted.{Fits, IsAlike, offered_words}
-use Rattle.ledgers.specs.Ledgers.{AllWords, ledger_at}
-use Rattle.ledgers.specs.Words.{is_visible, waits}
-use Rattle.ledgers.specs.declared.word.Word.{Word}
-use Rattle.ledgers.proofs.AdoptLemmas.{offered_at}
-use Rattle.ledgers.proofs.FitLemmas.{offered_word}
+use Rattle.object_table.specs.Adopted.{Fits, IsAlike, offered_words}
+use Rattle.object_table.specs.Ledgers.{AllWords, ledger_at}
+use Rattle.object_table.specs.Words.{is_visible, waits}
+use Rattle.object_table.specs.declared.word.Word.{Word}
+use Rattle.object_table.proofs.AdoptLemmas.{offered_at}
+use Rattle.object_table.proofs.FitLemmas.{offered_word}
 use Rattle.loose_store.specs.Files.{Files}
 use Rattle.loose_store.specs.Stored.{Whole}
 use Rattle.fork_ledger.specs.Private.{AreAlike, Awaits, Holds, Private, Sees, both_of, with_adopted}

@@ -2,16 +2,16 @@
 ghost use Rattle.std.specs.Prelude.{◌≡◌, ◌∷◌, [], true, IsTrue, OnErr, OnOk};
 ghost use Rattle.std.specs.FinMap.{contains_key};
 ghost use Rattle.looks.specs.Growth.{GrowsAmong};
-ghost use Rattle.catalogue.specs.Counted.{places_of};
-ghost use Rattle.ledgers.specs.Ledgers.{at_ledger};
-ghost use Rattle.ledgers.specs.Words.{staged_words};
+ghost use Rattle.object_table.specs.Rows.{places_of};
+ghost use Rattle.object_table.specs.Ledgers.{at_ledger};
+ghost use Rattle.object_table.specs.Words.{staged_words};
 ghost use Rattle.loose_store.specs.Files.{Files};
 ghost use Rattle.read_cache.specs.Known.{IsKnown};
 ghost use Rattle.fork_ledger.specs.Kept.{Covers, IsExact};
 
 use fork_request::TenantName;
 use git_name::{Kind, Name};
-use ledgers::Holdings;
+use object_table::Holdings;
 use loose_store::LooseFiles;
 use read_cache::CachedStore;
 use std::alloc::AllocError;

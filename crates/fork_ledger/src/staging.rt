@@ -3,12 +3,12 @@ ghost use Rattle.std.specs.Prelude.{◌≡◌, ◌∷◌, [], true, List, ℕ, I
 ghost use Rattle.git_name.specs.Object.{Object, object_name};
 ghost use Rattle.git_name.specs.Count.{fault_in};
 ghost use Rattle.looks.specs.Growth.{GrowsAmong};
-ghost use Rattle.catalogue.specs.Counted.{places_of};
-ghost use Rattle.ledgers.specs.AllStaged.{all_staged_words};
-ghost use Rattle.ledgers.specs.Holders.{is_held_in};
-ghost use Rattle.ledgers.specs.Ledgers.{at_ledger};
-ghost use Rattle.ledgers.specs.Told.{entry_of};
-ghost use Rattle.ledgers.specs.Words.{staged_words};
+ghost use Rattle.object_table.specs.Rows.{places_of};
+ghost use Rattle.object_table.specs.AllStaged.{all_staged_words};
+ghost use Rattle.object_table.specs.Holders.{is_held_in};
+ghost use Rattle.object_table.specs.Ledgers.{at_ledger};
+ghost use Rattle.object_table.specs.Told.{entry_of};
+ghost use Rattle.object_table.specs.Words.{staged_words};
 ghost use Rattle.loose_store.specs.Stored.{Whole};
 ghost use Rattle.fork_ledger.specs.AllStaged.{MeetsAmong, Receives, StaysWhole, StoresAmong};
 ghost use Rattle.fork_ledger.specs.Kept.{Covers, HasFiles, IsExact, KeepsHeld};
@@ -18,7 +18,7 @@ use crate::fault::VaultFault;
 use crate::receiving::{entries_of, receive, receive_all};
 use fork_request::TenantName;
 use git_name::Sealed;
-use ledgers::{Entry, Holdings, stage_all};
+use object_table::{Entry, Holdings, StageFault};
 use loose_store::LooseFiles;
 use read_cache::CachedStore;
 use std::alloc::Global;
@@ -52,7 +52,8 @@ pub(crate) fn stage_whole<S: LooseFiles>(
         Ok(()) => {
             match holdings.stage(tenant, entry.name, entry.kind, entry.length) {
                 Ok(_) => Ok(()),
-                Err(_) => Err(VaultFault::Memory),
+                Err(StageFault::Memory) => Err(VaultFault::Memory),
+                Err(StageFault::Clash) => Err(VaultFault::Collision),
             }
         }
         Err(fault) => Err(fault),
@@ -86,8 +87,9 @@ pub(crate) fn stage_all_whole<S: LooseFiles>(
     if let Err(fault) = receive_all(alloc, files, holdings, objects) {
         return Err(fault);
     }
-    let Ok(()) = stage_all(alloc, holdings, tenant, entries.as_slice()) else {
-        return Err(VaultFault::Memory);
-    };
-    Ok(())
+    match holdings.stage_all(tenant, entries.as_slice()) {
+        Ok(()) => Ok(()),
+        Err(StageFault::Memory) => Err(VaultFault::Memory),
+        Err(StageFault::Clash) => Err(VaultFault::Collision),
+    }
 }

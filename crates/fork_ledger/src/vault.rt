@@ -36,12 +36,11 @@ use crate::recalling::{RecallFault, recall_known};
 use crate::staging::{stage_all_whole, stage_whole};
 use crate::survey::Survey;
 use crate::sweeping::{collect, sweep};
-use catalogue::Catalogue;
 use commit_graph::Graph;
 use fork_request::TenantName;
 use git_name::{Hashing, Kind, Name, Sealed};
 use indexmap::IndexSet;
-use ledgers::{Holdings, NameSet};
+use object_table::{Holdings, NameSet};
 use looks::sharp_collection;
 use loose_store::LooseFiles;
 use read_cache::CachedStore;
@@ -64,7 +63,7 @@ pub struct Vault<S: LooseFiles> {
 
 impl<S: LooseFiles> Model for Vault<S> {
     ghost use Rattle.std.specs.Prelude.{IsTrue};
-    ghost use Rattle.catalogue.specs.Counted.{places_of};
+    ghost use Rattle.object_table.specs.Rows.{places_of};
     ghost use Rattle.fork_ledger.specs.Kept.{IsKept};
     ghost use Rattle.fork_ledger.specs.Linked.{AreLinked};
     ghost use Rattle.fork_ledger.specs.Shown.{tenants_of};
@@ -101,10 +100,9 @@ impl<S: LooseFiles + Drop> Vault<S> {
             Ok(names) => names,
             Err(fault) => return Err(store_fault(fault)),
         };
-        let Ok(catalogue) = Catalogue::of(alloc, hashing, names.as_slice()) else {
+        let Ok(holdings) = Holdings::over(alloc, hashing, names.as_slice()) else {
             return Err(VaultFault::Memory);
         };
-        let holdings = Holdings::new(alloc, hashing, catalogue);
         Ok(Vault {
             files,
             holdings,
@@ -435,9 +433,6 @@ impl<S: LooseFiles> Vault<S> {
         ensures cause { IfErr result (λ fault. (fault ≡ VaultFault.Memory) ⊎ (fault ≡ VaultFault.Damaged)) }
         ensures damaged { IfErr result (λ fault. fault ≡ VaultFault.Damaged → AreAlike (map.retain_keys (private_of self.old.tenants from.now).visible (contains same_name names.now)) (both_of (private_of self.old.tenants to.now)) → ⊥) }
     {
-        if !self.holdings.fits(to, from, names) {
-            return Err(VaultFault::Damaged);
-        }
         let Ok(()) = self.holdings.adopt(alloc, to, from, names) else {
             return Err(VaultFault::Memory);
         };

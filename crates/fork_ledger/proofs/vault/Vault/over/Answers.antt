@@ -3,7 +3,7 @@ use Rattle.std.specs.FinMap as map
 use Rattle.git_name.proofs.MapLemmas.{map_values_empty}
 use Rattle.git_name.proofs.Names.{name_total, name_exact}
 use Rattle.git_name.specs.Same.{is_listed}
-use Rattle.catalogue.specs.Counted.{Counted, places_of}
+use Rattle.object_table.specs.Rows.{Counted, places_of}
 use Rattle.fork_ledger.specs.Shown.{own_of, tenants_of}
 use Rattle.fork_ledger.specs.Store.{IsStored}
 use Rattle.fork_ledger.proofs.CoverLemmas.{keys_listed}

@@ -3,7 +3,7 @@ use Rattle.std.proofs.lemmas.Result.{on_err_weaker, on_ok_weaker}
 use Rattle.git_name.specs.Object.{object_name}
 use Rattle.git_name.specs.Count.{fault_in}
 use Rattle.looks.specs.Growth.{GrowsAmong}
-use Rattle.catalogue.specs.Counted.{places_of}
+use Rattle.object_table.specs.Rows.{places_of}
 use Rattle.fork_ledger.specs.Kept.{IsExact}
 use Rattle.fork_ledger.specs.Private.{with_staged}
 use Rattle.fork_ledger.specs.Shown.{tenants_of}

@@ -23,6 +23,9 @@ NESTED = "FORKHOST_HELPER"
 
 def run(program) -> None:
     """Runs a program by the words of the command line, and ends. Python's own end would take a sixth of a listing."""
+    if not sys.stderr:
+        # It was closed. What `print` is told to write there would go to standard output.
+        sys.stderr = open("/dev/null", "w", encoding="utf-8")
     status = program(sys.argv[1:])
     for stream in filter(None, (sys.stdout, sys.stderr)):
         try:
@@ -52,8 +55,8 @@ def stream_of(stream, name: str):
 
 
 def tell(program: str, *texts: str) -> None:
-    """Lines on standard error, in the bytes that they stand for; nowhere where that is closed."""
-    for text in texts if sys.stderr else ():
+    """Lines on standard error, in the bytes that they stand for."""
+    for text in texts:
         sys.stderr.buffer.write(bytes_of(f"{program}: {text}\n"))
 
 

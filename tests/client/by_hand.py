@@ -94,7 +94,8 @@ def show_names_and_streams(world):
         checks.same(f"by hand: {tenant} is no tenant", fault(f"'{tenant}' is not a tenant's name"), ran)
     usage = b"usage: forkhost-ask SOCKET TENANT WORD [ARG ..] [-]\n"
     checks.same("by hand: help", done(usage), world.ran("forkhost-ask", "--help"))
-    closed = lambda script, *words: world.ran("sh", "-c", f'exec "$@" {script}', "sh", "forkhost-ask", *words)
+    run_closed = lambda script, *words: world.ran("sh", "-c", f'exec "$@" {script}', "sh", *words)
+    closed = lambda script, *words: run_closed(script, "forkhost-ask", *words)
     for words in (["--help"], [nobody, "alice", "quota"]):
         ran = closed(">&-", *words)
         checks.same(f"by hand: {words[-1]}: no output", fault("standard output is closed"), ran)
@@ -102,7 +103,14 @@ def show_names_and_streams(world):
     checks.same("by hand: no input", fault("standard input is closed"), ran)
     ran = closed("<&-", world.host.socket, "bob", "quota")
     checks.same("by hand: no input is wanted", done(b"70 1000\n"), ran)
-    checks.same("by hand: nobody is told", Ran(2, b"", b""), closed("2>&-", nobody, "alice", "quota"))
+    door, helper = ["forkhost-door", nobody, "alice"], ["git-remote-forkhost", "x", f"forkhost::{nobody}/alice/r"]
+    for script, name in {">&-": "output", "<&-": "input"}.items():
+        said = f"standard {name} is closed\n".encode()
+        checks.same(f"a door: no {name}", Ran(2, b"", b"forkhost-door: " + said), run_closed(script, *door))
+        checks.same(f"the helper: no {name}", Ran(128, b"", b"fatal: forkhost: " + said), run_closed(script, *helper))
+    statuses = {("forkhost-ask", nobody, "alice", "quota"): 2, ("forkhost-door", nobody): 2, ("forkhost-shell",): 128}
+    for words, status in statuses.items():
+        checks.same(f"{words[0]}: nobody is told", Ran(status, b"", b""), run_closed("2>&-", *words))
 
 
 class StandIn:

@@ -30,7 +30,7 @@ class Asked:
         return repository_of(self.rest[0].strip("/"))
 
     def logged(self) -> "str | None":
-        """The repository for the log: by hand as it is asked for, since the host is asked so. None where the word is no name."""
+        """The repository for the log: by hand as the host is asked for it. None where the word is no name."""
         if self.is_git():
             return self.repository()
         word = self.rest[-1 if self.word == FORKS_OFFER else 0] if self.rest and self.word not in OF_OBJECTS else ""

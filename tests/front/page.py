@@ -64,13 +64,10 @@ def show_folders(world):
     """The page's folders are there, and nobody else looks into those of the user that runs the host."""
     os.mkdir(world.path("page"))
     run(world, "folders", FOLDERS)
-    modes = {}
-    for at, names, _ in os.walk(world.path("page")):
-        modes |= {os.path.relpath(path, world.path("page")): path for path in (os.path.join(at, name) for name in names)}
-    modes = {name: stat.S_IMODE(os.stat(path).st_mode) for name, path in modes.items()}
-    mine = ["var/cache/forkhost", "var/lib/forkhost/.ssh", "var/lib/forkhost/uploads", "var/log/forkhost"]
-    world.checks.same("its own folders", mine, sorted(name for name, mode in modes.items() if mode == 0o700))
-    world.checks.same("the settings' folder", 0o755, modes["etc/forkhost"])
+    mode = lambda name: stat.S_IMODE(os.stat(world.path("page", name)).st_mode)
+    for name in ("var/cache/forkhost", "var/log/forkhost", "var/lib/forkhost/.ssh", "var/lib/forkhost/uploads"):
+        world.checks.same(f"{name} is its own", 0o700, mode(name))
+    world.checks.same("the settings' folder is open", 0o755, mode("etc/forkhost"))
 
 
 def show_ssh_page(world):

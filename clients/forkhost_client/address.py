@@ -4,6 +4,7 @@ from .forms import is_called
 
 SCHEME = "forkhost::"
 LONGEST_TENANT, LONGEST_REPOSITORY = 32, 64
+OPERATOR = "@host"
 
 
 class Address:
@@ -17,6 +18,11 @@ class Address:
 
 def is_tenant(text: str) -> bool:
     return is_called(text, LONGEST_TENANT)
+
+
+def is_who(text: str) -> bool:
+    """Whether frames may be of this name."""
+    return text == OPERATOR or is_tenant(text)
 
 
 def repository_of(text: str) -> "str | None":

@@ -2,7 +2,7 @@
 from _signal import SIGALRM, alarm, signal
 from _socket import AF_UNIX, socket
 
-from .faults import Fatal, Internal, Lost
+from .faults import Fatal, Lost, unreached
 from .frames import DONE, LONGEST_HEAD, MAX_PAYLOAD, bytes_of, frame, length_of, not_done, text_of
 
 # Seconds without a first reply, after which a person is told that the host serves somebody else.
@@ -54,8 +54,7 @@ class Connection:
             self.stream.connect(path)
         except OSError as fault:
             self.close()
-            text = f"cannot reach a host at '{path}': {fault.strerror or fault}"
-            raise Internal(text, "the host cannot be reached") from fault
+            raise unreached(path, fault) from fault
 
     def __enter__(self) -> "Connection":
         return self

@@ -7,7 +7,7 @@ reply is there whole, and the host is left, before a byte of it is handed out.""
 from _signal import alarm
 from io import BytesIO
 
-from .address import is_tenant
+from .address import is_who
 from .forms import number
 from .frames import BAD_FRAME, DONE, MAX_PAYLOAD, bytes_of, frame, framed, text_of
 from .spool import told
@@ -22,18 +22,12 @@ READ = 1 << 14
 # A frame's first line: a tenant's name or `@host`, a length, and LF.
 LONGEST_LINE = 41
 LONGEST_NUMBER = 7
-OPERATOR = "@host"
 # To this user there are no other tenants.
 NOBODY = framed(b"no unknown-tenant\n")
 
 
 class BadFrame(Exception):
     """What came is no frame."""
-
-
-def is_who(text: str) -> bool:
-    """Whether frames may be of this name."""
-    return text == OPERATOR or is_tenant(text)
 
 
 def read_line(source, patience: int) -> bytes:

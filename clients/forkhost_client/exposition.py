@@ -1,5 +1,8 @@
 """Figures in the text format of Prometheus (its "Exposition formats", text-based format, version 0.0.4)."""
 import os
+from stat import S_ISREG
+
+from .faults import Fatal
 
 MODE = 0o644
 
@@ -26,9 +29,29 @@ def exposition(gauges: list) -> bytes:
     return "".join(row + "\n" for row in rows).encode("ascii")
 
 
+def want_file(path: str) -> None:
+    """A link, a device or a folder is never replaced."""
+    try:
+        mode = os.lstat(path).st_mode
+    except FileNotFoundError:
+        return
+    if not S_ISREG(mode):
+        raise Fatal(f"'{path}' is not a file")
+
+
+def clear(part: str) -> None:
+    """Takes away what a run of the same process number left that was killed; a link goes, and not what it leads to."""
+    try:
+        os.remove(part)
+    except FileNotFoundError:
+        pass
+
+
 def put(path: str, text: bytes) -> None:
     """A file that whoever reads it finds whole, as it was or as it is. Its name until then is none that is collected."""
+    want_file(path)
     part = f"{path}.{os.getpid()}"
+    clear(part)
     file = os.open(part, os.O_WRONLY | os.O_CREAT | os.O_EXCL, MODE)
     try:
         with open(file, "wb") as out:

@@ -13,6 +13,11 @@ class Internal(Fatal):
         super().__init__(text)
 
 
+def unreached(path: str, fault: OSError) -> Internal:
+    """No host takes connections at this socket."""
+    return Internal(f"cannot reach a host at '{path}': {fault.strerror or fault}", "the host cannot be reached")
+
+
 class Lost(Fatal):
     """A reply was not read, so whether the request was carried out is not known."""
 

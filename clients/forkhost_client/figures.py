@@ -2,13 +2,12 @@
 import os
 import time
 
-from .address import is_tenant
+from .address import OPERATOR, is_tenant
 from .connection import Connection
 from .exposition import Gauge
 from .faults import Fatal
 from .forms import is_name, number
 
-OPERATOR = "@host"
 LONGEST_NUMBER = 20
 # A row of `tenants` is a name and these, in their order.
 OF_TENANTS = {

@@ -6,7 +6,7 @@ from .exposition import Gauge, exposition, put
 from .faults import Fatal, Refused
 from .figures import of_folder, of_host
 from .frames import bytes_of
-from .programs import leave_signals
+from .programs import HELP, leave_signals, stream_of, tell
 
 USAGE = "usage: forkhost-metrics SOCKET [--dir FOLDER] [--output FILE]"
 OPTIONS = ("--dir", "--output")
@@ -23,7 +23,8 @@ def read_words(words: list) -> tuple:
     """The socket, and the values of the options that are given."""
     path, *rest = words or [""]
     options = dict(zip(rest[::2], rest[1::2]))
-    if not path or path.startswith("-") or len(rest) != 2 * len(options) or not set(OPTIONS).issuperset(options):
+    is_known = len(rest) == 2 * len(options) and set(OPTIONS).issuperset(options) and all(options.values())
+    if not path or path.startswith("-") or not is_known:
         raise Fatal(USAGE)
     return path, options
 
@@ -31,7 +32,7 @@ def read_words(words: list) -> tuple:
 def say(fault: Exception) -> None:
     text = fault.strerror if isinstance(fault, OSError) and fault.strerror else str(fault)
     place = f", '{fault.filename}'" if isinstance(fault, OSError) and fault.filename else ""
-    sys.stderr.buffer.write(bytes_of(f"forkhost-metrics: {text}{place}\n"))
+    tell("forkhost-metrics", text + place)
 
 
 def told(source, place: str) -> list:
@@ -54,18 +55,30 @@ def collected(path: str, folder: "str | None") -> tuple:
     return [up, *host, *rest], bool(host) and bool(rest or not folder)
 
 
+def show(sink, text: bytes) -> None:
+    sink.write(text)
+    sink.flush()
+
+
+def written(path: str, options: dict) -> int:
+    """Writes the figures. Where they have nowhere to go, the host is not asked."""
+    sink = None if "--output" in options else stream_of(sys.stdout, "output")
+    gauges, is_whole = collected(path, options.get("--dir"))
+    if sink:
+        show(sink, exposition(gauges))
+    else:
+        put(options["--output"], exposition(gauges))
+    return DONE if is_whole else LACKING
+
+
 def main(words: list) -> int:
     leave_signals()
     signal(SIGALRM, too_late)
     try:
-        path, options = read_words(words)
-        gauges, is_whole = collected(path, options.get("--dir"))
-        if "--output" in options:
-            put(options["--output"], exposition(gauges))
-        else:
-            sys.stdout.buffer.write(exposition(gauges))
-            sys.stdout.buffer.flush()
-        return DONE if is_whole else LACKING
+        if words == HELP:
+            show(stream_of(sys.stdout, "output"), bytes_of(USAGE + "\n"))
+            return DONE
+        return written(*read_words(words))
     except (Fatal, OSError) as fault:
         say(fault)
         return FAULT

@@ -3,7 +3,7 @@ import posix
 import sys
 from _signal import SIG_DFL, SIGINT, signal
 
-from .address import read_address
+from .address import OPERATOR, is_who, read_address
 from .connection import Connection
 from .faults import Fatal, Internal, Refused
 from .frames import bytes_of
@@ -14,12 +14,18 @@ ASK_USAGE = "usage: forkhost-ask SOCKET TENANT WORD [ARG ..] [-]"
 HELPER_USAGE = "usage: git-remote-forkhost REMOTE forkhost::/ABSOLUTE/SOCKET/TENANT/REPO (Git runs it)"
 DONE, REFUSED, FAULT, FATAL = 0, 1, 2, 128
 PIECE = 1 << 16
+HELP = ["--help"]
+# The word of a refusal, where the host does not know the request; and the words of the host's own requests.
+UNKNOWN, OF_HOST = "bad-request", ("sweep", "collect", "census", "fsck", "tenants")
 # Set in the children of a helper, so that a helper which a child starts can tell.
 NESTED = "FORKHOST_HELPER"
 
 
 def run(program) -> None:
     """Runs a program by the words of the command line, and ends. Python's own end would take a sixth of a listing."""
+    if not sys.stderr:
+        # It was closed. What `print` is told to write there would go to standard output.
+        sys.stderr = open("/dev/null", "w", encoding="utf-8")
     status = program(sys.argv[1:])
     for stream in filter(None, (sys.stdout, sys.stderr)):
         try:
@@ -41,6 +47,19 @@ def nobody_reads() -> None:
     os.dup2(os.open(os.devnull, os.O_WRONLY), sys.stdout.fileno())
 
 
+def stream_of(stream, name: str):
+    """A standard stream, as bytes. Python has none where it was closed before the program began."""
+    if stream is None:
+        raise Fatal(f"standard {name} is closed")
+    return stream.buffer
+
+
+def tell(program: str, *texts: str) -> None:
+    """Lines on standard error, in the bytes that they stand for."""
+    for text in texts:
+        sys.stderr.buffer.write(bytes_of(f"{program}: {text}\n"))
+
+
 def fatal(text: str) -> int:
     print("fatal: ", end="", file=sys.stderr)
     say(text)
@@ -57,7 +76,7 @@ def remote_helper(words: list) -> int:
             raise Fatal(HELPER_USAGE)
         if NESTED.encode() in posix.environ:
             raise Fatal("an object is missing here, and a fetch of it would wait for this command; use a complete clone")
-        Helper(read_address(words[1])).serve(sys.stdin.buffer, sys.stdout.buffer)
+        Helper(read_address(words[1])).serve(stream_of(sys.stdin, "input"), stream_of(sys.stdout, "output"))
         return DONE
     except Fatal as fault:
         return fatal(str(fault))
@@ -72,52 +91,75 @@ def is_word(word: str) -> bool:
     return word != "" and " " not in word and "\n" not in word
 
 
+def read_request(words: list) -> tuple:
+    """The socket, who asks, the words of the request, and whether a body follows them."""
+    has_body = words[3:] != [] and words[-1] == "-"
+    path, tenant, *line = words[:-1] if has_body else words + [""] * (3 - len(words))
+    if not all(map(is_word, [tenant, *line])):
+        raise Fatal(ASK_USAGE + "; a word cannot contain a space or a line feed")
+    if not is_who(tenant):
+        raise Fatal(f"'{tenant}' is not a tenant's name")
+    return path, tenant, line, has_body
+
+
+def asked(words: list, sink) -> None:
+    """One request; the data of its reply goes to the sink."""
+    path, tenant, line, has_body = read_request(words)
+    body = stream_of(sys.stdin, "input").read() if has_body else b""
+    with Connection(path, tenant, lambda: say("waiting: the host is serving another connection")) as connection:
+        data = connection.ask(" ".join(line), body)
+        while data.left:
+            sink.write(data.read(min(data.left, PIECE)))
+
+
 def ask(words: list) -> int:
     """`forkhost-ask SOCKET TENANT WORD [ARG ..]`: one request, whose body comes from standard input after `-`."""
     leave_signals()
     try:
-        has_body = words[3:] != [] and words[-1] == "-"
-        path, tenant, *line = words[:-1] if has_body else words + [""] * (3 - len(words))
-        if not all(map(is_word, [tenant, *line])):
-            raise Fatal(ASK_USAGE + "; a word cannot contain a space or a line feed")
-        body = sys.stdin.buffer.read() if has_body else b""
-        with Connection(path, tenant, lambda: say("waiting: the host is serving another connection")) as connection:
-            data = connection.ask(" ".join(line), body)
-            while data.left:
-                sys.stdout.buffer.write(data.read(min(data.left, PIECE)))
-        sys.stdout.buffer.flush()
+        sink = stream_of(sys.stdout, "output")
+        if words == HELP:
+            sink.write(bytes_of(ASK_USAGE + "\n"))
+        else:
+            asked(words, sink)
+        sink.flush()
         return DONE
     except Refused as refusal:
-        sys.stderr.buffer.write(b"forkhost-ask: " + bytes_of(str(refusal)) + b"\n")
+        tell("forkhost-ask", str(refusal), *advice(refusal, words[1], words[2]))
         return REFUSED
     except Fatal as fault:
-        sys.stderr.buffer.write(b"forkhost-ask: " + bytes_of(str(fault)) + b"\n")
-        return FAULT
+        tell("forkhost-ask", str(fault))
     except BrokenPipeError:
         nobody_reads()
-        return FAULT
     except OSError as fault:
-        sys.stderr.buffer.write(bytes_of(f"forkhost-ask: {fault.strerror or fault}\n"))
-        return FAULT
+        tell("forkhost-ask", fault.strerror or str(fault))
+    return FAULT
+
+
+def advice(refusal: Refused, tenant: str, word: str):
+    """What whoever typed words that the host does not know may do."""
+    if refusal.word == UNKNOWN:
+        yield "these words are not a request; forkhost-requests(7) has them"
+        if word in OF_HOST and tenant != OPERATOR:
+            yield f"ask it as {OPERATOR}"
 
 
 def door(words: list) -> int:
     """`forkhost-door SOCKET TENANT`: frames of one tenant from standard input, replies to standard output."""
-    from .door import is_who, serve
+    from .door import serve
 
     leave_signals()
     try:
         if len(words) != 2 or not is_who(words[1]):
             raise Fatal(DOOR_USAGE)
-        serve(words[0], words[1], sys.stdin.buffer, sys.stdout.buffer)
+        serve(words[0], words[1], stream_of(sys.stdin, "input"), stream_of(sys.stdout, "output"))
         return DONE
     except Internal as fault:
-        print(f"forkhost-door: {fault.shown}", file=sys.stderr)
+        tell("forkhost-door", fault.shown)
     except Fatal as fault:
-        print(f"forkhost-door: {fault}", file=sys.stderr)
+        tell("forkhost-door", str(fault))
     except BrokenPipeError:
         nobody_reads()
         return DONE
     except OSError as fault:
-        print(f"forkhost-door: {fault.strerror or fault}", file=sys.stderr)
+        tell("forkhost-door", fault.strerror or str(fault))
     return FAULT

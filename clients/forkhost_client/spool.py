@@ -3,7 +3,7 @@ import os
 from _socket import AF_UNIX, SHUT_WR, socket
 from io import BytesIO
 
-from .faults import Internal, Lost
+from .faults import Internal, Lost, unreached
 from .frames import LONGEST_HEAD, length_of
 from .nameless import nameless
 
@@ -17,13 +17,20 @@ def told(path: str, given: bytes):
     """The frame of the reply, as a file that stands at its beginning."""
     stream = socket(AF_UNIX)
     try:
-        stream.connect(path)
+        connect(stream, path)
         send(stream, given)
         with open(stream.fileno(), "rb", PIECE, closefd=False) as reader:
             head = line(reader)
             return kept(head, length_of(head), reader)
     finally:
         stream.close()
+
+
+def connect(stream, path: str) -> None:
+    try:
+        stream.connect(path)
+    except OSError as fault:
+        raise unreached(path, fault) from fault
 
 
 def send(stream, given: bytes) -> None:

@@ -1,6 +1,8 @@
 """Uploads of one tenant, one at a time: the host has one open for each tenant, and takes its parts from any connection."""
 import os
 
+from .faults import unreached
+
 # Requests that begin an upload, go on with it or end it, and those that one in between is in the way of.
 VERBS = (b"part", b"part-end", b"part-drop", b"push")
 
@@ -19,7 +21,11 @@ class Turn:
         if not self.is_taken() and verb(payload) in VERBS:
             from fcntl import LOCK_EX, flock
 
-            self.file = os.open(self.path, os.O_RDWR | os.O_CREAT | os.O_NOFOLLOW | os.O_CLOEXEC, 0o600)
+            try:
+                self.file = os.open(self.path, os.O_RDWR | os.O_CREAT | os.O_NOFOLLOW | os.O_CLOEXEC, 0o600)
+            except FileNotFoundError as fault:
+                # The folder of the socket is gone, and the host with it.
+                raise unreached(self.path, fault) from fault
             flock(self.file, LOCK_EX)
 
     def leave(self, payload: bytes, is_done: bool) -> None:

@@ -1,6 +1,7 @@
 """What a user asks for over SSH: a program of Git's and a repository, or words of one request."""
 from forkhost_client.address import repository_of
 from forkhost_client.faults import Fatal
+from forkhost_client.forms import NAME, is_name
 
 # Git's server programs, and their words after `git`.
 READ, WRITE, ARCHIVE = "git-upload-pack", "git-receive-pack", "git-upload-archive"
@@ -25,9 +26,15 @@ class Asked:
         return self.word in PROGRAMS
 
     def repository(self) -> "str | None":
-        """The repository that the words name: the first word, or where an offer is forked the new one. None where it is no name."""
+        """The repository that a program of Git's is asked for; None where the word is no name."""
+        return repository_of(self.rest[0].strip("/"))
+
+    def logged(self) -> "str | None":
+        """The repository for the log: by hand as the host is asked for it. None where the word is no name."""
+        if self.is_git():
+            return self.repository()
         word = self.rest[-1 if self.word == FORKS_OFFER else 0] if self.rest and self.word not in OF_OBJECTS else ""
-        return repository_of(word.strip("/"))
+        return word if repository_of(word) else None
 
 
 def split(text: str) -> list:
@@ -72,5 +79,7 @@ def judge_by_hand(asked: Asked) -> None:
     words = BY_HAND[asked.word]
     if not words.endswith("..") and len(asked.rest) != len(words.split()):
         raise Fatal(f"'{asked.word}' takes {words or 'no words'}")
+    if asked.word in OF_OBJECTS and not is_name(asked.rest[0]):
+        raise Fatal(f"'{asked.word}' takes a name of {NAME} digits")
     if any(not word or " " in word or "\n" in word for word in asked.rest):
         raise Fatal("a word cannot contain a space or a line feed")

@@ -3,10 +3,16 @@ import os
 import time
 
 from forkhost_client.faults import Fatal, Internal
-from forkhost_client.progress import say
 
 # What stands where there is nothing to tell.
 NOTHING = "-"
+
+
+def tell_system(text: str) -> None:
+    """To syslog(3), where that is. Standard error is the user's, whom the log does not concern."""
+    from syslog import LOG_DAEMON, LOG_WARNING, syslog
+
+    syslog(LOG_DAEMON | LOG_WARNING, text.encode("utf-8", "backslashreplace").decode())
 
 
 def now() -> str:
@@ -25,7 +31,7 @@ class Log:
             try:
                 self.write(text.encode("utf-8", "backslashreplace").replace(b"\n", b" ") + b"\n")
             except OSError as fault:
-                say(f"cannot write the log: {fault.strerror or fault}")
+                tell_system(f"cannot write the log '{self.path}': {fault.strerror or fault}")
 
     def shown(self, fault: Fatal, tenant: str, repository: str) -> str:
         """What a user is told of a fault. They are elsewhere, so what names places of this machine stands here alone."""

@@ -39,7 +39,7 @@ def answer(settings: Settings, entry: Entry) -> int:
     entry.reply = "refused"
     asked = read_asked(os.environ.get(COMMAND, ""))
     entry.reply = "failed"
-    entry.word, entry.repository = asked.word, asked.repository() or entry.repository
+    entry.word, entry.repository = asked.word, asked.logged() or entry.repository
     if not asked.is_git():
         from . import by_hand
 

@@ -53,7 +53,9 @@ def tenant_of(settings: Settings) -> str:
     user = os.environ.get("REMOTE_USER", "")
     if not settings.users:
         raise Fatal(f"'{settings.place}' does not set users")
-    tenant = rows(settings.users).get(user, "") if user else ""
+    if not user:
+        raise Answered(FORBIDDEN, "the web server named no user")
+    tenant = rows(settings.users).get(user, "")
     if not is_tenant(tenant):
         raise Answered(FORBIDDEN, f"user '{user}' has no tenant here")
     return tenant

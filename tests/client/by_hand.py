@@ -16,8 +16,12 @@ BLOB = b"hello\n"
 NAME = name_of(b"blob", BLOB)
 
 
-def refused(text):
-    return Ran(1, b"", f"forkhost-ask: {text}\n".encode())
+def refused(*texts):
+    return Ran(1, b"", "".join(f"forkhost-ask: {text}\n" for text in texts).encode())
+
+
+UNKNOWN = refused("bad-request", "these words are not a request; forkhost-requests(7) has them")
+OF_HOST = UNKNOWN._replace(fault=UNKNOWN.fault + b"forkhost-ask: ask it as @host\n")
 
 
 def show_asking(checks, program, folder):
@@ -37,16 +41,16 @@ def show_asking(checks, program, folder):
         (["alice", "head", "r"], b"", done(b"refs/heads/x\n")),
         (["alice", "set-head", "r", "refs/tags/v"], b"", refused("bad-ref refs/tags/v")),
         (["alice", "set-head", "s", "HEAD"], b"", refused("no-repository s")),
-        (["alice", "set-head", "r"], b"", refused("bad-request")),
-        (["alice", "set-head", "r", "refs/heads/x", "-"], b"x", refused("bad-request")),
+        (["alice", "set-head", "r"], b"", UNKNOWN),
+        (["alice", "set-head", "r", "refs/heads/x", "-"], b"x", UNKNOWN),
         (["bob", "head", "r"], b"", refused("no-repository r")),
         (["alice", "offer", "r", "bob"], b"", done()),
         (["alice", "offer", "r", "bob"], b"", refused("offer-exists bob/r")),
         (["alice", "offer", "r", "alice"], b"", refused("bad-name alice")),
-        (["alice", "offer", "r"], b"", refused("bad-request")),
+        (["alice", "offer", "r"], b"", UNKNOWN),
         (["alice", "offers"], b"", done(b"to bob r\n")),
         (["bob", "offers"], b"", done(b"from alice r\n")),
-        (["bob", "offers", "-"], b"x", refused("bad-request")),
+        (["bob", "offers", "-"], b"x", UNKNOWN),
         (["bob", "fork-offer", "alice", "s", "s"], b"", refused("no-offer alice/s")),
         (["bob", "fork-offer", "alice", "r", "s"], b"", done()),
         (["bob", "for-each-ref", "s"], b"", done(row)),
@@ -60,10 +64,12 @@ def show_asking(checks, program, folder):
         (["alice", "part-drop"], b"", done()),
         (["alice", "quota"], b"", done(b"70 1000\n")),
         (["carol", "quota"], b"", refused("unknown-tenant")),
-        (["alice", "nothing"], b"", refused("bad-request")),
+        (["alice", "nothing"], b"", UNKNOWN),
         (["alice", "init", "r\udcff"], b"", Ran(1, b"", b"forkhost-ask: bad-name r\xff\n")),
-        (["alice", "quota", "-"], b"x", refused("bad-request")),
-        (["@host", "nothing"], b"", refused("bad-request")),
+        (["alice", "quota", "-"], b"x", UNKNOWN),
+        (["@host", "nothing"], b"", UNKNOWN),
+        (["@host", "sweep"], b"", UNKNOWN),
+        *((["alice", *words.split()], b"", OF_HOST) for words in ("sweep 1", "collect", "census", "fsck", "tenants", "fsck x")),
     ]
     for words, given, wanted in turns:
         words = [os.fsencode(word) for word in words]
@@ -73,9 +79,38 @@ def show_asking(checks, program, folder):
     for words in wrong:
         ran = world.ran("forkhost-ask", world.host.socket, *words)
         checks.same(f"by hand: {words} is no request", (2, b"", True), (*ran[:2], b"usage: forkhost-ask" in ran.fault))
+    show_names_and_streams(world)
     ran = world.ran("forkhost-ask", world.path("nothing"), "alice", "quota")
     checks.same("by hand: nobody is there", (2, b"", True), (*ran[:2], b"cannot reach a host" in ran.fault))
     world.host.ends_well(checks, "after requests by hand")
+
+
+def show_names_and_streams(world):
+    """What is no name is told before a host is asked; so is a standard stream that is wanted and closed."""
+    checks, nobody = world.checks, world.path("nothing")
+    fault = lambda text: Ran(2, b"", f"forkhost-ask: {text}\n".encode())
+    for tenant in ("ALICE", "@Host", "@", "-a", "a.b", "a" * 33, "\u00e9"):
+        ran = world.ran("forkhost-ask", nobody, tenant, "repos")
+        checks.same(f"by hand: {tenant} is no tenant", fault(f"'{tenant}' is not a tenant's name"), ran)
+    usage = b"usage: forkhost-ask SOCKET TENANT WORD [ARG ..] [-]\n"
+    checks.same("by hand: help", done(usage), world.ran("forkhost-ask", "--help"))
+    run_closed = lambda script, *words: world.ran("sh", "-c", f'exec "$@" {script}', "sh", *words)
+    closed = lambda script, *words: run_closed(script, "forkhost-ask", *words)
+    for words in (["--help"], [nobody, "alice", "quota"]):
+        ran = closed(">&-", *words)
+        checks.same(f"by hand: {words[-1]}: no output", fault("standard output is closed"), ran)
+    ran = closed("<&-", nobody, "alice", "part", "-")
+    checks.same("by hand: no input", fault("standard input is closed"), ran)
+    ran = closed("<&-", world.host.socket, "bob", "quota")
+    checks.same("by hand: no input is wanted", done(b"70 1000\n"), ran)
+    door, helper = ["forkhost-door", nobody, "alice"], ["git-remote-forkhost", "x", f"forkhost::{nobody}/alice/r"]
+    for script, name in {">&-": "output", "<&-": "input"}.items():
+        said = f"standard {name} is closed\n".encode()
+        checks.same(f"a door: no {name}", Ran(2, b"", b"forkhost-door: " + said), run_closed(script, *door))
+        checks.same(f"the helper: no {name}", Ran(128, b"", b"fatal: forkhost: " + said), run_closed(script, *helper))
+    statuses = {("forkhost-ask", nobody, "alice", "quota"): 2, ("forkhost-door", nobody): 2, ("forkhost-shell",): 128}
+    for words, status in statuses.items():
+        checks.same(f"{words[0]}: nobody is told", Ran(status, b"", b""), run_closed("2>&-", *words))
 
 
 class StandIn:

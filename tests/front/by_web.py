@@ -26,12 +26,25 @@ def show_web(world):
         checks.same(f"page {page!r}", (404, "forkhost: there is no such page"), (told[0], told[1][:31]))
     told = asked(right.partition("?")[0], "ALICE", password("ALICE"))
     checks.same("files of a repository", (403, "forkhost: only Git's smart protocol is served\n"), told)
+    show_nameless(world)
     rows = [" ".join(row[:4]) for row in world.logged()]
     wanted = {"alice info-refs r ok", "alice git-receive-pack r ok", "bob info-refs r no-repository", "- - - refused"}
     checks.same("the log has them", set(), wanted - set(rows))
     world.host.kill()
     told = asked(right, "ALICE", password("ALICE"))
     checks.same("the host is gone", (503, "forkhost: the host cannot be asked now\n"), told)
+
+
+def show_nameless(world):
+    """A web server that asks for no password names no user."""
+    more = {"FORKHOST_SETTINGS": world.path("front"), "PATH_INFO": "/r.git/info/refs"}
+    more |= {"QUERY_STRING": "service=git-upload-pack", "REQUEST_METHOD": "GET"}
+    for label, user in {"none": {}, "an empty one": {"REMOTE_USER": ""}}.items():
+        ran = world.ran("forkhost-http", more=more | user)
+        head, _, text = ran.output.partition(b"\r\n\r\n")
+        told = (ran.status, head.partition(b"\r\n")[0], text, ran.fault)
+        wanted = (0, b"Status: 403 Forbidden", b"forkhost: the web server named no user\n", b"")
+        world.checks.same(f"no user: {label}", wanted, told)
 
 
 def asked(url, user, word):

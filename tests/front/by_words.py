@@ -7,7 +7,7 @@ import time
 from making import imported, history, line
 from program import Ran, done
 
-LINE = re.compile(r"\d{4}-\d\d-\d\dT\d\d:\d\d:\d\dZ [a-z]+ [a-z-]+ [a-z0-9_-]+ [a-z,-]+ \d+ \d+\n")
+LINE = re.compile(r"\d{4}-\d\d-\d\dT\d\d:\d\d:\d\dZ [a-z]+ [a-z-]+ [a-z0-9_-]+(?:\.git)? [a-z,-]+ \d+ \d+\n")
 
 
 def show_words(world):
@@ -17,6 +17,8 @@ def show_words(world):
     no = lambda text: Ran(1, b"", f"forkhost: {text}\n".encode())
     checks.same("init", done(), told("init", "r"))
     checks.same("init again", no("repository-exists r"), told("init", "r"))
+    checks.same("init with .git", no("bad-name a.git"), told("init", "a.git"))
+    checks.same("init with a slash", no("bad-name a/"), told("init", "a/"))
     checks.same("head", done(b"refs/heads/main\n"), told("head", "r"))
     checks.same("set-head", done(), told("set-head", "r", "refs/heads/x"))
     checks.same("head again", done(b"refs/heads/x\n"), told("head", "r"))
@@ -56,6 +58,7 @@ def show_offer(world):
     checks.same("offer", done(), told("alice", "offer", "r", "bob"))
     checks.same("offer again", no("offer-exists bob/r"), told("alice", "offer", "r", "bob"))
     checks.same("offers to bob", done(b"from alice r\n"), told("bob", "offers"))
+    checks.same("fork-offer with .git", no("bad-name b.git"), told("bob", "fork-offer", "alice", "r", "b.git"))
     checks.same("fork-offer", done(), told("bob", "fork-offer", "alice", "r", "mine"))
     checks.same("the fork has the references", world.kept("r"), world.kept("mine", "bob"))
     world.cloned("the fork of the offer", "mine", tenant="bob")
@@ -75,7 +78,9 @@ def show_log(world):
     requests = [text for text in lines if " cache " not in text]
     checks.same("each request is a line of one form", [], [text for text in requests if not LINE.fullmatch(text)])
     words = [" ".join(text.split()[1:5]) for text in requests]
-    for wanted in ("alice init r ok", "alice init r repository-exists", "alice git-receive-pack r ok", "bob fork-offer mine ok"):
+    wanteds = ["alice init r ok", "alice init r repository-exists", "alice git-receive-pack r ok", "bob fork-offer mine ok"]
+    wanteds += ["alice init a.git bad-name", "alice init - bad-name", "bob fork-offer b.git bad-name"]
+    for wanted in wanteds:
         checks.same(f"the log has: {wanted}", 1, words.count(wanted))
     checks.same("the log has: a repository that is not there", "alice git-upload-pack s no-repository", words[-1])
     checks.same("nobody else reads it", 0, os.stat(world.path("log")).st_mode & 0o077)
@@ -84,14 +89,14 @@ def show_log(world):
 
 
 def show_no_log(world):
-    """A log that can not be written is told, and serving goes on."""
-    rows = f"socket {world.host.socket}\ncaches {world.caches}\nlog {world.path('no', 'log')}\n"
-    world.write("unlogged", rows)
+    """A log that can not be written: serving goes on, and the user is told nothing of it."""
     more = {"SSH_ORIGINAL_COMMAND": "quota"}
-    ran = world.ran(world.shell(), "--settings", world.path("unlogged"), "alice", more=more)
-    said = b"forkhost: cannot write the log: No such file or directory\n"
-    wanted = Ran(0, world.ask("alice", "quota").output, said)
-    world.checks.same("without a log", wanted, ran)
+    for label, log in {"no folder": "no/log", "a folder": "", "no text": "no\udcff/log"}.items():
+        rows = f"socket {world.host.socket}\ncaches {world.caches}\nlog {world.path(log)}\n"
+        with open(world.path("unlogged"), "wb") as file:
+            file.write(os.fsencode(rows))
+        ran = world.ran(world.shell(), "--settings", world.path("unlogged"), "alice", more=more)
+        world.checks.same(f"without a log: {label}", done(world.ask("alice", "quota").output), ran)
 
 
 NO_COMMANDS = {
@@ -111,6 +116,11 @@ NO_COMMANDS = {
     "git gc": "'git-gc' is not a command here",
     "push r -": "'push' is not a command here",
     "init": "'init' takes REPO",
+    "cat-file": "'cat-file' takes NAME",
+    "cat-file x": "'cat-file' takes a name of 64 digits",
+    "ls-tree x": "'ls-tree' takes a name of 64 digits",
+    f"cat-file {'AB' * 32}": "'cat-file' takes a name of 64 digits",
+    f"ls-tree {'ab' * 33}": "'ls-tree' takes a name of 64 digits",
     "offer r": "'offer' takes REPO TENANT",
     "quota x": "'quota' takes no words",
     "repos x": "'repos' takes no words",

@@ -69,8 +69,9 @@ def show_hook_killed(world):
         def meddle(asked, reply):
             hook = hook_of(world)
             if hook and asked.split(" ")[0] == word:
-                os.kill(hook, signal.SIGKILL)
+                # Before the kill, as the push may have ended before this thread goes on.
                 killed_at.append(asked)
+                os.kill(hook, signal.SIGKILL)
             return reply
 
         world.set(BYTES, Watcher(world.path(f"watched_{word}"), world.host.socket, meddle).path)

@@ -11,7 +11,7 @@ SERVER = """ListenAddress 127.0.0.1
 Port {port}
 HostKey {folder}/host_key
 PidFile none
-AuthorizedKeysFile {folder}/authorized_keys
+AuthorizedKeysFile {folder}/authorized_keys {folder}/page/var/lib/forkhost/.ssh/authorized_keys
 StrictModes no
 UsePAM no
 PasswordAuthentication no

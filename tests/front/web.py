@@ -6,8 +6,11 @@ import subprocess
 
 from front import FrontWorld
 from packages import found
-from page import configuration
+from page import configuration, placed
 from world import CLIENTS
+
+USER, ERRORS = "server.username", "/var/log/forkhost/lighttpd"
+
 
 def password(user):
     return f"{user}-secret"
@@ -31,22 +34,25 @@ class WebWorld(FrontWorld):
             os.mkdir(self.path(name))
         self.write("users", "".join(f"{tenant.upper()} {tenant}\n" for tenant in self.names))
         self.write("passwords", "".join(hashed(user) for user in [*map(str.upper, self.names), "NOBODY"]))
-        self.write("lighttpd.conf", self.configured(self.folder))
+        self.write("lighttpd.conf", self.configured())
         return [server, "-D", "-f", self.path("lighttpd.conf")]
 
-    def configured(self, place):
-        """The configuration of docs/OPERATING.md, with the places of this test, run by whoever runs the test."""
-        lines = configuration().replace("/etc/forkhost", place).replace("/usr/local/bin", CLIENTS)
-        for old, name in {"/var/empty": "pages", "/var/lib/forkhost/uploads": "uploads"}.items():
+    def configured(self):
+        """The configuration of docs/OPERATING.md, with the places of this test."""
+        lines = configuration().replace("/etc/forkhost", self.folder).replace("/usr/local/bin", CLIENTS)
+        for old, name in {"/var/empty": "pages", "/var/lib/forkhost/uploads": "uploads", ERRORS: "errors"}.items():
             lines = lines.replace(old, self.path(name))
-        lines = lines.replace("/var/log/lighttpd/error.log", self.path("errors")).replace("8080", str(self.port))
-        return "".join(row for row in lines.splitlines(True) if not row.startswith("server.username"))
+        return self.near(lines)
+
+    def near(self, lines):
+        """With a port of this test, run by whoever runs the test."""
+        return "".join(row for row in lines.replace("8080", str(self.port)).splitlines(True) if not row.startswith(USER))
 
     def follow_page(self):
-        """The server begins anew, with the settings and the users that the page's commands have made."""
+        """The server begins anew, with the settings and the users that the page's commands have made, in its folders."""
         self.server.terminate()
         self.server.communicate()
-        self.write("lighttpd.conf", self.configured(self.path("page")))
+        self.write("lighttpd.conf", self.near(placed(self, configuration())))
         words = [found("lighttpd", "lighttpd"), "-D", "-f", self.path("lighttpd.conf")]
         self.server = subprocess.Popen(words, stdin=subprocess.DEVNULL, stderr=subprocess.PIPE)
         self.wait()

@@ -14,6 +14,7 @@ use Rattle.git_name.specs.Same.{same_name}
 use Rattle.git_name.proofs.MapLemmas.{get_map_values, map_values_empty}
 use Rattle.git_name.proofs.Names.{name_exact, name_total}
 use Rattle.number_sets.specs.Numbers.{has}
+use Rattle.object_table.specs.Adopted.{AllAlike}
 use Rattle.object_table.specs.Clashes.{AreAs, Clash, DescribesUnheld, HasRow, IsAs, RowClash}
 use Rattle.object_table.specs.Coming.{coming_at, coming_in, entry_under}
 use Rattle.object_table.specs.declared.entry.Entry.{Entry}
@@ -219,6 +220,18 @@ word_as rows m t name word are is = by (get m t) refl (ap (λ w. get w name) (le
         at : (o : Option Row) → row_in rows name ≡ o → option_and_then (word_in own) o ≡ Some word → (row : Row) × (row_in rows name ≡ Some row) × IsAs row.kind row.length word
         at None stands says = none_is_some _ word says
         at (Some row) stands says = (row, stands, alike_by row (has own.visible row.number) (has own.staged row.number) word says)
+
+-- so what two ledgers say of it is alike
+pub all_alike : (rows : Rows) (m : FinMap name_cmp Sets) → AreRows rows → AllAlike (all_words rows m)
+all_alike rows m are one other name first next says tells =
+    let mine = word_as rows m one name first are says in
+    let its = word_as rows m other name next are tells in
+    let both : Some mine.0 ≡ Some its.0 = sym mine.1 ∙ its.1 in
+    let same : mine.0 ≡ its.0 = cc in
+    record {
+      kind = its.2.kinds ∙ ap (λ (r : Row). r.kind) (sym same) ∙ sym mine.2.kinds;
+      length = its.2.lengths ∙ ap (λ (r : Row). r.length) (sym same) ∙ sym mine.2.lengths;
+    }
 
 -- ---- what comes is of its rows
 has_row : (rows : Rows) (sets : Option Sets) (name : List ℕ) (word : Word) → AreRows rows → get (words_under rows sets) name ≡ Some word → HasRow rows (entry_under name word)

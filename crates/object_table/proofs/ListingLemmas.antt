@@ -1,16 +1,21 @@
 -- The names of what a tenant sees, number by number.
-use Rattle.std.proofs.Common.{◌≡◌, ◌≢◌, ℕ, ◌+◌, ◌<◌, ◌≤◌, Bool, true, false, ◌||◌, ◌&&◌, nat_lt, List, [], ◌∷◌, ◌++◌, Option, None, Some, is_some, refl, sym, ap, ◌∙◌, arith}
+use Rattle.std.proofs.Common.{◌≡◌, ◌≢◌, ℕ, ◌+◌, ◌<◌, ◌≤◌, Bool, true, false, ◌||◌, ◌&&◌, nat_lt, List, [], ◌∷◌, ◌++◌, length, Option, None, Some, is_some, refl, sym, ap, ◌∙◌, arith}
 use Rattle.std.specs.List.{AllByRecursion, IsDistinct, list_any}
 use Rattle.std.specs.BTreeMap.{is_at}
 use Rattle.std.specs.Map.{keys_of}
 use Rattle.std.specs.Option.{option_and_then, option_map_or}
-use Rattle.std.specs.FinMap.{contains_key, empty, keys}
+use Rattle.std.specs.Cmp.{eq_by_cmp_equiv}
+use Rattle.std.specs.FinMap.{FinMap, contains_key, contains_key-keys, empty, entries, keys, len, len-entries}
 use Rattle.std.proofs.lemmas.Bool.{lt-ltb, ltb-false, ltb-true}
 use Rattle.std.proofs.lemmas.Cmp.{nat_list_eq_equiv}
+use Rattle.std.proofs.lemmas.List.{length-map}
+use Rattle.std.proofs.lemmas.Map.Keys.{IsDistinct-from_sorted}
+use Rattle.std.proofs.lemmas.Map.Made.{length-from_same_keys}
 use Rattle.git_name.specs.Name.{name_cmp}
 use Rattle.git_name.specs.Same.{is_listed, same_name}
-use Rattle.git_name.proofs.HashMaps.{one_test}
+use Rattle.git_name.proofs.HashMaps.{distinct_by_order, one_test}
 use Rattle.git_name.proofs.Names.{name_exact, name_total}
+use Rattle.git_name.proofs.SortedNames.{sorted_entries}
 use Rattle.number_sets.specs.Numbers.{has}
 use Rattle.object_table.specs.Chosen.{chosen_in}
 use Rattle.object_table.specs.declared.row.Row.{Row}
@@ -25,6 +30,9 @@ use Rattle.object_table.proofs.ViewLemmas.{get_words}
 
 pub no_names : (p : Word → Bool) → keys (words_that p empty) ≡ []
 no_names p = ap keys_of (entries_chosen name_total (λ _ word. kept_as (p word) word) empty ∙ ap (chosen_in (λ _ word. kept_as (p word) word)) (entries_of_none name_cmp))
+
+pub none_counted : (p : Word → Bool) → len (words_that p empty) ≡ 0
+none_counted p = len-entries (words_that p empty) ∙ sym (length-map (entries (words_that p empty)) (λ e. e.0)) ∙ ap (λ (ks : List (List ℕ)). length ks) (no_names p)
 
 -- whether a name is seen, of a number below this one
 abbrev pub seen_below : Rows → Sets → ℕ → List ℕ → Bool
@@ -118,3 +126,10 @@ distinct_none = tt
 pub listed_alike : (names : List (List ℕ)) (q : List ℕ) → list_any (is_at (name_cmp q)) names ≡ is_listed names q
 listed_alike [] q = refl
 listed_alike (name ∷ names) q = ap (λ b. b || list_any (is_at (name_cmp q)) names) (sym (one_test q name)) ∙ ap (λ b. same_name q name || b) (listed_alike names q)
+
+-- names that differ are as many as the entries of a map that has just them
+pub count_listed : {X : Type 0} (m : FinMap name_cmp X) (names : List (List ℕ)) → IsDistinct same_name names → ((q : List ℕ) → is_listed names q ≡ contains_key m q) → length names ≡ len m
+count_listed m names distinct listed =
+    length-from_same_keys (eq_by_cmp_equiv name_total) names (keys m) (distinct_by_order names distinct) (IsDistinct-from_sorted name_cmp (keys m) (sorted_entries m))
+    (λ q. listed_alike names q ∙ listed q ∙ contains_key-keys m q)
+    ∙ length-map (entries m) (λ e. e.0) ∙ sym (len-entries m)

@@ -6,6 +6,7 @@ use Rattle.object_table.specs.declared.word.Standing.{Standing}
 use Rattle.object_table.specs.declared.word.Standing.TheVariants.{Visible, Staged, Both}
 use Rattle.object_table.specs.declared.word.Word.{Word}
 use Rattle.object_table.specs.Chosen.{chosen}
+use Rattle.object_table.specs.Ledgers.{AllWords, word_at}
 use Rattle.object_table.specs.Words.{Words, is_visible, kept_as, seen_word, with_standing, words_that}
 
 -- seen beside what it was
@@ -38,3 +39,7 @@ pub record IsAlike (comes word : Word) : Type 0 where
 -- where both have a word of a name, the words are alike
 abbrev pub Fits : Words → Words → Type 0
 Fits offered words = (name : List ℕ) (comes word : Word) → get offered name ≡ Some comes → get words name ≡ Some word → IsAlike comes word
+
+-- what any two ledgers say of one name is alike
+abbrev pub AllAlike : AllWords → Type 0
+AllAlike ledgers = (one other name : List ℕ) (first next : Word) → word_at ledgers one name ≡ Some first → word_at ledgers other name ≡ Some next → IsAlike first next

@@ -5,7 +5,7 @@ ghost use Rattle.std.specs.Option.{option_map_or};
 ghost use Rattle.git_name.specs.Same.{is_listed, same_name};
 ghost use Rattle.looks.specs.Growth.{GrowsAmong};
 ghost use Rattle.looks.specs.Places.{at_start, looked_at};
-ghost use Rattle.object_table.specs.Adopted.{adopted_words, offered_words, shown_beside};
+ghost use Rattle.object_table.specs.Adopted.{AllAlike, adopted_words, offered_words, shown_beside};
 ghost use Rattle.object_table.specs.AllStaged.{AreListed, all_staged_words};
 ghost use Rattle.object_table.specs.Clashes.{AreAs, Clash};
 ghost use Rattle.object_table.specs.Holders.{AreHeld, holders_of, is_held_in};
@@ -19,7 +19,7 @@ use crate::coming::{coming, use_with_coming, word_under};
 use crate::describing::{describe_all, is_as};
 use crate::entry::Entry;
 use crate::ledgers::Ledgers;
-use crate::listing::seen_names;
+use crate::listing::{count_seen, seen_names};
 use crate::name_set::NameSet;
 use crate::stage_fault::StageFault;
 use crate::table::Table;
@@ -124,6 +124,13 @@ impl Holdings {
         ensures { IfOk result (λ names. names.items ≡ map.keys (words_that is_visible (ledger_at self.now.ledgers tenant.now))) }
     {
         names_in(alloc, &self.table, &self.ledgers, tenant)
+    }
+
+    /// How many objects a tenant sees, in linear time of them.
+    pub fn seen_count(&self, tenant: &TenantName) -> usize
+        ensures { result ≡ map.len (words_that is_visible (ledger_at self.now.ledgers tenant.now)) }
+    {
+        seen_count_in(&self.table, &self.ledgers, tenant)
     }
 
     /// What the objects use that a tenant sees, in constant time behind the look-up of the tenant.
@@ -302,6 +309,13 @@ impl Holdings {
         let _ledgers = &self.ledgers;
     }
 
+    /// A law, and no work: what ledgers say of one name is of one kind and length.
+    pub fn words_are_alike(&self)
+        ensures { AllAlike self.now.ledgers }
+    {
+        self.table.invariant();
+    }
+
     /// Passes over the name that the next look falls at.
     pub fn pass(&mut self)
         requires { 0 < length (places_of self.old.catalogue).names }
@@ -355,6 +369,16 @@ fn names_in(
         return Ok(Vec::new(alloc));
     };
     seen_names(alloc, table, ledger)
+}
+
+fn seen_count_in(table: &Table, ledgers: &Ledgers, tenant: &TenantName) -> usize
+    requires held { AreHeld table.now.entries ledgers.now }
+    ensures { result ≡ map.len (words_that is_visible (ledger_at (all_words table.now.entries ledgers.now) tenant.now)) }
+{
+    let Some(ledger) = ledgers.get(tenant) else {
+        return 0;
+    };
+    count_seen(table, ledger)
 }
 
 fn used_in(table: &Table, ledgers: &Ledgers, tenant: &TenantName) -> u128

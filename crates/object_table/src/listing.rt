@@ -1,6 +1,6 @@
-// The names of what a tenant sees.
+// The names of what a tenant sees, and how many they are.
 ghost use Rattle.std.specs.Prelude.{◌≡◌, IfOk, ℕ, List, false};
-ghost use Rattle.std.specs.FinMap.{contains_key, keys};
+ghost use Rattle.std.specs.FinMap.{contains_key, keys, len};
 ghost use Rattle.std.specs.List.{IsDistinct};
 ghost use Rattle.git_name.specs.Same.{is_listed, same_name};
 ghost use Rattle.object_table.specs.Views.{IsOwn, words_of};
@@ -42,4 +42,22 @@ pub(crate) fn seen_names(
     let mut names = seen_among(alloc, table, own)?;
     names.sort_unstable();
     Ok(names)
+}
+
+// How many names are seen, by number.
+pub(crate) fn count_seen(table: &Table, own: &Ledger) -> usize
+    requires own { IsOwn table.now.entries own.now }
+    ensures { result ≡ len (words_that is_visible (words_of table.now.entries own.now)) }
+{
+    table.invariant();
+    let mut count = 0;
+    let mut from = 0u32;
+    while let Some(n) = own.next_seen(from) {
+        let Some(_entry) = table.numbered(n) else {
+            unreachable!();
+        };
+        count += 1;
+        from = n + 1;
+    }
+    count
 }

@@ -1,10 +1,12 @@
 -- What a vault tells of a tenant's objects, by its ledger.
-use Rattle.std.proofs.Common.{◌≡◌, ◌≢◌, ◌+◌, ℕ, List, [], ◌∷◌, Bool, true, false, Option, Some, None, Result, Ok, Err, is_some, refl, sym, ap, ◌∙◌}
+use Rattle.std.proofs.Common.{◌≡◌, ◌≢◌, ◌+◌, ℕ, List, [], ◌∷◌, Bool, true, false, Option, Some, None, Result, Ok, Err, is_some, length, refl, sym, ap, ◌∙◌}
 use Rattle.std.specs.Prelude.{IfErr, if◌then◌else◌}
 use Rattle.std.specs.List.{cons_option}
 use Rattle.std.specs.Map.{keys_of}
 use Rattle.std.specs.Option.{option_map, option_map_or}
-use Rattle.std.specs.FinMap.{contains_key, entries, get, keys}
+use Rattle.std.specs.FinMap.{FinMap, contains_key, entries, get, keys, len, len-entries}
+use Rattle.std.proofs.lemmas.List.{length-map}
+use Rattle.git_name.specs.Name.{name_cmp}
 use Rattle.git_name.specs.Object.{Object}
 use Rattle.git_name.proofs.Names.{name_total, name_exact}
 use Rattle.fork_reach.specs.Objects.{use_of, use_of_object}
@@ -117,6 +119,13 @@ names_shown files words =
     by : (k : List ℕ) (word : Word) (b : Bool) → is_some (kept_as b word) ≡ is_some (if b then Some (object_at files k word) else None)
     by k word true = refl
     by k word false = refl
+
+-- and as many objects as names
+len_keys : {X : Type 0} (m : FinMap name_cmp X) → len m ≡ length (keys m)
+len_keys m = len-entries m ∙ sym (length-map (entries m) (λ entry. entry.0))
+
+pub count_shown : (files : Files) (words : Words) → len (words_that is_visible words) ≡ len (part is_visible files words)
+count_shown files words = len_keys (words_that is_visible words) ∙ ap (λ (ks : List (List ℕ)). length ks) (names_shown files words) ∙ sym (len_keys (part is_visible files words))
 
 -- ---- use
 pub use_at : (files : Files) (name : List ℕ) (word : Word) → use_of_object (object_at files name word) ≡ use_of_word word

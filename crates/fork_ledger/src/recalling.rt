@@ -11,10 +11,9 @@ ghost use Rattle.fork_ledger.specs.Kept.{Covers, IsExact};
 
 use fork_request::TenantName;
 use git_name::{Kind, Name};
-use object_table::Holdings;
+use object_table::{Holdings, StageFault};
 use loose_store::LooseFiles;
 use read_cache::CachedStore;
-use std::alloc::AllocError;
 use thiserror::Error;
 
 /// Why an object was not recalled.
@@ -44,10 +43,11 @@ pub(crate) fn recall_known<S: LooseFiles>(
     if !files.knows(name, kind, length) {
         return Err(RecallFault::Unknown);
     }
-    let Ok(()) = recall(holdings, tenant, name, kind, length) else {
-        return Err(RecallFault::Memory);
-    };
-    Ok(())
+    match recall(holdings, tenant, name, kind, length) {
+        Ok(()) => Ok(()),
+        Err(StageFault::Memory) => Err(RecallFault::Memory),
+        Err(StageFault::Clash) => Err(RecallFault::Unknown),
+    }
 }
 
 // Stages an object of this name, kind and length, and catalogues its name where it is not.
@@ -57,7 +57,7 @@ fn recall(
     name: Name,
     kind: Kind,
     length: u64,
-) -> Result<(), AllocError>
+) -> Result<(), StageFault>
     ensures ok { OnOk result (holdings.new.ledgers ≡ at_ledger holdings.old.ledgers tenant.now (staged_words name kind length)) }
     ensures err { OnErr result (holdings.new.ledgers ≡ holdings.old.ledgers) }
     ensures grows { GrowsAmong (name ∷ []) (places_of holdings.old.catalogue) (places_of holdings.new.catalogue) }
@@ -65,10 +65,7 @@ fn recall(
     ensures exact { (files : Files) → contains_key files name ≡ true → IsExact files (places_of holdings.old.catalogue) → IsExact files (places_of holdings.new.catalogue) }
 {
     let Ok(()) = holdings.enter(name) else {
-        return Err(AllocError);
+        return Err(StageFault::Memory);
     };
-    let Ok(_) = holdings.stage(tenant, name, kind, length) else {
-        return Err(AllocError);
-    };
-    Ok(())
+    holdings.stage(tenant, name, kind, length)
 }

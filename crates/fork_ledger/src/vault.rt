@@ -1,10 +1,10 @@
-ghost use Rattle.std.specs.Prelude.{◌≡◌, ◌≢◌, ◌⊎◌, ◌≤◌, ◌<◌, ◌+◌, ◌∷◌, ℕ, List, [], false, true, length, map as map_list, IsTrue, OnOk, OnErr, IfOk, IfErr, IfSome, Some, is_some, nat_le};
+ghost use Rattle.std.specs.Prelude.{◌≡◌, ◌≢◌, ◌⊎◌, ◌≤◌, ◌<◌, ◌+◌, ◌∷◌, ℕ, List, [], Contains, Err, false, true, length, map as map_list, IsTrue, OnOk, OnErr, IfOk, IfErr, IfSome, Some, is_some, nat_le};
 ghost use Rattle.std.specs.FinMap as map;
 ghost use Rattle.std.specs.HashSet.{contains};
 ghost use Rattle.std.specs.List.{AllByRecursion};
 ghost use Rattle.std.specs.Result.{IsOk};
 ghost use Rattle.git_name.specs.Maps.{joined};
-ghost use Rattle.git_name.specs.Object.{object_name};
+ghost use Rattle.git_name.specs.Object.{Object, object_name};
 ghost use Rattle.git_name.specs.Same.{is_listed, same_name};
 ghost use Rattle.git_name.specs.Count.{fault_in};
 ghost use Rattle.commit_graph.specs.Graph.{IsGraph, name_at, parents_at};
@@ -19,7 +19,7 @@ ghost use Rattle.fork_ledger.specs.Checked.{WasAsked};
 ghost use Rattle.fork_ledger.specs.Harms.{AreFound};
 ghost use Rattle.fork_ledger.specs.Kept.{IsExact, TakesAway};
 ghost use Rattle.fork_ledger.specs.Private.{AreAlike, AreAmong, both_of, held_in, with_adopted, with_discarded, with_kept, with_published, with_staged};
-ghost use Rattle.fork_ledger.specs.Store.{AsksStore, HoldOne, IsOver, LeavesStore, Meets, Recalls, StoresAlone};
+ghost use Rattle.fork_ledger.specs.Store.{AsksStore, HoldOne, IsOver, LeavesStore, Meets, MeetsHeld, Recalls, StoresAlone};
 ghost use Rattle.fork_ledger.specs.Swept.{IsAccounted};
 ghost use Rattle.fork_ledger.specs.Taken.{is_taken};
 ghost use Rattle.fork_ledger.specs.Tenants.{at_tenant, private_of, shape_of, with_tenant};
@@ -290,7 +290,8 @@ impl<S: LooseFiles> Vault<S> {
     /// Stages an object for a tenant. Where the tenant has staged one of its name, that one stays;
     /// where it sees one, that one stands for it. Where no file of the name stands one is written. A
     /// whole file is compared and never written over; one that is not whole is written anew, where no
-    /// tenant sees the name or has staged it.
+    /// tenant sees the name or has staged it. Where some tenant has an object of its name that is of
+    /// another kind or length, that is told before anything is read.
     pub fn stage(
         &mut self,
         alloc: Global,
@@ -308,6 +309,7 @@ impl<S: LooseFiles> Vault<S> {
         ensures grows { GrowsAmong (object_name sealed ∷ []) self.old.places self.new.places }
         ensures shape { OnOk result (shape_of self.new.tenants ≡ shape_of (at_tenant self.old.tenants tenant.now (with_staged sealed))) }
         ensures kept { OnErr result (shape_of self.new.tenants ≡ shape_of self.old.tenants) }
+        ensures met { MeetsHeld sealed self.old.tenants → (result ≡ Err VaultFault.Collision) × (self.new ≡ self.old) }
         ensures store { AsksStore self.old self.new (fault_in result) }
     {
         stage_whole(alloc, &mut self.files, &mut self.holdings, tenant, sealed)
@@ -334,6 +336,7 @@ impl<S: LooseFiles> Vault<S> {
         ensures grows { GrowsAmong (map_list object_name objects.items) self.old.places self.new.places }
         ensures shape { OnOk result (shape_of self.new.tenants ≡ shape_of (at_tenant self.old.tenants tenant.now (with_all_staged objects.items))) }
         ensures kept { OnErr result (shape_of self.new.tenants ≡ shape_of self.old.tenants) }
+        ensures met { (object : Object) → Contains objects.items object → MeetsHeld object self.old.tenants → (result ≡ Err VaultFault.Collision) × (self.new ≡ self.old) }
         ensures store { AsksStore self.old self.new (fault_in result) }
     {
         stage_all_whole(alloc, &mut self.files, &mut self.holdings, tenant, objects)
@@ -371,6 +374,13 @@ impl<S: LooseFiles> Vault<S> {
         ensures { IfOk result (λ names. names.items ≡ map.keys (private_of self.now.tenants tenant.now).visible) }
     {
         self.holdings.names(alloc, tenant)
+    }
+
+    /// How many objects a tenant sees, in linear time of what it holds.
+    pub fn seen_count(&self, tenant: &TenantName) -> usize
+        ensures { result ≡ map.len (private_of self.now.tenants tenant.now).visible }
+    {
+        self.holdings.seen_count(tenant)
     }
 
     /// What a tenant has staged becomes visible to it. It takes no memory, and asks no store.
@@ -413,9 +423,7 @@ impl<S: LooseFiles> Vault<S> {
     }
 
     /// A tenant comes to see the objects of these names that another one sees, beside those that it sees.
-    /// What it has staged stays. All or none, in linear time of the names; it asks no store. Where the
-    /// tenant has an object of one of these names that is of another kind or length, that is told as
-    /// damaged.
+    /// What it has staged stays. All or none, in linear time of the names; it asks no store.
     pub fn adopt(
         &mut self,
         alloc: Global,
@@ -433,6 +441,7 @@ impl<S: LooseFiles> Vault<S> {
         ensures cause { IfErr result (λ fault. (fault ≡ VaultFault.Memory) ⊎ (fault ≡ VaultFault.Damaged)) }
         ensures damaged { IfErr result (λ fault. fault ≡ VaultFault.Damaged → AreAlike (map.retain_keys (private_of self.old.tenants from.now).visible (contains same_name names.now)) (both_of (private_of self.old.tenants to.now)) → ⊥) }
     {
+        self.holdings.words_are_alike();
         let Ok(()) = self.holdings.adopt(alloc, to, from, names) else {
             return Err(VaultFault::Memory);
         };

@@ -72,6 +72,18 @@ returns-clause-kept g c =
     let new = c.stage_whole.new.files.contents in
     on_err_weaker c.stage_whole.result (λ same. ap (λ m. shape_of (tenants_of new m)) same ∙ shape_any old new c.self.inside.holdings.ledgers ∙ ap (λ s. shape_of s.tenants) c.self.view_is) c.stage_whole.ensures.err
 
+pub returns-clause-collision : goal.returns-clause-collision
+returns-clause-collision g c = λ h.
+    let was = ap (λ s. s.honest) c.self.view_is ∙ h in
+    subst (λ (s : VaultState). IfErr c.stage_whole.result (λ fault. fault ≡ Collision → Meets c.args.sealed s.files)) c.self.view_is
+    (c.stage_whole.ensures.collision was (c.self.invariant was).0.stored)
+
+pub returns-clause-met : goal.returns-clause-met
+returns-clause-met g c = λ met.
+    let files = c.self.inside.files.contents in
+    let told = c.stage_whole.ensures.met (held_refuses files c.self.inside.holdings.ledgers c.args.sealed (subst (λ (s : VaultState). MeetsHeld c.args.sealed s.tenants) (sym c.self.view_is) met)) in
+    (told.0, (λ i. state_of (told.1 i) (told.2 i) c.self.inside.graph) ∙ c.self.view_is)
+
 pub returns-clause-store : goal.returns-clause-store
 returns-clause-store g c = record {
   honest = c.stage_whole.ensures.honest ∙ ap (λ s. s.honest) c.self.view_is;

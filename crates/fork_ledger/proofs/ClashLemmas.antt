@@ -15,16 +15,27 @@ use Rattle.object_table.specs.Ledgers.{AllWords, ledger_at, word_at}
 use Rattle.object_table.specs.Told.{entry_of}
 use Rattle.object_table.specs.Words.{Words, is_staged, is_visible}
 use Rattle.object_table.proofs.HolderLemmas.{held_at, someone_has}
+use Rattle.commit_graph.specs.Graph.{Commits}
+use Rattle.object_table.specs.Holders.{HoldingsState}
+use Rattle.object_table.specs.Rows.{places_of}
+use Rattle.read_cache.specs.Stores.{StoreState}
 use Rattle.loose_store.specs.Files.{Files}
 use Rattle.loose_store.specs.Stored.{Whole}
 use Rattle.fork_ledger.specs.AllStaged.{AllWhole, IsAsTold, MeetsAmong}
 use Rattle.fork_ledger.specs.Private.{Awaits, Holds, Private, Sees, both_of}
 use Rattle.fork_ledger.specs.Shown.{object_at, tenants_of}
 use Rattle.fork_ledger.specs.Store.{IsStored, Meets, MeetsHeld}
-use Rattle.fork_ledger.specs.Tenants.{private_of}
+use Rattle.fork_ledger.specs.Tenants.{VaultState, private_of}
 use Rattle.fork_ledger.proofs.AdoptedStore.{held_both}
 use Rattle.fork_ledger.proofs.ShownLemmas.{both_shown, kind_at, length_at, private_shown, seen_at, shown_at, staged_at}
 use Rattle.fork_ledger.proofs.StoreLemmas.{one_whole}
+
+-- what is told of an object's entry is told of the object
+pub as_told : (m : AllWords) (object : Object) (entry : Entry) → entry ≡ entry_of object → AreAs m entry.name entry.kind entry.length → IsAsTold m object
+as_told m object entry is told = subst (λ (e : Entry). AreAs m e.name e.kind e.length) is told
+
+pub not_told : (m : AllWords) (object : Object) (entry : Entry) → entry ≡ entry_of object → (AreAs m entry.name entry.kind entry.length → ⊥) → IsAsTold m object → ⊥
+not_told m object entry is refuses told = refuses (subst (λ (e : Entry). AreAs m e.name e.kind e.length) (sym is) told)
 
 -- ---- words, and what tenants have
 -- the object of a word that some ledger has is held
@@ -128,3 +139,19 @@ no_clash files m n objects still whole told clash = elim clash.met [ inl refuses
         let one = one_whole files clash.entry.name mine.0 its.0 mine.2 (subst (λ n. Whole files n its.0) (sym other.2.named) its.2) in
         let same = sym mine.1 ∙ ap entry_of one ∙ its.1 in
         other.2.apart (ap (λ (e : Entry). e.kind) same) (ap (λ (e : Entry). e.length) same))
+
+-- ---- a vault
+-- what a vault shows over a store and holdings
+abbrev pub shown_over : StoreState → HoldingsState → Commits → VaultState
+shown_over store holdings commits = record {
+  tenants = tenants_of store.contents holdings.ledgers;
+  files = store.contents;
+  honest = store.honest;
+  failures = store.failures;
+  places = places_of holdings.catalogue;
+  commits = commits;
+}
+
+-- both as they were
+pub vault_still : (store store_now : StoreState) (holdings holdings_now : HoldingsState) (commits : Commits) → store_now ≡ store → holdings_now ≡ holdings → shown_over store_now holdings_now commits ≡ shown_over store holdings commits
+vault_still store store_now holdings holdings_now commits same still = λ i. shown_over (same i) (still i) commits

@@ -1,4 +1,4 @@
-use Rattle.std.proofs.Common.{ap, map, sym, subst, ◌∙◌}
+use Rattle.std.proofs.Common.{◌≡◌, ap, map, sym, subst, ◌∙◌}
 use Rattle.std.specs.FinMap.{contains_key}
 use Rattle.std.specs.Prelude.{IfErr}
 use Rattle.std.proofs.lemmas.Result.{on_err_weaker, on_ok_weaker}

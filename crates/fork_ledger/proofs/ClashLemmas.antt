@@ -82,11 +82,11 @@ clash_meets files m object stored clash = by (is_held_in m (object_name object))
           object_at files name word,
           whole,
           λ same. clash (λ t it tells.
-          let one = one_whole files name (object_at files name it) (object_at files name word) (stored t name (object_at files name it) (word_held files m t name it tells)) whole ∙ same in
-          record {
-            kinds = sym (kind_at files name it) ∙ ap (λ (o : Object). o.kind) one;
-            lengths = sym (length_at files name it) ∙ ap (λ (o : Object). length o.bytes) one;
-          }),
+              let one = one_whole files name (object_at files name it) (object_at files name word) (stored t name (object_at files name it) (word_held files m t name it tells)) whole ∙ same in
+              record {
+                kinds = sym (kind_at files name it) ∙ ap (λ (o : Object). o.kind) one;
+                lengths = sym (length_at files name it) ∙ ap (λ (o : Object). length o.bytes) one;
+              }),
         ))
 
     by : (b : Bool) → is_held_in m name ≡ b → Meets object files

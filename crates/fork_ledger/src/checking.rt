@@ -10,8 +10,8 @@ use crate::fault::VaultFault;
 use crate::harms::Harms;
 use fork_request::Harm;
 use git_name::Name;
-use object_table::Holdings;
 use loose_store::{LooseFiles, StoreFault};
+use object_table::Holdings;
 use read_cache::CachedStore;
 use std::alloc::Global;
 

@@ -11,8 +11,8 @@ ghost use Rattle.fork_ledger.specs.Store.{CountsFault};
 use crate::fault::VaultFault;
 use commit_graph::Graph;
 use git_name::Name;
-use object_table::Holdings;
 use loose_store::{FileFault, LooseFiles};
+use object_table::Holdings;
 use read_cache::CachedStore;
 use std::alloc::Global;
 

@@ -11,8 +11,8 @@ ghost use Rattle.fork_ledger.specs.Kept.{Covers, IsExact};
 
 use fork_request::TenantName;
 use git_name::{Kind, Name};
-use object_table::{Holdings, StageFault};
 use loose_store::LooseFiles;
+use object_table::{Holdings, StageFault};
 use read_cache::CachedStore;
 use thiserror::Error;
 

@@ -16,8 +16,8 @@ ghost use Rattle.fork_ledger.specs.Store.{CountsFault, Meets, StoresAlone};
 use crate::arrival::arrive;
 use crate::fault::VaultFault;
 use git_name::Sealed;
-use object_table::{Entry, Holdings};
 use loose_store::LooseFiles;
+use object_table::{Entry, Holdings};
 use read_cache::CachedStore;
 use std::alloc::{AllocError, Global};
 

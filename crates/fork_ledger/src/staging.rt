@@ -22,8 +22,8 @@ use crate::fault::VaultFault;
 use crate::receiving::{entries_of, receive, receive_all};
 use fork_request::TenantName;
 use git_name::Sealed;
-use object_table::{Entry, Holdings, StageFault};
 use loose_store::LooseFiles;
+use object_table::{Entry, Holdings, StageFault};
 use read_cache::CachedStore;
 use std::alloc::Global;
 
@@ -131,8 +131,8 @@ fn may_stage_all(holdings: &Holdings, objects: &[Sealed]) -> bool
     ensures clash { result ≡ false → (object : Object) × Contains objects.now object × (IsAsTold holdings.now.ledgers object → ⊥) }
 {
     for sealed in objects {
-        let entry = Entry::of(sealed);
-        if !holdings.may_stage(entry.name, entry.kind, entry.length) {
+        let told = Entry::of(sealed);
+        if !holdings.may_stage(told.name, told.kind, told.length) {
             return false;
         }
     }

@@ -13,8 +13,8 @@ ghost use Rattle.fork_ledger.specs.Store.{CountsFault};
 use crate::fault::VaultFault;
 use crate::looking::look_once;
 use commit_graph::Graph;
-use object_table::Holdings;
 use loose_store::LooseFiles;
+use object_table::Holdings;
 use read_cache::CachedStore;
 use std::alloc::Global;
 

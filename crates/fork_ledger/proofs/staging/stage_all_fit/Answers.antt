@@ -1,4 +1,4 @@
-use Rattle.std.proofs.Common.{List, ap, map, refl, subst, ◌∙◌}
+use Rattle.std.proofs.Common.{ap, map, subst, ◌∙◌}
 use Rattle.object_table.specs.Clashes.{Clash}
 use Rattle.object_table.specs.Told.{entry_of}
 use Rattle.fork_ledger.proofs.ClashLemmas.{no_clash}

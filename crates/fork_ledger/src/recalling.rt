@@ -19,6 +19,7 @@ use thiserror::Error;
 /// Why an object was not recalled.
 #[derive(Clone, Copy, Debug, PartialEq, Eq, Error)]
 pub enum RecallFault {
+    /// Also where some tenant has an object of its name that is of another kind or length.
     #[error("no survey found the object")]
     Unknown,
     #[error("no memory")]

@@ -343,7 +343,8 @@ impl<S: LooseFiles> Vault<S> {
     }
 
     /// Stages the object of this name for a tenant that saw it before, where a survey of the store found
-    /// it there, of this kind and of so many bytes. It asks no store.
+    /// it there, of this kind and of so many bytes. It asks no store. Where some tenant has an object of its
+    /// name that is of another kind or length, it counts as not found.
     pub fn recall(
         &mut self,
         tenant: &TenantName,

@@ -6,17 +6,16 @@ use Rattle.std.specs.Option.{option_map, unwrap_or}
 use Rattle.std.specs.FinMap.{contains_key, empty, get}
 use Rattle.std.proofs.lemmas.List.Elements.{All-contains, All-map}
 use Rattle.git_name.specs.Object.{Object, object_name}
+use Rattle.commit_graph.specs.Graph.{Commits}
 use Rattle.object_table.specs.Clashes.{AreApart, AreAs, Clash}
 use Rattle.object_table.specs.declared.entry.Entry.{Entry}
 use Rattle.object_table.specs.declared.word.Word.{Word}
-use Rattle.object_table.specs.Holders.{is_held_in}
+use Rattle.object_table.specs.Holders.{HoldingsState, is_held_in}
 use Rattle.object_table.specs.Ledgers.{AllWords, ledger_at, word_at}
+use Rattle.object_table.specs.Rows.{places_of}
 use Rattle.object_table.specs.Told.{entry_of}
 use Rattle.object_table.specs.Words.{Words, is_staged, is_visible}
 use Rattle.object_table.proofs.HolderLemmas.{held_at, someone_has}
-use Rattle.commit_graph.specs.Graph.{Commits}
-use Rattle.object_table.specs.Holders.{HoldingsState}
-use Rattle.object_table.specs.Rows.{places_of}
 use Rattle.read_cache.specs.Stores.{StoreState}
 use Rattle.loose_store.specs.Files.{Files}
 use Rattle.loose_store.specs.Stored.{Whole}
@@ -114,9 +113,6 @@ clash_among files m objects stored clash =
     }
 
 -- ---- objects of which the ledgers say the same
-pub each_told : (m : AllWords) (objects : List Object) (object : Object) → All (IsAsTold m) objects → Contains objects object → IsAsTold m object
-each_told m objects object all there = All-contains (IsAsTold m) objects object all there
-
 -- an entry is of an object that stands whole
 abbrev pub IsOfWhole : Files → Entry → Type 0
 IsOfWhole files entry = (object : Object) × (entry_of object ≡ entry) × Whole files entry.name object

@@ -1,4 +1,4 @@
-ghost use Rattle.std.specs.Prelude.{◌≡◌, ◌≤◌, IfOk, IfSome, is_some};
+ghost use Rattle.std.specs.Prelude.{◌≡◌, ◌≤◌, ◌<◌, IfOk, IfSome, false, is_some};
 ghost use Rattle.std.specs.FinMap.{contains_key, remove};
 ghost use Rattle.fork_request.specs.declared.limit.TheConstants.{MAX_LIMIT};
 ghost use Rattle.state_text.specs.Kept.{states_of};
@@ -8,7 +8,7 @@ ghost use Rattle.fork_state.specs.Changed.{with_limit as limited};
 
 use crate::changing::{has, with_limit, without};
 use fork_host::{Host, NoMemory};
-use fork_request::TenantName;
+use fork_request::{MAX_LIMIT, TenantName};
 use loose_store::LooseFiles;
 use state_text::{States, write};
 use std::alloc::Global;
@@ -33,17 +33,21 @@ fn spell(alloc: Global, states: &States) -> Result<Vec<u8>, NoMemory>
     Ok(text)
 }
 
-/// The same, in which this tenant has this limit; nothing where the tenant is not there.
+/// The same, in which this tenant has this limit; nothing where the tenant is not there, or the limit is
+/// above the greatest.
 pub fn save_limited<S: LooseFiles>(
     alloc: Global,
     host: &Host<S>,
     tenant: &TenantName,
     limit: u64,
 ) -> Result<Option<Vec<u8>>, NoMemory>
-    requires { limit ≤ MAX_LIMIT }
     ensures text { IfOk result (λ found. IfSome found (λ text. IsStateText2 (states_of (limited (world_of host.now) tenant.now limit)) text.items)) }
-    ensures there { IfOk result (λ found. is_some found ≡ contains_key (world_of host.now) tenant.now) }
+    ensures there { limit ≤ MAX_LIMIT → IfOk result (λ found. is_some found ≡ contains_key (world_of host.now) tenant.now) }
+    ensures above { MAX_LIMIT < limit → IfOk result (λ found. is_some found ≡ false) }
 {
+    if limit > MAX_LIMIT {
+        return Ok(None);
+    }
     let states = host.states(alloc)?;
     if !has(&states, tenant) {
         return Ok(None);

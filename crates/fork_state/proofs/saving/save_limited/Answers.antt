@@ -8,7 +8,7 @@ use Rattle.fork_state.proofs.ChangedLemmas.{has_name, world_limited}
 use Rattle.fork_state.proofs.saving.save_limited.Goals as goal
 
 pub returns-then-not-has-clause-there : goal.returns-then-not-has-clause-there
-returns-then-not-has-clause-there g c =
+returns-then-not-has-clause-there g c within =
     let none : false ≡ c.has.result = search rules in
     none ∙ c.has.ensures ∙ ap (λ (states : States). list_any (λ tenant. is_name c.args.tenant.now tenant.name) states) c.in_ok-states.ensures ∙ has_name (world_of c.args.host.now) c.args.tenant.now
 
@@ -18,6 +18,6 @@ returns-in-Ok-spell-clause-text g c =
     (c.in-Ok.ensures ∙ ap (states_limited c.args.tenant.now c.args.limit) c.in_ok-states.ensures ∙ world_limited (world_of c.args.host.now) c.args.tenant.now c.args.limit) c.in-Ok-spell.ensures
 
 pub returns-in-Ok-spell-clause-there : goal.returns-in-Ok-spell-clause-there
-returns-in-Ok-spell-clause-there g c =
+returns-in-Ok-spell-clause-there g c within =
     let some : true ≡ c.has.result = search rules in
     some ∙ c.has.ensures ∙ ap (λ (states : States). list_any (λ tenant. is_name c.args.tenant.now tenant.name) states) c.in_ok-states.ensures ∙ has_name (world_of c.args.host.now) c.args.tenant.now

@@ -9,16 +9,16 @@ use Rattle.git_name.proofs.MapLemmas.{get_joined}
 use Rattle.git_name.proofs.Names.{name_total, name_exact}
 use Rattle.fork_reach.specs.Objects.{Measures, measures_of, use_of, use_of_object}
 use Rattle.fork_reach.specs.Source.{Objects}
-use Rattle.ledgers.specs.Adopted.{Fits, IsAlike, adopted_words, offered_words, seen_if, seen_too, shown_beside}
-use Rattle.ledgers.specs.Ledgers.{AllWords, at_ledger, ledger_at}
-use Rattle.ledgers.specs.Totals.{total_of, use_of_word}
-use Rattle.ledgers.specs.Words.{Words, is_staged, is_visible, kept_as, seen_word, shows, waits, with_standing}
-use Rattle.ledgers.specs.declared.word.Standing.{Standing}
-use Rattle.ledgers.specs.declared.word.Standing.TheVariants.{Visible, Staged, Both}
-use Rattle.ledgers.specs.declared.word.Word.{Word}
-use Rattle.ledgers.proofs.AdoptLemmas.{adopted, offer, offered_at, word_adopted}
-use Rattle.ledgers.proofs.RoomLemmas.{beside, beside_at}
-use Rattle.ledgers.proofs.SumLemmas.{same_sums, worth}
+use Rattle.object_table.specs.Adopted.{Fits, IsAlike, adopted_words, offered_words, seen_if, seen_too, shown_beside}
+use Rattle.object_table.specs.Ledgers.{AllWords, at_ledger, ledger_at}
+use Rattle.object_table.specs.Totals.{total_of, use_of_word}
+use Rattle.object_table.specs.Words.{Words, is_staged, is_visible, kept_as, seen_word, shows, waits, with_standing}
+use Rattle.object_table.specs.declared.word.Standing.{Standing}
+use Rattle.object_table.specs.declared.word.Standing.TheVariants.{Visible, Staged, Both}
+use Rattle.object_table.specs.declared.word.Word.{Word}
+use Rattle.object_table.proofs.AdoptLemmas.{adopted, offer, offered_at, word_adopted}
+use Rattle.object_table.proofs.RoomLemmas.{beside, beside_at}
+use Rattle.object_table.proofs.SumLemmas.{same_sums, worth}
 use Rattle.loose_store.specs.Files.{Files}
 use Rattle.fork_ledger.specs.Private.{AreAmong, Private, private_measures, with_adopted}
 use Rattle.fork_ledger.specs.Shown.{object_at, own_of, part, resized, tenants_of}

@@ -4,11 +4,11 @@ use Rattle.std.specs.Prelude.{IfErr}
 use Rattle.std.proofs.lemmas.List.Elements.{All-head, All-tail}
 use Rattle.git_name.specs.Object.{Object, object_name}
 use Rattle.fork_reach.specs.Objects.{measure_of, with_objects}
-use Rattle.ledgers.specs.AllStaged.{all_staged_words}
-use Rattle.ledgers.specs.Holders.{is_held_in}
-use Rattle.ledgers.specs.Ledgers.{AllWords, at_ledger}
-use Rattle.ledgers.specs.Told.{entry_of}
-use Rattle.ledgers.specs.Words.{Words, staged_over, staged_words}
+use Rattle.object_table.specs.AllStaged.{all_staged_words}
+use Rattle.object_table.specs.Holders.{is_held_in}
+use Rattle.object_table.specs.Ledgers.{AllWords, at_ledger}
+use Rattle.object_table.specs.Told.{entry_of}
+use Rattle.object_table.specs.Words.{Words, staged_over, staged_words}
 use Rattle.loose_store.specs.Files.{Files}
 use Rattle.loose_store.specs.Stored.{Whole}
 use Rattle.fork_ledger.specs.AllStaged.{AllWhole, StaysWhole, with_all_staged}

@@ -13,7 +13,7 @@ use Rattle.git_name.specs.Name.{name_cmp}
 use Rattle.git_name.specs.Object.{Object, object_name, typed_bytes}
 use Rattle.git_name.proofs.Names.{name_total, name_exact}
 use Rattle.git_name.specs.Same.{is_listed, same_name}
-use Rattle.catalogue.proofs.PlaceLemmas.{one_name}
+use Rattle.object_table.proofs.PlaceLemmas.{one_name}
 use Rattle.fork_request.specs.declared.harm.Harm.{Harm}
 use Rattle.fork_request.specs.declared.harm.Harm.TheVariants.{Lost, Damaged}
 use Rattle.loose_store.specs.Files.{Files, SameBut}

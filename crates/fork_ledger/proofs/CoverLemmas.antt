@@ -9,9 +9,9 @@ use Rattle.git_name.specs.Name.{name_cmp}
 use Rattle.git_name.proofs.Names.{name_total}
 use Rattle.git_name.specs.Same.{is_listed, same_name}
 use Rattle.looks.specs.Places.{Places}
-use Rattle.catalogue.specs.Counted.{LooksNextAt}
-use Rattle.catalogue.proofs.PlaceLemmas.{one_name, own_name}
-use Rattle.ledgers.proofs.HolderLemmas.{same_tests}
+use Rattle.object_table.specs.Rows.{LooksNextAt}
+use Rattle.object_table.proofs.PlaceLemmas.{one_name, own_name}
+use Rattle.object_table.proofs.HolderLemmas.{same_tests}
 use Rattle.loose_store.specs.Files.{Files, SameBut}
 use Rattle.fork_ledger.specs.Kept.{Covers, IsExact}
 

@@ -29,8 +29,8 @@ use Rattle.fork_ledger.specs.Taken.{is_taken}
 use Rattle.fork_ledger.specs.Tenants.{Tenants, VaultState}
 use Rattle.fork_ledger.proofs.TakenLemmas.{taken_shown}
 use Rattle.fork_ledger.proofs.WholeLemmas.{held_whole}
-use Rattle.ledgers.specs.Holders.{is_held_in}
-use Rattle.ledgers.specs.Ledgers.{AllWords}
+use Rattle.object_table.specs.Holders.{is_held_in}
+use Rattle.object_table.specs.Ledgers.{AllWords}
 
 none_some : {A : Type 0} (G : Type 0) (x : A) → None ≡ Some x → G
 none_some G x e = let differs : ⊥ = cc in absurd differs

@@ -7,11 +7,11 @@ use Rattle.std.specs.Ordering.{eq_by_cmp}
 use Rattle.git_name.specs.Name.{name_cmp}
 use Rattle.git_name.proofs.Names.{name_total, name_exact}
 use Rattle.looks.specs.Places.{Places}
-use Rattle.ledgers.specs.Holders.{is_held_in}
-use Rattle.ledgers.specs.Ledgers.{AllWords}
-use Rattle.ledgers.specs.Words.{Words, is_staged, is_visible}
-use Rattle.ledgers.specs.declared.word.Word.{Word}
-use Rattle.ledgers.proofs.HolderLemmas.{held_by}
+use Rattle.object_table.specs.Holders.{is_held_in}
+use Rattle.object_table.specs.Ledgers.{AllWords}
+use Rattle.object_table.specs.Words.{Words, is_staged, is_visible}
+use Rattle.object_table.specs.declared.word.Word.{Word}
+use Rattle.object_table.proofs.HolderLemmas.{held_by}
 use Rattle.loose_store.specs.Files.{Files, SameBut}
 use Rattle.fork_ledger.specs.Kept.{Covers, IsKept, KeepsHeld, TakesAway}
 use Rattle.fork_ledger.specs.Private.{Awaits, Holds, Private, Sees, is_held_by}

@@ -5,8 +5,8 @@ use Rattle.std.specs.FinMap.{get}
 use Rattle.git_name.specs.Object.{Object}
 use Rattle.git_name.proofs.MapLemmas.{get_joined}
 use Rattle.git_name.proofs.Names.{name_total}
-use Rattle.ledgers.specs.Ledgers.{AllWords, ledger_at, word_at}
-use Rattle.ledgers.specs.declared.word.Word.{Word}
+use Rattle.object_table.specs.Ledgers.{AllWords, ledger_at, word_at}
+use Rattle.object_table.specs.declared.word.Word.{Word}
 use Rattle.loose_store.specs.Files.{Files}
 use Rattle.loose_store.specs.Stored.{Whole}
 use Rattle.fork_ledger.specs.Private.{Awaits, Holds, Private, Sees, both_of}

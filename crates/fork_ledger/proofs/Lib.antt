@@ -4,6 +4,7 @@ pub mod AllStagedLemmas
 pub mod BothLemmas
 pub mod CameLemmas
 pub mod CheckLemmas
+pub mod ClashLemmas
 pub mod CoverLemmas
 pub mod GraphLemmas
 pub mod HarmLemmas

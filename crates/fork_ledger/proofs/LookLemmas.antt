@@ -7,9 +7,9 @@ use Rattle.looks.specs.Places.{Places, looked_at}
 use Rattle.looks.specs.Looks.{Look, Looks, Walks}
 use Rattle.looks.specs.Looks.Look.{Stays, Leaves}
 use Rattle.looks.specs.Slices.{Sweeps}
-use Rattle.catalogue.specs.Counted.{LooksNextAt}
-use Rattle.ledgers.specs.Holders.{is_held_in}
-use Rattle.ledgers.specs.Ledgers.{AllWords}
+use Rattle.object_table.specs.Rows.{LooksNextAt}
+use Rattle.object_table.specs.Holders.{is_held_in}
+use Rattle.object_table.specs.Ledgers.{AllWords}
 
 -- what the names behind it become as a name leaves
 abbrev pub Left : (old new : Places) (name : List ℕ) → LooksNextAt old name → Type 0

@@ -10,11 +10,11 @@ use Rattle.git_name.specs.Object.{Object, object_name}
 use Rattle.git_name.proofs.Names.{name_total, name_exact}
 use Rattle.fork_reach.specs.Source.{Objects}
 use Rattle.fork_reach.proofs.KeptObjects.{tied_names}
-use Rattle.ledgers.specs.Words.{Words, discarded_words, is_staged, is_visible, kept_as, kept_standing, kept_word, kept_words, published_words, seen_word, shows, staged_over, staged_too, staged_words, unstaged_word, waits as stands_staged, with_standing}
-use Rattle.ledgers.specs.declared.word.Standing.{Standing}
-use Rattle.ledgers.specs.declared.word.Standing.TheVariants.{Visible, Staged, Both}
-use Rattle.ledgers.specs.declared.word.Word.{Word}
-use Rattle.ledgers.proofs.ChosenLemmas.{get_chosen}
+use Rattle.object_table.specs.Words.{Words, discarded_words, is_staged, is_visible, kept_as, kept_standing, kept_word, kept_words, published_words, seen_word, shows, staged_over, staged_too, staged_words, unstaged_word, waits as stands_staged, with_standing}
+use Rattle.object_table.specs.declared.word.Standing.{Standing}
+use Rattle.object_table.specs.declared.word.Standing.TheVariants.{Visible, Staged, Both}
+use Rattle.object_table.specs.declared.word.Word.{Word}
+use Rattle.object_table.proofs.ChosenLemmas.{get_chosen}
 use Rattle.loose_store.specs.Files.{Files}
 use Rattle.loose_store.specs.Stored.{Whole}
 use Rattle.fork_ledger.specs.Private.{Private, with_discarded, with_kept, with_published, with_staged, with_under}

@@ -3,8 +3,8 @@ use Rattle.std.proofs.Common.{◌≡◌, ℕ, List, Bool, Result, Ok, Err, lengt
 use Rattle.std.specs.Prelude.{IsTrue, OnErr, OnOk}
 use Rattle.git_name.specs.Object.{Object, object_name}
 use Rattle.git_name.specs.declared.kind.Kind.{Kind}
-use Rattle.ledgers.specs.Ledgers.{AllWords, at_ledger}
-use Rattle.ledgers.specs.Words.{staged_words}
+use Rattle.object_table.specs.Ledgers.{AllWords, at_ledger}
+use Rattle.object_table.specs.Words.{staged_words}
 use Rattle.loose_store.specs.Files.{Files}
 use Rattle.loose_store.specs.Stored.{Whole}
 use Rattle.read_cache.specs.Known.{IsKnown}

@@ -9,10 +9,10 @@ use Rattle.git_name.specs.Same.{is_listed, same_name}
 use Rattle.looks.specs.Growth.{GrowsAmong}
 use Rattle.looks.specs.Places.{Places}
 use Rattle.looks.proofs.GrowthLemmas.{grows_more, grows_then}
-use Rattle.ledgers.specs.AllStaged.{AreListed}
-use Rattle.ledgers.specs.Told.{entry_of}
-use Rattle.ledgers.specs.declared.entry.Entry.{Entry}
-use Rattle.catalogue.proofs.PlaceLemmas.{own_name}
+use Rattle.object_table.specs.AllStaged.{AreListed}
+use Rattle.object_table.specs.Told.{entry_of}
+use Rattle.object_table.specs.declared.entry.Entry.{Entry}
+use Rattle.object_table.proofs.PlaceLemmas.{own_name}
 use Rattle.loose_store.specs.Files.{Files, SameBut}
 use Rattle.loose_store.specs.Stored.{Whole}
 use Rattle.fork_ledger.specs.AllStaged.{MeetsAmong, Receives, StaysWhole, StoresAmong}

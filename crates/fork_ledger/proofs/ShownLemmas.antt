@@ -10,12 +10,12 @@ use Rattle.git_name.specs.Object.{Object, header, typed_bytes}
 use Rattle.git_name.proofs.MapLemmas.{get_joined, get_map_values, map_values_insert}
 use Rattle.git_name.proofs.Names.{name_total, name_exact}
 use Rattle.fork_reach.specs.Source.{Objects}
-use Rattle.ledgers.specs.Ledgers.{AllWords, at_ledger, ledger_at, with_ledger, word_at}
-use Rattle.ledgers.specs.Words.{Words, is_staged, is_visible, shows, waits, with_standing}
-use Rattle.ledgers.specs.declared.word.Standing.{Standing}
-use Rattle.ledgers.specs.declared.word.Standing.TheVariants.{Visible, Staged, Both}
-use Rattle.ledgers.specs.declared.word.Word.{Word}
-use Rattle.ledgers.proofs.ChosenLemmas.{get_chosen}
+use Rattle.object_table.specs.Ledgers.{AllWords, at_ledger, ledger_at, with_ledger, word_at}
+use Rattle.object_table.specs.Words.{Words, is_staged, is_visible, shows, waits, with_standing}
+use Rattle.object_table.specs.declared.word.Standing.{Standing}
+use Rattle.object_table.specs.declared.word.Standing.TheVariants.{Visible, Staged, Both}
+use Rattle.object_table.specs.declared.word.Word.{Word}
+use Rattle.object_table.proofs.ChosenLemmas.{get_chosen}
 use Rattle.loose_store.specs.Files.{Files}
 use Rattle.loose_store.specs.Stored.{Whole}
 use Rattle.fork_ledger.specs.Private.{Private, both_of, nothing}

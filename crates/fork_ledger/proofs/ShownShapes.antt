@@ -7,9 +7,9 @@ use Rattle.git_name.specs.Object.{Object, object_name}
 use Rattle.git_name.proofs.MapLemmas.{get_map_values, map_values_insert}
 use Rattle.git_name.proofs.Names.{name_total, name_exact}
 use Rattle.fork_reach.specs.Objects.{Measures, measure_of, measures_of}
-use Rattle.ledgers.specs.Ledgers.{AllWords, at_ledger}
-use Rattle.ledgers.specs.Words.{Words, is_staged, is_visible, staged_over, staged_words}
-use Rattle.ledgers.specs.declared.word.Word.{Word}
+use Rattle.object_table.specs.Ledgers.{AllWords, at_ledger}
+use Rattle.object_table.specs.Words.{Words, is_staged, is_visible, staged_over, staged_words}
+use Rattle.object_table.specs.declared.word.Word.{Word}
 use Rattle.loose_store.specs.Files.{Files}
 use Rattle.fork_ledger.specs.Private.{Private, private_measures, with_staged}
 use Rattle.fork_ledger.specs.Shown.{object_at, own_of, part, tenants_of}

@@ -5,8 +5,8 @@ use Rattle.git_name.specs.Object.{Object}
 use Rattle.git_name.specs.Same.{is_listed}
 use Rattle.looks.specs.Places.{Places}
 use Rattle.looks.specs.Slices.{SweepsAll}
-use Rattle.ledgers.specs.Holders.{is_held_in}
-use Rattle.ledgers.specs.Ledgers.{AllWords}
+use Rattle.object_table.specs.Holders.{is_held_in}
+use Rattle.object_table.specs.Ledgers.{AllWords}
 use Rattle.loose_store.specs.Files.{Files}
 use Rattle.commit_graph.specs.Graph.{Commits}
 use Rattle.fork_ledger.specs.Kept.{IsKept}

@@ -2,9 +2,9 @@
 use Rattle.std.proofs.Common.{◌≡◌, ◌≢◌, ℕ, List, true, Result, Ok, Err, length, sym, ap, subst, ◌∙◌}
 use Rattle.std.specs.Prelude.{IfErr, OnOk}
 use Rattle.git_name.specs.Object.{Object, object_name}
-use Rattle.ledgers.specs.Holders.{is_held_in}
-use Rattle.ledgers.specs.Ledgers.{AllWords, at_ledger}
-use Rattle.ledgers.specs.Words.{staged_words}
+use Rattle.object_table.specs.Holders.{is_held_in}
+use Rattle.object_table.specs.Ledgers.{AllWords, at_ledger}
+use Rattle.object_table.specs.Words.{staged_words}
 use Rattle.loose_store.specs.Files.{Files}
 use Rattle.loose_store.specs.Stored.{Whole}
 use Rattle.fork_ledger.specs.declared.fault.VaultFault.{VaultFault}

@@ -5,14 +5,14 @@ use Rattle.std.specs.Option.{option_map, unwrap_or}
 use Rattle.std.specs.FinMap.{contains_key, empty, get, get-empty}
 use Rattle.git_name.specs.Name.{name_cmp}
 use Rattle.git_name.proofs.Names.{name_total, name_exact}
-use Rattle.ledgers.specs.Holders.{holders_of, is_held_in}
-use Rattle.ledgers.specs.Ledgers.{AllWords, ledger_at}
-use Rattle.ledgers.specs.Words.{Words, is_staged, is_visible, shows, waits}
-use Rattle.ledgers.specs.declared.word.Standing.{Standing}
-use Rattle.ledgers.specs.declared.word.Standing.TheVariants.{Visible, Staged, Both}
-use Rattle.ledgers.specs.declared.word.Word.{Word}
-use Rattle.ledgers.proofs.HolderLemmas.{held_by, someone_has}
-use Rattle.ledgers.proofs.SumLemmas.{same_sums, worth}
+use Rattle.object_table.specs.Holders.{holders_of, is_held_in}
+use Rattle.object_table.specs.Ledgers.{AllWords, ledger_at}
+use Rattle.object_table.specs.Words.{Words, is_staged, is_visible, shows, waits}
+use Rattle.object_table.specs.declared.word.Standing.{Standing}
+use Rattle.object_table.specs.declared.word.Standing.TheVariants.{Visible, Staged, Both}
+use Rattle.object_table.specs.declared.word.Word.{Word}
+use Rattle.object_table.proofs.HolderLemmas.{held_by, someone_has}
+use Rattle.object_table.proofs.SumLemmas.{same_sums, worth}
 use Rattle.loose_store.specs.Files.{Files}
 use Rattle.fork_ledger.specs.Private.{is_held_by}
 use Rattle.fork_ledger.specs.Shown.{object_at, own_of, part, tenants_of}

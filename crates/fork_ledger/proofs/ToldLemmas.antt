@@ -11,13 +11,13 @@ use Rattle.git_name.specs.Object.{Object}
 use Rattle.git_name.proofs.Names.{name_total, name_exact}
 use Rattle.fork_reach.specs.Objects.{use_of, use_of_object}
 use Rattle.fork_reach.specs.declared.usage.TheConstants.{OBJECT_USE}
-use Rattle.ledgers.specs.Chosen.{chosen_in}
-use Rattle.ledgers.specs.Ledgers.{AllWords, ledger_at, word_at}
-use Rattle.ledgers.specs.Totals.{seen_use, total_of, use_of_word, used_by}
-use Rattle.ledgers.specs.Words.{Words, is_staged, is_visible, kept_as, words_that}
-use Rattle.ledgers.specs.declared.word.Word.{Word}
-use Rattle.ledgers.proofs.ChosenLemmas.{entries_chosen}
-use Rattle.ledgers.proofs.SumLemmas.{same_sums, worth}
+use Rattle.object_table.specs.Chosen.{chosen_in}
+use Rattle.object_table.specs.Ledgers.{AllWords, ledger_at, word_at}
+use Rattle.object_table.specs.Totals.{seen_use, total_of, use_of_word, used_by}
+use Rattle.object_table.specs.Words.{Words, is_staged, is_visible, kept_as, words_that}
+use Rattle.object_table.specs.declared.word.Word.{Word}
+use Rattle.object_table.proofs.ChosenLemmas.{entries_chosen}
+use Rattle.object_table.proofs.SumLemmas.{same_sums, worth}
 use Rattle.loose_store.specs.Files.{Files}
 use Rattle.loose_store.specs.Stored.{Whole}
 use Rattle.fork_ledger.specs.declared.fault.VaultFault.{VaultFault}

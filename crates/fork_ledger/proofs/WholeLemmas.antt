@@ -2,7 +2,7 @@
 use Rattle.std.proofs.Common.{◌≡◌, ◌||◌, ℕ, true, List, Option, None, Some, is_some, refl, ap}
 use Rattle.std.specs.FinMap.{get}
 use Rattle.git_name.specs.Object.{Object}
-use Rattle.ledgers.specs.Ledgers.{AllWords}
+use Rattle.object_table.specs.Ledgers.{AllWords}
 use Rattle.loose_store.specs.Files.{Files}
 use Rattle.loose_store.specs.Stored.{Whole}
 use Rattle.fork_ledger.specs.Kept.{HasFiles}

@@ -1,8 +1,10 @@
 -- Objects that are staged in one call, and what of them comes to the store (own).
-use Rattle.std.specs.Prelude.{◌≡◌, ◌≢◌, ◌⊎◌, ◌++◌, ℕ, List, [], ◌∷◌, Contains}
+use Rattle.std.specs.Prelude.{◌≡◌, ◌≢◌, ◌⊎◌, ◌++◌, ℕ, List, [], ◌∷◌, Contains, length}
 use Rattle.std.specs.List.{All}
 use Rattle.git_name.specs.Object.{Object, object_name}
 use Rattle.looks.specs.Places.{Places}
+use Rattle.object_table.specs.Clashes.{AreAs}
+use Rattle.object_table.specs.Ledgers.{AllWords}
 use Rattle.loose_store.specs.Files.{Files}
 use Rattle.loose_store.specs.Stored.{Whole}
 use Rattle.fork_ledger.specs.Kept.{Covers, IsExact}
@@ -20,6 +22,10 @@ AllWhole files objects = All (λ object. Whole files (object_name object) object
 -- what stood whole on the store still does
 abbrev pub StaysWhole : Files → Files → Type 0
 StaysWhole old new = (name : List ℕ) (object : Object) → Whole old name object → Whole new name object
+
+-- whatever any tenant's ledger says of the object's name is of its kind and length
+abbrev pub IsAsTold : AllWords → Object → Type 0
+IsAsTold ledgers object = AreAs ledgers (object_name object) object.kind (length object.bytes)
 
 -- no other objects than these came to stand whole on the store
 abbrev pub StoresAmong : List Object → Files → Files → Type 0

@@ -3,8 +3,8 @@ use Rattle.std.specs.Prelude.{◌≡◌, Some, true, List, ℕ}
 use Rattle.std.specs.FinMap.{contains_key, get}
 use Rattle.git_name.specs.Same.{is_listed}
 use Rattle.looks.specs.Places.{Places}
-use Rattle.ledgers.specs.Holders.{is_held_in}
-use Rattle.ledgers.specs.Ledgers.{AllWords}
+use Rattle.object_table.specs.Holders.{is_held_in}
+use Rattle.object_table.specs.Ledgers.{AllWords}
 use Rattle.loose_store.specs.Files.{Files}
 use Rattle.fork_ledger.specs.Shown.{tenants_of}
 use Rattle.fork_ledger.specs.Store.{IsStored}

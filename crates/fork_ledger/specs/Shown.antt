@@ -6,10 +6,10 @@ use Rattle.std.specs.FinMap.{get}
 use Rattle.git_name.specs.Maps.{map_values}
 use Rattle.git_name.specs.Object.{Object, header}
 use Rattle.fork_reach.specs.Source.{Objects}
-use Rattle.ledgers.specs.Chosen.{chosen}
-use Rattle.ledgers.specs.Ledgers.{AllWords}
-use Rattle.ledgers.specs.Words.{Words, is_staged, is_visible}
-use Rattle.ledgers.specs.declared.word.Word.{Word}
+use Rattle.object_table.specs.Chosen.{chosen}
+use Rattle.object_table.specs.Ledgers.{AllWords}
+use Rattle.object_table.specs.Words.{Words, is_staged, is_visible}
+use Rattle.object_table.specs.declared.word.Word.{Word}
 use Rattle.loose_store.specs.Files.{Files}
 use Rattle.fork_ledger.specs.Private.{Private}
 use Rattle.fork_ledger.specs.Tenants.{Tenants}

@@ -7,6 +7,7 @@ use Rattle.loose_store.specs.Stored.{Whole}
 use Rattle.fork_ledger.specs.declared.fault.VaultFault.{VaultFault}
 use Rattle.fork_ledger.specs.declared.fault.VaultFault.TheVariants.{Store, Damaged, Memory, Collision}
 use Rattle.std.specs.FinMap.{get}
+use Rattle.fork_reach.specs.Objects.{measure_of}
 use Rattle.fork_ledger.specs.Private.{Holds, is_held_by, with_staged}
 use Rattle.fork_ledger.specs.Tenants.{Tenants, VaultState, at_tenant, private_of, shape_of}
 
@@ -47,6 +48,10 @@ StoresAlone object old new = (name : List ℕ) (other : Object) → Whole new na
 -- another object of the same name stands whole on the store
 abbrev pub Meets : Object → Files → Type 0
 Meets object files = (other : Object) × Whole files (object_name object) other × (other ≢ object)
+
+-- some tenant has an object of this one's name that is of another kind or length
+abbrev pub MeetsHeld : Object → Tenants → Type 0
+MeetsHeld object tenants = (tenant : List ℕ) × (other : Object) × Holds (private_of tenants tenant) (object_name object) other × (measure_of other ≢ measure_of object)
 
 -- what is there came to be this: itself over an honest store, and over any what no store can change of it
 pub record Becomes {A Shape : Type 0} (shape_in : A → Shape) (honest : Bool) (this new : A) : Type 0 where

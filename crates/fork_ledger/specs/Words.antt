@@ -1,6 +1,6 @@
 -- What a ledger's word tells of an object (own).
-use Rattle.ledgers.specs.Words.{is_staged, is_visible}
-use Rattle.ledgers.specs.declared.word.Word.{Word}
+use Rattle.object_table.specs.Words.{is_staged, is_visible}
+use Rattle.object_table.specs.declared.word.Word.{Word}
 use Rattle.fork_ledger.specs.declared.held.Held.{Held}
 
 -- its kind, its length, and whether its tenant sees it and whether it has staged it

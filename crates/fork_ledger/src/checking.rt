@@ -1,8 +1,8 @@
 // The files of held names are read, each once, and what is wrong with them is noted.
 ghost use Rattle.std.specs.Prelude.{◌≡◌, ◌≢◌, ◌<◌, ◌+◌, ℕ, List, IsTrue, IfErr, IfOk, OnOk, true};
 ghost use Rattle.git_name.specs.Count.{fault_in, greatest_count};
-ghost use Rattle.catalogue.specs.Counted.{places_of};
-ghost use Rattle.ledgers.specs.Holders.{is_held_in};
+ghost use Rattle.object_table.specs.Rows.{places_of};
+ghost use Rattle.object_table.specs.Holders.{is_held_in};
 ghost use Rattle.fork_ledger.specs.Checked.{HasChecked, Shows, WasAsked, checked_until};
 ghost use Rattle.fork_ledger.specs.Store.{CountsFault};
 
@@ -10,8 +10,8 @@ use crate::fault::VaultFault;
 use crate::harms::Harms;
 use fork_request::Harm;
 use git_name::Name;
-use ledgers::Holdings;
 use loose_store::{LooseFiles, StoreFault};
+use object_table::Holdings;
 use read_cache::CachedStore;
 use std::alloc::Global;
 

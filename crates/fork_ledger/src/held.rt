@@ -2,7 +2,7 @@ ghost use Rattle.std.specs.Prelude.{◌≡◌, option_map};
 ghost use Rattle.fork_ledger.specs.Words.{held_of_word};
 
 use git_name::Kind;
-use ledgers::Word;
+use object_table::Word;
 
 /// What is known of an object without its bytes: its kind, the bytes of its content, and whether its
 /// tenant sees it and whether it has staged it; an object may be both.

@@ -2,8 +2,8 @@
 ghost use Rattle.std.specs.Prelude.{◌≡◌, ◌≢◌, ◌<◌, ◌+◌, IsTrue, IfErr, IfOk, OnOk, OnErr, length, if◌then◌else◌};
 ghost use Rattle.git_name.specs.Count.{fault_in};
 ghost use Rattle.looks.specs.Looks.{Look};
-ghost use Rattle.catalogue.specs.Counted.{LooksNextAt, places_of};
-ghost use Rattle.ledgers.specs.Holders.{holders_of, is_held_in};
+ghost use Rattle.object_table.specs.Rows.{LooksNextAt, places_of};
+ghost use Rattle.object_table.specs.Holders.{holders_of, is_held_in};
 ghost use Rattle.fork_ledger.specs.Kept.{Covers, IsExact, KeepsHeld, TakesAway};
 ghost use Rattle.fork_ledger.specs.Linked.{AreLinked};
 ghost use Rattle.fork_ledger.specs.Store.{CountsFault};
@@ -11,8 +11,8 @@ ghost use Rattle.fork_ledger.specs.Store.{CountsFault};
 use crate::fault::VaultFault;
 use commit_graph::Graph;
 use git_name::Name;
-use ledgers::Holdings;
 use loose_store::{FileFault, LooseFiles};
+use object_table::Holdings;
 use read_cache::CachedStore;
 use std::alloc::Global;
 

@@ -2,24 +2,24 @@
 ghost use Rattle.std.specs.Prelude.{◌≡◌, ◌∷◌, [], true, IsTrue, OnErr, OnOk};
 ghost use Rattle.std.specs.FinMap.{contains_key};
 ghost use Rattle.looks.specs.Growth.{GrowsAmong};
-ghost use Rattle.catalogue.specs.Counted.{places_of};
-ghost use Rattle.ledgers.specs.Ledgers.{at_ledger};
-ghost use Rattle.ledgers.specs.Words.{staged_words};
+ghost use Rattle.object_table.specs.Rows.{places_of};
+ghost use Rattle.object_table.specs.Ledgers.{at_ledger};
+ghost use Rattle.object_table.specs.Words.{staged_words};
 ghost use Rattle.loose_store.specs.Files.{Files};
 ghost use Rattle.read_cache.specs.Known.{IsKnown};
 ghost use Rattle.fork_ledger.specs.Kept.{Covers, IsExact};
 
 use fork_request::TenantName;
 use git_name::{Kind, Name};
-use ledgers::Holdings;
 use loose_store::LooseFiles;
+use object_table::{Holdings, StageFault};
 use read_cache::CachedStore;
-use std::alloc::AllocError;
 use thiserror::Error;
 
 /// Why an object was not recalled.
 #[derive(Clone, Copy, Debug, PartialEq, Eq, Error)]
 pub enum RecallFault {
+    /// Also where some tenant has an object of its name that is of another kind or length.
     #[error("no survey found the object")]
     Unknown,
     #[error("no memory")]
@@ -44,10 +44,11 @@ pub(crate) fn recall_known<S: LooseFiles>(
     if !files.knows(name, kind, length) {
         return Err(RecallFault::Unknown);
     }
-    let Ok(()) = recall(holdings, tenant, name, kind, length) else {
-        return Err(RecallFault::Memory);
-    };
-    Ok(())
+    match recall(holdings, tenant, name, kind, length) {
+        Ok(()) => Ok(()),
+        Err(StageFault::Memory) => Err(RecallFault::Memory),
+        Err(StageFault::Clash) => Err(RecallFault::Unknown),
+    }
 }
 
 // Stages an object of this name, kind and length, and catalogues its name where it is not.
@@ -57,7 +58,7 @@ fn recall(
     name: Name,
     kind: Kind,
     length: u64,
-) -> Result<(), AllocError>
+) -> Result<(), StageFault>
     ensures ok { OnOk result (holdings.new.ledgers ≡ at_ledger holdings.old.ledgers tenant.now (staged_words name kind length)) }
     ensures err { OnErr result (holdings.new.ledgers ≡ holdings.old.ledgers) }
     ensures grows { GrowsAmong (name ∷ []) (places_of holdings.old.catalogue) (places_of holdings.new.catalogue) }
@@ -65,10 +66,7 @@ fn recall(
     ensures exact { (files : Files) → contains_key files name ≡ true → IsExact files (places_of holdings.old.catalogue) → IsExact files (places_of holdings.new.catalogue) }
 {
     let Ok(()) = holdings.enter(name) else {
-        return Err(AllocError);
+        return Err(StageFault::Memory);
     };
-    let Ok(_) = holdings.stage(tenant, name, kind, length) else {
-        return Err(AllocError);
-    };
-    Ok(())
+    holdings.stage(tenant, name, kind, length)
 }

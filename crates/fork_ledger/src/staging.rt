@@ -1,25 +1,29 @@
-// Objects that a tenant stages: their names in the catalogue, their files on the store, and their words in one ledger.
-ghost use Rattle.std.specs.Prelude.{◌≡◌, ◌∷◌, [], true, List, ℕ, IsTrue, IfErr, OnErr, OnOk, length, map as map_list};
+// Objects that a tenant stages: their names in the catalogue, their files on the store, and their words in one
+// ledger. Where some ledger says of one of these names that its object is of another kind or length, that is
+// told before anything is read.
+ghost use Rattle.std.specs.Prelude.{◌≡◌, ◌∷◌, [], true, false, List, ℕ, Contains, Err, IsTrue, IfErr, OnErr, OnOk, length, map as map_list};
+ghost use Rattle.std.specs.List.{All};
 ghost use Rattle.git_name.specs.Object.{Object, object_name};
 ghost use Rattle.git_name.specs.Count.{fault_in};
 ghost use Rattle.looks.specs.Growth.{GrowsAmong};
-ghost use Rattle.catalogue.specs.Counted.{places_of};
-ghost use Rattle.ledgers.specs.AllStaged.{all_staged_words};
-ghost use Rattle.ledgers.specs.Holders.{is_held_in};
-ghost use Rattle.ledgers.specs.Ledgers.{at_ledger};
-ghost use Rattle.ledgers.specs.Told.{entry_of};
-ghost use Rattle.ledgers.specs.Words.{staged_words};
+ghost use Rattle.object_table.specs.Rows.{places_of};
+ghost use Rattle.object_table.specs.AllStaged.{all_staged_words};
+ghost use Rattle.object_table.specs.Holders.{is_held_in};
+ghost use Rattle.object_table.specs.Ledgers.{at_ledger};
+ghost use Rattle.object_table.specs.Told.{entry_of};
+ghost use Rattle.object_table.specs.Words.{staged_words};
 ghost use Rattle.loose_store.specs.Stored.{Whole};
-ghost use Rattle.fork_ledger.specs.AllStaged.{MeetsAmong, Receives, StaysWhole, StoresAmong};
+ghost use Rattle.fork_ledger.specs.AllStaged.{IsAsTold, MeetsAmong, Receives, StaysWhole, StoresAmong};
 ghost use Rattle.fork_ledger.specs.Kept.{Covers, HasFiles, IsExact, KeepsHeld};
-ghost use Rattle.fork_ledger.specs.Store.{CountsFault, Meets, StoresAlone};
+ghost use Rattle.fork_ledger.specs.Shown.{tenants_of};
+ghost use Rattle.fork_ledger.specs.Store.{CountsFault, IsStored, Meets, StoresAlone};
 
 use crate::fault::VaultFault;
 use crate::receiving::{entries_of, receive, receive_all};
 use fork_request::TenantName;
 use git_name::Sealed;
-use ledgers::{Entry, Holdings, stage_all};
 use loose_store::LooseFiles;
+use object_table::{Entry, Holdings, StageFault};
 use read_cache::CachedStore;
 use std::alloc::Global;
 
@@ -42,6 +46,39 @@ pub(crate) fn stage_whole<S: LooseFiles>(
     ensures alone { IsTrue files.old.honest → OnOk result (StoresAlone sealed files.old.contents files.new.contents) }
     ensures damaged { IsTrue files.old.honest → IfErr result (λ fault. fault ≡ VaultFault.Damaged
         → (is_held_in holdings.old.ledgers (object_name sealed) ≡ true) × ((object : Object) → Whole files.old.contents (object_name sealed) object → ⊥)) }
+    ensures collision { IsTrue files.old.honest → IsStored (tenants_of files.old.contents holdings.old.ledgers) files.old.contents → IfErr result (λ fault. fault ≡ VaultFault.Collision → Meets sealed files.old.contents) }
+    ensures met { (IsAsTold holdings.old.ledgers sealed → ⊥) → (result ≡ Err VaultFault.Collision) × (files.new ≡ files.old) × (holdings.new ≡ holdings.old) }
+    ensures still { IsTrue files.old.honest → IfErr result (λ fault. fault ≡ VaultFault.Collision → files.new.contents ≡ files.old.contents) }
+    ensures honest { files.new.honest ≡ files.old.honest }
+    ensures cause { CountsFault files.old.failures files.new.failures (fault_in result) }
+{
+    let entry = Entry::of(&sealed);
+    if !holdings.may_stage(entry.name, entry.kind, entry.length) {
+        return Err(VaultFault::Collision);
+    }
+    stage_fit(alloc, files, holdings, tenant, sealed)
+}
+
+// The same of an object that is of the kind and length that each ledger says of its name, if it says any.
+fn stage_fit<S: LooseFiles>(
+    alloc: Global,
+    files: &mut CachedStore<S>,
+    holdings: &mut Holdings,
+    tenant: &TenantName,
+    sealed: Sealed,
+) -> Result<(), VaultFault>
+    requires told { IsAsTold holdings.old.ledgers sealed }
+    ensures ok { OnOk result (holdings.new.ledgers ≡ at_ledger holdings.old.ledgers tenant.now (staged_words (object_name sealed) sealed.kind (length sealed.bytes))) }
+    ensures err { OnErr result (holdings.new.ledgers ≡ holdings.old.ledgers) }
+    ensures grows { GrowsAmong (object_name sealed ∷ []) (places_of holdings.old.catalogue) (places_of holdings.new.catalogue) }
+    ensures whole { IsTrue files.old.honest → OnOk result (Whole files.new.contents (object_name sealed) sealed) }
+    ensures keeps { IsTrue files.old.honest → HasFiles holdings.old.ledgers files.old.contents → KeepsHeld holdings.old.ledgers files.old.contents files.new.contents }
+    ensures stands { IsTrue files.old.honest → StaysWhole files.old.contents files.new.contents }
+    ensures covers { IsTrue files.old.honest → Covers files.old.contents (places_of holdings.old.catalogue) → Covers files.new.contents (places_of holdings.new.catalogue) }
+    ensures exact { IsTrue files.old.honest → OnOk result (IsExact files.old.contents (places_of holdings.old.catalogue) → IsExact files.new.contents (places_of holdings.new.catalogue)) }
+    ensures alone { IsTrue files.old.honest → OnOk result (StoresAlone sealed files.old.contents files.new.contents) }
+    ensures damaged { IsTrue files.old.honest → IfErr result (λ fault. fault ≡ VaultFault.Damaged
+        → (is_held_in holdings.old.ledgers (object_name sealed) ≡ true) × ((object : Object) → Whole files.old.contents (object_name sealed) object → ⊥)) }
     ensures collision { IsTrue files.old.honest → IfErr result (λ fault. fault ≡ VaultFault.Collision → Meets sealed files.old.contents) }
     ensures still { IsTrue files.old.honest → IfErr result (λ fault. fault ≡ VaultFault.Collision → files.new.contents ≡ files.old.contents) }
     ensures honest { files.new.honest ≡ files.old.honest }
@@ -51,8 +88,9 @@ pub(crate) fn stage_whole<S: LooseFiles>(
     match receive(alloc, files, holdings, sealed) {
         Ok(()) => {
             match holdings.stage(tenant, entry.name, entry.kind, entry.length) {
-                Ok(_) => Ok(()),
-                Err(_) => Err(VaultFault::Memory),
+                Ok(()) => Ok(()),
+                Err(StageFault::Memory) => Err(VaultFault::Memory),
+                Err(StageFault::Clash) => unreachable!(),
             }
         }
         Err(fault) => Err(fault),
@@ -75,6 +113,49 @@ pub(crate) fn stage_all_whole<S: LooseFiles>(
     ensures covers { IsTrue files.old.honest → Covers files.old.contents (places_of holdings.old.catalogue) → Covers files.new.contents (places_of holdings.new.catalogue) }
     ensures damaged { IsTrue files.old.honest → IfErr result (λ fault. fault ≡ VaultFault.Damaged
         → (name : List ℕ) × (is_held_in holdings.old.ledgers name ≡ true) × ((object : Object) → Whole files.old.contents name object → ⊥)) }
+    ensures collision { IsTrue files.old.honest → IsStored (tenants_of files.old.contents holdings.old.ledgers) files.old.contents → IfErr result (λ fault. fault ≡ VaultFault.Collision → MeetsAmong objects.items files.old.contents) }
+    ensures met { (object : Object) → Contains objects.items object → (IsAsTold holdings.old.ledgers object → ⊥) → (result ≡ Err VaultFault.Collision) × (files.new ≡ files.old) × (holdings.new ≡ holdings.old) }
+    ensures still { IsTrue files.old.honest → IfErr result (λ fault. fault ≡ VaultFault.Collision → StoresAmong objects.items files.old.contents files.new.contents) }
+    ensures honest { files.new.honest ≡ files.old.honest }
+    ensures cause { CountsFault files.old.failures files.new.failures (fault_in result) }
+{
+    if !may_stage_all(holdings, objects.as_slice()) {
+        return Err(VaultFault::Collision);
+    }
+    stage_all_fit(alloc, files, holdings, tenant, objects)
+}
+
+// Whether each object is of the kind and length that each ledger says of its name, if it says any.
+fn may_stage_all(holdings: &Holdings, objects: &[Sealed]) -> bool
+    ensures may { result ≡ true → All (IsAsTold holdings.now.ledgers) objects.now }
+    ensures clash { result ≡ false → (object : Object) × Contains objects.now object × (IsAsTold holdings.now.ledgers object → ⊥) }
+{
+    for sealed in objects {
+        let told = Entry::of(sealed);
+        if !holdings.may_stage(told.name, told.kind, told.length) {
+            return false;
+        }
+    }
+    true
+}
+
+// Stages objects that are of the kinds and lengths that each ledger says of their names, if it says any.
+fn stage_all_fit<S: LooseFiles>(
+    alloc: Global,
+    files: &mut CachedStore<S>,
+    holdings: &mut Holdings,
+    tenant: &TenantName,
+    objects: Vec<Sealed>,
+) -> Result<(), VaultFault>
+    requires told { All (IsAsTold holdings.old.ledgers) objects.items }
+    ensures ok { OnOk result (holdings.new.ledgers ≡ at_ledger holdings.old.ledgers tenant.now (all_staged_words (map_list entry_of objects.items))) }
+    ensures err { OnErr result (holdings.new.ledgers ≡ holdings.old.ledgers) }
+    ensures grows { GrowsAmong (map_list object_name objects.items) (places_of holdings.old.catalogue) (places_of holdings.new.catalogue) }
+    ensures receives { IsTrue files.old.honest → OnOk result (Receives objects.items files.old.contents files.new.contents (places_of holdings.old.catalogue) (places_of holdings.new.catalogue)) }
+    ensures stands { IsTrue files.old.honest → StaysWhole files.old.contents files.new.contents }
+    ensures covers { IsTrue files.old.honest → Covers files.old.contents (places_of holdings.old.catalogue) → Covers files.new.contents (places_of holdings.new.catalogue) }
+    ensures damaged { IsTrue files.old.honest → IfErr result (λ fault. fault ≡ VaultFault.Damaged
+        → (name : List ℕ) × (is_held_in holdings.old.ledgers name ≡ true) × ((object : Object) → Whole files.old.contents name object → ⊥)) }
     ensures collision { IsTrue files.old.honest → IfErr result (λ fault. fault ≡ VaultFault.Collision → MeetsAmong objects.items files.old.contents) }
     ensures still { IsTrue files.old.honest → IfErr result (λ fault. fault ≡ VaultFault.Collision → StoresAmong objects.items files.old.contents files.new.contents) }
     ensures honest { files.new.honest ≡ files.old.honest }
@@ -86,8 +167,9 @@ pub(crate) fn stage_all_whole<S: LooseFiles>(
     if let Err(fault) = receive_all(alloc, files, holdings, objects) {
         return Err(fault);
     }
-    let Ok(()) = stage_all(alloc, holdings, tenant, entries.as_slice()) else {
-        return Err(VaultFault::Memory);
-    };
-    Ok(())
+    match holdings.stage_all(tenant, entries.as_slice()) {
+        Ok(()) => Ok(()),
+        Err(StageFault::Memory) => Err(VaultFault::Memory),
+        Err(StageFault::Clash) => Err(VaultFault::Collision),
+    }
 }

@@ -1,10 +1,10 @@
-ghost use Rattle.std.specs.Prelude.{◌≡◌, ◌≢◌, ◌⊎◌, ◌≤◌, ◌<◌, ◌+◌, ◌∷◌, ℕ, List, [], false, true, length, map as map_list, IsTrue, OnOk, OnErr, IfOk, IfErr, IfSome, Some, is_some, nat_le};
+ghost use Rattle.std.specs.Prelude.{◌≡◌, ◌≢◌, ◌⊎◌, ◌≤◌, ◌<◌, ◌+◌, ◌∷◌, ℕ, List, [], Contains, Err, false, true, length, map as map_list, IsTrue, OnOk, OnErr, IfOk, IfErr, IfSome, Some, is_some, nat_le};
 ghost use Rattle.std.specs.FinMap as map;
 ghost use Rattle.std.specs.HashSet.{contains};
 ghost use Rattle.std.specs.List.{AllByRecursion};
 ghost use Rattle.std.specs.Result.{IsOk};
 ghost use Rattle.git_name.specs.Maps.{joined};
-ghost use Rattle.git_name.specs.Object.{object_name};
+ghost use Rattle.git_name.specs.Object.{Object, object_name};
 ghost use Rattle.git_name.specs.Same.{is_listed, same_name};
 ghost use Rattle.git_name.specs.Count.{fault_in};
 ghost use Rattle.commit_graph.specs.Graph.{IsGraph, name_at, parents_at};
@@ -19,7 +19,7 @@ ghost use Rattle.fork_ledger.specs.Checked.{WasAsked};
 ghost use Rattle.fork_ledger.specs.Harms.{AreFound};
 ghost use Rattle.fork_ledger.specs.Kept.{IsExact, TakesAway};
 ghost use Rattle.fork_ledger.specs.Private.{AreAlike, AreAmong, both_of, held_in, with_adopted, with_discarded, with_kept, with_published, with_staged};
-ghost use Rattle.fork_ledger.specs.Store.{AsksStore, HoldOne, IsOver, LeavesStore, Meets, Recalls, StoresAlone};
+ghost use Rattle.fork_ledger.specs.Store.{AsksStore, HoldOne, IsOver, LeavesStore, Meets, MeetsHeld, Recalls, StoresAlone};
 ghost use Rattle.fork_ledger.specs.Swept.{IsAccounted};
 ghost use Rattle.fork_ledger.specs.Taken.{is_taken};
 ghost use Rattle.fork_ledger.specs.Tenants.{at_tenant, private_of, shape_of, with_tenant};
@@ -36,14 +36,13 @@ use crate::recalling::{RecallFault, recall_known};
 use crate::staging::{stage_all_whole, stage_whole};
 use crate::survey::Survey;
 use crate::sweeping::{collect, sweep};
-use catalogue::Catalogue;
 use commit_graph::Graph;
 use fork_request::TenantName;
 use git_name::{Hashing, Kind, Name, Sealed};
 use indexmap::IndexSet;
-use ledgers::{Holdings, NameSet};
 use looks::sharp_collection;
 use loose_store::LooseFiles;
+use object_table::{Holdings, NameSet};
 use read_cache::CachedStore;
 use std::alloc::{AllocError, Global};
 use std::marker::Model;
@@ -64,7 +63,7 @@ pub struct Vault<S: LooseFiles> {
 
 impl<S: LooseFiles> Model for Vault<S> {
     ghost use Rattle.std.specs.Prelude.{IsTrue};
-    ghost use Rattle.catalogue.specs.Counted.{places_of};
+    ghost use Rattle.object_table.specs.Rows.{places_of};
     ghost use Rattle.fork_ledger.specs.Kept.{IsKept};
     ghost use Rattle.fork_ledger.specs.Linked.{AreLinked};
     ghost use Rattle.fork_ledger.specs.Shown.{tenants_of};
@@ -101,10 +100,9 @@ impl<S: LooseFiles + Drop> Vault<S> {
             Ok(names) => names,
             Err(fault) => return Err(store_fault(fault)),
         };
-        let Ok(catalogue) = Catalogue::of(alloc, hashing, names.as_slice()) else {
+        let Ok(holdings) = Holdings::over(alloc, hashing, names.as_slice()) else {
             return Err(VaultFault::Memory);
         };
-        let holdings = Holdings::new(alloc, hashing, catalogue);
         Ok(Vault {
             files,
             holdings,
@@ -292,7 +290,8 @@ impl<S: LooseFiles> Vault<S> {
     /// Stages an object for a tenant. Where the tenant has staged one of its name, that one stays;
     /// where it sees one, that one stands for it. Where no file of the name stands one is written. A
     /// whole file is compared and never written over; one that is not whole is written anew, where no
-    /// tenant sees the name or has staged it.
+    /// tenant sees the name or has staged it. Where some tenant has an object of its name that is of
+    /// another kind or length, that is told before anything is read.
     pub fn stage(
         &mut self,
         alloc: Global,
@@ -310,6 +309,7 @@ impl<S: LooseFiles> Vault<S> {
         ensures grows { GrowsAmong (object_name sealed ∷ []) self.old.places self.new.places }
         ensures shape { OnOk result (shape_of self.new.tenants ≡ shape_of (at_tenant self.old.tenants tenant.now (with_staged sealed))) }
         ensures kept { OnErr result (shape_of self.new.tenants ≡ shape_of self.old.tenants) }
+        ensures met { MeetsHeld sealed self.old.tenants → (result ≡ Err VaultFault.Collision) × (self.new ≡ self.old) }
         ensures store { AsksStore self.old self.new (fault_in result) }
     {
         stage_whole(alloc, &mut self.files, &mut self.holdings, tenant, sealed)
@@ -336,13 +336,15 @@ impl<S: LooseFiles> Vault<S> {
         ensures grows { GrowsAmong (map_list object_name objects.items) self.old.places self.new.places }
         ensures shape { OnOk result (shape_of self.new.tenants ≡ shape_of (at_tenant self.old.tenants tenant.now (with_all_staged objects.items))) }
         ensures kept { OnErr result (shape_of self.new.tenants ≡ shape_of self.old.tenants) }
+        ensures met { (object : Object) → Contains objects.items object → MeetsHeld object self.old.tenants → (result ≡ Err VaultFault.Collision) × (self.new ≡ self.old) }
         ensures store { AsksStore self.old self.new (fault_in result) }
     {
         stage_all_whole(alloc, &mut self.files, &mut self.holdings, tenant, objects)
     }
 
     /// Stages the object of this name for a tenant that saw it before, where a survey of the store found
-    /// it there, of this kind and of so many bytes. It asks no store.
+    /// it there, of this kind and of so many bytes. It asks no store. Where some tenant has an object of its
+    /// name that is of another kind or length, it counts as not found.
     pub fn recall(
         &mut self,
         tenant: &TenantName,
@@ -422,9 +424,7 @@ impl<S: LooseFiles> Vault<S> {
     }
 
     /// A tenant comes to see the objects of these names that another one sees, beside those that it sees.
-    /// What it has staged stays. All or none, in linear time of the names; it asks no store. Where the
-    /// tenant has an object of one of these names that is of another kind or length, that is told as
-    /// damaged.
+    /// What it has staged stays. All or none, in linear time of the names; it asks no store.
     pub fn adopt(
         &mut self,
         alloc: Global,
@@ -442,9 +442,7 @@ impl<S: LooseFiles> Vault<S> {
         ensures cause { IfErr result (λ fault. (fault ≡ VaultFault.Memory) ⊎ (fault ≡ VaultFault.Damaged)) }
         ensures damaged { IfErr result (λ fault. fault ≡ VaultFault.Damaged → AreAlike (map.retain_keys (private_of self.old.tenants from.now).visible (contains same_name names.now)) (both_of (private_of self.old.tenants to.now)) → ⊥) }
     {
-        if !self.holdings.fits(to, from, names) {
-            return Err(VaultFault::Damaged);
-        }
+        self.holdings.words_are_alike();
         let Ok(()) = self.holdings.adopt(alloc, to, from, names) else {
             return Err(VaultFault::Memory);
         };

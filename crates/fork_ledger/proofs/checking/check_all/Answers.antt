@@ -1,6 +1,6 @@
 use Rattle.std.proofs.Common.{◌≤◌, length, ◌+◌, ◌∙◌, sym, subst, arith, refl}
-use Rattle.catalogue.specs.Counted.{places_of}
-use Rattle.ledgers.specs.Holders.{is_held_in}
+use Rattle.object_table.specs.Rows.{places_of}
+use Rattle.object_table.specs.Holders.{is_held_in}
 use Rattle.fork_ledger.specs.Checked.{HasChecked, WasAsked, checked_until}
 use Rattle.fork_ledger.specs.Harms.{HarmMap}
 use Rattle.fork_ledger.proofs.CheckLemmas.{asked_all, asked_none, checked_all, checked_none, checked_over}

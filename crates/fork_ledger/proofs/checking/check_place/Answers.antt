@@ -1,6 +1,6 @@
 use Rattle.std.proofs.Common.{None, Some, ◌+◌, subst, sym}
-use Rattle.catalogue.specs.Counted.{places_of}
-use Rattle.ledgers.specs.Holders.{is_held_in}
+use Rattle.object_table.specs.Rows.{places_of}
+use Rattle.object_table.specs.Holders.{is_held_in}
 use Rattle.fork_ledger.specs.Checked.{HasChecked, checked_until}
 use Rattle.fork_ledger.specs.Harms.{HarmMap}
 use Rattle.fork_ledger.proofs.CheckLemmas.{asked_free, checked_free, checked_held}

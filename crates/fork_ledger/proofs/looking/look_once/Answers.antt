@@ -1,5 +1,5 @@
-use Rattle.catalogue.specs.Counted.{places_of}
-use Rattle.ledgers.specs.Holders.{holders_of, is_held_in}
+use Rattle.object_table.specs.Rows.{places_of}
+use Rattle.object_table.specs.Holders.{holders_of, is_held_in}
 use Rattle.fork_ledger.proofs.LookLemmas.{look_stays, next_held, none_case}
 use Rattle.fork_ledger.proofs.looking.look_once.Goals as goal
 

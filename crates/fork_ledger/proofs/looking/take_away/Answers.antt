@@ -1,7 +1,7 @@
 use Rattle.std.proofs.Common.{◌∙◌, ap, false}
 use Rattle.std.specs.FinMap as map
-use Rattle.catalogue.specs.Counted.{places_of}
-use Rattle.ledgers.specs.Holders.{holders_of, is_held_in}
+use Rattle.object_table.specs.Rows.{places_of}
+use Rattle.object_table.specs.Holders.{holders_of, is_held_in}
 use Rattle.fork_ledger.proofs.CoverLemmas.{covers_failed, covers_left, exact_left, false_is_true, removed_none}
 use Rattle.fork_ledger.proofs.KeepingLemmas.{away_one, keeps_but}
 use Rattle.fork_ledger.proofs.LinkLemmas.{linked_but}

@@ -1,5 +1,5 @@
 use Rattle.std.proofs.Common.{◌≡◌, map, take}
-use Rattle.ledgers.specs.Told.{entry_of}
+use Rattle.object_table.specs.Told.{entry_of}
 use Rattle.fork_ledger.proofs.receiving.entries_of.Given as goal
 
 -- what is told of the objects so far

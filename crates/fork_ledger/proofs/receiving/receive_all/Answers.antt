@@ -3,10 +3,10 @@ use Rattle.std.proofs.lemmas.List.Elements.{All-nil}
 use Rattle.git_name.specs.Object.{object_name}
 use Rattle.git_name.specs.Same.{is_listed}
 use Rattle.looks.proofs.GrowthLemmas.{grows_none}
-use Rattle.catalogue.specs.Counted.{places_of}
-use Rattle.ledgers.specs.AllStaged.{AreListed}
-use Rattle.ledgers.specs.Told.{entry_of}
-use Rattle.ledgers.specs.declared.entry.Entry.{Entry}
+use Rattle.object_table.specs.Rows.{places_of}
+use Rattle.object_table.specs.AllStaged.{AreListed}
+use Rattle.object_table.specs.Told.{entry_of}
+use Rattle.object_table.specs.declared.entry.Entry.{Entry}
 use Rattle.fork_ledger.specs.AllStaged.{StoresAmong}
 use Rattle.fork_ledger.proofs.ReceivedLemmas.{among_front, grows_on, listed_more, meets_among, receives_more, receives_none, regroup, told_more}
 use Rattle.fork_ledger.proofs.receiving.receive_all.Goals as goal

@@ -1,9 +1,9 @@
 use Rattle.std.proofs.Common.{◌≡◌, ◌++◌, IsTrue, List, map}
 use Rattle.git_name.specs.Object.{Object, object_name}
 use Rattle.looks.specs.Growth.{GrowsAmong}
-use Rattle.catalogue.specs.Counted.{places_of}
-use Rattle.ledgers.specs.AllStaged.{AreListed}
-use Rattle.ledgers.specs.Told.{entry_of}
+use Rattle.object_table.specs.Rows.{places_of}
+use Rattle.object_table.specs.AllStaged.{AreListed}
+use Rattle.object_table.specs.Told.{entry_of}
 use Rattle.fork_ledger.specs.AllStaged.{Receives}
 use Rattle.fork_ledger.proofs.receiving.receive_all.Given as goal
 

@@ -1,8 +1,8 @@
 use Rattle.std.proofs.Common.{◌<◌, length, ◌∙◌, ap, subst, Some, arith}
 use Rattle.looks.specs.Places.{Places, at_start}
 use Rattle.std.proofs.lemmas.Result.{err_from_is_err_and}
-use Rattle.catalogue.specs.Counted.{places_of}
-use Rattle.ledgers.specs.Holders.{is_held_in}
+use Rattle.object_table.specs.Rows.{places_of}
+use Rattle.object_table.specs.Holders.{is_held_in}
 use Rattle.fork_ledger.specs.Store.{CountsFault}
 use Rattle.fork_ledger.proofs.KeepingLemmas.{away_more, keeps_more}
 use Rattle.fork_ledger.proofs.LookLemmas.{look_nearer, same_look, walks_more}

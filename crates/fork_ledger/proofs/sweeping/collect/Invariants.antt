@@ -2,8 +2,8 @@ use Rattle.std.proofs.Common.{◌≡◌, ◌+◌, length}
 use Rattle.std.specs.Prelude.{IsTrue}
 use Rattle.looks.specs.Looks.{Walks}
 use Rattle.looks.specs.Places.{at_start}
-use Rattle.catalogue.specs.Counted.{places_of}
-use Rattle.ledgers.specs.Holders.{is_held_in}
+use Rattle.object_table.specs.Rows.{places_of}
+use Rattle.object_table.specs.Holders.{is_held_in}
 use Rattle.fork_ledger.specs.Kept.{Covers, IsExact, KeepsHeld, TakesAway}
 use Rattle.fork_ledger.specs.Linked.{AreLinked}
 use Rattle.fork_ledger.proofs.sweeping.collect.Given as goal

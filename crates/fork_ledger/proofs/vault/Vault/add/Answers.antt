@@ -1,6 +1,6 @@
 use Rattle.std.proofs.Common.{ap, sym, subst, ◌∙◌}
 use Rattle.std.proofs.lemmas.Result.{on_ok_weaker}
-use Rattle.catalogue.specs.Counted.{places_of}
+use Rattle.object_table.specs.Rows.{places_of}
 use Rattle.fork_ledger.specs.Kept.{Covers}
 use Rattle.fork_ledger.specs.Shown.{tenants_of}
 use Rattle.fork_ledger.specs.Store.{IsStored}

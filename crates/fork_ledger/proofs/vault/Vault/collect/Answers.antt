@@ -4,8 +4,8 @@ use Rattle.std.proofs.lemmas.Result.{on_err_weaker, on_ok_weaker}
 use Rattle.looks.specs.Looks.{Walks}
 use Rattle.looks.specs.Places.{at_start}
 use Rattle.looks.specs.Slices.{Collects}
-use Rattle.catalogue.specs.Counted.{places_of}
-use Rattle.ledgers.specs.Holders.{is_held_in}
+use Rattle.object_table.specs.Rows.{places_of}
+use Rattle.object_table.specs.Holders.{is_held_in}
 use Rattle.fork_ledger.specs.Kept.{TakesAway}
 use Rattle.fork_ledger.specs.Shown.{tenants_of}
 use Rattle.fork_ledger.specs.Taken.{is_taken}

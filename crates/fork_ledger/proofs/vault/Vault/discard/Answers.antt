@@ -1,5 +1,5 @@
 use Rattle.std.proofs.Common.{ap, sym, subst, ◌∙◌}
-use Rattle.ledgers.specs.Words.{discarded_words}
+use Rattle.object_table.specs.Words.{discarded_words}
 use Rattle.fork_ledger.specs.Kept.{Covers}
 use Rattle.fork_ledger.specs.Private.{with_discarded}
 use Rattle.fork_ledger.specs.Shown.{tenants_of}

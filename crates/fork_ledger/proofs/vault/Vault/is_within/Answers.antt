@@ -1,6 +1,6 @@
 use Rattle.std.proofs.Common.{ap, nat_le, sym, ◌∙◌}
 use Rattle.fork_reach.specs.Objects.{use_of}
-use Rattle.ledgers.specs.Ledgers.{ledger_at}
+use Rattle.object_table.specs.Ledgers.{ledger_at}
 use Rattle.fork_ledger.specs.Private.{both_of}
 use Rattle.fork_ledger.specs.Tenants.{private_of}
 use Rattle.fork_ledger.proofs.ShownLemmas.{private_shown}

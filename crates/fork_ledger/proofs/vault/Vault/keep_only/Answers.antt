@@ -1,5 +1,5 @@
 use Rattle.std.proofs.Common.{ap, sym, subst, ◌∙◌}
-use Rattle.ledgers.specs.Words.{kept_words}
+use Rattle.object_table.specs.Words.{kept_words}
 use Rattle.fork_ledger.specs.Kept.{Covers}
 use Rattle.fork_ledger.specs.Private.{with_kept}
 use Rattle.fork_ledger.specs.Shown.{tenants_of}

@@ -1,7 +1,7 @@
 use Rattle.std.proofs.Common.{◌≡◌, ap, sym, subst, ◌∙◌}
 use Rattle.std.specs.Prelude.{IfOk}
 use Rattle.std.specs.FinMap as map
-use Rattle.ledgers.specs.Ledgers.{ledger_at}
+use Rattle.object_table.specs.Ledgers.{ledger_at}
 use Rattle.fork_ledger.specs.Tenants.{private_of}
 use Rattle.fork_ledger.proofs.ShownLemmas.{private_shown}
 use Rattle.fork_ledger.proofs.ToldLemmas.{names_shown}

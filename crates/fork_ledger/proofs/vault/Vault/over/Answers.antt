@@ -3,7 +3,6 @@ use Rattle.std.specs.FinMap as map
 use Rattle.git_name.proofs.MapLemmas.{map_values_empty}
 use Rattle.git_name.proofs.Names.{name_total, name_exact}
 use Rattle.git_name.specs.Same.{is_listed}
-use Rattle.catalogue.specs.Counted.{Counted, places_of}
 use Rattle.fork_ledger.specs.Shown.{own_of, tenants_of}
 use Rattle.fork_ledger.specs.Store.{IsStored}
 use Rattle.fork_ledger.proofs.CoverLemmas.{keys_listed}
@@ -16,10 +15,9 @@ invariant_of-result g c = λ h.
     let was = sym c.names.ensures.honest ∙ h in
     let files = c.names.new.self.contents in (
       record {
-        stored = subst (λ m. IsStored m files) (sym (ap (tenants_of files) c.new-holdings.ensures.ledgers ∙ map_values_empty name_total name_exact (own_of files))) (stored_none files);
+        stored = subst (λ m. IsStored m files) (sym (ap (tenants_of files) c.in-Ok-over.ensures.ledgers ∙ map_values_empty name_total name_exact (own_of files))) (stored_none files);
         covers = λ q there.
-            ap (λ (s : Counted). is_listed (places_of s).names q) c.new-holdings.ensures.catalogue ∙ c.in-Ok-of.ensures.listed q
-            ∙ ap (λ names. is_listed names q) (c.as_slice.ensures.value ∙ c.in-Ok.ensures.found was) ∙ keys_listed c.survey.inside.files.contents q
+            c.in-Ok-over.ensures.listed q ∙ ap (λ names. is_listed names q) (c.as_slice.ensures.value ∙ c.in-Ok.ensures.found was) ∙ keys_listed c.survey.inside.files.contents q
             ∙ ap (λ m. map.contains_key m q) (sym (c.names.ensures.kept was)) ∙ there;
       },
       linked_none c.new.result files c.new.ensures,
@@ -28,11 +26,10 @@ invariant_of-result g c = λ h.
 pub returns-clause-empty : goal.returns-clause-empty
 returns-clause-empty g c =
     let files = c.names.new.self.contents in
-    ap (tenants_of files) c.new-holdings.ensures.ledgers ∙ map_values_empty name_total name_exact (own_of files)
+    ap (tenants_of files) c.in-Ok-over.ensures.ledgers ∙ map_values_empty name_total name_exact (own_of files)
 
 pub returns-clause-catalogued : goal.returns-clause-catalogued
 returns-clause-catalogued g c = λ h q.
     let was = ap (λ s. s.honest) c.survey.view_is ∙ h in
-    ap (λ (s : Counted). is_listed (places_of s).names q) c.new-holdings.ensures.catalogue ∙ c.in-Ok-of.ensures.listed q
-    ∙ ap (λ names. is_listed names q) (c.as_slice.ensures.value ∙ c.in-Ok.ensures.found was) ∙ keys_listed c.survey.inside.files.contents q
+    c.in-Ok-over.ensures.listed q ∙ ap (λ names. is_listed names q) (c.as_slice.ensures.value ∙ c.in-Ok.ensures.found was) ∙ keys_listed c.survey.inside.files.contents q
     ∙ ap (λ s. map.contains_key s.contents q) c.survey.view_is

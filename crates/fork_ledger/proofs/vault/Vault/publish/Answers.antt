@@ -1,6 +1,6 @@
 use Rattle.std.proofs.Common.{ap, sym, subst, ◌∙◌}
-use Rattle.catalogue.specs.Counted.{places_of}
-use Rattle.ledgers.specs.Words.{published_words}
+use Rattle.object_table.specs.Rows.{places_of}
+use Rattle.object_table.specs.Words.{published_words}
 use Rattle.fork_ledger.specs.Kept.{Covers}
 use Rattle.fork_ledger.specs.Private.{with_published}
 use Rattle.fork_ledger.specs.Shown.{tenants_of}

@@ -1,7 +1,7 @@
 use Rattle.std.proofs.Common.{◌∷◌, [], subst}
 use Rattle.std.proofs.lemmas.Result.{on_ok_weaker}
 use Rattle.looks.specs.Growth.{GrowsAmong}
-use Rattle.catalogue.specs.Counted.{places_of}
+use Rattle.object_table.specs.Rows.{places_of}
 use Rattle.fork_ledger.specs.Shown.{tenants_of}
 use Rattle.fork_ledger.specs.Store.{Recalls}
 use Rattle.fork_ledger.specs.Tenants.{VaultState}

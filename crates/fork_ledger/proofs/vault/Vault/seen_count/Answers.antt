@@ -1,6 +1,6 @@
 use Rattle.std.proofs.Common.{ap, sym, ◌∙◌}
 use Rattle.std.specs.FinMap as map
-use Rattle.ledgers.specs.Ledgers.{ledger_at}
+use Rattle.object_table.specs.Ledgers.{ledger_at}
 use Rattle.fork_ledger.specs.Tenants.{private_of}
 use Rattle.fork_ledger.proofs.ShownLemmas.{private_shown}
 use Rattle.fork_ledger.proofs.ToldLemmas.{count_shown}

@@ -1,14 +1,17 @@
-use Rattle.std.proofs.Common.{◌∷◌, [], ap, sym, subst, ◌∙◌}
+use Rattle.std.proofs.Common.{◌≡◌, ◌∷◌, [], ap, sym, subst, ◌∙◌}
+use Rattle.std.specs.Prelude.{IfErr}
 use Rattle.std.proofs.lemmas.Result.{on_err_weaker, on_ok_weaker}
 use Rattle.git_name.specs.Object.{object_name}
 use Rattle.git_name.specs.Count.{fault_in}
 use Rattle.looks.specs.Growth.{GrowsAmong}
-use Rattle.catalogue.specs.Counted.{places_of}
+use Rattle.object_table.specs.Rows.{places_of}
 use Rattle.fork_ledger.specs.Kept.{IsExact}
 use Rattle.fork_ledger.specs.Private.{with_staged}
 use Rattle.fork_ledger.specs.Shown.{tenants_of}
-use Rattle.fork_ledger.specs.Store.{CountsFault, IsStored}
+use Rattle.fork_ledger.specs.declared.fault.VaultFault.TheVariants.{Collision}
+use Rattle.fork_ledger.specs.Store.{CountsFault, IsStored, Meets, MeetsHeld}
 use Rattle.fork_ledger.specs.Tenants.{VaultState, at_tenant, shape_of}
+use Rattle.fork_ledger.proofs.ClashLemmas.{held_refuses, vault_still}
 use Rattle.fork_ledger.proofs.KeepingLemmas.{stored_keeps, tenants_keep}
 use Rattle.fork_ledger.proofs.LinkLemmas.{linked_still}
 use Rattle.fork_ledger.proofs.ShownShapes.{shape_any, staged_shape}
@@ -71,6 +74,18 @@ returns-clause-kept g c =
     let old = c.self.inside.files.contents in
     let new = c.stage_whole.new.files.contents in
     on_err_weaker c.stage_whole.result (λ same. ap (λ m. shape_of (tenants_of new m)) same ∙ shape_any old new c.self.inside.holdings.ledgers ∙ ap (λ s. shape_of s.tenants) c.self.view_is) c.stage_whole.ensures.err
+
+pub returns-clause-collision : goal.returns-clause-collision
+returns-clause-collision g c = λ h.
+    let was = ap (λ s. s.honest) c.self.view_is ∙ h in
+    subst (λ (s : VaultState). IfErr c.stage_whole.result (λ fault. fault ≡ Collision → Meets c.args.sealed s.files)) c.self.view_is
+    (c.stage_whole.ensures.collision was (c.self.invariant was).0.stored)
+
+pub returns-clause-met : goal.returns-clause-met
+returns-clause-met g c = λ met.
+    let files = c.self.inside.files.contents in
+    let told = c.stage_whole.ensures.met (held_refuses files c.self.inside.holdings.ledgers c.args.sealed (subst (λ (s : VaultState). MeetsHeld c.args.sealed s.tenants) (sym c.self.view_is) met)) in
+    (told.0, vault_still c.self.inside.files c.stage_whole.new.files c.self.inside.holdings c.stage_whole.new.holdings c.self.inside.graph told.1 told.2 ∙ c.self.view_is)
 
 pub returns-clause-store : goal.returns-clause-store
 returns-clause-store g c = record {

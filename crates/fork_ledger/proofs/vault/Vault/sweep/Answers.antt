@@ -3,7 +3,7 @@ use Rattle.std.specs.FinMap as map
 use Rattle.std.proofs.lemmas.Result.{on_err_weaker, on_ok_weaker}
 use Rattle.looks.specs.Looks.{Looks}
 use Rattle.looks.specs.Slices.{Sweeps}
-use Rattle.catalogue.specs.Counted.{places_of}
+use Rattle.object_table.specs.Rows.{places_of}
 use Rattle.fork_ledger.specs.Kept.{IsExact, TakesAway}
 use Rattle.fork_ledger.specs.Shown.{tenants_of}
 use Rattle.fork_ledger.specs.Taken.{is_taken}

@@ -1,9 +1,0 @@
-use Rattle.std.proofs.Common.{◌≡◌, ◌++◌}
-use Rattle.std.specs.Option.{option_copied}
-use Rattle.ledgers.specs.Coming.{coming_in, words_in}
-use Rattle.ledgers.proofs.coming.coming.Given as goal
-
--- the entries so far, and then those of what is left
-abbrev pub invariant-loop-name : goal.invariant-loop-name
-invariant-loop-name l =
-    l.entries.items ++ coming_in (words_in (option_copied l.shown)) (words_in (option_copied l.own)) l.name-iterator ≡ coming_in (words_in (option_copied l.shown)) (words_in (option_copied l.own)) l.names.keys

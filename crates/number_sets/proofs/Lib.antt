@@ -1,0 +1,4 @@
+pub mod BitLemmas
+pub mod NextLemmas
+pub mod PageLemmas
+pub mod PartLemmas

@@ -1,0 +1,97 @@
+// Places of pages, each of which may have one.
+ghost use Rattle.std.specs.Prelude.{◌≡◌, ◌<◌, ◌≤◌, ℕ, ◌||◌, ◌&&◌, not, nat_eq, false, true, is_some, OnOk, IfSome, IfNone};
+ghost use Rattle.number_sets.specs.Numbers.{is_there};
+
+use crate::page::Page;
+use std::alloc::{AllocError, Global};
+
+// Whether a number is there.
+pub(crate) fn contains(slot: &Option<Page>, k: u32) -> bool
+    requires { k < 4096 }
+    ensures { result ≡ is_there slot.now k }
+{
+    let Some(page) = slot else {
+        return false;
+    };
+    page.contains(k)
+}
+
+// Sees to it that there is a page. No number comes.
+pub(crate) fn fill(alloc: Global, slot: &mut Option<Page>) -> Result<(), AllocError>
+    ensures numbers { (q : ℕ) → is_there slot.new q ≡ is_there slot.old q }
+    ensures ok { OnOk result (is_some slot.new ≡ true) }
+    ensures page { is_some slot.old ≡ true → is_some slot.new ≡ true }
+{
+    if slot.is_some() {
+        return Ok(());
+    }
+    let page = Page::new(alloc)?;
+    *slot = Some(page);
+    Ok(())
+}
+
+// Puts a number in.
+pub(crate) fn insert(slot: &mut Option<Page>, k: u32)
+    requires page { is_some slot.old ≡ true }
+    requires small { k < 4096 }
+    ensures numbers { (q : ℕ) → is_there slot.new q ≡ (nat_eq q k || is_there slot.old q) }
+    ensures page { is_some slot.new ≡ is_some slot.old }
+{
+    let Some(page) = slot else {
+        return;
+    };
+    page.insert(k);
+}
+
+// Takes a number out.
+pub(crate) fn remove(slot: &mut Option<Page>, k: u32)
+    requires { k < 4096 }
+    ensures numbers { (q : ℕ) → is_there slot.new q ≡ (not (nat_eq q k) && is_there slot.old q) }
+    ensures page { is_some slot.new ≡ is_some slot.old }
+{
+    let Some(page) = slot else {
+        return;
+    };
+    page.remove(k);
+}
+
+// Puts the numbers of another page in.
+pub(crate) fn unite(slot: &mut Option<Page>, other: &Option<Page>)
+    requires { is_some other.now ≡ true → is_some slot.old ≡ true }
+    ensures numbers { (q : ℕ) → is_there slot.new q ≡ (is_there slot.old q || is_there other.now q) }
+    ensures page { is_some slot.new ≡ is_some slot.old }
+{
+    let Some(other) = other else {
+        return;
+    };
+    let Some(page) = slot else {
+        return;
+    };
+    page.unite(other);
+}
+
+// Takes the numbers of another page out.
+pub(crate) fn subtract(slot: &mut Option<Page>, other: &Option<Page>)
+    ensures numbers { (q : ℕ) → is_there slot.new q ≡ (not (is_there other.now q) && is_there slot.old q) }
+    ensures page { is_some slot.new ≡ is_some slot.old }
+{
+    let Some(other) = other else {
+        return;
+    };
+    let Some(page) = slot else {
+        return;
+    };
+    page.subtract(other);
+}
+
+// The first number at one or after it.
+pub(crate) fn next(slot: &Option<Page>, from: u32) -> Option<u32>
+    ensures some { IfSome result (λ k. (k < 4096) × (from ≤ k) × (is_there slot.now k ≡ true)) }
+    ensures first { IfSome result (λ k. (q : ℕ) → from ≤ q → q < k → is_there slot.now q ≡ false) }
+    ensures none { IfNone result ((q : ℕ) → from ≤ q → q < 4096 → is_there slot.now q ≡ false) }
+{
+    let Some(page) = slot else {
+        return None;
+    };
+    page.next(from)
+}

@@ -1,0 +1,25 @@
+use Rattle.std.proofs.Common.{◌∙◌, ap}
+use Rattle.std.specs.Map.{keys_of}
+use Rattle.git_name.specs.Same.{is_listed}
+use Rattle.object_table.specs.Rows.{places_of}
+use Rattle.object_table.proofs.ChangeLemmas.{no_ledgers, nothing_held}
+use Rattle.object_table.proofs.PlaceLemmas.{listed_next}
+use Rattle.object_table.proofs.holdings.Holdings.over.Goals as goal
+
+pub invariant_of-holdings : goal.invariant_of-holdings
+invariant_of-holdings c = nothing_held c.new.result.entries c.new-2.result c.new.ensures.entries c.new-2.ensures
+
+pub loop-name-init : goal.loop-name-init
+loop-name-init c = record {
+  listed = λ q. ap (λ es. is_listed (keys_of es) q) c.new.ensures.entries;
+  ledgers = no_ledgers c.new.result.entries c.new-2.result c.new-2.ensures;
+  place = c.new.ensures.place;
+}
+
+pub loop-name-preserved : goal.loop-name-preserved
+loop-name-preserved c = record {
+  listed = λ q. listed_next c.args.names.now c.loop-name.name-index c.name-item.result q (is_listed (places_of c.loop-name.holdings.catalogue).names q) (is_listed (places_of c.enter.new.self.catalogue).names q)
+      c.loop-name-test.true c.name-item.is (c.loop-name.invariant.listed q) (c.in_ok-enter.ensures.listed q);
+  ledgers = c.enter.ensures.ledgers ∙ c.loop-name.invariant.ledgers;
+  place = c.enter.ensures.grows.place ∙ c.loop-name.invariant.place;
+}

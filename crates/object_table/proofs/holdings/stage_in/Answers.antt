@@ -1,0 +1,29 @@
+use Rattle.std.proofs.Common.{ap, ◌∙◌}
+use Rattle.object_table.specs.AllStaged.{all_staged_words}
+use Rattle.object_table.specs.Ledgers.{at_ledger}
+use Rattle.object_table.proofs.ChangeLemmas.{clashes, described_all, described_held}
+use Rattle.object_table.proofs.holdings.stage_in.Goals as goal
+
+pub returns-then-not-described-clause-held : goal.returns-then-not-described-clause-held
+returns-then-not-described-clause-held c =
+    described_held c.args.table.now.entries c.describe_all-described.new.table.entries c.args.ledgers.now c.invariant.ensures.rows c.invariant-2.ensures.rows.distinct c.requires.held c.describe_all-described.ensures.describes
+
+pub returns-then-not-described-clause-err : goal.returns-then-not-described-clause-err
+returns-then-not-described-clause-err c =
+    described_all c.args.table.now.entries c.describe_all-described.new.table.entries c.args.ledgers.now c.invariant.ensures.rows c.invariant-2.ensures.rows.distinct c.requires.held c.describe_all-described.ensures.describes
+
+pub returns-then-not-described-clause-clash : goal.returns-then-not-described-clause-clash
+returns-then-not-described-clause-clash c same =
+    clashes c.args.table.now.entries c.args.ledgers.now c.args.entries.now c.invariant.ensures.rows c.requires.held (c.describe_all-described.ensures.clash c.if-not-described.true)
+
+pub stage-requires-clause-held : goal.stage-requires-clause-held
+stage-requires-clause-held c =
+    described_held c.args.table.now.entries c.describe_all-described.new.table.entries c.args.ledgers.now c.invariant.ensures.rows c.invariant-2.ensures.rows.distinct c.requires.held c.describe_all-described.ensures.describes
+
+pub returns-in_default-clause-err : goal.returns-in_default-clause-err
+returns-in_default-clause-err c =
+    c.in_default.ensures.err ∙ described_all c.args.table.now.entries c.describe_all-described.new.table.entries c.args.ledgers.now c.invariant.ensures.rows c.invariant-2.ensures.rows.distinct c.requires.held c.describe_all-described.ensures.describes
+
+pub returns-clause-ok : goal.returns-clause-ok
+returns-clause-ok c =
+    c.in-Ok.ensures.ok ∙ ap (λ m. at_ledger m c.args.tenant.now (all_staged_words c.args.entries.now)) (described_all c.args.table.now.entries c.describe_all-described.new.table.entries c.args.ledgers.now c.invariant.ensures.rows c.invariant-2.ensures.rows.distinct c.requires.held c.describe_all-described.ensures.describes)

@@ -1,0 +1,18 @@
+use Rattle.std.proofs.Common.{◌≡◌, ◌∙◌, Some, sym, ap}
+use Rattle.number_sets.specs.Numbers.{has}
+use Rattle.object_table.specs.Rows.{row_in}
+use Rattle.object_table.specs.Views.{word_by}
+use Rattle.object_table.proofs.SettlingLemmas.{word_before}
+use Rattle.object_table.proofs.StepLemmas.{same_row, seen_is}
+use Rattle.object_table.proofs.staging.see_one.Goals as goal
+
+pub returns-clause-words : goal.returns-clause-words
+returns-clause-words c =
+    let rows = c.args.table.now.entries in
+    let own = c.args.own.now in
+    let row = c.in-Some.row in
+    let here : row_in rows c.args.entry.name ≡ Some row = sym c.in-Some.ensures in
+    let one = same_row rows c.args.entry row c.requires.row here in
+    seen_is _ _ row c.args.entry (has own.visible row.number) c.has_staged-staged.result one.0 one.1
+    (word_before rows own c.args.entry.name row c.invariant.ensures.rows here c.requires.one ∙ ap (word_by row (has own.visible row.number)) (sym c.has_staged-staged.ensures))
+    (c.settle.ensures.words c.args.entry.name here)

@@ -1,0 +1,30 @@
+-- Who holds a name (own): a ledger that has a word of it, whether the object is seen there, staged, or both.
+use Rattle.std.specs.Prelude.{◌≡◌, Bool, ℕ, List, count_by, nat_lt, Some, refl}
+use Rattle.std.specs.Coded.{Coded, code_by, coded×}
+use Rattle.std.specs.FinMap.{FinMap, contains_key, get, values}
+use Rattle.git_name.specs.Name.{name_cmp}
+use Rattle.object_table.specs.Ledgers.{AllWords, ledgers_code}
+use Rattle.object_table.specs.Rows.{Rows, TableState, count_in, table_code}
+use Rattle.object_table.specs.Views.{IsOwn, Sets, all_words}
+
+-- how many ledgers have a word of the name
+unfoldable pub holders_of : AllWords → List ℕ → ℕ
+holders_of ledgers name = count_by (λ words. contains_key words name) (values ledgers)
+
+-- whether any has one
+abbrev pub is_held_in : AllWords → List ℕ → Bool
+is_held_in ledgers name = nat_lt 0 (holders_of ledgers name)
+
+-- the rows' numbers of holders are those of the ledgers, and each tenant's sets are of these rows
+pub record AreHeld (rows : Rows) (tenants : FinMap name_cmp Sets) : Type 0 where
+  pub counted : (name : List ℕ) → count_in rows name ≡ holders_of (all_words rows tenants) name
+  pub own : (tenant : List ℕ) (sets : Sets) → get tenants tenant ≡ Some sets → IsOwn rows sets
+
+-- ledgers and the catalogue
+pub record HoldingsState : Type 0 where
+  pub ledgers : AllWords
+  pub catalogue : TableState
+
+-- they have a code, so that they can be a model's value
+abbrev pub holdings_code : Coded HoldingsState
+holdings_code = code_by (AllWords × TableState) (coded× ledgers_code table_code) (λ s. (s.ledgers, s.catalogue)) (λ p. record { ledgers = p.0; catalogue = p.1 }) (λ _. refl)

@@ -1,0 +1,13 @@
+pub mod Adopted
+pub mod AllStaged
+pub mod Chosen
+pub mod Clashes
+pub mod Coming
+pub mod Holders
+pub mod Ledgers
+pub mod Numbers
+pub mod Rows
+pub mod Told
+pub mod Totals
+pub mod Views
+pub mod Words

@@ -1,0 +1,71 @@
+// Rows of names that nobody holds, which come to tell what is to be staged.
+ghost use Rattle.std.specs.Prelude.{◌≡◌, ◌⊎◌, ℕ, List, true, false, Some};
+ghost use Rattle.std.specs.List.{All};
+ghost use Rattle.git_name.specs.Same.{same_name};
+ghost use Rattle.object_table.specs.AllStaged.{AreListed};
+ghost use Rattle.object_table.specs.Clashes.{DescribesUnheld, HasRow, RowClash};
+ghost use Rattle.object_table.specs.Rows.{places_of, row_in};
+ghost use Rattle.object_table.specs.declared.row.Row.{Row};
+
+use crate::entry::Entry;
+use crate::row::Row;
+use crate::table::Table;
+
+// Whether a row is of the kind and length of an entry.
+pub(crate) fn is_as(row: &Row, entry: Entry) -> bool
+    ensures alike { result ≡ true → (row.now.kind ≡ entry.kind) × (row.now.length ≡ entry.length) }
+    ensures apart { result ≡ false → row.now.kind ≡ entry.kind → row.now.length ≡ entry.length → ⊥ }
+{
+    row.kind == entry.kind && row.length == entry.length
+}
+
+// Whether the row of an entry's name is of its kind and length.
+fn has_row(table: &Table, entry: Entry) -> bool
+    ensures has { result ≡ true → HasRow table.now.entries entry }
+    ensures lacks { result ≡ false → HasRow table.now.entries entry → ⊥ }
+{
+    let Some(row) = table.row(entry.name) else {
+        return false;
+    };
+    is_as(&row, entry)
+}
+
+// The row of an entry's name comes to be of its kind and length, if nobody holds the name.
+fn describe(table: &mut Table, entry: Entry)
+    ensures places { places_of table.new ≡ places_of table.old }
+    ensures describes { DescribesUnheld table.old.entries table.new.entries }
+    ensures others { (q : List ℕ) → same_name entry.name q ≡ false → row_in table.new.entries q ≡ row_in table.old.entries q }
+    ensures row { (row : Row) → row_in table.old.entries entry.name ≡ Some row → row.holders ≡ 0 → HasRow table.new.entries entry }
+{
+    let Some(row) = table.row(entry.name) else {
+        return;
+    };
+    if row.holders > 0 {
+        return;
+    }
+    table.write(Row {
+        length: entry.length,
+        holders: 0,
+        number: row.number,
+        kind: entry.kind,
+    });
+}
+
+// The same of entries. Answers whether the rows of all of them are so.
+pub(crate) fn describe_all(table: &mut Table, entries: &[Entry]) -> bool
+    requires listed { AreListed (places_of table.old) entries.now }
+    ensures places { places_of table.new ≡ places_of table.old }
+    ensures describes { DescribesUnheld table.old.entries table.new.entries }
+    ensures rows { result ≡ true → All (HasRow table.new.entries) entries.now }
+    ensures clash { result ≡ false → RowClash table.old.entries entries.now }
+{
+    for entry in entries {
+        describe(table, *entry);
+    }
+    for entry in entries {
+        if !has_row(table, *entry) {
+            return false;
+        }
+    }
+    true
+}

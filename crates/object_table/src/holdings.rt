@@ -1,0 +1,462 @@
+ghost use Rattle.std.specs.Prelude.{◌≡◌, ◌<◌, ◌≤◌, ◌+◌, ◌⊎◌, ◌++◌, ◌∷◌, [], ◌||◌, ◌&&◌, not, ℕ, List, Some, length, slice_get, take, OnOk, OnErr, IfOk, IfErr, IfSome, IfNone, false, true, nat_le, IsPermutation};
+ghost use Rattle.std.specs.FinMap as map;
+ghost use Rattle.std.specs.HashSet.{contains};
+ghost use Rattle.std.specs.Option.{option_map_or};
+ghost use Rattle.git_name.specs.Same.{is_listed, same_name};
+ghost use Rattle.looks.specs.Growth.{GrowsAmong};
+ghost use Rattle.looks.specs.Places.{at_start, looked_at};
+ghost use Rattle.object_table.specs.Adopted.{AllAlike, adopted_words, offered_words, shown_beside};
+ghost use Rattle.object_table.specs.AllStaged.{AreListed, all_staged_words};
+ghost use Rattle.object_table.specs.Clashes.{AreAs, Clash};
+ghost use Rattle.object_table.specs.Holders.{AreHeld, holders_of, is_held_in};
+ghost use Rattle.object_table.specs.Ledgers.{at_ledger, ledger_at, with_ledger, word_at};
+ghost use Rattle.object_table.specs.Rows.{LooksNextAt, places_of};
+ghost use Rattle.object_table.specs.Totals.{capped, total_of, used_by};
+ghost use Rattle.object_table.specs.Views.{all_words};
+ghost use Rattle.object_table.specs.Words.{discarded_words, is_staged, is_visible, kept_words, published_words, staged_words, words_that};
+
+use crate::coming::{coming, use_with_coming, word_under};
+use crate::describing::{describe_all, is_as};
+use crate::entry::Entry;
+use crate::ledgers::Ledgers;
+use crate::listing::{count_seen, seen_names};
+use crate::name_set::NameSet;
+use crate::stage_fault::StageFault;
+use crate::table::Table;
+use crate::word::Word;
+use fork_request::TenantName;
+use git_name::{Hashing, Kind, Name};
+use indexmap::IndexSet;
+use std::alloc::{AllocError, Global};
+use std::marker::Model;
+
+/// The ledgers of all tenants over one table of names. A name's number of holders is that of the ledgers
+/// that have a word of it.
+#[derive(Drop)]
+pub struct Holdings {
+    table: Table,
+    ledgers: Ledgers,
+}
+
+impl Model for Holdings {
+    ghost use Rattle.object_table.specs.Holders.{AreHeld, HoldingsState, holdings_code};
+    ghost use Rattle.object_table.specs.Views.{all_words};
+
+    ghost Value = { HoldingsState };
+
+    ghost coded = { holdings_code };
+
+    ghost view = { λ a. record { ledgers = all_words a.table.entries a.ledgers; catalogue = a.table } };
+
+    ghost invariant = { λ a. AreHeld a.table.entries a.ledgers };
+}
+
+impl Holdings {
+    /// No tenants, and these names in their order, which nobody holds.
+    pub fn over(alloc: Global, hashing: Hashing, names: &[Name]) -> Result<Holdings, AllocError>
+        ensures ledgers { IfOk result (λ h. h.ledgers ≡ map.empty) }
+        ensures listed { IfOk result (λ h. (q : List ℕ) → is_listed (places_of h.catalogue).names q ≡ is_listed names.now q) }
+        ensures place { IfOk result (λ h. (places_of h.catalogue).place ≡ 0) }
+    {
+        let mut holdings = Holdings {
+            table: Table::new(alloc, hashing),
+            ledgers: Ledgers::new(alloc),
+        };
+        for name in names {
+            holdings.enter(*name)?;
+        }
+        Ok(holdings)
+    }
+
+    /// How names of objects are hashed.
+    pub fn hashing(&self) -> Hashing {
+        self.table.hashing()
+    }
+
+    /// Adds a tenant that holds nothing, unless it is there.
+    pub fn add(&mut self, alloc: Global, tenant: TenantName) -> Result<(), AllocError>
+        ensures ok { OnOk result (self.new.ledgers ≡ with_ledger self.old.ledgers tenant) }
+        ensures err { OnErr result (self.new.ledgers ≡ self.old.ledgers) }
+        ensures catalogue { self.new.catalogue ≡ self.old.catalogue }
+    {
+        self.ledgers.add(alloc, &self.table, tenant)
+    }
+
+    /// Whether a tenant is there.
+    pub fn contains(&self, tenant: &TenantName) -> bool
+        ensures { result ≡ map.contains_key self.now.ledgers tenant.now }
+    {
+        let Some(_) = self.ledgers.get(tenant) else {
+            return false;
+        };
+        true
+    }
+
+    /// What a tenant's ledger says of a name.
+    pub fn word(&self, tenant: &TenantName, name: Name) -> Option<Word>
+        ensures { result ≡ word_at self.now.ledgers tenant.now name }
+    {
+        word_under(&self.table, self.ledgers.get(tenant), name)
+    }
+
+    /// Whether a tenant sees the object of a name.
+    pub fn sees(&self, tenant: &TenantName, name: Name) -> bool
+        ensures { result ≡ option_map_or is_visible (word_at self.now.ledgers tenant.now name) false }
+    {
+        let Some(word) = self.word(tenant, name) else {
+            return false;
+        };
+        word.is_visible()
+    }
+
+    /// Whether a tenant has staged the object of a name.
+    pub fn has_staged(&self, tenant: &TenantName, name: Name) -> bool
+        ensures { result ≡ option_map_or is_staged (word_at self.now.ledgers tenant.now name) false }
+    {
+        let Some(word) = self.word(tenant, name) else {
+            return false;
+        };
+        word.is_staged()
+    }
+
+    /// The names of what a tenant sees, ascending.
+    pub fn names(&self, alloc: Global, tenant: &TenantName) -> Result<Vec<Name>, AllocError>
+        ensures { IfOk result (λ names. names.items ≡ map.keys (words_that is_visible (ledger_at self.now.ledgers tenant.now))) }
+    {
+        names_in(alloc, &self.table, &self.ledgers, tenant)
+    }
+
+    /// How many objects a tenant sees, in linear time of them.
+    pub fn seen_count(&self, tenant: &TenantName) -> usize
+        ensures { result ≡ map.len (words_that is_visible (ledger_at self.now.ledgers tenant.now)) }
+    {
+        seen_count_in(&self.table, &self.ledgers, tenant)
+    }
+
+    /// What the objects use that a tenant sees, in constant time behind the look-up of the tenant.
+    pub fn used(&self, tenant: &TenantName) -> u128
+        ensures { result ≡ capped (used_by (ledger_at self.now.ledgers tenant.now)) }
+    {
+        used_in(&self.table, &self.ledgers, tenant)
+    }
+
+    /// Whether what a tenant sees and has staged uses so much at the most, in constant time behind the
+    /// look-up of the tenant.
+    pub fn is_within(&self, tenant: &TenantName, limit: u64) -> bool
+        ensures { result ≡ nat_le (total_of (ledger_at self.now.ledgers tenant.now)) limit }
+    {
+        is_within_in(&self.table, &self.ledgers, tenant, limit)
+    }
+
+    /// Whether any tenant holds a name.
+    pub fn is_held(&self, name: Name) -> bool
+        ensures { result ≡ is_held_in self.now.ledgers name }
+    {
+        let Some(row) = self.table.row(name) else {
+            return false;
+        };
+        row.holders > 0
+    }
+
+    /// Whether an object of this name, kind and length may be staged: whatever any ledger says of the name
+    /// is of this kind and length.
+    pub fn may_stage(&self, name: Name, kind: Kind, length: u64) -> bool
+        ensures may { result ≡ true → AreAs self.now.ledgers name kind length }
+        ensures clash { result ≡ false → AreAs self.now.ledgers name kind length → ⊥ }
+    {
+        self.table.invariant();
+        let Some(row) = self.table.row(name) else {
+            return true;
+        };
+        if row.holders == 0 {
+            return true;
+        }
+        is_as(&row, Entry { name, kind, length })
+    }
+
+    /// Whether what a tenant sees, with the objects of these names that another one sees beside it, uses so
+    /// much at the most, in linear time of the names.
+    pub fn has_room(
+        &self,
+        to: &TenantName,
+        from: &TenantName,
+        names: &IndexSet<Name, Hashing>,
+        limit: u64,
+    ) -> bool
+        ensures { result ≡ nat_le (total_of (shown_beside (offered_words (contains same_name names.now) (ledger_at self.now.ledgers from.now)) (ledger_at self.now.ledgers to.now))) limit }
+    {
+        let _unique = names.as_slice();
+        let used = self.used(to);
+        let shown = self.ledgers.get(from);
+        let own = self.ledgers.get(to);
+        use_with_coming(&self.table, shown, own, names, used) <= limit as u128
+    }
+
+    /// A tenant comes to see the objects of these names that another one sees, all or none, in linear time
+    /// of the names.
+    pub fn adopt(
+        &mut self,
+        alloc: Global,
+        to: &TenantName,
+        from: &TenantName,
+        names: &IndexSet<Name, Hashing>,
+    ) -> Result<(), AllocError>
+        ensures ok { OnOk result (self.new.ledgers ≡ at_ledger self.old.ledgers to.now (adopted_words (offered_words (contains same_name names.now) (ledger_at self.old.ledgers from.now)))) }
+        ensures err { OnErr result (self.new.ledgers ≡ self.old.ledgers) }
+        ensures places { places_of self.new.catalogue ≡ places_of self.old.catalogue }
+    {
+        self.table.invariant();
+        let shown = self.ledgers.get(from);
+        let own = self.ledgers.get(to);
+        let Ok(entries) = coming(alloc, &self.table, shown, own, names) else {
+            return Err(AllocError);
+        };
+        self.ledgers.see(&mut self.table, to, entries.as_slice())
+    }
+
+    /// Stages the objects of these entries for a tenant, in order, all or none. Their names are catalogued.
+    pub fn stage_all(&mut self, tenant: &TenantName, entries: &[Entry]) -> Result<(), StageFault>
+        requires listed { AreListed (places_of self.old.catalogue) entries.now }
+        ensures ok { OnOk result (self.new.ledgers ≡ at_ledger self.old.ledgers tenant.now (all_staged_words entries.now)) }
+        ensures err { OnErr result (self.new.ledgers ≡ self.old.ledgers) }
+        ensures clash { IfErr result (λ fault. fault ≡ StageFault.Clash → Clash self.old.ledgers entries.now) }
+        ensures places { places_of self.new.catalogue ≡ places_of self.old.catalogue }
+    {
+        stage_in(&mut self.table, &mut self.ledgers, tenant, entries)
+    }
+
+    /// The same of one object.
+    pub fn stage(
+        &mut self,
+        tenant: &TenantName,
+        name: Name,
+        kind: Kind,
+        length: u64,
+    ) -> Result<(), StageFault>
+        requires listed { is_listed (places_of self.old.catalogue).names name ≡ true }
+        ensures ok { OnOk result (self.new.ledgers ≡ at_ledger self.old.ledgers tenant.now (staged_words name kind length)) }
+        ensures err { OnErr result (self.new.ledgers ≡ self.old.ledgers) }
+        ensures clash { IfErr result (λ fault. fault ≡ StageFault.Clash → AreAs self.old.ledgers name kind length → ⊥) }
+        ensures places { places_of self.new.catalogue ≡ places_of self.old.catalogue }
+    {
+        let entry = Entry { name, kind, length };
+        let entries = [entry];
+        self.stage_all(tenant, entries.as_slice())
+    }
+
+    /// What a tenant has staged becomes visible to it. It takes no memory.
+    pub fn publish(&mut self, tenant: &TenantName)
+        ensures ledgers { self.new.ledgers ≡ at_ledger self.old.ledgers tenant.now published_words }
+        ensures catalogue { self.new.catalogue ≡ self.old.catalogue }
+    {
+        self.ledgers.publish(&self.table, tenant);
+    }
+
+    /// What a tenant has staged goes. It takes no memory.
+    pub fn discard(&mut self, tenant: &TenantName)
+        ensures ledgers { self.new.ledgers ≡ at_ledger self.old.ledgers tenant.now discarded_words }
+        ensures places { places_of self.new.catalogue ≡ places_of self.old.catalogue }
+    {
+        self.ledgers.discard(&mut self.table, tenant);
+    }
+
+    /// Of what a tenant sees, keeps these names alone. It takes no memory.
+    pub fn keep_only<N: NameSet>(&mut self, tenant: &TenantName, names: &N)
+        ensures ledgers { self.new.ledgers ≡ at_ledger self.old.ledgers tenant.now (kept_words (N.names names.now)) }
+        ensures places { places_of self.new.catalogue ≡ places_of self.old.catalogue }
+    {
+        self.ledgers.keep_only(&mut self.table, tenant, names);
+    }
+
+    /// Enters a name in the catalogue, unless it is there.
+    pub fn enter(&mut self, name: Name) -> Result<(), AllocError>
+        ensures listed { OnOk result ((q : List ℕ) → is_listed (places_of self.new.catalogue).names q ≡ (same_name name q || is_listed (places_of self.old.catalogue).names q)) }
+        ensures grows { GrowsAmong (name ∷ []) (places_of self.old.catalogue) (places_of self.new.catalogue) }
+        ensures ledgers { self.new.ledgers ≡ self.old.ledgers }
+        ensures err { OnErr result (places_of self.new.catalogue ≡ places_of self.old.catalogue) }
+    {
+        enter_in(&mut self.table, &self.ledgers, name)
+    }
+
+    /// How many names are catalogued.
+    pub fn len(&self) -> usize
+        ensures { result ≡ length (places_of self.now.catalogue).names }
+    {
+        self.table.len()
+    }
+
+    /// The name that the next look falls at, if nobody holds it.
+    pub fn free_name(&self) -> Option<Name>
+        ensures some { IfSome result (λ name. LooksNextAt (places_of self.now.catalogue) name × (holders_of self.now.ledgers name ≡ 0)) }
+        ensures none { IfNone result (((places_of self.now.catalogue).names ≡ []) ⊎ ((name : List ℕ) × LooksNextAt (places_of self.now.catalogue) name × (0 < holders_of self.now.ledgers name))) }
+    {
+        self.table.free_name()
+    }
+
+    /// The name at a place of the catalogue, if somebody holds it. Each name stands at one place.
+    pub fn held_name(&self, at: usize) -> Option<Name>
+        ensures some { IfSome result (λ name. (slice_get (places_of self.now.catalogue).names at ≡ Some name) × (is_held_in self.now.ledgers name ≡ true)) }
+        ensures first { IfSome result (λ name. is_listed (take at (places_of self.now.catalogue).names) name ≡ false) }
+        ensures none { IfNone result ((name : List ℕ) → slice_get (places_of self.now.catalogue).names at ≡ Some name → is_held_in self.now.ledgers name ≡ false) }
+    {
+        self.table.held_name(at)
+    }
+
+    /// A law, and no work: each name that somebody holds is catalogued.
+    pub fn held_names_are_catalogued(&self)
+        ensures { (name : List ℕ) → is_held_in self.now.ledgers name ≡ true → is_listed (places_of self.now.catalogue).names name ≡ true }
+    {
+        let _ledgers = &self.ledgers;
+    }
+
+    /// A law, and no work: what ledgers say of one name is of one kind and length.
+    pub fn words_are_alike(&self)
+        ensures { AllAlike self.now.ledgers }
+    {
+        self.table.invariant();
+    }
+
+    /// Passes over the name that the next look falls at.
+    pub fn pass(&mut self)
+        requires { 0 < length (places_of self.old.catalogue).names }
+        ensures ledgers { self.new.ledgers ≡ self.old.ledgers }
+        ensures names { (places_of self.new.catalogue).names ≡ (places_of self.old.catalogue).names }
+        ensures place { (places_of self.new.catalogue).place ≡ looked_at (places_of self.old.catalogue) + 1 }
+    {
+        self.table.pass();
+    }
+
+    /// Takes the name that the next look falls at out of the catalogue. Nobody holds it.
+    pub fn leave(&mut self, name: Name)
+        requires next { LooksNextAt (places_of self.old.catalogue) name }
+        requires free { holders_of self.old.ledgers name ≡ 0 }
+        ensures ledgers { self.new.ledgers ≡ self.old.ledgers }
+        ensures left { (front back : List (List ℕ)) → (places_of self.old.catalogue).names ≡ front ++ name ∷ back → length front ≡ looked_at (places_of self.old.catalogue)
+            → (left : List (List ℕ)) × ((places_of self.new.catalogue).names ≡ front ++ left) × IsPermutation back left }
+        ensures place { (places_of self.new.catalogue).place ≡ looked_at (places_of self.old.catalogue) }
+        ensures listed { (q : List ℕ) → is_listed (places_of self.new.catalogue).names q ≡ (not (same_name name q) && is_listed (places_of self.old.catalogue).names q) }
+    {
+        leave_in(&mut self.table, &self.ledgers, name);
+    }
+
+    /// Sets the place of the next look to the beginning.
+    pub fn restart(&mut self)
+        ensures ledgers { self.new.ledgers ≡ self.old.ledgers }
+        ensures places { places_of self.new.catalogue ≡ at_start (places_of self.old.catalogue) }
+    {
+        self.table.restart();
+    }
+
+    /// The place of the next look.
+    pub fn place(&self) -> usize
+        ensures place { result ≡ (places_of self.now.catalogue).place }
+        ensures within { result ≤ length (places_of self.now.catalogue).names }
+    {
+        self.table.place()
+    }
+}
+
+fn names_in(
+    alloc: Global,
+    table: &Table,
+    ledgers: &Ledgers,
+    tenant: &TenantName,
+) -> Result<Vec<Name>, AllocError>
+    requires held { AreHeld table.now.entries ledgers.now }
+    ensures { IfOk result (λ names. names.items ≡ map.keys (words_that is_visible (ledger_at (all_words table.now.entries ledgers.now) tenant.now))) }
+{
+    let Some(ledger) = ledgers.get(tenant) else {
+        return Ok(Vec::new(alloc));
+    };
+    seen_names(alloc, table, ledger)
+}
+
+fn seen_count_in(table: &Table, ledgers: &Ledgers, tenant: &TenantName) -> usize
+    requires held { AreHeld table.now.entries ledgers.now }
+    ensures { result ≡ map.len (words_that is_visible (ledger_at (all_words table.now.entries ledgers.now) tenant.now)) }
+{
+    let Some(ledger) = ledgers.get(tenant) else {
+        return 0;
+    };
+    count_seen(table, ledger)
+}
+
+fn used_in(table: &Table, ledgers: &Ledgers, tenant: &TenantName) -> u128
+    requires held { AreHeld table.now.entries ledgers.now }
+    ensures { result ≡ capped (used_by (ledger_at (all_words table.now.entries ledgers.now) tenant.now)) }
+{
+    table.invariant();
+    let Some(ledger) = ledgers.get(tenant) else {
+        return 0;
+    };
+    ledger.used()
+}
+
+fn is_within_in(table: &Table, ledgers: &Ledgers, tenant: &TenantName, limit: u64) -> bool
+    requires held { AreHeld table.now.entries ledgers.now }
+    ensures { result ≡ nat_le (total_of (ledger_at (all_words table.now.entries ledgers.now) tenant.now)) limit }
+{
+    let Some(ledger) = ledgers.get(tenant) else {
+        return true;
+    };
+    ledger.total() <= limit as u128
+}
+
+// Enters a name, which nobody holds if it is new.
+fn enter_in(table: &mut Table, ledgers: &Ledgers, name: Name) -> Result<(), AllocError>
+    requires held { AreHeld table.old.entries ledgers.now }
+    ensures held { AreHeld table.new.entries ledgers.now }
+    ensures listed { OnOk result ((q : List ℕ) → is_listed (places_of table.new).names q ≡ (same_name name q || is_listed (places_of table.old).names q)) }
+    ensures grows { GrowsAmong (name ∷ []) (places_of table.old) (places_of table.new) }
+    ensures words { all_words table.new.entries ledgers.now ≡ all_words table.old.entries ledgers.now }
+    ensures err { OnErr result (places_of table.new ≡ places_of table.old) }
+{
+    table.invariant();
+    let entered = table.enter(name);
+    table.invariant();
+    entered
+}
+
+// Takes out a name that nobody holds.
+fn leave_in(table: &mut Table, ledgers: &Ledgers, name: Name)
+    requires held { AreHeld table.old.entries ledgers.now }
+    requires next { LooksNextAt (places_of table.old) name }
+    requires free { holders_of (all_words table.old.entries ledgers.now) name ≡ 0 }
+    ensures held { AreHeld table.new.entries ledgers.now }
+    ensures words { all_words table.new.entries ledgers.now ≡ all_words table.old.entries ledgers.now }
+    ensures left { (front back : List (List ℕ)) → (places_of table.old).names ≡ front ++ name ∷ back → length front ≡ looked_at (places_of table.old)
+        → (left : List (List ℕ)) × ((places_of table.new).names ≡ front ++ left) × IsPermutation back left }
+    ensures place { (places_of table.new).place ≡ looked_at (places_of table.old) }
+    ensures listed { (q : List ℕ) → is_listed (places_of table.new).names q ≡ (not (same_name name q) && is_listed (places_of table.old).names q) }
+{
+    table.invariant();
+    table.leave(name);
+    table.invariant();
+}
+
+// Where nobody holds a name its row comes to tell what is staged, and then all are staged or none.
+fn stage_in(
+    table: &mut Table,
+    ledgers: &mut Ledgers,
+    tenant: &TenantName,
+    entries: &[Entry],
+) -> Result<(), StageFault>
+    requires held { AreHeld table.old.entries ledgers.old }
+    requires listed { AreListed (places_of table.old) entries.now }
+    ensures held { AreHeld table.new.entries ledgers.new }
+    ensures ok { OnOk result (all_words table.new.entries ledgers.new ≡ at_ledger (all_words table.old.entries ledgers.old) tenant.now (all_staged_words entries.now)) }
+    ensures err { OnErr result (all_words table.new.entries ledgers.new ≡ all_words table.old.entries ledgers.old) }
+    ensures clash { IfErr result (λ fault. fault ≡ StageFault.Clash → Clash (all_words table.old.entries ledgers.old) entries.now) }
+    ensures places { places_of table.new ≡ places_of table.old }
+{
+    table.invariant();
+    let described = describe_all(table, entries);
+    table.invariant();
+    if !described {
+        return Err(StageFault::Clash);
+    }
+    let Ok(()) = ledgers.stage(table, tenant, entries) else {
+        return Err(StageFault::Memory);
+    };
+    Ok(())
+}

@@ -1,0 +1,31 @@
+//! One table of objects: each name that is stored or held has a row with a number that stays, and what a
+//! tenant sees and has staged are two sets of these numbers.
+//! A name's number of holders is that of the ledgers that have a word of it. Contracts see names, words and
+//! places; no number is seen from outside.
+#![tactic(auto)]
+
+mod coming;
+mod describing;
+mod entry;
+mod holdings;
+mod leaving;
+mod ledger;
+mod ledgers;
+mod listing;
+mod name_set;
+mod numbers;
+mod row;
+mod rows;
+mod settling;
+mod stage_fault;
+mod staging;
+mod table;
+mod usage;
+mod word;
+
+pub use crate::entry::Entry;
+pub use crate::holdings::Holdings;
+pub use crate::name_set::NameSet;
+pub use crate::stage_fault::StageFault;
+pub use crate::usage::WORD_USE;
+pub use crate::word::{Standing, Word};

@@ -6,6 +6,7 @@ pub mod DescribeLemmas
 pub mod HeldLemmas
 pub mod HolderLemmas
 pub mod LeavingLemmas
+pub mod LinkLemmas
 pub mod ListingLemmas
 pub mod NumberLemmas
 pub mod PlaceLemmas
@@ -19,3 +20,4 @@ pub mod TenantEntries
 pub mod TenantLemmas
 pub mod UpdateLemmas
 pub mod ViewLemmas
+pub mod WalkedLemmas

@@ -4,6 +4,7 @@ use Rattle.std.specs.Coded.{Coded, code_by, coded×}
 use Rattle.std.specs.FinMap.{FinMap, contains_key, get, values}
 use Rattle.git_name.specs.Name.{name_cmp}
 use Rattle.object_table.specs.Ledgers.{AllWords, ledgers_code}
+use Rattle.object_table.specs.Links.{NamedLinks, links_code}
 use Rattle.object_table.specs.Rows.{Rows, TableState, count_in, table_code}
 use Rattle.object_table.specs.Views.{IsOwn, Sets, all_words}
 
@@ -20,11 +21,14 @@ pub record AreHeld (rows : Rows) (tenants : FinMap name_cmp Sets) : Type 0 where
   pub counted : (name : List ℕ) → count_in rows name ≡ holders_of (all_words rows tenants) name
   pub own : (tenant : List ℕ) (sets : Sets) → get tenants tenant ≡ Some sets → IsOwn rows sets
 
--- ledgers and the catalogue
+-- ledgers, the catalogue, and what is known of what the objects of names lead to
 pub record HoldingsState : Type 0 where
   pub ledgers : AllWords
   pub catalogue : TableState
+  pub links : NamedLinks
 
 -- they have a code, so that they can be a model's value
 abbrev pub holdings_code : Coded HoldingsState
-holdings_code = code_by (AllWords × TableState) (coded× ledgers_code table_code) (λ s. (s.ledgers, s.catalogue)) (λ p. record { ledgers = p.0; catalogue = p.1 }) (λ _. refl)
+holdings_code =
+    code_by (AllWords × (TableState × NamedLinks)) (coded× ledgers_code (coded× table_code links_code))
+    (λ s. (s.ledgers, (s.catalogue, s.links))) (λ p. record { ledgers = p.0; catalogue = p.1.0; links = p.1.1 }) (λ _. refl)

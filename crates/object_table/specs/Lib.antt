@@ -5,9 +5,11 @@ pub mod Clashes
 pub mod Coming
 pub mod Holders
 pub mod Ledgers
+pub mod Links
 pub mod Numbers
 pub mod Rows
 pub mod Told
 pub mod Totals
 pub mod Views
+pub mod Walked
 pub mod Words

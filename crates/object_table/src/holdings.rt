@@ -1,4 +1,4 @@
-ghost use Rattle.std.specs.Prelude.{◌≡◌, ◌<◌, ◌≤◌, ◌+◌, ◌⊎◌, ◌++◌, ◌∷◌, [], ◌||◌, ◌&&◌, not, ℕ, List, Some, length, slice_get, take, OnOk, OnErr, IfOk, IfErr, IfSome, IfNone, false, true, nat_le, IsPermutation};
+ghost use Rattle.std.specs.Prelude.{◌≡◌, ◌≢◌, ◌<◌, ◌≤◌, ◌+◌, ◌⊎◌, ◌++◌, ◌∷◌, [], ◌||◌, ◌&&◌, not, ℕ, List, Contains, Some, length, slice_get, take, OnOk, OnErr, IfOk, IfErr, IfSome, IfNone, false, true, nat_le, IsPermutation, map as mapped};
 ghost use Rattle.std.specs.FinMap as map;
 ghost use Rattle.std.specs.HashSet.{contains};
 ghost use Rattle.std.specs.Option.{option_map_or};
@@ -10,7 +10,11 @@ ghost use Rattle.object_table.specs.AllStaged.{AreListed, all_staged_words};
 ghost use Rattle.object_table.specs.Clashes.{AreAs, Clash};
 ghost use Rattle.object_table.specs.Holders.{AreHeld, holders_of, is_held_in};
 ghost use Rattle.object_table.specs.Ledgers.{at_ledger, ledger_at, with_ledger, word_at};
-ghost use Rattle.object_table.specs.Rows.{LooksNextAt, places_of};
+ghost use Rattle.object_table.specs.Links.{AreLinks, KnowsNoMore, KeepsNumbers, leads_nowhere, named_links, numbered_name};
+ghost use Rattle.object_table.specs.Walked.{IsBetween, IsMet};
+ghost use Rattle.object_table.specs.Rows.{IsUsed, LooksNextAt, places_of, row_in};
+ghost use Rattle.object_table.specs.declared.row.Row.{Row};
+ghost use Rattle.number_links.specs.Known.{known};
 ghost use Rattle.object_table.specs.Totals.{capped, total_of, used_by};
 ghost use Rattle.object_table.specs.Views.{all_words};
 ghost use Rattle.object_table.specs.Words.{discarded_words, is_staged, is_visible, kept_words, published_words, staged_words, words_that};
@@ -19,36 +23,45 @@ use crate::coming::{coming, use_with_coming, word_under};
 use crate::describing::{describe_all, is_as};
 use crate::entry::Entry;
 use crate::ledgers::Ledgers;
+use crate::linking::{names_between, numbers_of};
 use crate::listing::{count_seen, seen_names};
 use crate::name_set::NameSet;
+use crate::row::Row;
 use crate::stage_fault::StageFault;
 use crate::table::Table;
 use crate::word::Word;
 use fork_request::TenantName;
 use git_name::{Hashing, Kind, Name};
 use indexmap::IndexSet;
+use number_links::Links;
 use std::alloc::{AllocError, Global};
 use std::marker::Model;
 
-/// The ledgers of all tenants over one table of names. A name's number of holders is that of the ledgers
-/// that have a word of it.
+/// The ledgers of all tenants over one table of names, and what the objects of names lead to, where that is
+/// known. A name's number of holders is that of the ledgers that have a word of it.
 #[derive(Drop)]
 pub struct Holdings {
     table: Table,
     ledgers: Ledgers,
+    links: Links,
 }
 
 impl Model for Holdings {
     ghost use Rattle.object_table.specs.Holders.{AreHeld, HoldingsState, holdings_code};
+    ghost use Rattle.object_table.specs.Links.{AreLinks, named_links};
     ghost use Rattle.object_table.specs.Views.{all_words};
 
     ghost Value = { HoldingsState };
 
     ghost coded = { holdings_code };
 
-    ghost view = { λ a. record { ledgers = all_words a.table.entries a.ledgers; catalogue = a.table } };
+    ghost view = { λ a. record {
+      ledgers = all_words a.table.entries a.ledgers;
+      catalogue = a.table;
+      links = named_links a.table.entries a.links;
+    } };
 
-    ghost invariant = { λ a. AreHeld a.table.entries a.ledgers };
+    ghost invariant = { λ a. AreHeld a.table.entries a.ledgers × AreLinks a.table.entries a.links };
 }
 
 impl Holdings {
@@ -57,10 +70,12 @@ impl Holdings {
         ensures ledgers { IfOk result (λ h. h.ledgers ≡ map.empty) }
         ensures listed { IfOk result (λ h. (q : List ℕ) → is_listed (places_of h.catalogue).names q ≡ is_listed names.now q) }
         ensures place { IfOk result (λ h. (places_of h.catalogue).place ≡ 0) }
+        ensures links { IfOk result (λ h. (q : List ℕ) → map.get h.links q ≡ None) }
     {
         let mut holdings = Holdings {
             table: Table::new(alloc, hashing),
             ledgers: Ledgers::new(alloc),
+            links: Links::new(alloc),
         };
         for name in names {
             holdings.enter(*name)?;
@@ -78,6 +93,7 @@ impl Holdings {
         ensures ok { OnOk result (self.new.ledgers ≡ with_ledger self.old.ledgers tenant) }
         ensures err { OnErr result (self.new.ledgers ≡ self.old.ledgers) }
         ensures catalogue { self.new.catalogue ≡ self.old.catalogue }
+        ensures links { self.new.links ≡ self.old.links }
     {
         self.ledgers.add(alloc, &self.table, tenant)
     }
@@ -204,6 +220,7 @@ impl Holdings {
         ensures ok { OnOk result (self.new.ledgers ≡ at_ledger self.old.ledgers to.now (adopted_words (offered_words (contains same_name names.now) (ledger_at self.old.ledgers from.now)))) }
         ensures err { OnErr result (self.new.ledgers ≡ self.old.ledgers) }
         ensures places { places_of self.new.catalogue ≡ places_of self.old.catalogue }
+        ensures links { self.new.links ≡ self.old.links }
     {
         self.table.invariant();
         let shown = self.ledgers.get(from);
@@ -211,7 +228,9 @@ impl Holdings {
         let Ok(entries) = coming(alloc, &self.table, shown, own, names) else {
             return Err(AllocError);
         };
-        self.ledgers.see(&mut self.table, to, entries.as_slice())
+        let seen = self.ledgers.see(&mut self.table, to, entries.as_slice());
+        self.table.invariant();
+        seen
     }
 
     /// Stages the objects of these entries for a tenant, in order, all or none. Their names are catalogued.
@@ -221,8 +240,12 @@ impl Holdings {
         ensures err { OnErr result (self.new.ledgers ≡ self.old.ledgers) }
         ensures clash { IfErr result (λ fault. fault ≡ StageFault.Clash → Clash self.old.ledgers entries.now) }
         ensures places { places_of self.new.catalogue ≡ places_of self.old.catalogue }
+        ensures links { self.new.links ≡ self.old.links }
     {
-        stage_in(&mut self.table, &mut self.ledgers, tenant, entries)
+        self.table.invariant();
+        let staged = stage_in(&mut self.table, &mut self.ledgers, tenant, entries);
+        self.table.invariant();
+        staged
     }
 
     /// The same of one object.
@@ -238,6 +261,7 @@ impl Holdings {
         ensures err { OnErr result (self.new.ledgers ≡ self.old.ledgers) }
         ensures clash { IfErr result (λ fault. fault ≡ StageFault.Clash → AreAs self.old.ledgers name kind length → ⊥) }
         ensures places { places_of self.new.catalogue ≡ places_of self.old.catalogue }
+        ensures links { self.new.links ≡ self.old.links }
     {
         let entry = Entry { name, kind, length };
         let entries = [entry];
@@ -248,6 +272,7 @@ impl Holdings {
     pub fn publish(&mut self, tenant: &TenantName)
         ensures ledgers { self.new.ledgers ≡ at_ledger self.old.ledgers tenant.now published_words }
         ensures catalogue { self.new.catalogue ≡ self.old.catalogue }
+        ensures links { self.new.links ≡ self.old.links }
     {
         self.ledgers.publish(&self.table, tenant);
     }
@@ -256,16 +281,22 @@ impl Holdings {
     pub fn discard(&mut self, tenant: &TenantName)
         ensures ledgers { self.new.ledgers ≡ at_ledger self.old.ledgers tenant.now discarded_words }
         ensures places { places_of self.new.catalogue ≡ places_of self.old.catalogue }
+        ensures links { self.new.links ≡ self.old.links }
     {
+        self.table.invariant();
         self.ledgers.discard(&mut self.table, tenant);
+        self.table.invariant();
     }
 
     /// Of what a tenant sees, keeps these names alone. It takes no memory.
     pub fn keep_only<N: NameSet>(&mut self, tenant: &TenantName, names: &N)
         ensures ledgers { self.new.ledgers ≡ at_ledger self.old.ledgers tenant.now (kept_words (N.names names.now)) }
         ensures places { places_of self.new.catalogue ≡ places_of self.old.catalogue }
+        ensures links { self.new.links ≡ self.old.links }
     {
+        self.table.invariant();
         self.ledgers.keep_only(&mut self.table, tenant, names);
+        self.table.invariant();
     }
 
     /// Enters a name in the catalogue, unless it is there.
@@ -274,8 +305,55 @@ impl Holdings {
         ensures grows { GrowsAmong (name ∷ []) (places_of self.old.catalogue) (places_of self.new.catalogue) }
         ensures ledgers { self.new.ledgers ≡ self.old.ledgers }
         ensures err { OnErr result (places_of self.new.catalogue ≡ places_of self.old.catalogue) }
+        ensures links { self.new.links ≡ self.old.links }
     {
-        enter_in(&mut self.table, &self.ledgers, name)
+        enter_in(&mut self.table, &self.ledgers, &self.links, name)
+    }
+
+    /// What the object of a name leads to is learned, if all these names are catalogued as it is. Where there
+    /// is no memory for that, it stays unknown.
+    pub fn learn(&mut self, alloc: Global, name: Name, to: &[Name])
+        ensures ledgers { self.new.ledgers ≡ self.old.ledgers }
+        ensures catalogue { self.new.catalogue ≡ self.old.catalogue }
+        ensures links { (q : List ℕ) (names : List (List ℕ)) → map.get self.new.links q ≡ Some names → (map.get self.old.links q ≡ Some names) ⊎ ((q ≡ name) × (names ≡ to.now)) }
+    {
+        let Some(row) = self.table.row(name) else {
+            return;
+        };
+        let Ok(Some(numbers)) = numbers_of(alloc, &self.table, to) else {
+            return;
+        };
+        learn_row(&self.table, &mut self.links, name, row, numbers.as_slice());
+    }
+
+    /// Whether it is known what the object of a name leads to.
+    pub fn knows(&self, name: Name) -> bool
+        ensures { result ≡ map.contains_key self.now.links name }
+    {
+        self.table.invariant();
+        let Some(row) = self.table.row(name) else {
+            return false;
+        };
+        self.links.of(row.number).is_some()
+    }
+
+    /// The names of what a tenant sees that links lead to from the wanted ones, and from none of the excluded
+    /// ones; nothing where an object on the way is met of which it is not known what it leads to.
+    pub fn between(
+        &self,
+        alloc: Global,
+        tenant: &TenantName,
+        wanted: &[Name],
+        excluded: &[Name],
+    ) -> Result<Option<IndexSet<Name, Hashing>>, AllocError>
+        ensures only { IfOk result (λ found. IfSome found (λ names. (name : List ℕ) → contains same_name names name ≡ true → IsBetween (words_that is_visible (ledger_at self.now.ledgers tenant.now)) self.now.links wanted.now excluded.now name)) }
+        ensures all { IfOk result (λ found. IfSome found (λ names. (name : List ℕ) → IsBetween (words_that is_visible (ledger_at self.now.ledgers tenant.now)) self.now.links wanted.now excluded.now name → contains same_name names name ≡ true)) }
+        ensures known { IfOk result (λ found. IfSome found (λ names. (name : List ℕ) → IsMet (words_that is_visible (ledger_at self.now.ledgers tenant.now)) self.now.links wanted.now excluded.now name → (option_map_or (λ word. leads_nowhere word.kind) (map.get (words_that is_visible (ledger_at self.now.ledgers tenant.now)) name) false ≡ true) ⊎ (map.contains_key self.now.links name ≡ true))) }
+    {
+        let Some(own) = self.ledgers.get(tenant) else {
+            return Ok(None);
+        };
+        names_between(alloc, &self.table, &self.links, own, wanted, excluded)
     }
 
     /// How many names are catalogued.
@@ -322,6 +400,7 @@ impl Holdings {
         ensures ledgers { self.new.ledgers ≡ self.old.ledgers }
         ensures names { (places_of self.new.catalogue).names ≡ (places_of self.old.catalogue).names }
         ensures place { (places_of self.new.catalogue).place ≡ looked_at (places_of self.old.catalogue) + 1 }
+        ensures links { self.new.links ≡ self.old.links }
     {
         self.table.pass();
     }
@@ -335,14 +414,16 @@ impl Holdings {
             → (left : List (List ℕ)) × ((places_of self.new.catalogue).names ≡ front ++ left) × IsPermutation back left }
         ensures place { (places_of self.new.catalogue).place ≡ looked_at (places_of self.old.catalogue) }
         ensures listed { (q : List ℕ) → is_listed (places_of self.new.catalogue).names q ≡ (not (same_name name q) && is_listed (places_of self.old.catalogue).names q) }
+        ensures links { KnowsNoMore self.old.links self.new.links }
     {
-        leave_in(&mut self.table, &self.ledgers, name);
+        leave_in(&mut self.table, &self.ledgers, &mut self.links, name);
     }
 
     /// Sets the place of the next look to the beginning.
     pub fn restart(&mut self)
         ensures ledgers { self.new.ledgers ≡ self.old.ledgers }
         ensures places { places_of self.new.catalogue ≡ at_start (places_of self.old.catalogue) }
+        ensures links { self.new.links ≡ self.old.links }
     {
         self.table.restart();
     }
@@ -354,6 +435,19 @@ impl Holdings {
     {
         self.table.place()
     }
+}
+
+// What the object of a row leads to is learned: objects of these numbers.
+fn learn_row(table: &Table, links: &mut Links, name: Name, row: Row, to: &[u32])
+    requires linked { AreLinks table.now.entries links.old }
+    requires here { row_in table.now.entries name ≡ Some row }
+    requires used { (m : ℕ) → Contains to.now m → IsUsed table.now.entries m }
+    ensures linked { AreLinks table.now.entries links.new }
+    ensures links { (q : List ℕ) (names : List (List ℕ)) → map.get (named_links table.now.entries links.new) q ≡ Some names → (map.get (named_links table.now.entries links.old) q ≡ Some names) ⊎ ((q ≡ name) × (names ≡ mapped (numbered_name table.now.entries) to.now)) }
+{
+    table.invariant();
+    let _name = name;
+    let _learned = links.learn(row.number, to);
 }
 
 fn names_in(
@@ -403,9 +497,17 @@ fn is_within_in(table: &Table, ledgers: &Ledgers, tenant: &TenantName, limit: u6
 }
 
 // Enters a name, which nobody holds if it is new.
-fn enter_in(table: &mut Table, ledgers: &Ledgers, name: Name) -> Result<(), AllocError>
+fn enter_in(
+    table: &mut Table,
+    ledgers: &Ledgers,
+    links: &Links,
+    name: Name,
+) -> Result<(), AllocError>
     requires held { AreHeld table.old.entries ledgers.now }
+    requires linked { AreLinks table.old.entries links.now }
     ensures held { AreHeld table.new.entries ledgers.now }
+    ensures linked { AreLinks table.new.entries links.now }
+    ensures links { named_links table.new.entries links.now ≡ named_links table.old.entries links.now }
     ensures listed { OnOk result ((q : List ℕ) → is_listed (places_of table.new).names q ≡ (same_name name q || is_listed (places_of table.old).names q)) }
     ensures grows { GrowsAmong (name ∷ []) (places_of table.old) (places_of table.new) }
     ensures words { all_words table.new.entries ledgers.now ≡ all_words table.old.entries ledgers.now }
@@ -417,12 +519,25 @@ fn enter_in(table: &mut Table, ledgers: &Ledgers, name: Name) -> Result<(), Allo
     entered
 }
 
+// What is known of the number of a name is forgotten, and what leads to it.
+fn renew(table: &Table, links: &mut Links, name: Name)
+    ensures { (row : Row) → row_in table.now.entries name ≡ Some row → (n : ℕ) (to : List ℕ) → known links.new n ≡ Some to → (known links.old n ≡ Some to) × (n ≢ row.number) × (Contains to row.number → ⊥) }
+{
+    let Some(row) = table.row(name) else {
+        return;
+    };
+    links.renew(row.number);
+}
+
 // Takes out a name that nobody holds.
-fn leave_in(table: &mut Table, ledgers: &Ledgers, name: Name)
+fn leave_in(table: &mut Table, ledgers: &Ledgers, links: &mut Links, name: Name)
     requires held { AreHeld table.old.entries ledgers.now }
+    requires linked { AreLinks table.old.entries links.old }
     requires next { LooksNextAt (places_of table.old) name }
     requires free { holders_of (all_words table.old.entries ledgers.now) name ≡ 0 }
     ensures held { AreHeld table.new.entries ledgers.now }
+    ensures linked { AreLinks table.new.entries links.new }
+    ensures links { KnowsNoMore (named_links table.old.entries links.old) (named_links table.new.entries links.new) }
     ensures words { all_words table.new.entries ledgers.now ≡ all_words table.old.entries ledgers.now }
     ensures left { (front back : List (List ℕ)) → (places_of table.old).names ≡ front ++ name ∷ back → length front ≡ looked_at (places_of table.old)
         → (left : List (List ℕ)) × ((places_of table.new).names ≡ front ++ left) × IsPermutation back left }
@@ -430,6 +545,7 @@ fn leave_in(table: &mut Table, ledgers: &Ledgers, name: Name)
     ensures listed { (q : List ℕ) → is_listed (places_of table.new).names q ≡ (not (same_name name q) && is_listed (places_of table.old).names q) }
 {
     table.invariant();
+    renew(table, links, name);
     table.leave(name);
     table.invariant();
 }
@@ -448,6 +564,7 @@ fn stage_in(
     ensures err { OnErr result (all_words table.new.entries ledgers.new ≡ all_words table.old.entries ledgers.old) }
     ensures clash { IfErr result (λ fault. fault ≡ StageFault.Clash → Clash (all_words table.old.entries ledgers.old) entries.now) }
     ensures places { places_of table.new ≡ places_of table.old }
+    ensures numbers { KeepsNumbers table.old.entries table.new.entries }
 {
     table.invariant();
     let described = describe_all(table, entries);

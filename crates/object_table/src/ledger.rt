@@ -53,6 +53,13 @@ impl Ledger {
         self.visible.contains(n)
     }
 
+    /// The numbers of what the tenant sees.
+    pub(crate) fn visible(&self) -> &NumberSet
+        ensures { result.now ≡ self.now.visible }
+    {
+        &self.visible
+    }
+
     /// Whether the tenant has staged a number.
     pub(crate) fn has_staged(&self, n: u32) -> bool
         ensures { result ≡ has self.now.staged n }

@@ -7,6 +7,7 @@ ghost use Rattle.object_table.specs.Clashes.{HasRow};
 ghost use Rattle.object_table.specs.Coming.{all_seen_words, coming_in, use_of_entry};
 ghost use Rattle.object_table.specs.Holders.{AreHeld};
 ghost use Rattle.object_table.specs.Ledgers.{at_ledger, ledger_at, with_ledger, word_at};
+ghost use Rattle.object_table.specs.Links.{KeepsNumbers};
 ghost use Rattle.object_table.specs.Rows.{places_of};
 ghost use Rattle.object_table.specs.Totals.{capped, total_of, used_by};
 ghost use Rattle.object_table.specs.Views.{all_words};
@@ -101,6 +102,7 @@ impl Ledgers {
         ensures ok { OnOk result (all_words table.new.entries self.new ≡ at_ledger (all_words table.old.entries self.old) tenant.now (all_staged_words entries.now)) }
         ensures err { OnErr result (all_words table.new.entries self.new ≡ all_words table.old.entries self.old) }
         ensures places { places_of table.new ≡ places_of table.old }
+        ensures numbers { KeepsNumbers table.old.entries table.new.entries }
     {
         table.invariant();
         let _tenants = self.len();
@@ -126,6 +128,7 @@ impl Ledgers {
         ensures ok { OnOk result (all_words table.new.entries self.new ≡ at_ledger (all_words table.old.entries self.old) tenant.now (all_seen_words entries.now)) }
         ensures err { OnErr result (all_words table.new.entries self.new ≡ all_words table.old.entries self.old) }
         ensures places { places_of table.new ≡ places_of table.old }
+        ensures numbers { KeepsNumbers table.old.entries table.new.entries }
     {
         table.invariant();
         let _tenants = self.len();
@@ -158,6 +161,7 @@ impl Ledgers {
         ensures held { AreHeld table.new.entries self.new }
         ensures words { all_words table.new.entries self.new ≡ at_ledger (all_words table.old.entries self.old) tenant.now discarded_words }
         ensures places { places_of table.new ≡ places_of table.old }
+        ensures numbers { KeepsNumbers table.old.entries table.new.entries }
     {
         table.invariant();
         let _tenants = self.len();
@@ -178,6 +182,7 @@ impl Ledgers {
         ensures held { AreHeld table.new.entries self.new }
         ensures words { all_words table.new.entries self.new ≡ at_ledger (all_words table.old.entries self.old) tenant.now (kept_words (N.names names.now)) }
         ensures places { places_of table.new ≡ places_of table.old }
+        ensures numbers { KeepsNumbers table.old.entries table.new.entries }
     {
         table.invariant();
         let _tenants = self.len();

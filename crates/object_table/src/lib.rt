@@ -11,6 +11,7 @@ mod holdings;
 mod leaving;
 mod ledger;
 mod ledgers;
+mod linking;
 mod listing;
 mod name_set;
 mod numbers;

@@ -1,3 +1,7 @@
+use Rattle.std.proofs.Common.{length}
+use Rattle.object_table.proofs.LinkLemmas.{left_known, left_links}
+use Rattle.object_table.proofs.PlaceLemmas.{entry_there}
+use Rattle.object_table.proofs.RowLemmas.{row_at}
 use Rattle.object_table.proofs.ChangeLemmas.{gone_all, gone_held}
 use Rattle.object_table.proofs.holdings.leave_in.Goals as goal
 
@@ -8,3 +12,17 @@ returns-clause-held c =
 pub returns-clause-words : goal.returns-clause-words
 returns-clause-words c =
     gone_all c.args.table.now.entries c.leave.new.self.entries c.args.ledgers.now c.args.name c.invariant.ensures.rows c.invariant-2.ensures.rows.distinct c.requires.held c.requires.free c.leave.ensures.rows
+
+pub returns-clause-linked : goal.returns-clause-linked
+returns-clause-linked c =
+    let rows = c.args.table.now.entries in
+    let there = entry_there rows c.requires.next.front c.requires.next.back c.args.name c.requires.next.whole in
+    let here = row_at rows (length c.requires.next.front) c.args.name there.0 c.invariant.ensures.rows.distinct there.1 in
+    left_links rows c.leave.new.self.entries c.args.links.now c.renew.new.links c.args.name there.0 c.invariant.ensures.rows c.invariant-2.ensures.rows c.requires.linked here c.leave.ensures.rows (c.renew.ensures there.0 here)
+
+pub returns-clause-links : goal.returns-clause-links
+returns-clause-links c =
+    let rows = c.args.table.now.entries in
+    let there = entry_there rows c.requires.next.front c.requires.next.back c.args.name c.requires.next.whole in
+    let here = row_at rows (length c.requires.next.front) c.args.name there.0 c.invariant.ensures.rows.distinct there.1 in
+    left_known rows c.leave.new.self.entries c.args.links.now c.renew.new.links c.args.name there.0 c.invariant.ensures.rows c.invariant-2.ensures.rows c.requires.linked here c.leave.ensures.rows (c.renew.ensures there.0 here)

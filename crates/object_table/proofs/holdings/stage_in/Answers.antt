@@ -1,3 +1,4 @@
+use Rattle.object_table.proofs.LinkLemmas.{keeps_described, keeps_then}
 use Rattle.std.proofs.Common.{ap, ◌∙◌}
 use Rattle.object_table.specs.AllStaged.{all_staged_words}
 use Rattle.object_table.specs.Ledgers.{at_ledger}
@@ -27,3 +28,11 @@ returns-in_default-clause-err c =
 pub returns-clause-ok : goal.returns-clause-ok
 returns-clause-ok c =
     c.in-Ok.ensures.ok ∙ ap (λ m. at_ledger m c.args.tenant.now (all_staged_words c.args.entries.now)) (described_all c.args.table.now.entries c.describe_all-described.new.table.entries c.args.ledgers.now c.invariant.ensures.rows c.invariant-2.ensures.rows.distinct c.requires.held c.describe_all-described.ensures.describes)
+
+pub returns-in_default-clause-numbers : goal.returns-in_default-clause-numbers
+returns-in_default-clause-numbers c =
+    keeps_then c.args.table.now.entries c.describe_all-described.new.table.entries c.stage.new.table.entries (keeps_described c.args.table.now.entries c.describe_all-described.new.table.entries c.describe_all-described.ensures.describes) c.in_default.ensures.numbers
+
+pub returns-clause-numbers : goal.returns-clause-numbers
+returns-clause-numbers c =
+    keeps_then c.args.table.now.entries c.describe_all-described.new.table.entries c.stage.new.table.entries (keeps_described c.args.table.now.entries c.describe_all-described.new.table.entries c.describe_all-described.ensures.describes) c.in-Ok.ensures.numbers

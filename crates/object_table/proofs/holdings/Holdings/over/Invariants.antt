@@ -1,5 +1,5 @@
-use Rattle.std.proofs.Common.{◌≡◌, List, ℕ, take}
-use Rattle.std.specs.FinMap.{empty}
+use Rattle.std.proofs.Common.{◌≡◌, List, ℕ, None, take}
+use Rattle.std.specs.FinMap.{empty, get}
 use Rattle.git_name.specs.Same.{is_listed}
 use Rattle.object_table.specs.Rows.{places_of}
 use Rattle.object_table.proofs.holdings.Holdings.over.Given as goal
@@ -10,4 +10,5 @@ invariant-loop-name l = record {
   listed : (q : List ℕ) → is_listed (places_of l.holdings.catalogue).names q ≡ is_listed (take l.name-index l.names) q;
   ledgers : l.holdings.ledgers ≡ empty;
   place : (places_of l.holdings.catalogue).place ≡ 0;
+  links : (q : List ℕ) → get l.holdings.links q ≡ None;
 }

@@ -1,0 +1,15 @@
+-- Numbers that lead to numbers, where that is known (own).
+use Rattle.std.specs.Prelude.{ℕ, List, [], Option, None, get_or}
+use Rattle.std.specs.Option.{unwrap_or}
+
+-- by number the numbers that each leads to, where that is known
+abbrev pub Known : Type 0
+Known = List (Option (List ℕ))
+
+-- what a number leads to, if that is known
+abbrev pub known : Known → ℕ → Option (List ℕ)
+known links n = get_or links n None
+
+-- the same; what is not known leads to nothing
+abbrev pub linked : Known → ℕ → List ℕ
+linked links n = unwrap_or (known links n) []

@@ -1,0 +1,220 @@
+-- Walks over numbers, as walks over names.
+use Rattle.std.proofs.Common.{◌≡◌, ◌≢◌, ◌⊎◌, ◌||◌, inl, inr, ℕ, zero, suc, ◌<◌, Bool, true, false, cond, List, [], ◌∷◌, length, Option, None, Some, Contains, is_some, map, refl, sym, ap, subst, ◌∙◌, arith}
+use Rattle.std.specs.Option.{option_and_then, option_map, option_map_or, unwrap_or}
+use Rattle.std.specs.FinMap.{contains_key, get}
+use Rattle.git_name.specs.Same.{same_name}
+use Rattle.git_name.proofs.Names.{name_exact, name_total}
+use Rattle.fork_reach.specs.Reach.{IsReached, Root, Next}
+use Rattle.number_links.specs.Known.{Known, known, linked}
+use Rattle.number_links.specs.Reach.{next_of, IsReached as Goes, Root as Begins, Next as GoesOn}
+use Rattle.number_sets.specs.Numbers.{Pages, has}
+use Rattle.object_table.specs.declared.row.Row.{Row}
+use Rattle.object_table.specs.declared.word.Word.{Word}
+use Rattle.object_table.specs.Links.{AreLinks, leads_nowhere, led_from, named_links, next_named, numbered, numbered_name, rests_in}
+use Rattle.object_table.specs.Rows.{AreRows, IsUsed, Rows, row_in}
+use Rattle.object_table.specs.Views.{IsOwn, Sets, holds, word_by, word_in, words_of}
+use Rattle.object_table.specs.Walked.{IsBetween, IsLedTo, IsMet}
+use Rattle.object_table.specs.Words.{Words, is_visible, kept_as, words_that}
+use Rattle.object_table.proofs.ChosenLemmas.{get_chosen}
+use Rattle.object_table.proofs.LinkLemmas.{get_named, named_is, numbered_is}
+use Rattle.object_table.proofs.RowLemmas.{none_is_some}
+use Rattle.object_table.proofs.ViewLemmas.{get_words}
+
+-- ---- elements of a mapped list
+pub mapped_there : {A B : Type 0} (f : A → B) (xs : List A) (x : A) → Contains xs x → Contains (map f xs) (f x)
+mapped_there f [] x is = absurd (let l = is.1 in omega (arith, l))
+mapped_there f (y ∷ ys) x (zero, l, same) = (0, omega arith, ap f same)
+mapped_there f (y ∷ ys) x (suc k, l, same) = (let later = mapped_there f ys x (k, omega (arith, l), same) in (suc later.0, (let m = later.1 in omega (arith, m)), later.2))
+
+pub mapped_from : {A B : Type 0} (f : A → B) (xs : List A) (z : B) → Contains (map f xs) z → (x : A) × Contains xs x × (f x ≡ z)
+mapped_from f [] z is = absurd (let l = is.1 in omega (arith, l))
+mapped_from f (y ∷ ys) z (zero, l, same) = (y, (0, omega arith, refl), same)
+mapped_from f (y ∷ ys) z (suc k, l, same) = (let later = mapped_from f ys z (k, omega (arith, l), same) in (later.0, (suc later.1.0, (let m = later.1.1 in omega (arith, m)), later.1.2), later.2))
+
+-- numbers as those of a tenant that sees them
+abbrev pub as_sets : Pages → Sets
+as_sets numbers = record { visible = numbers; staged = []; used = 0; total = 0 }
+
+-- ---- what a tenant sees, by its rows
+abbrev pub Seen : Rows → Sets → Words
+Seen rows own = words_that is_visible (words_of rows own)
+
+seen_word : (row : Row) (v s : Bool) → option_and_then (λ word. kept_as (is_visible word) word) (word_by row v s) ≡ cond v (word_by row true s) None
+seen_word row true true = refl
+seen_word row true false = refl
+seen_word row false true = refl
+seen_word row false false = refl
+
+get_seen : (rows : Rows) (own : Sets) (q : List ℕ) → AreRows rows → get (Seen rows own) q ≡ option_and_then (λ (row : Row). cond (has own.visible row.number) (word_by row true (has own.staged row.number)) None) (row_in rows q)
+get_seen rows own q are =
+    get_chosen name_total name_exact (λ _ word. kept_as (is_visible word) word) (words_of rows own) q
+    ∙ ap (option_and_then (λ word. kept_as (is_visible word) word)) (get_words rows own q are.distinct) ∙ by (row_in rows q)
+  where
+    by : (o : Option Row) → option_and_then (λ word. kept_as (is_visible word) word) (option_and_then (word_in own) o) ≡ option_and_then (λ (row : Row). cond (has own.visible row.number) (word_by row true (has own.staged row.number)) None) o
+    by None = refl
+    by (Some row) = seen_word row (has own.visible row.number) (has own.staged row.number)
+
+some_word : (row : Row) (s : Bool) → is_some (word_by row true s) ≡ true
+some_word row true = refl
+some_word row false = refl
+
+word_kind : (row : Row) (s : Bool) → option_map_or (λ (word : Word). leads_nowhere word.kind) (word_by row true s) false ≡ leads_nowhere row.kind
+word_kind row true = refl
+word_kind row false = refl
+
+-- whether it is seen
+pub seen_by_row : (rows : Rows) (own : Sets) (q : List ℕ) → AreRows rows → contains_key (Seen rows own) q ≡ option_map_or (λ (row : Row). has own.visible row.number) (row_in rows q) false
+seen_by_row rows own q are = ap is_some (get_seen rows own q are) ∙ by (row_in rows q)
+  where
+    at : (row : Row) (v : Bool) → is_some (cond v (word_by row true (has own.staged row.number)) None) ≡ v
+    at row true = some_word row (has own.staged row.number)
+    at row false = refl
+
+    by : (o : Option Row) → is_some (option_and_then (λ (row : Row). cond (has own.visible row.number) (word_by row true (has own.staged row.number)) None) o) ≡ option_map_or (λ (row : Row). has own.visible row.number) o false
+    by None = refl
+    by (Some row) = at row (has own.visible row.number)
+
+module _ (rows : Rows) (own : Sets) (links : Known) (are : AreRows rows) (is_own : IsOwn rows own) (are_links : AreLinks rows links) where
+  abbrev pub next : List ℕ → List (List ℕ)
+  next = next_named (Seen rows own) (named_links rows links)
+
+  abbrev pub nextn : ℕ → List ℕ
+  nextn = next_of links (rests_in rows)
+
+  -- a row of a name that is seen
+  seen_row : (q : List ℕ) → contains_key (Seen rows own) q ≡ true → (row : Row) × (row_in rows q ≡ Some row) × (has own.visible row.number ≡ true)
+  seen_row q there = by (row_in rows q) refl (sym (seen_by_row rows own q are) ∙ there)
+    where
+      by : (o : Option Row) → row_in rows q ≡ o → option_map_or (λ (row : Row). has own.visible row.number) o false ≡ true → (row : Row) × (row_in rows q ≡ Some row) × (has own.visible row.number ≡ true)
+      by None none seen = (let differs : ⊥ = cc in absurd differs)
+      by (Some row) is seen = (row, is, seen)
+
+  row_seen : (q : List ℕ) (row : Row) → row_in rows q ≡ Some row → has own.visible row.number ≡ true → contains_key (Seen rows own) q ≡ true
+  row_seen q row is seen = seen_by_row rows own q are ∙ ap (λ o. option_map_or (λ (row : Row). has own.visible row.number) o false) is ∙ seen
+
+  kind_seen : (q : List ℕ) (row : Row) → row_in rows q ≡ Some row → has own.visible row.number ≡ true → option_map_or (λ (word : Word). leads_nowhere word.kind) (get (Seen rows own) q) false ≡ leads_nowhere row.kind
+  kind_seen q row is seen =
+      ap (λ o. option_map_or (λ (word : Word). leads_nowhere word.kind) o false) (get_seen rows own q are ∙ ap (option_and_then (λ (row : Row). cond (has own.visible row.number) (word_by row true (has own.staged row.number)) None)) is ∙ ap (λ b. cond b (word_by row true (has own.staged row.number)) None) seen)
+      ∙ word_kind row (has own.staged row.number)
+
+  rests_row : (q : List ℕ) (row : Row) → row_in rows q ≡ Some row → rests_in rows row.number ≡ leads_nowhere row.kind
+  rests_row q row is = ap (λ o. option_map_or (λ (e : List ℕ × Row). leads_nowhere e.1.kind) o false) (numbered_is rows q row are is)
+
+  led_row : (q : List ℕ) (row : Row) → row_in rows q ≡ Some row → get (named_links rows links) q ≡ option_map (map (numbered_name rows)) (known links row.number)
+  led_row q row is = get_named rows links q are.distinct ∙ ap (option_and_then (led_from rows links)) is
+
+  next_row : (q : List ℕ) (row : Row) → row_in rows q ≡ Some row → has own.visible row.number ≡ true → next q ≡ map (numbered_name rows) (nextn row.number)
+  next_row q row is seen =
+      ap (λ b. cond b [] (unwrap_or (get (named_links rows links) q) [])) (kind_seen q row is seen) ∙ ap (λ o. cond (leads_nowhere row.kind) [] (unwrap_or o [])) (led_row q row is) ∙ by (leads_nowhere row.kind)
+      ∙ ap (λ b. map (numbered_name rows) (cond b [] (linked links row.number))) (sym (rests_row q row is))
+    where
+      at : (o : Option (List ℕ)) → unwrap_or (option_map (map (numbered_name rows)) o) [] ≡ map (numbered_name rows) (unwrap_or o [])
+      at None = refl
+      at (Some to) = refl
+
+      by : (b : Bool) → cond b [] (unwrap_or (option_map (map (numbered_name rows)) (known links row.number)) []) ≡ map (numbered_name rows) (cond b [] (linked links row.number))
+      by true = refl
+      by false = at (known links row.number)
+
+  -- numbers that lead on are in use
+  next_used : (n m : ℕ) → Contains (nextn n) m → IsUsed rows m
+  next_used n m is = by (rests_in rows n) is
+    where
+      at : (o : Option (List ℕ)) → known links n ≡ o → Contains (unwrap_or o []) m → IsUsed rows m
+      at None none among = absurd (let l = among.1 in omega (arith, l))
+      at (Some to) there among = are_links.used n to m there among
+
+      by : (b : Bool) → Contains (cond b [] (linked links n)) m → IsUsed rows m
+      by true among = absurd (let l = among.1 in omega (arith, l))
+      by false among = at (known links n) refl among
+
+  -- the number of a name in use is its row's
+  one_number : (m : ℕ) (q : List ℕ) (row : Row) → IsUsed rows m → numbered_name rows m ≡ q → row_in rows q ≡ Some row → m ≡ row.number
+  one_number m q row used named is =
+      (let name : used.name ≡ q = sym (named_is rows used.name used.row are used.here) ∙ ap (numbered_name rows) used.same ∙ named in
+      let both : Some used.row ≡ Some row = sym used.here ∙ ap (row_in rows) name ∙ is in
+      let one : used.row ≡ row = cc in
+      sym used.same ∙ ap (λ (r : Row). r.number) one)
+
+  -- what is known of a number is known of its name
+  told : (q : List ℕ) (row : Row) → row_in rows q ≡ Some row → has own.visible row.number ≡ true → (rests_in rows row.number ≡ true) ⊎ (is_some (known links row.number) ≡ true)
+      → (option_map_or (λ (word : Word). leads_nowhere word.kind) (get (Seen rows own) q) false ≡ true) ⊎ (contains_key (named_links rows links) q ≡ true)
+  told q row here seen (inl rests) = inl (kind_seen q row here seen ∙ sym (rests_row q row here) ∙ rests)
+  told q row here seen (inr knows) = inr (ap is_some (led_row q row here) ∙ by (known links row.number) ∙ knows)
+    where
+      by : (o : Option (List ℕ)) → is_some (option_map (map (numbered_name rows)) o) ≡ is_some o
+      by None = refl
+      by (Some to) = refl
+
+  module _ (roots : List (List ℕ)) (numbers : List ℕ) (only : (n : ℕ) → Contains numbers n → IsUsed rows n × Contains roots (numbered_name rows n)) (all : (name : List ℕ) (row : Row) → Contains roots name → row_in rows name ≡ Some row → Contains numbers row.number) where
+    goes_seen : (n : ℕ) → Goes nextn (has own.visible) numbers n → has own.visible n ≡ true
+    goes_seen _ (Begins n root there) = there
+    goes_seen _ (GoesOn from n before leads there) = there
+
+    -- a number that is reached, as a name
+    pub goes_named : (n : ℕ) → Goes nextn (has own.visible) numbers n → (q : List ℕ) (row : Row) → row_in rows q ≡ Some row → row.number ≡ n → IsReached next (Seen rows own) roots q
+    goes_named _ (Begins n root there) q row is number =
+        Root q (subst (Contains roots) (ap (numbered_name rows) (sym number) ∙ named_is rows q row are is) (only n root).1) (row_seen q row is (ap (has own.visible) number ∙ there))
+    goes_named _ (GoesOn from n before leads there) q row is number =
+        (let seen = goes_seen from before in
+        let used = is_own.within from (held seen) in
+        let earlier = goes_named from before used.name used.row used.here used.same in
+        let led : Contains (next used.name) (numbered_name rows n) =
+            subst (λ ns. Contains ns (numbered_name rows n)) (ap (λ k. map (numbered_name rows) (nextn k)) (sym used.same) ∙ sym (next_row used.name used.row used.here (ap (has own.visible) used.same ∙ seen))) (mapped_there (numbered_name rows) (nextn from) n leads) in
+        Next used.name q earlier (subst (Contains (next used.name)) (ap (numbered_name rows) (sym number) ∙ named_is rows q row are is) led) (row_seen q row is (ap (has own.visible) number ∙ there)))
+      where
+        held : has own.visible from ≡ true → holds own from ≡ true
+        held seen = ap (λ b. b || has own.staged from) seen
+
+    -- a name that is reached, as its number
+    pub named_goes : (q : List ℕ) → IsReached next (Seen rows own) roots q → (row : Row) → row_in rows q ≡ Some row → Goes nextn (has own.visible) numbers row.number
+    named_goes _ (Root q root there) row is =
+        (let seen = seen_row q there in
+        let both : Some seen.0 ≡ Some row = sym seen.1 ∙ is in
+        let one : seen.0 ≡ row = cc in
+        Begins row.number (all q row root is) (ap (λ (r : Row). has own.visible r.number) (sym one) ∙ seen.2))
+    named_goes _ (Next from q before leads there) row is =
+        (let seen = seen_row q there in
+        let both : Some seen.0 ≡ Some row = sym seen.1 ∙ is in
+        let one : seen.0 ≡ row = cc in
+        let first = seen_row from (reached_seen from before) in
+        let earlier = named_goes from before first.0 first.1 in
+        let found = mapped_from (numbered_name rows) (nextn first.0.number) q (subst (λ ns. Contains ns q) (next_row from first.0 first.1 first.2) leads) in
+        let number = one_number found.0 q row (next_used first.0.number found.0 found.1) found.2 is in
+        GoesOn first.0.number row.number earlier (subst (Contains (nextn first.0.number)) number found.1) (ap (λ (r : Row). has own.visible r.number) (sym one) ∙ seen.2))
+      where
+        reached_seen : (p : List ℕ) → IsReached next (Seen rows own) roots p → contains_key (Seen rows own) p ≡ true
+        reached_seen _ (Root p root there) = there
+        reached_seen _ (Next from p before leads there) = there
+
+  -- ---- between wanted and excluded names
+  module _ (wanted excluded : List (List ℕ)) (ns ms : List ℕ)
+      (only : (n : ℕ) → Contains ns n → IsUsed rows n × Contains wanted (numbered_name rows n)) (all : (name : List ℕ) (row : Row) → Contains wanted name → row_in rows name ≡ Some row → Contains ns row.number)
+      (only_out : (n : ℕ) → Contains ms n → IsUsed rows n × Contains excluded (numbered_name rows n)) (all_out : (name : List ℕ) (row : Row) → Contains excluded name → row_in rows name ≡ Some row → Contains ms row.number) where
+    pub between_only : (found : ℕ → Bool) → ((n : ℕ) → found n ≡ true → Goes nextn (has own.visible) ns n × (Goes nextn (has own.visible) ms n → ⊥))
+        → (q : List ℕ) → option_map_or (λ (row : Row). found row.number) (row_in rows q) false ≡ true → IsBetween (Seen rows own) (named_links rows links) wanted excluded q
+    between_only found is q there = by (row_in rows q) refl there
+      where
+        by : (o : Option Row) → row_in rows q ≡ o → option_map_or (λ (row : Row). found row.number) o false ≡ true → IsBetween (Seen rows own) (named_links rows links) wanted excluded q
+        by None none found_it = (let differs : ⊥ = cc in absurd differs)
+        by (Some row) here found_it = record {
+          led = goes_named wanted ns only all row.number (is row.number found_it).0 q row here refl;
+          left = λ out. (is row.number found_it).1 (named_goes excluded ms only_out all_out q out row here);
+        }
+
+    reached_row : (roots : List (List ℕ)) (q : List ℕ) → IsReached next (Seen rows own) roots q → (row : Row) × (row_in rows q ≡ Some row) × (has own.visible row.number ≡ true)
+    reached_row roots _ (Root q root there) = seen_row q there
+    reached_row roots _ (Next from q before leads there) = seen_row q there
+
+    pub between_all : (found : ℕ → Bool) → ((n : ℕ) → Goes nextn (has own.visible) ns n → (Goes nextn (has own.visible) ms n → ⊥) → found n ≡ true)
+        → (q : List ℕ) → IsBetween (Seen rows own) (named_links rows links) wanted excluded q → option_map_or (λ (row : Row). found row.number) (row_in rows q) false ≡ true
+    between_all found is q between =
+        (let here = reached_row wanted q between.led in
+        ap (λ o. option_map_or (λ (row : Row). found row.number) o false) here.1
+        ∙ is here.0.number (named_goes wanted ns only all q between.led here.0 here.1) (λ out. between.left (goes_named excluded ms only_out all_out here.0.number out q here.0 here.1 refl)))
+
+    pub between_known : ((n : ℕ) → Goes nextn (has own.visible) ns n ⊎ Goes nextn (has own.visible) ms n → (rests_in rows n ≡ true) ⊎ (is_some (known links n) ≡ true))
+        → (q : List ℕ) → IsMet (Seen rows own) (named_links rows links) wanted excluded q
+        → (option_map_or (λ (word : Word). leads_nowhere word.kind) (get (Seen rows own) q) false ≡ true) ⊎ (contains_key (named_links rows links) q ≡ true)
+    between_known is q (inl led) = (let here = reached_row wanted q led in told q here.0 here.1 here.2 (is here.0.number (inl (named_goes wanted ns only all q led here.0 here.1))))
+    between_known is q (inr led) = (let here = reached_row excluded q led in told q here.0 here.1 here.2 (is here.0.number (inr (named_goes excluded ms only_out all_out q led here.0 here.1))))

@@ -1,0 +1,147 @@
+// What the objects of names lead to, by their numbers.
+ghost use Rattle.std.specs.Prelude.{◌≡◌, ◌⊎◌, ℕ, List, Contains, Some, IfOk, IfSome, OnOk, false, is_some, map as mapped, true};
+ghost use Rattle.std.specs.FinMap.{contains_key, get};
+ghost use Rattle.std.specs.HashSet.{contains};
+ghost use Rattle.std.specs.Option.{option_map_or};
+ghost use Rattle.git_name.specs.Same.{same_name};
+ghost use Rattle.number_links.specs.Known.{known};
+ghost use Rattle.number_sets.specs.Numbers.{has};
+ghost use Rattle.object_table.specs.Links.{AreLinks, leads_nowhere, named_links, numbered_name, rests_in};
+ghost use Rattle.object_table.specs.Rows.{IsUsed, row_in};
+ghost use Rattle.object_table.specs.Views.{IsOwn, words_of};
+ghost use Rattle.object_table.specs.Walked.{IsBetween, IsMet};
+ghost use Rattle.object_table.specs.Words.{is_visible, words_that};
+ghost use Rattle.object_table.specs.declared.row.Row.{Row};
+
+use crate::ledger::Ledger;
+use crate::table::Table;
+use git_name::{Hashing, Kind, Name};
+use indexmap::IndexSet;
+use number_links::{Links, Resting, between};
+use number_sets::NumberSet;
+use std::alloc::{AllocError, Global};
+
+// Whether an object of this kind leads to no other.
+fn is_leaf(kind: Kind) -> bool
+    ensures { result ≡ leads_nowhere kind }
+{
+    match kind {
+        Kind::Blob => true,
+        Kind::Tree | Kind::Commit | Kind::Tag => false,
+    }
+}
+
+impl Resting for Table {
+    ghost use Rattle.object_table.specs.Links.{rests_in};
+
+    ghost rests = { λ table. rests_in table.entries };
+
+    fn rests(&self, n: u32) -> bool {
+        self.invariant();
+        let Some(entry) = self.numbered(n) else {
+            return false;
+        };
+        is_leaf(entry.1.kind)
+    }
+}
+
+// The numbers of these names, in their order, if each has one.
+pub(crate) fn numbers_of(
+    alloc: Global,
+    table: &Table,
+    names: &[Name],
+) -> Result<Option<Vec<u32>>, AllocError>
+    ensures named { IfOk result (λ found. IfSome found (λ numbers. mapped (numbered_name table.now.entries) numbers.items ≡ names.now)) }
+    ensures used { IfOk result (λ found. IfSome found (λ numbers. (m : ℕ) → Contains numbers.items m → IsUsed table.now.entries m)) }
+{
+    table.invariant();
+    let mut numbers = Vec::with_capacity(alloc, names.len())?;
+    for name in names {
+        let Some(row) = table.row(*name) else {
+            return Ok(None);
+        };
+        numbers.push(row.number)?;
+    }
+    Ok(Some(numbers))
+}
+
+// Puts the number of a name behind others, if it has one.
+fn put_number(table: &Table, name: Name, numbers: &mut Vec<u32>) -> Result<(), AllocError>
+    ensures only { OnOk result ((n : ℕ) → Contains numbers.new.items n → Contains numbers.old.items n ⊎ (IsUsed table.now.entries n × (numbered_name table.now.entries n ≡ name))) }
+    ensures kept { OnOk result ((n : ℕ) → Contains numbers.old.items n → Contains numbers.new.items n) }
+    ensures put { OnOk result ((row : Row) → row_in table.now.entries name ≡ Some row → Contains numbers.new.items row.number) }
+{
+    table.invariant();
+    let Some(row) = table.row(name) else {
+        return Ok(());
+    };
+    numbers.push(row.number)?;
+    Ok(())
+}
+
+// The numbers of those of these names that have one.
+fn numbers_there(alloc: Global, table: &Table, names: &[Name]) -> Result<Vec<u32>, AllocError>
+    ensures only { IfOk result (λ numbers. (n : ℕ) → Contains numbers.items n → IsUsed table.now.entries n × Contains names.now (numbered_name table.now.entries n)) }
+    ensures all { IfOk result (λ numbers. (name : List ℕ) (row : Row) → Contains names.now name → row_in table.now.entries name ≡ Some row → Contains numbers.items row.number) }
+{
+    let mut numbers = Vec::new(alloc);
+    for name in names {
+        put_number(table, *name, &mut numbers)?;
+    }
+    Ok(numbers)
+}
+
+// The names of these numbers.
+fn names_of(
+    alloc: Global,
+    table: &Table,
+    numbers: &NumberSet,
+) -> Result<IndexSet<Name, Hashing>, AllocError>
+    requires used { (n : ℕ) → has numbers.now n ≡ true → IsUsed table.now.entries n }
+    ensures { IfOk result (λ names. (name : List ℕ) → contains same_name names name ≡ option_map_or (λ row. has numbers.now row.number) (row_in table.now.entries name) false) }
+{
+    table.invariant();
+    let mut names = IndexSet::with_hasher(alloc, table.hashing());
+    let mut from = 0u32;
+    while let Some(n) = numbers.next(from) {
+        let Some(entry) = table.numbered(n) else {
+            unreachable!();
+        };
+        names.insert(entry.0)?;
+        from = n + 1;
+    }
+    Ok(names)
+}
+
+// The names of what is seen that links lead to from the wanted ones, and from none of the excluded ones;
+// nothing where an object on the way is met of which it is not known what it leads to.
+pub(crate) fn names_between(
+    alloc: Global,
+    table: &Table,
+    links: &Links,
+    own: &Ledger,
+    wanted: &[Name],
+    excluded: &[Name],
+) -> Result<Option<IndexSet<Name, Hashing>>, AllocError>
+    requires own { IsOwn table.now.entries own.now }
+    requires linked { AreLinks table.now.entries links.now }
+    ensures only { IfOk result (λ found. IfSome found (λ names. (name : List ℕ) → contains same_name names name ≡ true → IsBetween (words_that is_visible (words_of table.now.entries own.now)) (named_links table.now.entries links.now) wanted.now excluded.now name)) }
+    ensures all { IfOk result (λ found. IfSome found (λ names. (name : List ℕ) → IsBetween (words_that is_visible (words_of table.now.entries own.now)) (named_links table.now.entries links.now) wanted.now excluded.now name → contains same_name names name ≡ true)) }
+    ensures known { IfOk result (λ found. IfSome found (λ names. (name : List ℕ) → IsMet (words_that is_visible (words_of table.now.entries own.now)) (named_links table.now.entries links.now) wanted.now excluded.now name → (option_map_or (λ word. leads_nowhere word.kind) (get (words_that is_visible (words_of table.now.entries own.now)) name) false ≡ true) ⊎ (contains_key (named_links table.now.entries links.now) name ≡ true))) }
+{
+    table.invariant();
+    let from = numbers_there(alloc, table, wanted)?;
+    let past = numbers_there(alloc, table, excluded)?;
+    let Some(numbers) = between(
+        alloc,
+        links,
+        own.visible(),
+        table,
+        from.as_slice(),
+        past.as_slice(),
+    )? else {
+        return Ok(None);
+    };
+    let names = names_of(alloc, table, &numbers)?;
+    Ok(Some(names))
+}

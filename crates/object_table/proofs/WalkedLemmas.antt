@@ -5,8 +5,8 @@ use Rattle.std.specs.FinMap.{contains_key, get}
 use Rattle.git_name.specs.Same.{same_name}
 use Rattle.git_name.proofs.Names.{name_exact, name_total}
 use Rattle.fork_reach.specs.Reach.{IsReached, Root, Next}
-use Rattle.number_links.specs.Known.{Known, known, linked}
-use Rattle.number_links.specs.Reach.{next_of, IsReached as Goes, Root as Begins, Next as GoesOn}
+use Rattle.number_links.specs.Known.{Known, known, linked, next_of}
+use Rattle.number_links.specs.Reach.{IsReached as Goes, Root as Begins, Next as GoesOn}
 use Rattle.number_sets.specs.Numbers.{Pages, has}
 use Rattle.object_table.specs.declared.row.Row.{Row}
 use Rattle.object_table.specs.declared.word.Word.{Word}

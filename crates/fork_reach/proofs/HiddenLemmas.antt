@@ -1,5 +1,5 @@
 -- What is there, and what is reached, where some objects are hidden.
-use Rattle.std.proofs.Common.{◌≡◌, ℕ, ◌&&◌, not, Bool, true, false, cond, List, Option, None, Some, is_some, refl, sym, ap, ◌∙◌}
+use Rattle.std.proofs.Common.{◌≡◌, ℕ, ◌&&◌, not, Bool, true, false, cond, List, [], Option, None, Some, is_some, refl, sym, ap, ◌∙◌}
 use Rattle.std.specs.List.{Contains}
 use Rattle.std.specs.FinMap.{FinMap, contains_key, get, get-retain_keys, retain_keys}
 use Rattle.std.proofs.lemmas.Bool.{and_parts, and_from, not-true}
@@ -9,11 +9,11 @@ use Rattle.git_name.specs.Object.{Object}
 use Rattle.git_name.proofs.Names.{name_exact}
 use Rattle.fork_reach.specs.Hidden.{without}
 use Rattle.fork_reach.specs.Objects.{measures_of}
-use Rattle.fork_reach.specs.Reach.{IsReached, Root, Next, is_reached}
+use Rattle.fork_reach.specs.Reach.{IsReached, Root, Next, is_between, is_reached}
 use Rattle.fork_reach.specs.Source.{Objects, kind_in}
 use Rattle.fork_reach.proofs.MeasureLemmas.{measured_there}
 use Rattle.fork_reach.proofs.NameLemmas.{same_tests}
-use Rattle.fork_reach.proofs.ReachLemmas.{led_to_reached, next_reached, reached_alike, reached_led_to, reached_there, reached_where}
+use Rattle.fork_reach.proofs.ReachLemmas.{led_to_reached, next_reached, none_reached, reached_alike, reached_led_to, reached_there, reached_where}
 
 -- what of those that pass a test stands under a name
 pub get_kept : {X : Type 0} (objects : FinMap name_cmp X) (passes : List ℕ → Bool) (name : List ℕ) → get (retain_keys objects passes) name ≡ cond (passes name) (get objects name) None
@@ -85,9 +85,9 @@ reached_open next objects hidden roots closed _ (Next from name reached linked t
 
 -- what is reached from the one side where all is hidden that is reached from the other
 pub reached_beyond : {X : Type 0} (next : List ℕ → List (List ℕ)) (objects : FinMap name_cmp X) (hidden : List ℕ → Bool) (wants haves : List (List ℕ)) → ((name : List ℕ) → hidden name ≡ is_reached next objects haves name) → (name : List ℕ)
-    → is_reached next (without objects hidden) wants name ≡ (is_reached next objects wants name && not (is_reached next objects haves name))
+    → is_reached next (without objects hidden) wants name ≡ is_between next objects wants haves name
 reached_beyond next objects hidden wants haves is name =
-    same_tests (is_reached next (without objects hidden) wants name) (is_reached next objects wants name && not (is_reached next objects haves name))
+    same_tests (is_reached next (without objects hidden) wants name) (is_between next objects wants haves name)
     (λ reached.
     let there = and_parts (contains_key objects name) _ (sym (there_without objects hidden name) ∙ reached_there next (without objects hidden) wants name reached) in
     and_from _ _ (led_to_reached next objects wants name (reached_where next (without objects hidden) objects wants (λ n there. (and_parts (contains_key objects n) _ (sym (there_without objects hidden n) ∙ there)).0) name (reached_led_to next (without objects hidden) wants name reached)))
@@ -97,3 +97,7 @@ reached_beyond next objects hidden wants haves is name =
     led_to_reached next (without objects hidden) wants name
     (reached_open next objects hidden wants (λ from n hides linked there. is n ∙ next_reached next objects haves from n (sym (is from) ∙ hides) linked there) name (reached_led_to next objects wants name parts.0)
     (not-true _ (ap not (is name) ∙ parts.1))))
+
+-- where none are excluded, it is all that the wanted ones reach
+pub between_none : {X : Type 0} (next : List ℕ → List (List ℕ)) (objects : FinMap name_cmp X) (wanted : List (List ℕ)) (name : List ℕ) → is_between next objects wanted [] name ≡ is_reached next objects wanted name
+between_none next objects wanted name = shown_all (is_reached next objects wanted name) (is_reached next objects [] name) (none_reached next objects [] refl name)

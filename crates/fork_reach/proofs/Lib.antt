@@ -8,7 +8,6 @@ pub mod HiddenLemmas
 pub mod HistoryLemmas
 pub mod KeptObjects
 pub mod KeyLemmas
-pub mod LendLemmas
 pub mod MarkLemmas
 pub mod MeasureLemmas
 pub mod NameLemmas

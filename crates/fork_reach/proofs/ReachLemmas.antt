@@ -1,5 +1,5 @@
 -- What a walk reaches: the test and the relation say the same.
-use Rattle.std.proofs.Common.{◌≡◌, ℕ, zero, suc, ◌&&◌, ◌||◌, Bool, true, false, List, refl, sym, subst, ◌∙◌, inl, inr}
+use Rattle.std.proofs.Common.{◌≡◌, ℕ, zero, suc, ◌&&◌, ◌||◌, Bool, true, false, List, [], ◌∷◌, length, refl, sym, subst, ◌∙◌, inl, inr, arith}
 use Rattle.std.specs.List.{Contains}
 use Rattle.std.specs.FinMap.{FinMap, contains_key, keys, len}
 use Rattle.std.proofs.lemmas.Bool.{and_parts, and_from, or_cases}
@@ -118,3 +118,19 @@ reached_alike next objects others roots alike name =
     same_tests (is_reached next objects roots name) (is_reached next others roots name)
     (λ is. led_to_reached next others roots name (reached_where next objects others roots (λ n there. sym (alike n) ∙ there) name (reached_led_to next objects roots name is)))
     (λ is. led_to_reached next objects roots name (reached_where next others objects roots (λ n there. alike n ∙ there) name (reached_led_to next others roots name is)))
+
+none_among : (names : Names) (name : List ℕ) → length names ≡ 0 → is_among names name ≡ true → ⊥
+none_among [] name none among = (let no : ⊥ = cc in no)
+none_among (x ∷ xs) name none among = absurd (omega (arith, none))
+
+none_led_to : {X : Type 0} (next : List ℕ → Names) (objects : FinMap name_cmp X) (roots : Names) → length roots ≡ 0 → (name : List ℕ) → IsReached next objects roots name → ⊥
+none_led_to next objects roots none _ (Root name root there) = none_among roots name none (among-from_Contains roots name root)
+none_led_to next objects roots none _ (Next from name reached linked there) = none_led_to next objects roots none from reached
+
+refuted : (b : Bool) → (b ≡ true → ⊥) → b ≡ false
+refuted true never = absurd (never refl)
+refuted false never = refl
+
+-- from no roots nothing is reached
+pub none_reached : {X : Type 0} (next : List ℕ → Names) (objects : FinMap name_cmp X) (roots : Names) → length roots ≡ 0 → (name : List ℕ) → is_reached next objects roots name ≡ false
+none_reached next objects roots none name = refuted (is_reached next objects roots name) (λ is. none_led_to next objects roots none name (reached_led_to next objects roots name is))

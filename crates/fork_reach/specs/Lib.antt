@@ -4,7 +4,6 @@ pub mod Faults
 pub mod Hidden
 pub mod History
 pub mod Known
-pub mod Lending
 pub mod Marks
 pub mod NotedBases
 pub mod Objects

@@ -1,5 +1,5 @@
 -- What a walk over objects reaches (own): from some roots on, along links or along parents.
-use Rattle.std.specs.Prelude.{◌≡◌, ℕ, zero, suc, ◌&&◌, ◌||◌, Bool, true, List, [], map, Contains, Option, None, Some}
+use Rattle.std.specs.Prelude.{◌≡◌, ℕ, zero, suc, ◌&&◌, ◌||◌, not, Bool, true, List, [], map, Contains, Option, None, Some}
 use Rattle.std.specs.List.{list_any}
 use Rattle.std.specs.FinMap.{FinMap, get, contains_key, keys, len}
 use Rattle.std.specs.Str.{bytes_eq}
@@ -47,3 +47,7 @@ leads_within next objects roots (suc most) name =
 -- whether it is reached at all: no more steps are needed than there are objects
 unfoldable pub is_reached : {X : Type 0} → (List ℕ → List (List ℕ)) → FinMap name_cmp X → List (List ℕ) → List ℕ → Bool
 is_reached next objects roots name = leads_within next objects roots (len objects) name
+
+-- whether a name is reached from the wanted ones, and from none of the excluded ones
+abbrev pub is_between : {X : Type 0} → (List ℕ → List (List ℕ)) → FinMap name_cmp X → List (List ℕ) → List (List ℕ) → List ℕ → Bool
+is_between next objects wanted excluded name = is_reached next objects wanted name && not (is_reached next objects excluded name)

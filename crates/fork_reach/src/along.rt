@@ -1,4 +1,4 @@
-ghost use Rattle.std.specs.Prelude.{◌≡◌, map, not, IsTrue, IfOk};
+ghost use Rattle.std.specs.Prelude.{◌≡◌, map, not, None, IsTrue, IfOk};
 ghost use Rattle.git_name.specs.Count.{fault_in};
 ghost use Rattle.git_object.specs.ObjectIn.{links_in};
 ghost use Rattle.fork_reach.specs.Along.{names_along, names_in, rests, rests_in};
@@ -41,8 +41,8 @@ pub(crate) fn goes_on_in(along: Option<Along>, kind: Kind) -> bool
     }
 }
 
-// The names of the object's links, in their order.
-pub(crate) fn link_names(alloc: Global, kind: Kind, bytes: &[u8]) -> Result<Vec<Name>, AllocError>
+/// The names of the object's links, in their order; none if it is in no grammar of its kind.
+pub fn link_names(alloc: Global, kind: Kind, bytes: &[u8]) -> Result<Vec<Name>, AllocError>
     ensures { IfOk result (λ names. names.items ≡ map (λ link. link.name) (links_in kind bytes.now)) }
 {
     let mut names = Vec::new(alloc);
@@ -65,6 +65,16 @@ fn names_of(alloc: Global, along: Along, kind: Kind, bytes: &[u8]) -> Result<Vec
     }
 }
 
+// The source comes to know the links of a lent object, if a walk goes along links.
+fn learn_along<S: Source>(alloc: Global, source: &mut S, along: Along, name: Name)
+    ensures { IsAsked (S.state source.old) (S.state source.new) None }
+{
+    match along {
+        Along::Links => source.learn_links(alloc, name),
+        Along::Parents => {}
+    }
+}
+
 // The names that the object of this name goes on to. It is lent, or read once.
 pub(crate) fn next_names<S: Source>(
     alloc: Global,
@@ -76,7 +86,11 @@ pub(crate) fn next_names<S: Source>(
     ensures asked { IsAsked (S.state source.old) (S.state source.new) (fault_in result) }
 {
     if let Some((kind, bytes)) = source.lend(name) {
-        return names_of(alloc, along, kind, bytes).map_err(|_| SourceFault::Memory);
+        let Ok(names) = names_of(alloc, along, kind, bytes) else {
+            return Err(SourceFault::Memory);
+        };
+        learn_along(alloc, source, along, name);
+        return Ok(names);
     }
     match source.read(alloc, name) {
         Ok(Some(sealed)) => names_of(alloc, along, sealed.kind(), sealed.bytes()).map_err(

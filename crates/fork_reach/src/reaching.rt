@@ -1,12 +1,11 @@
-ghost use Rattle.std.specs.Prelude.{◌≡◌, true, List, ℕ, IsTrue, IfOk};
+ghost use Rattle.std.specs.Prelude.{◌≡◌, [], false, true, List, ℕ, IsTrue, IfOk};
 ghost use Rattle.std.specs.List.{Contains};
 ghost use Rattle.std.specs.HashSet.{contains};
 ghost use Rattle.std.specs.FinMap as map;
 ghost use Rattle.git_name.specs.Same.{same_name};
 ghost use Rattle.git_name.specs.Count.{fault_in};
 ghost use Rattle.fork_reach.specs.Faults.{IsAsked};
-ghost use Rattle.fork_reach.specs.Hidden.{without};
-ghost use Rattle.fork_reach.specs.Reach.{is_reached, linked_names, parent_names};
+ghost use Rattle.fork_reach.specs.Reach.{is_between, is_reached, linked_names, parent_names};
 
 use crate::along::Along;
 use crate::source::{Source, SourceFault};
@@ -15,9 +14,66 @@ use git_name::{Hashing, Name};
 use indexmap::IndexSet;
 use std::alloc::Global;
 
-/// The names of the source's objects that links lead to from these roots, and of the roots that it
-/// finds. Roots that it does not find are passed over. Each tree, commit and tag is read once, a blob
+// The names that links lead to from these roots, past none; nothing is asked where there are no roots.
+fn walk_all<S: Source>(
+    alloc: Global,
+    source: &mut S,
+    roots: &[Name],
+) -> Result<IndexSet<Name, Hashing>, SourceFault>
+    ensures found { IsTrue (S.state source.old).honest → IfOk result (λ found. (name : List ℕ) → contains same_name found name ≡ is_reached (linked_names (S.state source.old).objects) (S.state source.old).objects roots.now name) }
+    ensures none { roots.now ≡ [] → IfOk result (λ found. (name : List ℕ) → contains same_name found name ≡ false) }
+    ensures asked { IsAsked (S.state source.old) (S.state source.new) (fault_in result) }
+{
+    let none = IndexSet::with_hasher(alloc, source.hashing());
+    if roots.is_empty() {
+        return Ok(none);
+    }
+    walk(alloc, source, Along::Links, roots, &none)
+}
+
+// What links lead to from the wanted names, and from none of the excluded ones. What the excluded ones reach is
+// walked first, and the walk from the wanted ones stops there.
+fn walk_between<S: Source>(
+    alloc: Global,
+    source: &mut S,
+    wanted: &[Name],
+    excluded: &[Name],
+) -> Result<IndexSet<Name, Hashing>, SourceFault>
+    ensures found { IsTrue (S.state source.old).honest → IfOk result (λ found. (name : List ℕ) → contains same_name found name ≡ is_between (linked_names (S.state source.old).objects) (S.state source.old).objects wanted.now excluded.now name) }
+    ensures there { IfOk result (λ found. (name : List ℕ) → contains same_name found name ≡ true → map.contains_key (S.state source.old).objects name ≡ true) }
+    ensures rooted { excluded.now ≡ [] → IfOk result (λ found. (name : List ℕ) → Contains wanted.now name → map.contains_key (S.state source.old).objects name ≡ true → contains same_name found name ≡ true) }
+    ensures asked { IsAsked (S.state source.old) (S.state source.new) (fault_in result) }
+{
+    let hidden = walk_all(alloc, source, excluded)?;
+    walk(alloc, source, Along::Links, wanted, &hidden)
+}
+
+/// The names of the source's objects that links lead to from the wanted names, and from none of the excluded
+/// ones, with those of the wanted ones that it finds. Names that it does not find are passed over. If the source
+/// knows all links on the way, nothing is read. Otherwise each tree, commit and tag is lent or read once, a blob
 /// never.
+pub fn reach_between<S: Source>(
+    alloc: Global,
+    source: &mut S,
+    wanted: &[Name],
+    excluded: &[Name],
+) -> Result<IndexSet<Name, Hashing>, SourceFault>
+    ensures found { IsTrue (S.state source.old).honest → IfOk result (λ found. (name : List ℕ) → contains same_name found name ≡ is_between (linked_names (S.state source.old).objects) (S.state source.old).objects wanted.now excluded.now name) }
+    // Over any source.
+    ensures there { IfOk result (λ found. (name : List ℕ) → contains same_name found name ≡ true → map.contains_key (S.state source.old).objects name ≡ true) }
+    ensures rooted { excluded.now ≡ [] → IfOk result (λ found. (name : List ℕ) → Contains wanted.now name → map.contains_key (S.state source.old).objects name ≡ true → contains same_name found name ≡ true) }
+    ensures asked { IsAsked (S.state source.old) (S.state source.new) (fault_in result) }
+{
+    match source.known_between(alloc, wanted, excluded) {
+        Ok(Some(known)) => Ok(known),
+        Ok(None) => walk_between(alloc, source, wanted, excluded),
+        Err(_) => Err(SourceFault::Memory),
+    }
+}
+
+/// The names of the source's objects that links lead to from these roots, and of the roots that it
+/// finds. Roots that it does not find are passed over. If the source knows all links on the way, nothing is read.
+/// Otherwise each tree, commit and tag is lent or read once, a blob never.
 pub fn reach<S: Source>(
     alloc: Global,
     source: &mut S,
@@ -29,22 +85,7 @@ pub fn reach<S: Source>(
     ensures rooted { IfOk result (λ found. (name : List ℕ) → Contains roots.now name → map.contains_key (S.state source.old).objects name ≡ true → contains same_name found name ≡ true) }
     ensures asked { IsAsked (S.state source.old) (S.state source.new) (fault_in result) }
 {
-    let none = IndexSet::with_hasher(alloc, source.hashing());
-    walk(alloc, source, Along::Links, roots, &none)
-}
-
-/// The same, past none of the hidden names: neither they nor what they alone lead to. Where all is
-/// hidden that some names reach, this is what the roots reach and those names do not.
-pub fn reach_past<S: Source>(
-    alloc: Global,
-    source: &mut S,
-    roots: &[Name],
-    hidden: &IndexSet<Name, Hashing>,
-) -> Result<IndexSet<Name, Hashing>, SourceFault>
-    ensures found { IsTrue (S.state source.old).honest → IfOk result (λ found. (name : List ℕ) → contains same_name found name ≡ is_reached (linked_names (S.state source.old).objects) (without (S.state source.old).objects (contains same_name hidden.now)) roots.now name) }
-    ensures asked { IsAsked (S.state source.old) (S.state source.new) (fault_in result) }
-{
-    walk(alloc, source, Along::Links, roots, hidden)
+    reach_between(alloc, source, roots, &[])
 }
 
 /// The names of the source's objects that parents of commits lead to from these, and of those of these

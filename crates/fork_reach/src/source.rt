@@ -1,12 +1,17 @@
-ghost use Rattle.std.specs.Prelude.{◌≡◌, IsTrue, IfOk, IfSome, Some, is_some};
+ghost use Rattle.std.specs.Prelude.{◌≡◌, [], ℕ, List, IsTrue, IfOk, IfSome, None, Some, is_some, true};
 ghost use Rattle.std.specs.FinMap as map;
+ghost use Rattle.std.specs.HashSet.{contains};
+ghost use Rattle.std.specs.List.{Contains};
 ghost use Rattle.git_name.specs.Object.{object_name};
+ghost use Rattle.git_name.specs.Same.{same_name};
 ghost use Rattle.git_name.specs.Count.{fault_in};
 ghost use Rattle.fork_reach.specs.Faults.{IsAsked};
+ghost use Rattle.fork_reach.specs.Reach.{is_between, linked_names};
 ghost use Rattle.fork_reach.specs.Source.{SourceState, kind_in};
 
 use git_name::{Hashing, Kind, Name, Sealed};
-use std::alloc::Global;
+use indexmap::IndexSet;
+use std::alloc::{AllocError, Global};
 use thiserror::Error;
 
 /// Why an object was not read.
@@ -57,4 +62,32 @@ pub trait Source {
         ensures there { IfOk result (λ found. is_some found ≡ map.contains_key (state self.old).objects name) }
         ensures named { IfOk result (λ found. IfSome found (λ object. object_name object ≡ name)) }
         ensures asked { IsAsked (state self.old) (state self.new) (fault_in result) };
+
+    /// The names of its objects that links lead to from the wanted ones, and from none of the excluded ones;
+    /// nothing if it does not know the links of all that is on the way. It reads nothing.
+    fn known_between(
+        &self,
+        alloc: Global,
+        wanted: &[Name],
+        excluded: &[Name],
+    ) -> Result<Option<IndexSet<Name, Hashing>>, AllocError>
+        ensures found { IsTrue (state self.now).honest → IfOk result (λ known. IfSome known (λ found. (name : List ℕ) → contains same_name found name ≡ is_between (linked_names (state self.now).objects) (state self.now).objects wanted.now excluded.now name)) }
+        // Over any store.
+        ensures there { IfOk result (λ known. IfSome known (λ found. (name : List ℕ) → contains same_name found name ≡ true → map.contains_key (state self.now).objects name ≡ true)) }
+        ensures rooted { excluded.now ≡ [] → IfOk result (λ known. IfSome known (λ found. (name : List ℕ) → Contains wanted.now name → map.contains_key (state self.now).objects name ≡ true → contains same_name found name ≡ true)) }
+    {
+        let _alloc = alloc;
+        let _wanted = wanted;
+        let _excluded = excluded;
+        Ok(None)
+    }
+
+    /// Comes to know the links of the object of this name, if it is lent. It reads nothing, and what the source
+    /// shows stays.
+    fn learn_links(&mut self, alloc: Global, name: Name)
+        ensures asked { IsAsked (state self.old) (state self.new) None }
+    {
+        let _alloc = alloc;
+        let _name = name;
+    }
 }

@@ -10,6 +10,7 @@ pub mod GraphLemmas
 pub mod HarmLemmas
 pub mod HeldLemmas
 pub mod KeepingLemmas
+pub mod LedLemmas
 mod LentLemmas
 pub mod LinkLemmas
 pub mod LookLemmas

@@ -10,6 +10,7 @@ mod fault;
 mod harms;
 mod held;
 mod laws;
+mod leading;
 mod learning;
 mod looking;
 mod reading;

@@ -5,6 +5,7 @@ ghost use Rattle.looks.specs.Looks.{Look};
 ghost use Rattle.object_table.specs.Rows.{LooksNextAt, places_of};
 ghost use Rattle.object_table.specs.Holders.{holders_of, is_held_in};
 ghost use Rattle.fork_ledger.specs.Kept.{Covers, IsExact, KeepsHeld, TakesAway};
+ghost use Rattle.fork_ledger.specs.Led.{AreLed};
 ghost use Rattle.fork_ledger.specs.Linked.{AreLinked};
 ghost use Rattle.fork_ledger.specs.Store.{CountsFault};
 
@@ -35,6 +36,7 @@ fn take_away<S: LooseFiles>(
     ensures exact { IsTrue files.old.honest → OnOk result (IsExact files.old.contents (places_of holdings.old.catalogue) → IsExact files.new.contents (places_of holdings.new.catalogue)) }
     ensures away { IsTrue files.old.honest → OnOk result (TakesAway files.old.contents files.new.contents) }
     ensures linked { IsTrue files.old.honest → AreLinked graph.old files.old.contents → AreLinked graph.new files.new.contents }
+    ensures led { IsTrue files.old.honest → AreLed holdings.old.links files.old.contents → AreLed holdings.new.links files.new.contents }
     ensures honest { files.new.honest ≡ files.old.honest }
     ensures cause { CountsFault files.old.failures files.new.failures (fault_in result) }
     ensures undamaged { IfErr result (λ fault. fault ≢ VaultFault.Damaged) }
@@ -46,8 +48,14 @@ fn take_away<S: LooseFiles>(
             holdings.leave(name);
             Ok(())
         }
-        Err(FileFault::Device) => Err(VaultFault::Store),
-        Err(FileFault::Memory) => Err(VaultFault::Memory),
+        Err(FileFault::Device) => {
+            holdings.forget(name);
+            Err(VaultFault::Store)
+        }
+        Err(FileFault::Memory) => {
+            holdings.forget(name);
+            Err(VaultFault::Memory)
+        }
     }
 }
 
@@ -68,6 +76,7 @@ pub(crate) fn look_once<S: LooseFiles>(
     ensures exact { IsTrue files.old.honest → OnOk result (IsExact files.old.contents (places_of holdings.old.catalogue) → IsExact files.new.contents (places_of holdings.new.catalogue)) }
     ensures away { IsTrue files.old.honest → OnOk result (TakesAway files.old.contents files.new.contents) }
     ensures linked { IsTrue files.old.honest → AreLinked graph.old files.old.contents → AreLinked graph.new files.new.contents }
+    ensures led { IsTrue files.old.honest → AreLed holdings.old.links files.old.contents → AreLed holdings.new.links files.new.contents }
     ensures honest { files.new.honest ≡ files.old.honest }
     ensures cause { CountsFault files.old.failures files.new.failures (fault_in result) }
     ensures undamaged { IfErr result (λ fault. fault ≢ VaultFault.Damaged) }

@@ -37,6 +37,7 @@ pub(crate) fn recall_known<S: LooseFiles>(
 ) -> Result<(), RecallFault>
     ensures ok { OnOk result (IsKnown files.now.honest files.now.contents name kind length × (holdings.new.ledgers ≡ at_ledger holdings.old.ledgers tenant.now (staged_words name kind length))) }
     ensures err { OnErr result (holdings.new.ledgers ≡ holdings.old.ledgers) }
+    ensures links { holdings.new.links ≡ holdings.old.links }
     ensures grows { GrowsAmong (name ∷ []) (places_of holdings.old.catalogue) (places_of holdings.new.catalogue) }
     ensures covers { (stored : Files) → Covers stored (places_of holdings.old.catalogue) → Covers stored (places_of holdings.new.catalogue) }
     ensures exact { IsTrue files.now.honest → IsExact files.now.contents (places_of holdings.old.catalogue) → IsExact files.now.contents (places_of holdings.new.catalogue) }
@@ -61,6 +62,7 @@ fn recall(
 ) -> Result<(), StageFault>
     ensures ok { OnOk result (holdings.new.ledgers ≡ at_ledger holdings.old.ledgers tenant.now (staged_words name kind length)) }
     ensures err { OnErr result (holdings.new.ledgers ≡ holdings.old.ledgers) }
+    ensures links { holdings.new.links ≡ holdings.old.links }
     ensures grows { GrowsAmong (name ∷ []) (places_of holdings.old.catalogue) (places_of holdings.new.catalogue) }
     ensures covers { (files : Files) → Covers files (places_of holdings.old.catalogue) → Covers files (places_of holdings.new.catalogue) }
     ensures exact { (files : Files) → contains_key files name ≡ true → IsExact files (places_of holdings.old.catalogue) → IsExact files (places_of holdings.new.catalogue) }

@@ -30,6 +30,7 @@ pub(crate) fn receive<S: LooseFiles>(
     sealed: Sealed,
 ) -> Result<(), VaultFault>
     ensures ledgers { holdings.new.ledgers ≡ holdings.old.ledgers }
+    ensures links { holdings.new.links ≡ holdings.old.links }
     ensures listed { OnOk result ((q : List ℕ) → is_listed (places_of holdings.new.catalogue).names q ≡ (same_name (object_name sealed) q || is_listed (places_of holdings.old.catalogue).names q)) }
     ensures grows { GrowsAmong (object_name sealed ∷ []) (places_of holdings.old.catalogue) (places_of holdings.new.catalogue) }
     ensures whole { IsTrue files.old.honest → OnOk result (Whole files.new.contents (object_name sealed) sealed) }
@@ -75,6 +76,7 @@ pub(crate) fn receive_all<S: LooseFiles>(
     objects: Vec<Sealed>,
 ) -> Result<(), VaultFault>
     ensures ledgers { holdings.new.ledgers ≡ holdings.old.ledgers }
+    ensures links { holdings.new.links ≡ holdings.old.links }
     ensures listed { OnOk result (AreListed (places_of holdings.new.catalogue) (map_list entry_of objects.items)) }
     ensures grows { GrowsAmong (map_list object_name objects.items) (places_of holdings.old.catalogue) (places_of holdings.new.catalogue) }
     ensures receives { IsTrue files.old.honest → OnOk result (Receives objects.items files.old.contents files.new.contents (places_of holdings.old.catalogue) (places_of holdings.new.catalogue)) }

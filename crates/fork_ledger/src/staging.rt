@@ -37,6 +37,7 @@ pub(crate) fn stage_whole<S: LooseFiles>(
 ) -> Result<(), VaultFault>
     ensures ok { OnOk result (holdings.new.ledgers ≡ at_ledger holdings.old.ledgers tenant.now (staged_words (object_name sealed) sealed.kind (length sealed.bytes))) }
     ensures err { OnErr result (holdings.new.ledgers ≡ holdings.old.ledgers) }
+    ensures links { holdings.new.links ≡ holdings.old.links }
     ensures grows { GrowsAmong (object_name sealed ∷ []) (places_of holdings.old.catalogue) (places_of holdings.new.catalogue) }
     ensures whole { IsTrue files.old.honest → OnOk result (Whole files.new.contents (object_name sealed) sealed) }
     ensures keeps { IsTrue files.old.honest → HasFiles holdings.old.ledgers files.old.contents → KeepsHeld holdings.old.ledgers files.old.contents files.new.contents }
@@ -70,6 +71,7 @@ fn stage_fit<S: LooseFiles>(
     requires told { IsAsTold holdings.old.ledgers sealed }
     ensures ok { OnOk result (holdings.new.ledgers ≡ at_ledger holdings.old.ledgers tenant.now (staged_words (object_name sealed) sealed.kind (length sealed.bytes))) }
     ensures err { OnErr result (holdings.new.ledgers ≡ holdings.old.ledgers) }
+    ensures links { holdings.new.links ≡ holdings.old.links }
     ensures grows { GrowsAmong (object_name sealed ∷ []) (places_of holdings.old.catalogue) (places_of holdings.new.catalogue) }
     ensures whole { IsTrue files.old.honest → OnOk result (Whole files.new.contents (object_name sealed) sealed) }
     ensures keeps { IsTrue files.old.honest → HasFiles holdings.old.ledgers files.old.contents → KeepsHeld holdings.old.ledgers files.old.contents files.new.contents }
@@ -107,6 +109,7 @@ pub(crate) fn stage_all_whole<S: LooseFiles>(
 ) -> Result<(), VaultFault>
     ensures ok { OnOk result (holdings.new.ledgers ≡ at_ledger holdings.old.ledgers tenant.now (all_staged_words (map_list entry_of objects.items))) }
     ensures err { OnErr result (holdings.new.ledgers ≡ holdings.old.ledgers) }
+    ensures links { holdings.new.links ≡ holdings.old.links }
     ensures grows { GrowsAmong (map_list object_name objects.items) (places_of holdings.old.catalogue) (places_of holdings.new.catalogue) }
     ensures receives { IsTrue files.old.honest → OnOk result (Receives objects.items files.old.contents files.new.contents (places_of holdings.old.catalogue) (places_of holdings.new.catalogue)) }
     ensures stands { IsTrue files.old.honest → StaysWhole files.old.contents files.new.contents }
@@ -150,6 +153,7 @@ fn stage_all_fit<S: LooseFiles>(
     requires told { All (IsAsTold holdings.old.ledgers) objects.items }
     ensures ok { OnOk result (holdings.new.ledgers ≡ at_ledger holdings.old.ledgers tenant.now (all_staged_words (map_list entry_of objects.items))) }
     ensures err { OnErr result (holdings.new.ledgers ≡ holdings.old.ledgers) }
+    ensures links { holdings.new.links ≡ holdings.old.links }
     ensures grows { GrowsAmong (map_list object_name objects.items) (places_of holdings.old.catalogue) (places_of holdings.new.catalogue) }
     ensures receives { IsTrue files.old.honest → OnOk result (Receives objects.items files.old.contents files.new.contents (places_of holdings.old.catalogue) (places_of holdings.new.catalogue)) }
     ensures stands { IsTrue files.old.honest → StaysWhole files.old.contents files.new.contents }

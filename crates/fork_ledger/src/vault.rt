@@ -10,6 +10,7 @@ ghost use Rattle.git_name.specs.Count.{fault_in};
 ghost use Rattle.commit_graph.specs.Graph.{IsGraph, name_at, parents_at};
 ghost use Rattle.fork_reach.specs.Known.{AreParents, seen_name, seen_place};
 ghost use Rattle.fork_reach.specs.Objects.{use_of};
+ghost use Rattle.fork_reach.specs.Reach.{is_between, linked_names};
 ghost use Rattle.looks.specs.Growth.{GrowsAmong};
 ghost use Rattle.looks.specs.Looks.{Looks, Walks};
 ghost use Rattle.looks.specs.Places.{at_start};
@@ -30,8 +31,8 @@ use crate::checking::check_all;
 use crate::fault::VaultFault;
 use crate::harms::Harms;
 use crate::held::{Held, held_of};
+use crate::leading::{learn_links, read_and_learn};
 use crate::learning::learn;
-use crate::reading::read_held;
 use crate::recalling::{RecallFault, recall_known};
 use crate::staging::{stage_all_whole, stage_whole};
 use crate::survey::Survey;
@@ -65,6 +66,7 @@ impl<S: LooseFiles> Model for Vault<S> {
     ghost use Rattle.std.specs.Prelude.{IsTrue};
     ghost use Rattle.object_table.specs.Rows.{places_of};
     ghost use Rattle.fork_ledger.specs.Kept.{IsKept};
+    ghost use Rattle.fork_ledger.specs.Led.{AreLed};
     ghost use Rattle.fork_ledger.specs.Linked.{AreLinked};
     ghost use Rattle.fork_ledger.specs.Shown.{tenants_of};
     ghost use Rattle.fork_ledger.specs.Tenants.{VaultState, vault_code};
@@ -82,7 +84,7 @@ impl<S: LooseFiles> Model for Vault<S> {
       commits = a.graph;
     } };
 
-    ghost invariant = { λ a. IsTrue a.files.honest → IsKept a.holdings.ledgers a.files.contents (places_of a.holdings.catalogue) × AreLinked a.graph a.files.contents };
+    ghost invariant = { λ a. IsTrue a.files.honest → IsKept a.holdings.ledgers a.files.contents (places_of a.holdings.catalogue) × AreLinked a.graph a.files.contents × AreLed a.holdings.links a.files.contents };
 }
 
 impl<S: LooseFiles + Drop> Vault<S> {
@@ -162,7 +164,7 @@ impl<S: LooseFiles> Vault<S> {
         if !self.holdings.sees(tenant, name) {
             return Ok(None);
         }
-        read_held(alloc, &mut self.files, name)
+        read_and_learn(alloc, &mut self.files, &mut self.holdings, name)
     }
 
     /// The object that a tenant has staged under this name, as a copy.
@@ -187,7 +189,7 @@ impl<S: LooseFiles> Vault<S> {
         if !self.holdings.has_staged(tenant, name) {
             return Ok(None);
         }
-        read_held(alloc, &mut self.files, name)
+        read_and_learn(alloc, &mut self.files, &mut self.holdings, name)
     }
 
     /// The object that a tenant sees under this name, its kind and its bytes, lent where its file lies in
@@ -211,6 +213,37 @@ impl<S: LooseFiles> Vault<S> {
             return None;
         };
         self.files.lend(name)
+    }
+
+    /// Comes to know what an object that a tenant sees or has staged leads to, where it is lent.
+    pub fn learn_links(&mut self, alloc: Global, tenant: &TenantName, name: Name)
+        ensures { self.new ≡ self.old }
+    {
+        let Some(_) = self.holdings.word(tenant, name) else {
+            return;
+        };
+        let Some((kind, bytes)) = self.files.lend(name) else {
+            return;
+        };
+        learn_links(alloc, &mut self.holdings, name, kind, bytes);
+    }
+
+    /// The names of what a tenant sees that links lead to from the wanted ones, and from none of the
+    /// excluded ones; nothing where it is not known what an object on the way leads to. It asks no store.
+    pub fn known_between(
+        &self,
+        alloc: Global,
+        tenant: &TenantName,
+        wanted: &[Name],
+        excluded: &[Name],
+    ) -> Result<Option<IndexSet<Name, Hashing>>, AllocError>
+        ensures found { IsTrue self.now.honest → IfOk result (λ known. IfSome known (λ found. (name : List ℕ) → contains same_name found name ≡ is_between (linked_names (private_of self.now.tenants tenant.now).visible) (private_of self.now.tenants tenant.now).visible wanted.now excluded.now name)) }
+
+        // Over any store.
+        ensures there { IfOk result (λ known. IfSome known (λ found. (name : List ℕ) → contains same_name found name ≡ true → map.contains_key (private_of self.now.tenants tenant.now).visible name ≡ true)) }
+        ensures rooted { excluded.now ≡ [] → IfOk result (λ known. IfSome known (λ found. (name : List ℕ) → Contains wanted.now name → map.contains_key (private_of self.now.tenants tenant.now).visible name ≡ true → contains same_name found name ≡ true)) }
+    {
+        self.holdings.between(alloc, tenant, wanted, excluded)
     }
 
     /// How many commits there are whose parents are known without reading them.

@@ -48,7 +48,7 @@ impl Links {
     }
 
     pub fn renew(&mut self, n: u32)
-        ensures gone { (q : ℕ) (ms : List ℕ) → known self.new q ≡ Some ms → (known self.old q ≡ Some ms) × (q ≢ n) × (Contains ms n → ⊥) }
+        ensures { (q : ℕ) (ms : List ℕ) → known self.new q ≡ Some ms → (known self.old q ≡ Some ms) × (q ≢ n) × (Contains ms n → ⊥) }
     {
         let _n = n;
         self.none.clear();

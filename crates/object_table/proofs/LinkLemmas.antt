@@ -277,3 +277,33 @@ module _ (old new : Rows) (links after : Known) (name : List ℕ) (gone : Row) (
               (let first = (renewed row.number ms knows).0 in
               let same : map (numbered_name new) ms ≡ map (numbered_name old) ms = map_same (numbered_name new) (numbered_name old) ms (λ m among. still_named old new m are now_are (λ p r held number. (r, stays p r held (λ is. apart_in row.number ms m knows among (sym number ∙ is)), refl)) (linked.used row.number ms m first among)) in
               get_named old links q are.distinct ∙ ap (option_and_then (led_from old links)) before ∙ ap (option_map (map (numbered_name old))) first ∙ ap Some (sym same) ∙ led)
+
+-- ---- what is known by fewer numbers
+module _ (rows : Rows) (links after : Known) (are : AreRows rows) (fewer : (n : ℕ) (to : List ℕ) → known after n ≡ Some to → known links n ≡ Some to) where
+  pub fewer_links : AreLinks rows links → AreLinks rows after
+  fewer_links linked = record {
+    own = λ n to is. linked.own n to (fewer n to is);
+    used = λ n to m is among. linked.used n to m (fewer n to is) among;
+  }
+
+  pub fewer_known : KnowsNoMore (named_links rows links) (named_links rows after)
+  fewer_known q to is = by (row_in rows q) refl (sym (get_named rows after q are.distinct) ∙ is)
+    where
+      by : (o : Option Row) → row_in rows q ≡ o → option_and_then (led_from rows after) o ≡ Some to → get (named_links rows links) q ≡ Some to
+      by None none led = none_is_some _ to led
+      by (Some row) there led = at (known after row.number) refl led
+        where
+          at : (o : Option (List ℕ)) → known after row.number ≡ o → option_map (map (numbered_name rows)) o ≡ Some to → get (named_links rows links) q ≡ Some to
+          at None none led = none_is_some _ to led
+          at (Some ms) knows led = get_named rows links q are.distinct ∙ ap (option_and_then (led_from rows links)) there ∙ ap (option_map (map (numbered_name rows))) (fewer row.number ms knows) ∙ led
+
+-- a name is not known whose number is not, or that has none
+pub away_known : (rows : Rows) (after : Known) (name : List ℕ) (row : Row) → AreRows rows → row_in rows name ≡ Some row → ((to : List ℕ) → known after row.number ≡ Some to → ⊥) → get (named_links rows after) name ≡ None
+away_known rows after name row are here away = get_named rows after name are.distinct ∙ ap (option_and_then (led_from rows after)) here ∙ by (known after row.number) refl
+  where
+    by : (o : Option (List ℕ)) → known after row.number ≡ o → option_map (map (numbered_name rows)) o ≡ None
+    by None none = refl
+    by (Some to) is = absurd (away to is)
+
+pub none_known : (rows : Rows) (after : Known) (name : List ℕ) → AreRows rows → row_in rows name ≡ None → get (named_links rows after) name ≡ None
+none_known rows after name are gone = get_named rows after name are.distinct ∙ ap (option_and_then (led_from rows after)) gone

@@ -1,4 +1,4 @@
-ghost use Rattle.std.specs.Prelude.{◌≡◌, ◌≢◌, ◌<◌, ◌≤◌, ◌+◌, ◌⊎◌, ◌++◌, ◌∷◌, [], ◌||◌, ◌&&◌, not, ℕ, List, Contains, Some, length, slice_get, take, OnOk, OnErr, IfOk, IfErr, IfSome, IfNone, false, true, nat_le, IsPermutation, map as mapped};
+ghost use Rattle.std.specs.Prelude.{◌≡◌, ◌≢◌, ◌<◌, ◌≤◌, ◌+◌, ◌⊎◌, ◌++◌, ◌∷◌, [], ◌||◌, ◌&&◌, not, ℕ, List, Contains, None, Some, length, slice_get, take, OnOk, OnErr, IfOk, IfErr, IfSome, IfNone, false, true, nat_le, IsPermutation, map as mapped};
 ghost use Rattle.std.specs.FinMap as map;
 ghost use Rattle.std.specs.HashSet.{contains};
 ghost use Rattle.std.specs.Option.{option_map_or};
@@ -326,6 +326,16 @@ impl Holdings {
         learn_row(&self.table, &mut self.links, name, row, numbers.as_slice());
     }
 
+    /// What the object of a name leads to is known no more.
+    pub fn forget(&mut self, name: Name)
+        ensures ledgers { self.new.ledgers ≡ self.old.ledgers }
+        ensures catalogue { self.new.catalogue ≡ self.old.catalogue }
+        ensures links { KnowsNoMore self.old.links self.new.links }
+        ensures away { map.get self.new.links name ≡ None }
+    {
+        forget_in(&self.table, &mut self.links, name);
+    }
+
     /// Whether it is known what the object of a name leads to.
     pub fn knows(&self, name: Name) -> bool
         ensures { result ≡ map.contains_key self.now.links name }
@@ -415,6 +425,7 @@ impl Holdings {
         ensures place { (places_of self.new.catalogue).place ≡ looked_at (places_of self.old.catalogue) }
         ensures listed { (q : List ℕ) → is_listed (places_of self.new.catalogue).names q ≡ (not (same_name name q) && is_listed (places_of self.old.catalogue).names q) }
         ensures links { KnowsNoMore self.old.links self.new.links }
+        ensures away { map.get self.new.links name ≡ None }
     {
         leave_in(&mut self.table, &self.ledgers, &mut self.links, name);
     }
@@ -435,6 +446,20 @@ impl Holdings {
     {
         self.table.place()
     }
+}
+
+// The same by numbers.
+fn forget_in(table: &Table, links: &mut Links, name: Name)
+    requires linked { AreLinks table.now.entries links.old }
+    ensures linked { AreLinks table.now.entries links.new }
+    ensures links { KnowsNoMore (named_links table.now.entries links.old) (named_links table.now.entries links.new) }
+    ensures away { map.get (named_links table.now.entries links.new) name ≡ None }
+{
+    table.invariant();
+    let Some(row) = table.row(name) else {
+        return;
+    };
+    links.renew(row.number);
 }
 
 // What the object of a row leads to is learned: objects of these numbers.
@@ -538,6 +563,7 @@ fn leave_in(table: &mut Table, ledgers: &Ledgers, links: &mut Links, name: Name)
     ensures held { AreHeld table.new.entries ledgers.now }
     ensures linked { AreLinks table.new.entries links.new }
     ensures links { KnowsNoMore (named_links table.old.entries links.old) (named_links table.new.entries links.new) }
+    ensures away { map.get (named_links table.new.entries links.new) name ≡ None }
     ensures words { all_words table.new.entries ledgers.now ≡ all_words table.old.entries ledgers.now }
     ensures left { (front back : List (List ℕ)) → (places_of table.old).names ≡ front ++ name ∷ back → length front ≡ looked_at (places_of table.old)
         → (left : List (List ℕ)) × ((places_of table.new).names ≡ front ++ left) × IsPermutation back left }

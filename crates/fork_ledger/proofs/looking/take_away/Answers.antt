@@ -4,6 +4,7 @@ use Rattle.object_table.specs.Rows.{places_of}
 use Rattle.object_table.specs.Holders.{holders_of, is_held_in}
 use Rattle.fork_ledger.proofs.CoverLemmas.{covers_failed, covers_left, exact_left, false_is_true, removed_none}
 use Rattle.fork_ledger.proofs.KeepingLemmas.{away_one, keeps_but}
+use Rattle.fork_ledger.proofs.LedLemmas.{led_but}
 use Rattle.fork_ledger.proofs.LinkLemmas.{linked_but}
 use Rattle.fork_ledger.proofs.LookLemmas.{fewer_names, look_leaves, not_held}
 use Rattle.fork_ledger.proofs.looking.take_away.Goals as goal
@@ -60,3 +61,15 @@ returns-in-Err-Device-clause-linked g c = λ h known. linked_but c.args.name c.a
 
 pub returns-in-Err-Memory-clause-linked : goal.returns-in-Err-Memory-clause-linked
 returns-in-Err-Memory-clause-linked g c = λ h known. linked_but c.args.name c.args.graph.now c.forget.new.self c.args.files.now.contents c.remove.new.self.contents (c.remove.ensures.others h) c.forget.ensures known
+
+pub returns-in-Ok-clause-led : goal.returns-in-Ok-clause-led
+returns-in-Ok-clause-led g c = λ h led.
+    led_but c.args.name c.args.holdings.now.links c.leave.new.self.links c.args.files.now.contents c.remove.new.self.contents (c.remove.ensures.others h) c.leave.ensures.links c.leave.ensures.away led
+
+pub returns-in-Err-Device-clause-led : goal.returns-in-Err-Device-clause-led
+returns-in-Err-Device-clause-led g c = λ h led.
+    led_but c.args.name c.args.holdings.now.links c.forget-2.new.self.links c.args.files.now.contents c.remove.new.self.contents (c.remove.ensures.others h) c.forget-2.ensures.links c.forget-2.ensures.away led
+
+pub returns-in-Err-Memory-clause-led : goal.returns-in-Err-Memory-clause-led
+returns-in-Err-Memory-clause-led g c = λ h led.
+    led_but c.args.name c.args.holdings.now.links c.forget-3.new.self.links c.args.files.now.contents c.remove.new.self.contents (c.remove.ensures.others h) c.forget-3.ensures.links c.forget-3.ensures.away led

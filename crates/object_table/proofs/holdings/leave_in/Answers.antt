@@ -1,6 +1,7 @@
-use Rattle.std.proofs.Common.{length}
-use Rattle.object_table.proofs.LinkLemmas.{left_known, left_links}
-use Rattle.object_table.proofs.PlaceLemmas.{entry_there}
+use Rattle.std.proofs.Common.{length, cond, None, ap, ◌∙◌}
+use Rattle.object_table.specs.Rows.{row_in}
+use Rattle.object_table.proofs.LinkLemmas.{left_known, left_links, none_known}
+use Rattle.object_table.proofs.PlaceLemmas.{entry_there, own_name}
 use Rattle.object_table.proofs.RowLemmas.{row_at}
 use Rattle.object_table.proofs.ChangeLemmas.{gone_all, gone_held}
 use Rattle.object_table.proofs.holdings.leave_in.Goals as goal
@@ -26,3 +27,7 @@ returns-clause-links c =
     let there = entry_there rows c.requires.next.front c.requires.next.back c.args.name c.requires.next.whole in
     let here = row_at rows (length c.requires.next.front) c.args.name there.0 c.invariant.ensures.rows.distinct there.1 in
     left_known rows c.leave.new.self.entries c.args.links.now c.renew.new.links c.args.name there.0 c.invariant.ensures.rows c.invariant-2.ensures.rows c.requires.linked here c.leave.ensures.rows (c.renew.ensures there.0 here)
+
+pub returns-clause-away : goal.returns-clause-away
+returns-clause-away c =
+    none_known c.leave.new.self.entries c.renew.new.links c.args.name c.invariant-2.ensures.rows (c.leave.ensures.rows c.args.name ∙ ap (λ b. cond b None (row_in c.args.table.now.entries c.args.name)) (own_name c.args.name))

@@ -7,6 +7,7 @@ use Rattle.fork_ledger.specs.Store.{IsStored}
 use Rattle.fork_ledger.specs.Tenants.{with_tenant}
 use Rattle.fork_ledger.proofs.ShownLemmas.{added_shown}
 use Rattle.fork_ledger.proofs.StoredLemmas.{stored_new, whichever}
+use Rattle.fork_ledger.proofs.LedLemmas.{led_same}
 use Rattle.fork_ledger.proofs.vault.Vault.add.Goals as goal
 
 pub invariant_of-self : goal.invariant_of-self
@@ -20,6 +21,7 @@ invariant_of-self g c = λ h.
         covers = subst (λ catalogue. Covers files (places_of catalogue)) (sym c.add.ensures.catalogue) kept.covers;
       },
       (c.self.invariant h).1,
+      led_same c.self.inside.holdings.links c.add.new.self.links files c.add.ensures.links (c.self.invariant h).2,
     )
 
 pub returns-clause-ok : goal.returns-clause-ok

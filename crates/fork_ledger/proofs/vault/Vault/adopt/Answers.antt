@@ -9,6 +9,7 @@ use Rattle.fork_ledger.specs.Store.{IsStored}
 use Rattle.fork_ledger.specs.Tenants.{VaultState, at_tenant, private_of}
 use Rattle.fork_ledger.proofs.AdoptedLemmas.{adopted_seen, adopted_tenants}
 use Rattle.fork_ledger.proofs.AdoptedStore.{alike_fits, stored_adopted}
+use Rattle.fork_ledger.proofs.LedLemmas.{led_same}
 use Rattle.fork_ledger.proofs.vault.Vault.adopt.Goals as goal
 
 pub invariant_of-self-2 : goal.invariant_of-self-2
@@ -24,6 +25,7 @@ invariant_of-self-2 g c = λ h.
         covers = subst (λ p. Covers files p) (sym c.in-Ok.ensures.places) kept.covers;
       },
       (c.self.invariant h).1,
+      led_same c.self.inside.holdings.links c.adopt.new.self.links files c.adopt.ensures.links (c.self.invariant h).2,
     )
 
 pub returns-clause-ok : goal.returns-clause-ok

@@ -8,6 +8,7 @@ use Rattle.fork_ledger.specs.Tenants.{at_tenant}
 use Rattle.fork_ledger.proofs.OwnLemmas.{discarded_own}
 use Rattle.fork_ledger.proofs.ShownLemmas.{changed_shown}
 use Rattle.fork_ledger.proofs.StoredLemmas.{brings_discarded, stored_at}
+use Rattle.fork_ledger.proofs.LedLemmas.{led_same}
 use Rattle.fork_ledger.proofs.vault.Vault.discard.Goals as goal
 
 pub invariant_of-self : goal.invariant_of-self
@@ -20,6 +21,7 @@ invariant_of-self g c = λ h.
         covers = subst (λ p. Covers files p) (sym c.discard.ensures.places) kept.covers;
       },
       (c.self.invariant h).1,
+      led_same c.self.inside.holdings.links c.discard.new.self.links files c.discard.ensures.links (c.self.invariant h).2,
     )
 
 pub returns-clause-tenants : goal.returns-clause-tenants

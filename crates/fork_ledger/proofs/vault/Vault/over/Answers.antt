@@ -6,6 +6,7 @@ use Rattle.git_name.specs.Same.{is_listed}
 use Rattle.fork_ledger.specs.Shown.{own_of, tenants_of}
 use Rattle.fork_ledger.specs.Store.{IsStored}
 use Rattle.fork_ledger.proofs.CoverLemmas.{keys_listed}
+use Rattle.fork_ledger.proofs.LedLemmas.{led_none}
 use Rattle.fork_ledger.proofs.LinkLemmas.{linked_none}
 use Rattle.fork_ledger.proofs.StoredLemmas.{stored_none}
 use Rattle.fork_ledger.proofs.vault.Vault.over.Goals as goal
@@ -21,6 +22,7 @@ invariant_of-result g c = λ h.
             ∙ ap (λ m. map.contains_key m q) (sym (c.names.ensures.kept was)) ∙ there;
       },
       linked_none c.new.result files c.new.ensures,
+      led_none c.in-Ok-over.holdings.links files c.in-Ok-over.ensures.links,
     )
 
 pub returns-clause-empty : goal.returns-clause-empty

@@ -9,6 +9,7 @@ use Rattle.fork_ledger.specs.Tenants.{at_tenant}
 use Rattle.fork_ledger.proofs.OwnLemmas.{published_own}
 use Rattle.fork_ledger.proofs.ShownLemmas.{changed_shown}
 use Rattle.fork_ledger.proofs.StoredLemmas.{brings_published, stored_at}
+use Rattle.fork_ledger.proofs.LedLemmas.{led_same}
 use Rattle.fork_ledger.proofs.vault.Vault.publish.Goals as goal
 
 pub invariant_of-self : goal.invariant_of-self
@@ -21,6 +22,7 @@ invariant_of-self g c = λ h.
         covers = subst (λ catalogue. Covers files (places_of catalogue)) (sym c.publish.ensures.catalogue) kept.covers;
       },
       (c.self.invariant h).1,
+      led_same c.self.inside.holdings.links c.publish.new.self.links files c.publish.ensures.links (c.self.invariant h).2,
     )
 
 pub returns-clause-tenants : goal.returns-clause-tenants

@@ -6,6 +6,7 @@ use Rattle.fork_ledger.specs.Shown.{tenants_of}
 use Rattle.fork_ledger.specs.Store.{Recalls}
 use Rattle.fork_ledger.specs.Tenants.{VaultState}
 use Rattle.fork_ledger.proofs.RecallLemmas.{recalled_stored, recalled_tenants}
+use Rattle.fork_ledger.proofs.LedLemmas.{led_same}
 use Rattle.fork_ledger.proofs.vault.Vault.recall.Goals as goal
 
 pub invariant_of-self : goal.invariant_of-self
@@ -17,6 +18,7 @@ invariant_of-self g c = λ h.
         covers = c.recall_known.ensures.covers files kept.covers;
       },
       (c.self.invariant h).1,
+      led_same c.self.inside.holdings.links c.recall_known.new.holdings.links files c.recall_known.ensures.links (c.self.invariant h).2,
     )
 
 pub returns-clause-recalls : goal.returns-clause-recalls

@@ -13,6 +13,7 @@ use Rattle.fork_ledger.specs.Store.{CountsFault, IsStored, Meets, MeetsHeld}
 use Rattle.fork_ledger.specs.Tenants.{VaultState, at_tenant, shape_of}
 use Rattle.fork_ledger.proofs.ClashLemmas.{held_refuses, vault_still}
 use Rattle.fork_ledger.proofs.KeepingLemmas.{stored_keeps, tenants_keep}
+use Rattle.fork_ledger.proofs.LedLemmas.{led_stays}
 use Rattle.fork_ledger.proofs.LinkLemmas.{linked_still}
 use Rattle.fork_ledger.proofs.ShownShapes.{shape_any, staged_shape}
 use Rattle.fork_ledger.proofs.StagedLemmas.{ok_both, staged_stored, staged_tenants, staged_undamaged}
@@ -36,6 +37,7 @@ invariant_of-self g c = λ h.
         covers = c.stage_whole.ensures.covers was kept.covers;
       },
       linked_still c.self.inside.graph old new (c.stage_whole.ensures.stands was) (c.self.invariant was).1,
+      led_stays c.self.inside.holdings.links c.stage_whole.new.holdings.links old new c.stage_whole.ensures.links (c.stage_whole.ensures.stands was) (c.self.invariant was).2,
     )
 
 pub returns-clause-ok : goal.returns-clause-ok

@@ -19,6 +19,7 @@ use Rattle.fork_ledger.proofs.AllStagedLemmas.{all_staged_shape, all_staged_stor
 use Rattle.fork_ledger.proofs.CameLemmas.{all_came}
 use Rattle.fork_ledger.proofs.ClashLemmas.{held_refuses, vault_still}
 use Rattle.fork_ledger.proofs.KeepingLemmas.{stored_keeps, tenants_keep}
+use Rattle.fork_ledger.proofs.LedLemmas.{led_stays}
 use Rattle.fork_ledger.proofs.LinkLemmas.{linked_still}
 use Rattle.fork_ledger.proofs.ShownShapes.{shape_any}
 use Rattle.fork_ledger.proofs.StagedLemmas.{ok_both}
@@ -43,6 +44,7 @@ invariant_of-self g c = λ h.
         covers = told.covers was kept.covers;
       },
       linked_still c.self.inside.graph old new (told.stands was) (c.self.invariant was).1,
+      led_stays c.self.inside.holdings.links c.stage_all_whole.new.holdings.links old new told.links (told.stands was) (c.self.invariant was).2,
     )
 
 pub returns-clause-ok : goal.returns-clause-ok

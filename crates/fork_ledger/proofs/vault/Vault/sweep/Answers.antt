@@ -20,6 +20,7 @@ invariant_of-self g c = λ h.
       kept_after c.self.inside.files.contents c.sweep.new.files.contents c.self.inside.holdings.ledgers c.sweep.new.holdings.ledgers (places_of c.self.inside.holdings.catalogue) (places_of c.sweep.new.holdings.catalogue)
           c.sweep.ensures.ledgers (c.sweep.ensures.keeps was) (c.sweep.ensures.covers was) (c.self.invariant was).0,
       c.sweep.ensures.linked was (c.self.invariant was).1,
+      c.sweep.ensures.led was (c.self.invariant was).2,
     )
 
 pub returns-clause-kept : goal.returns-clause-kept

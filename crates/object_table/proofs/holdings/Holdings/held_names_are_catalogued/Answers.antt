@@ -10,4 +10,4 @@ use Rattle.object_table.proofs.holdings.Holdings.held_names_are_catalogued.Goals
 pub returns : goal.returns
 returns c =
     subst (λ (s : HoldingsState). (name : List ℕ) → is_held_in s.ledgers name ≡ true → is_listed (places_of s.catalogue).names name ≡ true) c.self.view_is
-    (λ name held. counted_listed c.self.inside.table.entries name (subst (λ n. 0 < n) (sym (c.self.invariant.counted name)) (ltb-true 0 (holders_of (all_words c.self.inside.table.entries c.self.inside.ledgers) name) held)))
+    (λ name held. counted_listed c.self.inside.table.entries name (subst (λ n. 0 < n) (sym (c.self.invariant.0.counted name)) (ltb-true 0 (holders_of (all_words c.self.inside.table.entries c.self.inside.ledgers) name) held)))

@@ -13,7 +13,7 @@ returns-in_default-clause-may c is_true =
 pub returns-then-row-eq0-clause-may : goal.returns-then-row-eq0-clause-may
 returns-then-row-eq0-clause-may c is_true =
     subst (λ (s : HoldingsState). AreAs s.ledgers c.args.name c.args.kind c.args.length) c.self.view_is
-    (unheld_allows c.self.inside.table.entries c.self.inside.ledgers c.args.name c.in-Some.row c.args.kind c.args.length c.invariant.ensures.rows c.self.invariant (sym c.in-Some.ensures) c.if-row-eq0.true)
+    (unheld_allows c.self.inside.table.entries c.self.inside.ledgers c.args.name c.in-Some.row c.args.kind c.args.length c.invariant.ensures.rows c.self.invariant.0 (sym c.in-Some.ensures) c.if-row-eq0.true)
 
 pub returns-clause-may : goal.returns-clause-may
 returns-clause-may c is_true =
@@ -25,6 +25,6 @@ returns-clause-may c is_true =
 
 pub returns-clause-clash : goal.returns-clause-clash
 returns-clause-clash c is_false as_told =
-    row_refuses c.self.inside.table.entries c.self.inside.ledgers c.args.name c.in-Some.row c.args.kind c.args.length c.invariant.ensures.rows c.self.invariant (sym c.in-Some.ensures)
+    row_refuses c.self.inside.table.entries c.self.inside.ledgers c.args.name c.in-Some.row c.args.kind c.args.length c.invariant.ensures.rows c.self.invariant.0 (sym c.in-Some.ensures)
     (let some = c.if-row-eq0.false in omega (arith, some)) (c.is_as.ensures.apart is_false)
     (subst (λ (s : HoldingsState). AreAs s.ledgers c.args.name c.args.kind c.args.length) (sym c.self.view_is) as_told)

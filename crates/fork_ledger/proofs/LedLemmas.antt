@@ -43,3 +43,11 @@ led_learned links now files name object whole only led = record { each = λ q to
     by : (q : List ℕ) (to : List (List ℕ)) → (get links q ≡ Some to) ⊎ ((q ≡ name) × (to ≡ map (λ link. link.name) (links_in object.kind object.bytes))) → LeadsTo files q to
     by q to (inl before) = led.each q to before
     by q to (inr learned) = subst (λ n. LeadsTo files n to) (sym learned.0) (object, whole, sym learned.1)
+
+-- and the store is as it was
+pub led_read : (links now : NamedLinks) (files after : Files) (name : List ℕ) (object : Object) → (other : Object) × (Some object ≡ Some other) × Whole files name other → after ≡ files
+    → ((q : List ℕ) (to : List (List ℕ)) → get now q ≡ Some to → (get links q ≡ Some to) ⊎ ((q ≡ name) × (to ≡ map (λ link. link.name) (links_in object.kind object.bytes))))
+    → AreLed links files → AreLed now after
+led_read links now files after name object found same only led =
+    let one : found.0 ≡ object = (let is = found.1 in cc) in
+    subst (AreLed now) (sym same) (led_learned links now files name object (subst (Whole files name) one found.2) only led)

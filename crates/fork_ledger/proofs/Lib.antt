@@ -1,6 +1,7 @@
 pub mod AdoptedLemmas
 pub mod AdoptedStore
 pub mod AllStagedLemmas
+pub mod BetweenLemmas
 pub mod BothLemmas
 pub mod CameLemmas
 pub mod CheckLemmas

@@ -1,7 +1,8 @@
-use Rattle.std.proofs.Common.{◌∙◌, ap, false}
+use Rattle.std.proofs.Common.{◌∙◌, ap, sym, subst, false}
 use Rattle.std.specs.FinMap as map
 use Rattle.object_table.specs.Rows.{places_of}
 use Rattle.object_table.specs.Holders.{holders_of, is_held_in}
+use Rattle.fork_ledger.specs.Kept.{Covers}
 use Rattle.fork_ledger.proofs.CoverLemmas.{covers_failed, covers_left, exact_left, false_is_true, removed_none}
 use Rattle.fork_ledger.proofs.KeepingLemmas.{away_one, keeps_but}
 use Rattle.fork_ledger.proofs.LedLemmas.{led_but}
@@ -40,11 +41,13 @@ returns-in-Ok-clause-covers g c = λ h cover.
 
 pub returns-in-Err-Device-clause-covers : goal.returns-in-Err-Device-clause-covers
 returns-in-Err-Device-clause-covers g c = λ h cover.
-    covers_failed c.args.files.now.contents c.remove.new.self.contents (places_of c.args.holdings.now.catalogue) c.args.name cover c.requires.next (c.remove.ensures.others h)
+    subst (λ catalogue. Covers c.remove.new.self.contents (places_of catalogue)) (sym c.forget-in-Err-Device.ensures.catalogue)
+    (covers_failed c.args.files.now.contents c.remove.new.self.contents (places_of c.args.holdings.now.catalogue) c.args.name cover c.requires.next (c.remove.ensures.others h))
 
 pub returns-in-Err-Memory-clause-covers : goal.returns-in-Err-Memory-clause-covers
 returns-in-Err-Memory-clause-covers g c = λ h cover.
-    covers_failed c.args.files.now.contents c.remove.new.self.contents (places_of c.args.holdings.now.catalogue) c.args.name cover c.requires.next (c.remove.ensures.others h)
+    subst (λ catalogue. Covers c.remove.new.self.contents (places_of catalogue)) (sym c.forget-in-Err-Memory.ensures.catalogue)
+    (covers_failed c.args.files.now.contents c.remove.new.self.contents (places_of c.args.holdings.now.catalogue) c.args.name cover c.requires.next (c.remove.ensures.others h))
 
 pub returns-in-Ok-clause-exact : goal.returns-in-Ok-clause-exact
 returns-in-Ok-clause-exact g c = λ h exact.
@@ -68,8 +71,8 @@ returns-in-Ok-clause-led g c = λ h led.
 
 pub returns-in-Err-Device-clause-led : goal.returns-in-Err-Device-clause-led
 returns-in-Err-Device-clause-led g c = λ h led.
-    led_but c.args.name c.args.holdings.now.links c.forget-2.new.self.links c.args.files.now.contents c.remove.new.self.contents (c.remove.ensures.others h) c.forget-2.ensures.links c.forget-2.ensures.away led
+    led_but c.args.name c.args.holdings.now.links c.forget-in-Err-Device.new.self.links c.args.files.now.contents c.remove.new.self.contents (c.remove.ensures.others h) c.forget-in-Err-Device.ensures.links c.forget-in-Err-Device.ensures.away led
 
 pub returns-in-Err-Memory-clause-led : goal.returns-in-Err-Memory-clause-led
 returns-in-Err-Memory-clause-led g c = λ h led.
-    led_but c.args.name c.args.holdings.now.links c.forget-3.new.self.links c.args.files.now.contents c.remove.new.self.contents (c.remove.ensures.others h) c.forget-3.ensures.links c.forget-3.ensures.away led
+    led_but c.args.name c.args.holdings.now.links c.forget-in-Err-Memory.new.self.links c.args.files.now.contents c.remove.new.self.contents (c.remove.ensures.others h) c.forget-in-Err-Memory.ensures.links c.forget-in-Err-Memory.ensures.away led

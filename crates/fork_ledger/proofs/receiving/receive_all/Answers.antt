@@ -17,6 +17,7 @@ loop-sealed-init g c = (
   record {
     order = search rules;
     ledgers = refl;
+    links = refl;
     listed = All-nil (λ (entry : Entry). is_listed (places_of c.args.holdings.now.catalogue).names entry.name ≡ true);
     grows = grows_none (map object_name c.args.objects.items) (places_of c.args.holdings.now.catalogue);
     receives = λ h. receives_none c.args.files.now.contents (places_of c.args.holdings.now.catalogue);
@@ -66,6 +67,7 @@ loop-sealed-preserved g c =
       record {
         order = before.order ∙ ap (λ xs. front ++ xs) left ∙ sym (regroup front object c.next.new.self.rest.items);
         ledgers = told.ledgers ∙ before.ledgers;
+        links = told.links ∙ before.links;
         listed = subst (AreListed last) (sym (told_more front object)) (listed_more (map entry_of front) (entry_of object) old last told.listed before.listed);
         grows = grows_on c.args.objects.items front object c.next.new.self.rest.items start old last (before.order ∙ ap (λ xs. front ++ xs) left) before.grows told.grows;
         receives = λ h.

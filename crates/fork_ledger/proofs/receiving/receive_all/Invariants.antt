@@ -14,6 +14,7 @@ invariant-loop-sealed g l =
     × record {
       order : l.fn.objects.items ≡ front ++ l.sealed-iterator.rest.items;
       ledgers : l.holdings.ledgers ≡ l.fn.holdings.ledgers;
+      links : l.holdings.links ≡ l.fn.holdings.links;
       listed : AreListed (places_of l.holdings.catalogue) (map entry_of front);
       grows : GrowsAmong (map object_name l.fn.objects.items) (places_of l.fn.holdings.catalogue) (places_of l.holdings.catalogue);
       receives : IsTrue l.fn.files.honest → Receives front l.fn.files.contents l.files.contents (places_of l.fn.holdings.catalogue) (places_of l.holdings.catalogue);

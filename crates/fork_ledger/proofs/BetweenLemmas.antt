@@ -1,0 +1,184 @@
+-- What a walk along known links reaches is what links of the objects reach, where the store is honest.
+use Rattle.std.proofs.Common.{◌≡◌, ◌⊎◌, inl, inr, ◌&&◌, not, Bool, true, false, cond, List, [], ◌∷◌, ℕ, Option, None, Some, Result, Ok, Err, is_some, map, refl, sym, ap, subst, ◌∙◌, arith}
+use Rattle.std.specs.Prelude.{Contains, IfOk, IfSome}
+use Rattle.std.specs.Option.{option_and_then, option_map_or, unwrap_or}
+use Rattle.std.specs.FinMap.{contains_key, get}
+use Rattle.git_name.specs.declared.kind.Kind.{Kind}
+use Rattle.git_name.specs.declared.kind.Kind.TheVariants.{Blob, Tree, Commit, Tag}
+use Rattle.git_name.specs.Object.{Object}
+use Rattle.git_name.proofs.Names.{name_exact, name_total}
+use Rattle.git_object.specs.ObjectIn.{links_in, object_in}
+use Rattle.fork_reach.specs.Reach.{IsReached, Root, Next, is_between, is_reached, linked_names, links_of_found}
+use Rattle.fork_reach.specs.Source.{Objects}
+use Rattle.fork_reach.proofs.ReachLemmas.{led_to_reached, reached_led_to}
+use Rattle.loose_store.specs.Files.{Files}
+use Rattle.loose_store.specs.Stored.{Whole}
+use Rattle.object_table.specs.declared.word.Word.{Word}
+use Rattle.object_table.specs.Ledgers.{AllWords, ledger_at, word_at}
+use Rattle.object_table.specs.Links.{NamedLinks, leads_nowhere, next_named}
+use Rattle.object_table.specs.Walked.{IsBetween, IsLedTo, IsMet}
+use Rattle.object_table.specs.Words.{Words, is_visible, kept_as, words_that}
+use Rattle.object_table.proofs.ChosenLemmas.{get_chosen}
+use Rattle.fork_ledger.specs.Led.{AreLed}
+use Rattle.fork_ledger.specs.Shown.{object_at, tenants_of}
+use Rattle.fork_ledger.specs.Store.{IsStored}
+use Rattle.fork_ledger.specs.Tenants.{private_of}
+use Rattle.fork_ledger.proofs.StoreLemmas.{one_whole}
+use Rattle.fork_ledger.proofs.ToldLemmas.{seen_there, seen_whole}
+use Rattle.fork_ledger.proofs.ShownLemmas.{kind_at, seen_at, shown_at}
+
+-- what a tenant sees, in words and in objects
+abbrev pub Seen : AllWords → List ℕ → Words
+Seen m t = words_that is_visible (ledger_at m t)
+
+abbrev pub Shown : Files → AllWords → List ℕ → Objects
+Shown files m t = (private_of (tenants_of files m) t).visible
+
+get_seen : (m : AllWords) (t q : List ℕ) → get (Seen m t) q ≡ option_and_then (λ word. kept_as (is_visible word) word) (word_at m t q)
+get_seen m t q = get_chosen name_total name_exact (λ _ word. kept_as (is_visible word) word) (ledger_at m t) q
+
+kept_there : (o : Option Word) → is_some (option_and_then (λ word. kept_as (is_visible word) word) o) ≡ option_map_or is_visible o false
+kept_there None = refl
+kept_there (Some word) = by (is_visible word)
+  where
+    by : (b : Bool) → is_some (kept_as b word) ≡ b
+    by true = refl
+    by false = refl
+
+pub seen_word : (m : AllWords) (t q : List ℕ) → contains_key (Seen m t) q ≡ option_map_or is_visible (word_at m t q) false
+seen_word m t q = ap is_some (get_seen m t q) ∙ kept_there (word_at m t q)
+
+-- both have the same names
+pub same_keys : (files : Files) (m : AllWords) (t q : List ℕ) → contains_key (Seen m t) q ≡ contains_key (Shown files m t) q
+same_keys files m t q = seen_word m t q ∙ sym (seen_there files m t q)
+
+-- a word that is seen, with its object
+seen_both : (files : Files) (m : AllWords) (t q : List ℕ) → contains_key (Seen m t) q ≡ true → (word : Word) × (get (Seen m t) q ≡ Some word) × (get (Shown files m t) q ≡ Some (object_at files q word))
+seen_both files m t q there = by (word_at m t q) refl (sym (seen_word m t q) ∙ there)
+  where
+    by : (o : Option Word) → word_at m t q ≡ o → option_map_or is_visible o false ≡ true → (word : Word) × (get (Seen m t) q ≡ Some word) × (get (Shown files m t) q ≡ Some (object_at files q word))
+    by None none shows = (let differs : ⊥ = cc in absurd differs)
+    by (Some word) is shows = (
+      word,
+      get_seen m t q ∙ ap (option_and_then (λ word. kept_as (is_visible word) word)) is ∙ ap (λ b. kept_as b word) shows,
+      seen_at files m t q ∙ ap (shown_at is_visible files q) is ∙ ap (λ b. cond b (Some (object_at files q word)) None) shows,
+    )
+
+leaf_is : (kind : Kind) → leads_nowhere kind ≡ true → kind ≡ Blob
+leaf_is Blob is = refl
+leaf_is Tree is = absurd (let differs : ⊥ = cc in differs)
+leaf_is Commit is = absurd (let differs : ⊥ = cc in differs)
+leaf_is Tag is = absurd (let differs : ⊥ = cc in differs)
+
+no_links : (bytes : List ℕ) → links_in Blob bytes ≡ []
+unfolding links_in object_in
+no_links bytes = refl
+
+leaf_links : (object : Object) → leads_nowhere object.kind ≡ true → map (λ link. link.name) (links_in object.kind object.bytes) ≡ []
+leaf_links object is = ap (λ kind. map (λ link. link.name) (links_in kind object.bytes)) (leaf_is object.kind is) ∙ ap (map (λ link. link.name)) (no_links object.bytes)
+
+module _ (files : Files) (m : AllWords) (t : List ℕ) (links : NamedLinks) where
+  abbrev pub words : Words
+  words = Seen m t
+
+  abbrev pub objects : Objects
+  objects = Shown files m t
+
+  abbrev pub Rests : List ℕ → Type 0
+  Rests q = (option_map_or (λ (word : Word). leads_nowhere word.kind) (get words q) false ≡ true) ⊎ (contains_key links q ≡ true)
+
+  -- ---- over any store
+  no_roots : (q : List ℕ) → IsReached (next_named words links) words [] q → ⊥
+  no_roots _ (Root q root there) = (let l = root.1 in absurd (omega (arith, l)))
+  no_roots _ (Next from q before leads there) = no_roots from before
+
+  word_there : (roots : List (List ℕ)) (q : List ℕ) → IsReached (next_named words links) words roots q → contains_key words q ≡ true
+  word_there roots _ (Root q root there) = there
+  word_there roots _ (Next from q before leads there) = there
+
+  pub between_there : (wanted excluded : List (List ℕ)) (q : List ℕ) → IsBetween words links wanted excluded q → contains_key objects q ≡ true
+  between_there wanted excluded q is = sym (same_keys files m t q) ∙ word_there wanted q is.led
+
+  pub between_root : (wanted excluded : List (List ℕ)) (q : List ℕ) → excluded ≡ [] → Contains wanted q → contains_key objects q ≡ true → IsBetween words links wanted excluded q
+  between_root wanted excluded q none among there = record {
+    led = Root q among (same_keys files m t q ∙ there);
+    left = λ out. no_roots q (subst (λ roots. IsReached (next_named words links) words roots q) none out);
+  }
+
+  -- ---- over an honest one
+  module _ (stored : IsStored (tenants_of files m) files) (led : AreLed links files) where
+    same_next : (q : List ℕ) → contains_key words q ≡ true → Rests q → next_named words links q ≡ linked_names objects q
+    same_next q there rests = by (leads_nowhere both.0.kind) refl
+      where
+        both : (word : Word) × (get words q ≡ Some word) × (get objects q ≡ Some (object_at files q word))
+        both = seen_both files m t q there
+
+        leaf : option_map_or (λ (word : Word). leads_nowhere word.kind) (get words q) false ≡ leads_nowhere both.0.kind
+        leaf = ap (λ o. option_map_or (λ (word : Word). leads_nowhere word.kind) o false) both.1
+
+        linked : linked_names objects q ≡ map (λ link. link.name) (links_in (object_at files q both.0).kind (object_at files q both.0).bytes)
+        linked = ap (λ o. map (λ link. link.name) (links_of_found o)) both.2
+
+        knows : (o : Option (List (List ℕ))) → get links q ≡ o → leads_nowhere both.0.kind ≡ false → (leads_nowhere both.0.kind ≡ true) ⊎ (is_some o ≡ true) → unwrap_or o [] ≡ map (λ link. link.name) (links_in (object_at files q both.0).kind (object_at files q both.0).bytes)
+        knows o is goes_on (inl rest) = (let differs : true ≡ false = sym rest ∙ goes_on in absurd (let wrong : ⊥ = cc in wrong))
+        knows None is goes_on (inr some) = absurd (let wrong : ⊥ = cc in wrong)
+        knows (Some to) is goes_on (inr some) =
+            (let stands = led.each q to is in
+            let whole = seen_whole files m t q stored (sym (seen_word m t q) ∙ there) in
+            let same : Some whole.0 ≡ Some (object_at files q both.0) = sym whole.1 ∙ both.2 in
+            let one : whole.0 ≡ object_at files q both.0 = cc in
+            sym stands.2 ∙ ap (λ (o : Object). map (λ link. link.name) (links_in o.kind o.bytes)) (one_whole files q stands.0 whole.0 stands.1 whole.2 ∙ one))
+
+        which : Rests q → (leads_nowhere both.0.kind ≡ true) ⊎ (is_some (get links q) ≡ true)
+        which (inl rest) = inl (sym leaf ∙ rest)
+        which (inr some) = inr some
+
+        by : (b : Bool) → leads_nowhere both.0.kind ≡ b → next_named words links q ≡ linked_names objects q
+        by true is =
+            ap (λ b. cond b [] (unwrap_or (get links q) [])) (leaf ∙ is)
+            ∙ sym (linked ∙ leaf_links (object_at files q both.0) (ap leads_nowhere (kind_at files q both.0) ∙ is))
+        by false is = ap (λ b. cond b [] (unwrap_or (get links q) [])) (leaf ∙ is) ∙ knows (get links q) refl is (which rests) ∙ sym linked
+
+    forth : (roots : List (List ℕ)) → ((q : List ℕ) → IsLedTo words links roots q → Rests q) → (q : List ℕ) → IsLedTo words links roots q → IsReached (linked_names objects) objects roots q
+    forth roots known _ (Root q root there) = Root q root (sym (same_keys files m t q) ∙ there)
+    forth roots known _ (Next from q before leads there) =
+        Next from q (forth roots known from before) (subst (λ ns. Contains ns q) (same_next from (word_there roots from before) (known from before)) leads) (sym (same_keys files m t q) ∙ there)
+
+    back : (roots : List (List ℕ)) → ((q : List ℕ) → IsLedTo words links roots q → Rests q) → (q : List ℕ) → IsReached (linked_names objects) objects roots q → IsLedTo words links roots q
+    back roots known _ (Root q root there) = Root q root (same_keys files m t q ∙ there)
+    back roots known _ (Next from q before leads there) =
+        (let earlier = back roots known from before in
+        Next from q earlier (subst (λ ns. Contains ns q) (sym (same_next from (word_there roots from earlier) (known from earlier))) leads) (same_keys files m t q ∙ there))
+
+    pub between_is : (wanted excluded : List (List ℕ)) → ((q : List ℕ) → IsMet words links wanted excluded q → Rests q)
+        → (q : List ℕ) (b : Bool) → (b ≡ true → IsBetween words links wanted excluded q) → (IsBetween words links wanted excluded q → b ≡ true) → b ≡ is_between (linked_names objects) objects wanted excluded q
+    between_is wanted excluded known q b only all = by (is_reached (linked_names objects) objects wanted q) refl (is_reached (linked_names objects) objects excluded q) refl b refl
+      where
+        wanted_forth : IsLedTo words links wanted q → is_reached (linked_names objects) objects wanted q ≡ true
+        wanted_forth is = led_to_reached (linked_names objects) objects wanted q (forth wanted (λ p is. known p (inl is)) q is)
+
+        excluded_forth : IsLedTo words links excluded q → is_reached (linked_names objects) objects excluded q ≡ true
+        excluded_forth is = led_to_reached (linked_names objects) objects excluded q (forth excluded (λ p is. known p (inr is)) q is)
+
+        wanted_back : is_reached (linked_names objects) objects wanted q ≡ true → IsLedTo words links wanted q
+        wanted_back is = back wanted (λ p is. known p (inl is)) q (reached_led_to (linked_names objects) objects wanted q is)
+
+        excluded_back : is_reached (linked_names objects) objects excluded q ≡ true → IsLedTo words links excluded q
+        excluded_back is = back excluded (λ p is. known p (inr is)) q (reached_led_to (linked_names objects) objects excluded q is)
+
+        clash : {G : Type 0} (x : Bool) → x ≡ true → x ≡ false → G
+        clash x one other = (let differs : true ≡ false = sym one ∙ other in absurd (let wrong : ⊥ = cc in wrong))
+
+        by : (w : Bool) → is_reached (linked_names objects) objects wanted q ≡ w → (e : Bool) → is_reached (linked_names objects) objects excluded q ≡ e → (c : Bool) → b ≡ c → c ≡ w && not e
+        by true w true e true is = absurd ((only is).left (excluded_back e))
+        by true w true e false is = refl
+        by true w false e true is = refl
+        by true w false e false is = clash b (all (record { led = wanted_back w; left = λ out. clash (is_reached (linked_names objects) objects excluded q) (excluded_forth out) e })) is
+        by false w e out true is = clash (is_reached (linked_names objects) objects wanted q) (wanted_forth (only is).led) w
+        by false w e out false is = refl
+
+-- facts of a result, name by name
+pub told_each : {F E : Type 0} (P Q R S : F → Type 0) (r : Result (Option F) E) → ((x : F) → P x → Q x → R x → S x) → IfOk r (λ o. IfSome o P) → IfOk r (λ o. IfSome o Q) → IfOk r (λ o. IfSome o R) → IfOk r (λ o. IfSome o S)
+told_each P Q R S (Ok None) f p q r = p
+told_each P Q R S (Ok (Some x)) f p q r = f x p q r
+told_each P Q R S (Err e) f p q r = p

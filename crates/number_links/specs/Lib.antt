@@ -1,2 +1,4 @@
 pub mod Known
 pub mod Reach
+pub mod Records
+pub mod Seeing

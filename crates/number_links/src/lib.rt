@@ -1,10 +1,15 @@
-//! Numbers that lead to numbers, where that is known, and walks along them.
+//! Numbers that lead to numbers, where that is known, and walks along them. A walk reads nothing, and goes
+//! through no number that it is not allowed to.
 #![tactic(auto)]
 
 mod links;
+mod lists;
+mod noting;
+mod packing;
+mod records;
 mod resting;
 mod walking;
 
 pub use crate::links::Links;
 pub use crate::resting::Resting;
-pub use crate::walking::between;
+pub use crate::walking::{between, walk};

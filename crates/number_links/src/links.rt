@@ -1,56 +1,164 @@
-ghost use Rattle.std.specs.Prelude.{◌≡◌, ◌≢◌, ◌⊎◌, ℕ, List, None, Some, Contains, IfNone, IfSome, OnOk};
+ghost use Rattle.std.specs.Prelude.{◌≡◌, ◌≢◌, ◌⊎◌, ◌<◌, ◌≤◌, ℕ, List, Some, None, IfOk, IfSome, IfNone, OnOk, OnErr, All, Contains, get_or, length};
 ghost use Rattle.number_links.specs.Known.{known};
+ghost use Rattle.number_links.specs.Records.{IsWritten};
 
+use crate::lists::{get, greatest, lengthen, put};
+use crate::packing::pack;
+use crate::records::{UNKNOWN, read, words, write};
 use std::alloc::{AllocError, Global};
 use std::marker::Model;
 
+/// By number the numbers that each leads to, where that is known. What is known of a number is forgotten
+/// once the number, or one that it leads to, is renewed.
 #[derive(Drop)]
 pub struct Links {
-    none: Vec<u32>,
+    // How often numbers were renewed.
+    clock: u32,
+    // By number the clock when it was last renewed, 0 after the end.
+    renewed: Vec<u32>,
+    // By number the place of its record in the pool.
+    begins: Vec<u32>,
+    pool: Vec<u32>,
+    // How many words of the pool belong to records that were let go, about.
+    gone: usize,
 }
 
 impl Model for Links {
-    ghost use Rattle.std.specs.Prelude.{None, map, ◌≡◌, []};
+    ghost use Rattle.std.specs.Prelude.{map};
     ghost use Rattle.number_links.specs.Known.{Known};
+    ghost use Rattle.number_links.specs.Records.{AreRecords, told};
 
     ghost Value = { Known };
 
-    ghost view = { λ a. map (λ _. None) a.none.items };
+    ghost view = { λ a. map (told a.renewed.items a.pool.items) a.begins.items };
 
-    ghost invariant = { λ a. a.none.items ≡ [] };
+    ghost invariant = { λ a. AreRecords a.clock a.renewed.items a.begins.items a.pool.items };
 }
 
 impl Links {
+    /// Nothing is known.
     pub fn new(alloc: Global) -> Links
         ensures { (n : ℕ) → known result n ≡ None }
     {
-        Links { none: Vec::new(alloc) }
+        Links {
+            clock: 0,
+            renewed: Vec::new(alloc),
+            begins: Vec::new(alloc),
+            pool: Vec::new(alloc),
+            gone: 0,
+        }
     }
 
+    /// The numbers that a number leads to, if they are known.
     pub fn of(&self, n: u32) -> Option<&[u32]>
         ensures some { IfSome result (λ to. known self.now n ≡ Some to.now) }
         ensures none { IfNone result (known self.now n ≡ None) }
     {
-        let _n = n;
-        let _len = self.none.len();
-        None
+        let begin = get(&self.begins, n, UNKNOWN);
+        read(&self.renewed, &self.pool, begin)
     }
 
+    /// Takes note of the numbers that a number leads to, in place of what was known of it. An `Err` tells
+    /// want of memory, or that the pool has 2^32 - 2 words.
     pub fn learn(&mut self, n: u32, to: &[u32]) -> Result<(), AllocError>
         ensures only { (q : ℕ) (ms : List ℕ) → known self.new q ≡ Some ms → (known self.old q ≡ Some ms) ⊎ ((q ≡ n) × (ms ≡ to.now)) }
         ensures ok { OnOk result (known self.new n ≡ Some to.now) }
         ensures stays { (q : ℕ) → q ≢ n → known self.new q ≡ known self.old q }
+        ensures err { OnErr result ((q : ℕ) → known self.new q ≡ known self.old q) }
     {
-        let _to = to;
-        let _n = n;
-        self.none.clear();
-        Err(AllocError)
+        self.pack_if_sparse();
+        self.note(n, to)
     }
 
+    /// The number comes to be another name's, or nobody's. It takes no memory.
     pub fn renew(&mut self, n: u32)
-        ensures { (q : ℕ) (ms : List ℕ) → known self.new q ≡ Some ms → (known self.old q ≡ Some ms) × (q ≢ n) × (Contains ms n → ⊥) }
+        ensures gone { (q : ℕ) (ms : List ℕ) → known self.new q ≡ Some ms → (known self.old q ≡ Some ms) × (q ≢ n) × (Contains ms n → ⊥) }
     {
-        let _n = n;
-        self.none.clear();
+        if self.clock == u32::MAX {
+            self.clock = 0;
+            self.renewed.clear();
+            self.begins.clear();
+            self.pool.clear();
+            self.gone = 0;
+            return;
+        }
+        self.clock += 1;
+        let last = get(&self.begins, n, UNKNOWN);
+        self.gone = self.gone.saturating_add(words(&self.pool, last));
+        put(&mut self.renewed, n, self.clock);
+        put(&mut self.begins, n, UNKNOWN);
     }
+
+    // Notes what a number leads to, with the pool as it is.
+    fn note(&mut self, n: u32, to: &[u32]) -> Result<(), AllocError>
+        ensures ok { OnOk result (known self.new n ≡ Some to.now) }
+        ensures stays { (q : ℕ) → q ≢ n → known self.new q ≡ known self.old q }
+        ensures err { OnErr result ((q : ℕ) → known self.new q ≡ known self.old q) }
+    {
+        let begin = enter(
+            self.clock,
+            &mut self.renewed,
+            &mut self.begins,
+            &mut self.pool,
+            n,
+            to,
+        )?;
+        let last = get(&self.begins, n, UNKNOWN);
+        self.gone = self.gone.saturating_add(words(&self.pool, last));
+        put(&mut self.begins, n, begin);
+        Ok(())
+    }
+
+    // Where more than half of the pool is gone, makes it anew of the records that are known. Where memory
+    // is short, it stays.
+    fn pack_if_sparse(&mut self)
+        ensures { (q : ℕ) → known self.new q ≡ known self.old q }
+    {
+        if self.gone <= 1024 {
+            return;
+        }
+        if self.gone <= self.pool.len() / 2 {
+            return;
+        }
+        self.gone = 0;
+        let alloc = *self.pool.allocator();
+        let mut begins = Vec::new(alloc);
+        let mut pool = Vec::new(alloc);
+        let Ok(()) = pack(
+            self.clock,
+            &self.renewed,
+            &self.begins,
+            &self.pool,
+            &mut begins,
+            &mut pool,
+        ) else {
+            return;
+        };
+        self.begins = begins;
+        self.pool = pool;
+    }
+}
+
+// Writes a number's record at the end of the pool, and sees to it that there is a place for the number and
+// for when those that it leads to are renewed.
+fn enter(
+    clock: u32,
+    renewed: &mut Vec<u32>,
+    begins: &mut Vec<u32>,
+    pool: &mut Vec<u32>,
+    n: u32,
+    to: &[u32],
+) -> Result<u32, AllocError>
+    requires { length pool.old.items ≤ 4294967294 }
+    ensures renewed { (m : ℕ) → get_or renewed.new.items m 0 ≡ get_or renewed.old.items m 0 }
+    ensures longer { length renewed.old.items ≤ length renewed.new.items }
+    ensures begins { (q : ℕ) → get_or begins.new.items q 4294967295 ≡ get_or begins.old.items q 4294967295 }
+    ensures place { OnOk result (n < length begins.new.items) }
+    ensures below { OnOk result (All (λ m. m < length renewed.new.items) to.now) }
+    ensures written { IfOk result (λ begin. IsWritten clock to.now pool.old.items pool.new.items begin) }
+    ensures err { OnErr result (pool.new.items ≡ pool.old.items) }
+{
+    lengthen(renewed, greatest(to), 0)?;
+    lengthen(begins, n, UNKNOWN)?;
+    write(pool, clock, to)
 }

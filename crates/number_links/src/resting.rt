@@ -1,11 +1,11 @@
 ghost use Rattle.std.specs.Prelude.{◌≡◌, ℕ, Bool};
 
-/// Which numbers lead to nothing, so that nothing has to be known of them.
+/// Numbers that lead to nothing, so that nothing needs to be known of them.
 pub trait Resting {
-    /// Whether a number leads to nothing.
+    /// Whether a number is one of them.
     ghost rests: { Self → ℕ → Bool };
 
-    /// Whether a number leads to nothing.
+    /// The same.
     fn rests(&self, n: u32) -> bool
         ensures { result ≡ rests self.now n };
 }

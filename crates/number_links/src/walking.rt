@@ -1,13 +1,46 @@
-ghost use Rattle.std.specs.Prelude.{◌≡◌, ◌⊎◌, true, ℕ, IfOk, IfSome, is_some};
+ghost use Rattle.std.specs.Prelude.{◌≡◌, ◌⊎◌, ◌↔◌, ℕ, true, IfOk, IfSome, IfNone};
 ghost use Rattle.number_sets.specs.Numbers.{has};
 ghost use Rattle.number_links.specs.Known.{RestsOrIsKnown, next_of};
-ghost use Rattle.number_links.specs.Reach.{IsReached};
+ghost use Rattle.number_links.specs.Reach.{IsReached, ReachesUnknown, past};
 
 use crate::links::Links;
+use crate::noting::note_all;
 use crate::resting::Resting;
 use number_sets::NumberSet;
 use std::alloc::{AllocError, Global};
 
+/// The numbers that are reached from the roots, through none that is hidden or not allowed, or `None`
+/// where one of them neither rests nor has known links. Each is followed once.
+pub fn walk<R: Resting>(
+    alloc: Global,
+    links: &Links,
+    allowed: &NumberSet,
+    resting: &R,
+    roots: &[u32],
+    hidden: &NumberSet,
+) -> Result<Option<NumberSet>, AllocError>
+    ensures only { IfOk result (λ r. IfSome r (λ found. (n : ℕ) → has found n ≡ true → IsReached (next_of links.now (R.rests resting.now)) (past (has allowed.now) (has hidden.now)) roots.now n)) }
+    ensures all { IfOk result (λ r. IfSome r (λ found. (n : ℕ) → IsReached (next_of links.now (R.rests resting.now)) (past (has allowed.now) (has hidden.now)) roots.now n → has found n ≡ true)) }
+    ensures known { IfOk result (λ r. IfSome r (λ found. (n : ℕ) → has found n ≡ true → RestsOrIsKnown links.now (R.rests resting.now) n)) }
+    ensures unknown { IfOk result (λ r. IfNone r (ReachesUnknown links.now (R.rests resting.now) (past (has allowed.now) (has hidden.now)) roots.now)) }
+{
+    let mut seen = NumberSet::new(alloc);
+    let mut waiting = Vec::new(alloc);
+    note_all(allowed, hidden, roots, &mut seen, &mut waiting)?;
+    'waiting: while let Some(n) = waiting.pop() {
+        if resting.rests(n) {
+            continue;
+        }
+        let Some(to) = links.of(n) else {
+            return Ok(None);
+        };
+        note_all(allowed, hidden, to, &mut seen, &mut waiting)?;
+    }
+    Ok(Some(seen))
+}
+
+/// The numbers that are reached from the wanted ones and from none of the excluded ones, or `None` where
+/// one that is reached from either neither rests nor has known links.
 pub fn between<R: Resting>(
     alloc: Global,
     links: &Links,
@@ -16,15 +49,13 @@ pub fn between<R: Resting>(
     wanted: &[u32],
     excluded: &[u32],
 ) -> Result<Option<NumberSet>, AllocError>
-    ensures only { IfOk result (λ r. IfSome r (λ found. (n : ℕ) → has found n ≡ true → IsReached (next_of links.now (R.rests resting.now)) (has allowed.now) wanted.now n × (IsReached (next_of links.now (R.rests resting.now)) (has allowed.now) excluded.now n → ⊥))) }
-    ensures all { IfOk result (λ r. IfSome r (λ found. (n : ℕ) → IsReached (next_of links.now (R.rests resting.now)) (has allowed.now) wanted.now n → (IsReached (next_of links.now (R.rests resting.now)) (has allowed.now) excluded.now n → ⊥) → has found n ≡ true)) }
+    ensures found { IfOk result (λ r. IfSome r (λ found. (n : ℕ) → (has found n ≡ true) ↔ (IsReached (next_of links.now (R.rests resting.now)) (has allowed.now) wanted.now n × (IsReached (next_of links.now (R.rests resting.now)) (has allowed.now) excluded.now n → ⊥)))) }
     ensures known { IfOk result (λ r. IfSome r (λ found. (n : ℕ) → IsReached (next_of links.now (R.rests resting.now)) (has allowed.now) wanted.now n ⊎ IsReached (next_of links.now (R.rests resting.now)) (has allowed.now) excluded.now n → RestsOrIsKnown links.now (R.rests resting.now) n)) }
+    ensures unknown { IfOk result (λ r. IfNone r (ReachesUnknown links.now (R.rests resting.now) (has allowed.now) wanted.now ⊎ ReachesUnknown links.now (R.rests resting.now) (has allowed.now) excluded.now)) }
 {
-    let _alloc = alloc;
-    let _links = links;
-    let _allowed = allowed;
-    let _resting = resting;
-    let _wanted = wanted;
-    let _excluded = excluded;
-    Ok(None)
+    let none = NumberSet::new(alloc);
+    let Some(beyond) = walk(alloc, links, allowed, resting, excluded, &none)? else {
+        return Ok(None);
+    };
+    walk(alloc, links, allowed, resting, wanted, &beyond)
 }

@@ -1,0 +1,10 @@
+pub mod CountLemmas
+pub mod LearnLemmas
+pub mod OptionLemmas
+pub mod PackLemmas
+pub mod PastLemmas
+pub mod RecordLemmas
+pub mod RenewLemmas
+pub mod SeeingLemmas
+pub mod TestLemmas
+pub mod WalkLemmas

@@ -1,0 +1,74 @@
+// A pool of records, each of the time when it was learned, the count of its numbers and these.
+ghost use Rattle.std.specs.Prelude.{◌≡◌, ◌≢◌, ◌≤◌, ◌+◌, Some, None, IfOk, IfSome, IfNone, OnErr, get_or, length};
+ghost use Rattle.number_links.specs.Records.{IsWritten, are_still, told};
+
+use crate::lists::get;
+use std::alloc::AllocError;
+
+// The place of no record.
+pub(crate) const UNKNOWN: u32 = 4294967295;
+
+// The place of each record that has no numbers.
+pub(crate) const EMPTY: u32 = 4294967294;
+
+// Writes a record at the end, and gives its place.
+pub(crate) fn write(pool: &mut Vec<u32>, clock: u32, to: &[u32]) -> Result<u32, AllocError>
+    requires { length pool.old.items ≤ 4294967294 }
+    ensures ok { IfOk result (λ begin. IsWritten clock to.now pool.old.items pool.new.items begin) }
+    ensures err { OnErr result (pool.new.items ≡ pool.old.items) }
+{
+    if to.is_empty() {
+        return Ok(EMPTY);
+    }
+    let begin = pool.len();
+    if to.len() > EMPTY as usize - begin || to.len() + 2 > EMPTY as usize - begin {
+        return Err(AllocError);
+    }
+    pool.reserve(to.len() + 2)?;
+    pool.push_reserved(clock);
+    pool.push_reserved(to.len() as u32);
+    pool.extend_from_slice(to)?;
+    Ok(begin as u32)
+}
+
+// What the record at a place tells.
+pub(crate) fn read<'a>(renewed: &[u32], pool: &'a [u32], begin: u32) -> Option<&'a [u32]>
+    requires { begin ≢ 4294967295 → begin ≢ 4294967294 → begin + 2 + get_or pool.now (begin + 1) 0 ≤ length pool.now }
+    ensures some { IfSome result (λ to. told renewed.now pool.now begin ≡ Some to.now) }
+    ensures none { IfNone result (told renewed.now pool.now begin ≡ None) }
+{
+    if begin == UNKNOWN {
+        return None;
+    }
+    if begin == EMPTY {
+        return Some(&[]);
+    }
+    let start = begin as usize;
+    let count = pool[start + 1] as usize;
+    let to = &pool[start + 2..start + 2 + count];
+    if !is_still(renewed, pool[start], to) {
+        return None;
+    }
+    Some(to)
+}
+
+// Whether none of these was renewed after a time.
+fn is_still(renewed: &[u32], learned: u32, numbers: &[u32]) -> bool
+    ensures { result ≡ are_still renewed.now learned numbers.now }
+{
+    for n in numbers {
+        if get(renewed, *n, 0) > learned {
+            return false;
+        }
+    }
+    true
+}
+
+// How many words the record at a place takes.
+pub(crate) fn words(pool: &[u32], begin: u32) -> usize {
+    let at = begin as usize + 1;
+    if at >= pool.len() {
+        return 0;
+    }
+    pool[at] as usize + 2
+}

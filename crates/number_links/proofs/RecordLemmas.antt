@@ -1,13 +1,11 @@
 -- What records tell as a pool grows, and as numbers are renewed.
-use Rattle.std.proofs.Common.{◌≡◌, ◌≢◌, ◌⊎◌, ℕ, suc, ◌+◌, ◌-◌, ◌<◌, ◌≤◌, Bool, true, false, cond, nat_eq, nat_le, List, [], ◌∷◌, ◌++◌, Option, Some, None, All, length, take, drop, set, map, get_or, length-append, length-drop, refl, sym, ap, subst, ◌∙◌, arith, inl, inr}
-use Rattle.std.specs.List.{Contains, list_all}
+use Rattle.std.proofs.Common.{◌≡◌, ◌≢◌, ℕ, ◌+◌, ◌-◌, ◌<◌, ◌≤◌, Bool, true, false, cond, nat_eq, nat_le, List, [], ◌∷◌, ◌++◌, Some, None, All, length, take, drop, map, get_or, length-append, length-drop, refl, sym, ap, subst, ◌∙◌, arith, inl, inr}
 use Rattle.std.proofs.lemmas.Bool.{cases_lt, cond-true, cond-false, eqb-false, le-leb, ne_eqb}
-use Rattle.std.proofs.lemmas.List.{append-nil, drop-append-le, drop-drop, drop_at, get_or-append_right, get_or-append-add, get_or-map, get_or-set_other, get_or-set_same, get_or_append_left, get_or_at, get_or_past, length-map, take-append-le, take_all}
-use Rattle.std.proofs.lemmas.List.Elements.{All-contains, All-weaker}
+use Rattle.std.proofs.lemmas.List.{append-nil, drop-append-le, drop-drop, drop_at, get_or-append-add, get_or-map, get_or_append_left, get_or_at, get_or_past, length-map, take-append-le, take_all}
+use Rattle.std.proofs.lemmas.List.Elements.{All-weaker}
 use Rattle.number_links.specs.Known.{known}
 use Rattle.number_links.specs.Records.{IsRecord, IsWritten, are_still, numbers_at, told, told_at}
-use Rattle.number_links.proofs.SeeingLemmas.{none_there}
-use Rattle.number_links.proofs.TestLemmas.{all_alike, all_from_each, each_from_all, second_way}
+use Rattle.number_links.proofs.TestLemmas.{all_alike, all_from_each, second_way}
 
 -- no record tells nothing
 pub told_none : (renewed pool : List ℕ) → told renewed pool 4294967295 ≡ None

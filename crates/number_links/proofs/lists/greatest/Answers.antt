@@ -1,4 +1,4 @@
-use Rattle.std.proofs.Common.{◌≡◌, ◌≤◌, ℕ, All, get_or, take, refl, arith, subst}
+use Rattle.std.proofs.Common.{◌≤◌, All, take, arith, subst}
 use Rattle.std.proofs.lemmas.List.{take_all}
 use Rattle.std.proofs.lemmas.List.Elements.{All-more, All-weaker}
 use Rattle.number_links.proofs.lists.greatest.Goals as goal

@@ -1,4 +1,4 @@
-use Rattle.std.proofs.Common.{◌≡◌, ◌||◌, ◌∙◌, ap, sym, nat_eq, not, arith}
+use Rattle.std.proofs.Common.{◌||◌, ◌∙◌, ap, sym, nat_eq, not, arith}
 use Rattle.std.proofs.lemmas.Bool.{and_from, and_left, and_right, not_from_false, not_from_true}
 use Rattle.number_sets.specs.Numbers.{has}
 use Rattle.number_links.specs.Reach.{past}

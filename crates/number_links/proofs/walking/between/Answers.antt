@@ -1,11 +1,9 @@
 use Rattle.std.proofs.Common.{◌≡◌, ℕ, true, inl, inr}
-use Rattle.std.proofs.lemmas.Option.{IfSome_then}
 use Rattle.std.proofs.lemmas.Result.{IfOk-weaker}
 use Rattle.number_sets.specs.Numbers.{has}
 use Rattle.number_links.specs.Known.{RestsOrIsKnown, next_of}
-use Rattle.number_links.specs.Reach.{IsReached, past}
 use Rattle.number_links.proofs.OptionLemmas.{found_both, none_too, some_is}
-use Rattle.number_links.proofs.PastLemmas.{IsBeyond, between_all, between_only, in_either, is_beyond, past_reached}
+use Rattle.number_links.proofs.PastLemmas.{between_all, between_only, in_either, is_beyond, past_reached}
 use Rattle.number_links.proofs.walking.between.Goals as goal
 
 pub returns-clause-found : goal.returns-clause-found

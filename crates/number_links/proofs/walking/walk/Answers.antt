@@ -1,6 +1,6 @@
-use Rattle.std.proofs.Common.{◌≡◌, ◌∙◌, [], Some, ap, cond, inl, inr, is_some, rules, subst, sym, true, unwrap_or, vec_len}
+use Rattle.std.proofs.Common.{◌≡◌, ◌∙◌, [], ap, cond, inl, inr, is_some, rules, subst, sym, true, unwrap_or, vec_len}
 use Rattle.number_sets.specs.Numbers.{has}
-use Rattle.number_links.specs.Known.{RestsOrIsKnown, known, linked, next_of}
+use Rattle.number_links.specs.Known.{RestsOrIsKnown, linked, next_of}
 use Rattle.number_links.specs.Reach.{past}
 use Rattle.number_links.specs.Seeing.{Sees}
 use Rattle.number_links.proofs.SeeingLemmas.{sees_none}

@@ -1,4 +1,4 @@
-use Rattle.std.proofs.Common.{◌≡◌, ◌∙◌, ◌+◌, ap, sym, map, set, Some}
+use Rattle.std.proofs.Common.{◌∙◌, ◌+◌, ap, sym, map, set}
 use Rattle.number_links.specs.Known.{known}
 use Rattle.number_links.specs.Records.{told}
 use Rattle.number_links.proofs.RenewLemmas.{known_before}

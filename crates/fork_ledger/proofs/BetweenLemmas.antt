@@ -88,11 +88,11 @@ module _ (files : Files) (m : AllWords) (t : List ℕ) (links : NamedLinks) wher
   Rests q = (option_map_or (λ (word : Word). leads_nowhere word.kind) (get words q) false ≡ true) ⊎ (contains_key links q ≡ true)
 
   -- ---- over any store
-  no_roots : (q : List ℕ) → IsReached (next_named words links) words [] q → ⊥
+  no_roots : (q : List ℕ) → IsReached (next_named links) words [] q → ⊥
   no_roots _ (Root q root there) = (let l = root.1 in absurd (omega (arith, l)))
   no_roots _ (Next from q before leads there) = no_roots from before
 
-  word_there : (roots : List (List ℕ)) (q : List ℕ) → IsReached (next_named words links) words roots q → contains_key words q ≡ true
+  word_there : (roots : List (List ℕ)) (q : List ℕ) → IsReached (next_named links) words roots q → contains_key words q ≡ true
   word_there roots _ (Root q root there) = there
   word_there roots _ (Next from q before leads there) = there
 
@@ -102,42 +102,31 @@ module _ (files : Files) (m : AllWords) (t : List ℕ) (links : NamedLinks) wher
   pub between_root : (wanted excluded : List (List ℕ)) (q : List ℕ) → excluded ≡ [] → Contains wanted q → contains_key objects q ≡ true → IsBetween words links wanted excluded q
   between_root wanted excluded q none among there = record {
     led = Root q among (same_keys files m t q ∙ there);
-    left = λ out. no_roots q (subst (λ roots. IsReached (next_named words links) words roots q) none out);
+    left = λ out. no_roots q (subst (λ roots. IsReached (next_named links) words roots q) none out);
   }
 
   -- ---- over an honest one
   module _ (stored : IsStored (tenants_of files m) files) (led : AreLed links files) where
-    same_next : (q : List ℕ) → contains_key words q ≡ true → Rests q → next_named words links q ≡ linked_names objects q
-    same_next q there rests = by (leads_nowhere both.0.kind) refl
+    same_next : (q : List ℕ) → contains_key words q ≡ true → Rests q → next_named links q ≡ linked_names objects q
+    same_next q there rests = by (get links q) refl rests ∙ sym linked
       where
         both : (word : Word) × (get words q ≡ Some word) × (get objects q ≡ Some (object_at files q word))
         both = seen_both files m t q there
 
-        leaf : option_map_or (λ (word : Word). leads_nowhere word.kind) (get words q) false ≡ leads_nowhere both.0.kind
-        leaf = ap (λ o. option_map_or (λ (word : Word). leads_nowhere word.kind) o false) both.1
-
         linked : linked_names objects q ≡ map (λ link. link.name) (links_in (object_at files q both.0).kind (object_at files q both.0).bytes)
         linked = ap (λ o. map (λ link. link.name) (links_of_found o)) both.2
 
-        knows : (o : Option (List (List ℕ))) → get links q ≡ o → leads_nowhere both.0.kind ≡ false → (leads_nowhere both.0.kind ≡ true) ⊎ (is_some o ≡ true) → unwrap_or o [] ≡ map (λ link. link.name) (links_in (object_at files q both.0).kind (object_at files q both.0).bytes)
-        knows o is goes_on (inl rest) = (let differs : true ≡ false = sym rest ∙ goes_on in absurd (let wrong : ⊥ = cc in wrong))
-        knows None is goes_on (inr some) = absurd (let wrong : ⊥ = cc in wrong)
-        knows (Some to) is goes_on (inr some) =
+        by : (o : Option (List (List ℕ))) → get links q ≡ o → (option_map_or (λ (word : Word). leads_nowhere word.kind) (get words q) false ≡ true) ⊎ (is_some o ≡ true)
+            → unwrap_or o [] ≡ map (λ link. link.name) (links_in (object_at files q both.0).kind (object_at files q both.0).bytes)
+        by (Some to) is known =
             (let stands = led.each q to is in
             let whole = seen_whole files m t q stored (sym (seen_word m t q) ∙ there) in
             let same : Some whole.0 ≡ Some (object_at files q both.0) = sym whole.1 ∙ both.2 in
             let one : whole.0 ≡ object_at files q both.0 = cc in
             sym stands.2 ∙ ap (λ (o : Object). map (λ link. link.name) (links_in o.kind o.bytes)) (one_whole files q stands.0 whole.0 stands.1 whole.2 ∙ one))
-
-        which : Rests q → (leads_nowhere both.0.kind ≡ true) ⊎ (is_some (get links q) ≡ true)
-        which (inl rest) = inl (sym leaf ∙ rest)
-        which (inr some) = inr some
-
-        by : (b : Bool) → leads_nowhere both.0.kind ≡ b → next_named words links q ≡ linked_names objects q
-        by true is =
-            ap (λ b. cond b [] (unwrap_or (get links q) [])) (leaf ∙ is)
-            ∙ sym (linked ∙ leaf_links (object_at files q both.0) (ap leads_nowhere (kind_at files q both.0) ∙ is))
-        by false is = ap (λ b. cond b [] (unwrap_or (get links q) [])) (leaf ∙ is) ∙ knows (get links q) refl is (which rests) ∙ sym linked
+        by None is (inr some) = absurd (let wrong : ⊥ = cc in wrong)
+        by None is (inl rest) =
+            sym (leaf_links (object_at files q both.0) (ap leads_nowhere (kind_at files q both.0) ∙ sym (ap (λ o. option_map_or (λ (word : Word). leads_nowhere word.kind) o false) both.1) ∙ rest))
 
     forth : (roots : List (List ℕ)) → ((q : List ℕ) → IsLedTo words links roots q → Rests q) → (q : List ℕ) → IsLedTo words links roots q → IsReached (linked_names objects) objects roots q
     forth roots known _ (Root q root there) = Root q root (sym (same_keys files m t q) ∙ there)

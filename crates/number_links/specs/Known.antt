@@ -1,5 +1,5 @@
 -- What numbers lead to, where that is known (own).
-use Rattle.std.specs.Prelude.{◌≡◌, ◌⊎◌, ℕ, Bool, true, List, [], Option, None, get_or, is_some, unwrap_or, if◌then◌else◌}
+use Rattle.std.specs.Prelude.{◌≡◌, ◌⊎◌, ℕ, Bool, true, List, [], Option, None, get_or, is_some, unwrap_or}
 
 -- by number the numbers that each leads to, where that is known
 abbrev pub Known : Type 0
@@ -12,10 +12,6 @@ known links n = get_or links n None
 -- the same; what is not known leads to nothing
 abbrev pub linked : Known → ℕ → List ℕ
 linked links n = unwrap_or (known links n) []
-
--- the same, where a number that rests leads to nothing
-abbrev pub next_of : Known → (ℕ → Bool) → ℕ → List ℕ
-next_of links rests n = if rests n then [] else linked links n
 
 -- a number rests, or what it leads to is known
 abbrev pub RestsOrIsKnown : Known → (ℕ → Bool) → ℕ → Type 0

@@ -1,6 +1,6 @@
 ghost use Rattle.std.specs.Prelude.{◌≡◌, ◌⊎◌, ◌↔◌, ℕ, true, IfOk, IfSome, IfNone};
 ghost use Rattle.number_sets.specs.Numbers.{has};
-ghost use Rattle.number_links.specs.Known.{RestsOrIsKnown, next_of};
+ghost use Rattle.number_links.specs.Known.{RestsOrIsKnown, linked};
 ghost use Rattle.number_links.specs.Reach.{IsReached, ReachesUnknown, past};
 
 use crate::links::Links;
@@ -19,8 +19,8 @@ pub fn walk<R: Resting>(
     roots: &[u32],
     hidden: &NumberSet,
 ) -> Result<Option<NumberSet>, AllocError>
-    ensures only { IfOk result (λ r. IfSome r (λ found. (n : ℕ) → has found n ≡ true → IsReached (next_of links.now (R.rests resting.now)) (past (has allowed.now) (has hidden.now)) roots.now n)) }
-    ensures all { IfOk result (λ r. IfSome r (λ found. (n : ℕ) → IsReached (next_of links.now (R.rests resting.now)) (past (has allowed.now) (has hidden.now)) roots.now n → has found n ≡ true)) }
+    ensures only { IfOk result (λ r. IfSome r (λ found. (n : ℕ) → has found n ≡ true → IsReached (linked links.now) (past (has allowed.now) (has hidden.now)) roots.now n)) }
+    ensures all { IfOk result (λ r. IfSome r (λ found. (n : ℕ) → IsReached (linked links.now) (past (has allowed.now) (has hidden.now)) roots.now n → has found n ≡ true)) }
     ensures known { IfOk result (λ r. IfSome r (λ found. (n : ℕ) → has found n ≡ true → RestsOrIsKnown links.now (R.rests resting.now) n)) }
     ensures unknown { IfOk result (λ r. IfNone r (ReachesUnknown links.now (R.rests resting.now) (past (has allowed.now) (has hidden.now)) roots.now)) }
 {
@@ -28,10 +28,10 @@ pub fn walk<R: Resting>(
     let mut waiting = Vec::new(alloc);
     note_all(allowed, hidden, roots, &mut seen, &mut waiting)?;
     'waiting: while let Some(n) = waiting.pop() {
-        if resting.rests(n) {
-            continue;
-        }
         let Some(to) = links.of(n) else {
+            if resting.rests(n) {
+                continue;
+            }
             return Ok(None);
         };
         note_all(allowed, hidden, to, &mut seen, &mut waiting)?;
@@ -49,8 +49,8 @@ pub fn between<R: Resting>(
     wanted: &[u32],
     excluded: &[u32],
 ) -> Result<Option<NumberSet>, AllocError>
-    ensures found { IfOk result (λ r. IfSome r (λ found. (n : ℕ) → (has found n ≡ true) ↔ (IsReached (next_of links.now (R.rests resting.now)) (has allowed.now) wanted.now n × (IsReached (next_of links.now (R.rests resting.now)) (has allowed.now) excluded.now n → ⊥)))) }
-    ensures known { IfOk result (λ r. IfSome r (λ found. (n : ℕ) → IsReached (next_of links.now (R.rests resting.now)) (has allowed.now) wanted.now n ⊎ IsReached (next_of links.now (R.rests resting.now)) (has allowed.now) excluded.now n → RestsOrIsKnown links.now (R.rests resting.now) n)) }
+    ensures found { IfOk result (λ r. IfSome r (λ found. (n : ℕ) → (has found n ≡ true) ↔ (IsReached (linked links.now) (has allowed.now) wanted.now n × (IsReached (linked links.now) (has allowed.now) excluded.now n → ⊥)))) }
+    ensures known { IfOk result (λ r. IfSome r (λ found. (n : ℕ) → IsReached (linked links.now) (has allowed.now) wanted.now n ⊎ IsReached (linked links.now) (has allowed.now) excluded.now n → RestsOrIsKnown links.now (R.rests resting.now) n)) }
     ensures unknown { IfOk result (λ r. IfNone r (ReachesUnknown links.now (R.rests resting.now) (has allowed.now) wanted.now ⊎ ReachesUnknown links.now (R.rests resting.now) (has allowed.now) excluded.now)) }
 {
     let none = NumberSet::new(alloc);

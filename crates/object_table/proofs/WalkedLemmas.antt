@@ -5,7 +5,7 @@ use Rattle.std.specs.FinMap.{contains_key, get}
 use Rattle.git_name.specs.Same.{same_name}
 use Rattle.git_name.proofs.Names.{name_exact, name_total}
 use Rattle.fork_reach.specs.Reach.{IsReached, Root, Next}
-use Rattle.number_links.specs.Known.{Known, known, linked, next_of}
+use Rattle.number_links.specs.Known.{Known, known, linked}
 use Rattle.number_links.specs.Reach.{IsReached as Goes, Root as Begins, Next as GoesOn}
 use Rattle.number_sets.specs.Numbers.{Pages, has}
 use Rattle.object_table.specs.declared.row.Row.{Row}
@@ -76,10 +76,10 @@ seen_by_row rows own q are = ap is_some (get_seen rows own q are) ∙ by (row_in
 
 module _ (rows : Rows) (own : Sets) (links : Known) (are : AreRows rows) (is_own : IsOwn rows own) (are_links : AreLinks rows links) where
   abbrev pub next : List ℕ → List (List ℕ)
-  next = next_named (Seen rows own) (named_links rows links)
+  next = next_named (named_links rows links)
 
   abbrev pub nextn : ℕ → List ℕ
-  nextn = next_of links (rests_in rows)
+  nextn = linked links
 
   -- a row of a name that is seen
   seen_row : (q : List ℕ) → contains_key (Seen rows own) q ≡ true → (row : Row) × (row_in rows q ≡ Some row) × (has own.visible row.number ≡ true)
@@ -103,30 +103,20 @@ module _ (rows : Rows) (own : Sets) (links : Known) (are : AreRows rows) (is_own
   led_row : (q : List ℕ) (row : Row) → row_in rows q ≡ Some row → get (named_links rows links) q ≡ option_map (map (numbered_name rows)) (known links row.number)
   led_row q row is = get_named rows links q are.distinct ∙ ap (option_and_then (led_from rows links)) is
 
-  next_row : (q : List ℕ) (row : Row) → row_in rows q ≡ Some row → has own.visible row.number ≡ true → next q ≡ map (numbered_name rows) (nextn row.number)
-  next_row q row is seen =
-      ap (λ b. cond b [] (unwrap_or (get (named_links rows links) q) [])) (kind_seen q row is seen) ∙ ap (λ o. cond (leads_nowhere row.kind) [] (unwrap_or o [])) (led_row q row is) ∙ by (leads_nowhere row.kind)
-      ∙ ap (λ b. map (numbered_name rows) (cond b [] (linked links row.number))) (sym (rests_row q row is))
+  next_row : (q : List ℕ) (row : Row) → row_in rows q ≡ Some row → next q ≡ map (numbered_name rows) (nextn row.number)
+  next_row q row is = ap (λ o. unwrap_or o []) (led_row q row is) ∙ at (known links row.number)
     where
       at : (o : Option (List ℕ)) → unwrap_or (option_map (map (numbered_name rows)) o) [] ≡ map (numbered_name rows) (unwrap_or o [])
       at None = refl
       at (Some to) = refl
 
-      by : (b : Bool) → cond b [] (unwrap_or (option_map (map (numbered_name rows)) (known links row.number)) []) ≡ map (numbered_name rows) (cond b [] (linked links row.number))
-      by true = refl
-      by false = at (known links row.number)
-
   -- numbers that lead on are in use
   next_used : (n m : ℕ) → Contains (nextn n) m → IsUsed rows m
-  next_used n m is = by (rests_in rows n) is
+  next_used n m is = at (known links n) refl is
     where
       at : (o : Option (List ℕ)) → known links n ≡ o → Contains (unwrap_or o []) m → IsUsed rows m
       at None none among = absurd (let l = among.1 in omega (arith, l))
       at (Some to) there among = are_links.used n to m there among
-
-      by : (b : Bool) → Contains (cond b [] (linked links n)) m → IsUsed rows m
-      by true among = absurd (let l = among.1 in omega (arith, l))
-      by false among = at (known links n) refl among
 
   -- the number of a name in use is its row's
   one_number : (m : ℕ) (q : List ℕ) (row : Row) → IsUsed rows m → numbered_name rows m ≡ q → row_in rows q ≡ Some row → m ≡ row.number
@@ -160,7 +150,7 @@ module _ (rows : Rows) (own : Sets) (links : Known) (are : AreRows rows) (is_own
         let used = is_own.within from (held seen) in
         let earlier = goes_named from before used.name used.row used.here used.same in
         let led : Contains (next used.name) (numbered_name rows n) =
-            subst (λ ns. Contains ns (numbered_name rows n)) (ap (λ k. map (numbered_name rows) (nextn k)) (sym used.same) ∙ sym (next_row used.name used.row used.here (ap (has own.visible) used.same ∙ seen))) (mapped_there (numbered_name rows) (nextn from) n leads) in
+            subst (λ ns. Contains ns (numbered_name rows n)) (ap (λ k. map (numbered_name rows) (nextn k)) (sym used.same) ∙ sym (next_row used.name used.row used.here)) (mapped_there (numbered_name rows) (nextn from) n leads) in
         Next used.name q earlier (subst (Contains (next used.name)) (ap (numbered_name rows) (sym number) ∙ named_is rows q row are is) led) (row_seen q row is (ap (has own.visible) number ∙ there)))
       where
         held : has own.visible from ≡ true → holds own from ≡ true
@@ -179,7 +169,7 @@ module _ (rows : Rows) (own : Sets) (links : Known) (are : AreRows rows) (is_own
         let one : seen.0 ≡ row = cc in
         let first = seen_row from (reached_seen from before) in
         let earlier = named_goes from before first.0 first.1 in
-        let found = mapped_from (numbered_name rows) (nextn first.0.number) q (subst (λ ns. Contains ns q) (next_row from first.0 first.1 first.2) leads) in
+        let found = mapped_from (numbered_name rows) (nextn first.0.number) q (subst (λ ns. Contains ns q) (next_row from first.0 first.1) leads) in
         let number = one_number found.0 q row (next_used first.0.number found.0 found.1) found.2 is in
         GoesOn first.0.number row.number earlier (subst (Contains (nextn first.0.number)) number found.1) (ap (λ (r : Row). has own.visible r.number) (sym one) ∙ seen.2))
       where

@@ -9,7 +9,6 @@ use Rattle.git_name.specs.declared.kind.Kind.TheVariants.{Blob, Tree, Commit, Ta
 use Rattle.number_links.specs.Known.{Known, known}
 use Rattle.object_table.specs.Chosen.{chosen_in}
 use Rattle.object_table.specs.Rows.{IsUsed, Rows, row_in}
-use Rattle.object_table.specs.Words.{Words}
 use Rattle.object_table.specs.declared.row.Row.{Row}
 
 -- the name that has a number, with its row
@@ -57,9 +56,9 @@ pub record KeepsNumbers (old new : Rows) : Type 0 where
 abbrev pub KnowsNoMore : NamedLinks → NamedLinks → Type 0
 KnowsNoMore old new = (name : List ℕ) (to : List (List ℕ)) → get new name ≡ Some to → get old name ≡ Some to
 
--- what an object of these words leads to: nothing by its kind, or where nothing is known of it
-abbrev pub next_named : Words → NamedLinks → List ℕ → List (List ℕ)
-next_named words links name = if option_map_or (λ word. leads_nowhere word.kind) (get words name) false then [] else unwrap_or (get links name) []
+-- what a name leads to; one of which nothing is known leads to nothing
+abbrev pub next_named : NamedLinks → List ℕ → List (List ℕ)
+next_named links name = unwrap_or (get links name) []
 
 -- links have a code, so that they can be a part of a model's value
 abbrev pub links_code : Coded NamedLinks

@@ -6,7 +6,7 @@ use Rattle.object_table.specs.Words.{Words}
 
 -- a name is led to from one of these
 abbrev pub IsLedTo : Words → NamedLinks → List (List ℕ) → List ℕ → Type 0
-IsLedTo words links roots name = IsReached (next_named words links) words roots name
+IsLedTo words links roots name = IsReached (next_named links) words roots name
 
 -- it is led to from a wanted one, and from none that is excluded
 pub record IsBetween (words : Words) (links : NamedLinks) (wanted excluded : List (List ℕ)) (name : List ℕ) : Type 0 where

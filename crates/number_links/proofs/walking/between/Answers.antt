@@ -1,14 +1,14 @@
 use Rattle.std.proofs.Common.{◌≡◌, ℕ, true, inl, inr}
 use Rattle.std.proofs.lemmas.Result.{IfOk-weaker}
 use Rattle.number_sets.specs.Numbers.{has}
-use Rattle.number_links.specs.Known.{RestsOrIsKnown, next_of}
+use Rattle.number_links.specs.Known.{RestsOrIsKnown, linked}
 use Rattle.number_links.proofs.OptionLemmas.{found_both, none_too, some_is}
 use Rattle.number_links.proofs.PastLemmas.{between_all, between_only, in_either, is_beyond, past_reached}
 use Rattle.number_links.proofs.walking.between.Goals as goal
 
 pub returns-clause-found : goal.returns-clause-found
 returns-clause-found g c =
-    let next = next_of c.args.links.now (g.R.Resting.rests c.args.resting.now) in
+    let next = linked c.args.links.now in
     let allowed = has c.args.allowed.now in
     let beyond = has c.in-Some.beyond in
     let is = is_beyond next allowed (has c.new-none.result) c.args.excluded.now beyond c.new-none.ensures.has (some_is c.in_ok-beyond.field-0 c.in-Some.beyond _ c.in-Some.is c.in_ok-beyond.ensures.only) (some_is c.in_ok-beyond.field-0 c.in-Some.beyond _ c.in-Some.is c.in_ok-beyond.ensures.all) in
@@ -21,7 +21,7 @@ pub returns-clause-known : goal.returns-clause-known
 returns-clause-known g c =
     let rests = g.R.Resting.rests c.args.resting.now in
     let links = c.args.links.now in
-    let next = next_of links rests in
+    let next = linked links in
     let allowed = has c.args.allowed.now in
     let beyond = has c.in-Some.beyond in
     let is = is_beyond next allowed (has c.new-none.result) c.args.excluded.now beyond c.new-none.ensures.has (some_is c.in_ok-beyond.field-0 c.in-Some.beyond _ c.in-Some.is c.in_ok-beyond.ensures.only) (some_is c.in_ok-beyond.field-0 c.in-Some.beyond _ c.in-Some.is c.in_ok-beyond.ensures.all) in
@@ -32,7 +32,7 @@ returns-clause-known g c =
 
 pub returns-clause-unknown : goal.returns-clause-unknown
 returns-clause-unknown g c =
-    let next = next_of c.args.links.now (g.R.Resting.rests c.args.resting.now) in
+    let next = linked c.args.links.now in
     let allowed = has c.args.allowed.now in
     let beyond = has c.in-Some.beyond in
     IfOk-weaker c.walk-2.result _ _ (λ r unknown. none_too r _ _ (λ u. inl (u.0, (past_reached next allowed beyond c.args.wanted.now u.0 u.1).0, u.2, u.3)) unknown) c.walk-2.ensures.unknown

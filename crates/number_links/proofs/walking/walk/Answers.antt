@@ -1,6 +1,6 @@
-use Rattle.std.proofs.Common.{◌≡◌, ◌∙◌, [], ap, cond, inl, inr, is_some, rules, subst, sym, true, unwrap_or, vec_len}
+use Rattle.std.proofs.Common.{◌≡◌, ◌∙◌, [], ap, inl, inr, is_some, rules, subst, sym, true, unwrap_or, vec_len}
 use Rattle.number_sets.specs.Numbers.{has}
-use Rattle.number_links.specs.Known.{RestsOrIsKnown, linked, next_of}
+use Rattle.number_links.specs.Known.{RestsOrIsKnown, linked}
 use Rattle.number_links.specs.Reach.{past}
 use Rattle.number_links.specs.Seeing.{Sees}
 use Rattle.number_links.proofs.SeeingLemmas.{sees_none}
@@ -11,7 +11,7 @@ pub waiting-init : goal.waiting-init
 waiting-init g c =
     let rests = g.R.Resting.rests c.args.resting.now in
     let links = c.args.links.now in
-    walks_begin 4294967296 (RestsOrIsKnown links rests) (next_of links rests) (past (has c.args.allowed.now) (has c.args.hidden.now)) c.args.roots.now (has c.new-seen.result) c.new-waiting.result.items (has c.note_all.new.seen) c.note_all.new.waiting.items c.new-seen.ensures.has c.new-waiting.ensures.items c.in_ok-note_all.ensures
+    walks_begin 4294967296 (RestsOrIsKnown links rests) (linked links) (past (has c.args.allowed.now) (has c.args.hidden.now)) c.args.roots.now (has c.new-seen.result) c.new-waiting.result.items (has c.note_all.new.seen) c.note_all.new.waiting.items c.new-seen.ensures.has c.new-waiting.ensures.items c.in_ok-note_all.ensures
 
 pub waiting-preserved-then-rests : goal.waiting-preserved-then-rests
 waiting-preserved-then-rests g c =
@@ -22,8 +22,8 @@ waiting-preserved-then-rests g c =
     let rest = c.pop.new.self.items in
     let seen = has c.waiting.seen in
     let is : rests n ≡ true = sym c.rests.ensures ∙ c.if-rests.true in
-    let leads : next_of links rests n ≡ [] = ap (λ b. cond b [] (linked links n)) is in
-    walks_on 4294967296 (RestsOrIsKnown links rests) (next_of links rests) allowed c.args.roots.now seen c.waiting.waiting.items rest n seen rest c.in-Some.ensures.items (inl is) c.waiting.invariant
+    let leads : linked links n ≡ [] = ap (λ k. unwrap_or k []) c.in_default-of.ensures.none in
+    walks_on 4294967296 (RestsOrIsKnown links rests) (linked links) allowed c.args.roots.now seen c.waiting.waiting.items rest n seen rest c.in-Some.ensures.items (inl is) c.waiting.invariant
     (subst (λ ns. Sees 4294967296 allowed ns seen rest seen rest) (sym leads) (sees_none 4294967296 allowed seen rest))
 
 pub returns-in_default-of-clause-unknown : goal.returns-in_default-of-clause-unknown
@@ -31,7 +31,7 @@ returns-in_default-of-clause-unknown g c =
     let rests = g.R.Resting.rests c.args.resting.now in
     let links = c.args.links.now in (
       c.in-Some.n,
-      last_reached (RestsOrIsKnown links rests) (next_of links rests) (past (has c.args.allowed.now) (has c.args.hidden.now)) c.args.roots.now (has c.waiting.seen) c.waiting.waiting.items c.pop.new.self.items c.in-Some.n c.in-Some.ensures.items c.waiting.invariant,
+      last_reached (RestsOrIsKnown links rests) (linked links) (past (has c.args.allowed.now) (has c.args.hidden.now)) c.args.roots.now (has c.waiting.seen) c.waiting.waiting.items c.pop.new.self.items c.in-Some.n c.in-Some.ensures.items c.waiting.invariant,
       sym c.rests.ensures ∙ c.if-rests.false,
       c.in_default-of.ensures.none,
     )
@@ -44,8 +44,8 @@ waiting-preserved g c =
     let n = c.in-Some.n in
     let rest = c.pop.new.self.items in
     let told = c.in-Some-of.ensures.some in
-    let leads : next_of links rests n ≡ c.in-Some-of.to.now = ap (λ b. cond b [] (linked links n)) (sym c.rests.ensures ∙ c.if-rests.false) ∙ ap (λ k. unwrap_or k []) told in
-    walks_on 4294967296 (RestsOrIsKnown links rests) (next_of links rests) allowed c.args.roots.now (has c.waiting.seen) c.waiting.waiting.items rest n (has c.note_all-in-Some.new.seen) c.note_all-in-Some.new.waiting.items c.in-Some.ensures.items (inr (ap is_some told)) c.waiting.invariant
+    let leads : linked links n ≡ c.in-Some-of.to.now = ap (λ k. unwrap_or k []) told in
+    walks_on 4294967296 (RestsOrIsKnown links rests) (linked links) allowed c.args.roots.now (has c.waiting.seen) c.waiting.waiting.items rest n (has c.note_all-in-Some.new.seen) c.note_all-in-Some.new.waiting.items c.in-Some.ensures.items (inr (ap is_some told)) c.waiting.invariant
     (subst (λ ns. Sees 4294967296 allowed ns (has c.waiting.seen) rest (has c.note_all-in-Some.new.seen) c.note_all-in-Some.new.waiting.items) (sym leads) c.in_ok-note_all-2.ensures)
 
 pub returns-clause-all : goal.returns-clause-all
@@ -54,4 +54,4 @@ returns-clause-all g c n reached =
     let links = c.args.links.now in
     let waits = c.waiting.waiting.items in
     let told = c.in_default.ensures in
-    walks_end (RestsOrIsKnown links rests) (next_of links rests) (past (has c.args.allowed.now) (has c.args.hidden.now)) c.args.roots.now (has c.waiting.seen) waits (none_waits waits (vec_len c.waiting.waiting) (search rules) told.cases.0) c.waiting.invariant n reached
+    walks_end (RestsOrIsKnown links rests) (linked links) (past (has c.args.allowed.now) (has c.args.hidden.now)) c.args.roots.now (has c.waiting.seen) waits (none_waits waits (vec_len c.waiting.waiting) (search rules) told.cases.0) c.waiting.invariant n reached

@@ -1,6 +1,6 @@
-ghost use Rattle.std.specs.Prelude.{◌≡◌, ◌⊎◌, ◌↔◌, ℕ, true, IfOk, IfSome, IfNone};
+ghost use Rattle.std.specs.Prelude.{◌≡◌, ◌⊎◌, ◌↔◌, ℕ, None, true, false, IfOk, IfSome, IfNone};
 ghost use Rattle.number_sets.specs.Numbers.{has};
-ghost use Rattle.number_links.specs.Known.{RestsOrIsKnown, linked};
+ghost use Rattle.number_links.specs.Known.{RestsOrIsKnown, known, linked};
 ghost use Rattle.number_links.specs.Reach.{IsReached, ReachesUnknown, past};
 
 use crate::links::Links;
@@ -28,15 +28,27 @@ pub fn walk<R: Resting>(
     let mut waiting = Vec::new(alloc);
     note_all(allowed, hidden, roots, &mut seen, &mut waiting)?;
     'waiting: while let Some(n) = waiting.pop() {
-        let Some(to) = links.of(n) else {
-            if resting.rests(n) {
-                continue;
-            }
+        let Some(to) = next(links, resting, n) else {
             return Ok(None);
         };
         note_all(allowed, hidden, to, &mut seen, &mut waiting)?;
     }
     Ok(Some(seen))
+}
+
+// What a number leads to, if it rests or that is known.
+fn next<'a, R: Resting>(links: &'a Links, resting: &R, n: u32) -> Option<&'a [u32]>
+    ensures some { IfSome result (λ to. linked links.now n ≡ to.now) }
+    ensures known { IfSome result (λ to. RestsOrIsKnown links.now (R.rests resting.now) n) }
+    ensures none { IfNone result ((R.rests resting.now n ≡ false) × (known links.now n ≡ None)) }
+{
+    if let Some(to) = links.of(n) {
+        return Some(to);
+    }
+    if resting.rests(n) {
+        return Some(&[]);
+    }
+    None
 }
 
 /// The numbers that are reached from the wanted ones and from none of the excluded ones, or `None` where

@@ -1,9 +1,8 @@
-use Rattle.std.proofs.Common.{◌≡◌, ◌∙◌, [], ap, inl, inr, is_some, rules, subst, sym, true, unwrap_or, vec_len}
+use Rattle.std.proofs.Common.{rules, subst, sym, vec_len}
 use Rattle.number_sets.specs.Numbers.{has}
 use Rattle.number_links.specs.Known.{RestsOrIsKnown, linked}
 use Rattle.number_links.specs.Reach.{past}
 use Rattle.number_links.specs.Seeing.{Sees}
-use Rattle.number_links.proofs.SeeingLemmas.{sees_none}
 use Rattle.number_links.proofs.WalkLemmas.{last_reached, none_waits, walks_begin, walks_end, walks_on}
 use Rattle.number_links.proofs.walking.walk.Goals as goal
 
@@ -13,29 +12,6 @@ waiting-init g c =
     let links = c.args.links.now in
     walks_begin 4294967296 (RestsOrIsKnown links rests) (linked links) (past (has c.args.allowed.now) (has c.args.hidden.now)) c.args.roots.now (has c.new-seen.result) c.new-waiting.result.items (has c.note_all.new.seen) c.note_all.new.waiting.items c.new-seen.ensures.has c.new-waiting.ensures.items c.in_ok-note_all.ensures
 
-pub waiting-preserved-then-rests : goal.waiting-preserved-then-rests
-waiting-preserved-then-rests g c =
-    let rests = g.R.Resting.rests c.args.resting.now in
-    let links = c.args.links.now in
-    let allowed = past (has c.args.allowed.now) (has c.args.hidden.now) in
-    let n = c.in-Some.n in
-    let rest = c.pop.new.self.items in
-    let seen = has c.waiting.seen in
-    let is : rests n ≡ true = sym c.rests.ensures ∙ c.if-rests.true in
-    let leads : linked links n ≡ [] = ap (λ k. unwrap_or k []) c.in_default-of.ensures.none in
-    walks_on 4294967296 (RestsOrIsKnown links rests) (linked links) allowed c.args.roots.now seen c.waiting.waiting.items rest n seen rest c.in-Some.ensures.items (inl is) c.waiting.invariant
-    (subst (λ ns. Sees 4294967296 allowed ns seen rest seen rest) (sym leads) (sees_none 4294967296 allowed seen rest))
-
-pub returns-in_default-of-clause-unknown : goal.returns-in_default-of-clause-unknown
-returns-in_default-of-clause-unknown g c =
-    let rests = g.R.Resting.rests c.args.resting.now in
-    let links = c.args.links.now in (
-      c.in-Some.n,
-      last_reached (RestsOrIsKnown links rests) (linked links) (past (has c.args.allowed.now) (has c.args.hidden.now)) c.args.roots.now (has c.waiting.seen) c.waiting.waiting.items c.pop.new.self.items c.in-Some.n c.in-Some.ensures.items c.waiting.invariant,
-      sym c.rests.ensures ∙ c.if-rests.false,
-      c.in_default-of.ensures.none,
-    )
-
 pub waiting-preserved : goal.waiting-preserved
 waiting-preserved g c =
     let rests = g.R.Resting.rests c.args.resting.now in
@@ -43,10 +19,18 @@ waiting-preserved g c =
     let allowed = past (has c.args.allowed.now) (has c.args.hidden.now) in
     let n = c.in-Some.n in
     let rest = c.pop.new.self.items in
-    let told = c.in-Some-of.ensures.some in
-    let leads : linked links n ≡ c.in-Some-of.to.now = ap (λ k. unwrap_or k []) told in
-    walks_on 4294967296 (RestsOrIsKnown links rests) (linked links) allowed c.args.roots.now (has c.waiting.seen) c.waiting.waiting.items rest n (has c.note_all-in-Some.new.seen) c.note_all-in-Some.new.waiting.items c.in-Some.ensures.items (inr (ap is_some told)) c.waiting.invariant
-    (subst (λ ns. Sees 4294967296 allowed ns (has c.waiting.seen) rest (has c.note_all-in-Some.new.seen) c.note_all-in-Some.new.waiting.items) (sym leads) c.in_ok-note_all-2.ensures)
+    walks_on 4294967296 (RestsOrIsKnown links rests) (linked links) allowed c.args.roots.now (has c.waiting.seen) c.waiting.waiting.items rest n (has c.note_all-in-Some.new.seen) c.note_all-in-Some.new.waiting.items c.in-Some.ensures.items c.in-Some-next.ensures.known c.waiting.invariant
+    (subst (λ ns. Sees 4294967296 allowed ns (has c.waiting.seen) rest (has c.note_all-in-Some.new.seen) c.note_all-in-Some.new.waiting.items) (sym c.in-Some-next.ensures.some) c.in_ok-note_all-2.ensures)
+
+pub returns-in_default-next-clause-unknown : goal.returns-in_default-next-clause-unknown
+returns-in_default-next-clause-unknown g c =
+    let rests = g.R.Resting.rests c.args.resting.now in
+    let links = c.args.links.now in (
+      c.in-Some.n,
+      last_reached (RestsOrIsKnown links rests) (linked links) (past (has c.args.allowed.now) (has c.args.hidden.now)) c.args.roots.now (has c.waiting.seen) c.waiting.waiting.items c.pop.new.self.items c.in-Some.n c.in-Some.ensures.items c.waiting.invariant,
+      c.in_default-next.ensures.none.0,
+      c.in_default-next.ensures.none.1,
+    )
 
 pub returns-clause-all : goal.returns-clause-all
 returns-clause-all g c n reached =

@@ -1,4 +1,4 @@
--- Objects that are lent, and their records in order.
+-- Borrowed objects, and their records in order.
 use Rattle.std.proofs.Common.{◌≡◌, ◌+◌, ◌<◌, ◌++◌, ℕ, List, [], ◌∷◌, length, map, refl, sym, subst, ap, ◌∙◌, slice_index_or, arith}
 use Rattle.std.specs.Ordering.{is_lt}
 use Rattle.std.specs.List.{AllByRecursion, IsDistinct, flat_map}

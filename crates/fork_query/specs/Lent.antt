@@ -1,4 +1,4 @@
--- The record of an object that is lent.
+-- The record of a borrowed object.
 use Rattle.std.specs.Prelude.{ℕ, List}
 use Rattle.push_stream.specs.Record.{record_of}
 use Rattle.fork_reach.specs.declared.lending.Lent.{Lent}

@@ -15,7 +15,7 @@ use indexmap::IndexSet;
 use push_stream::{BESIDE, add_record};
 use std::alloc::{AllocError, Global};
 
-// What is lent, ascending by name.
+// The borrowed objects, ascending by name.
 fn by_name(lent: Vec<Lent<'_>>) -> Vec<Lent<'_>>
     ensures moved { IsPermutation lent.entry.items result.items }
     ensures sorted { IsSortedByKey (λ one. one.name) name_cmp result.items }
@@ -25,7 +25,7 @@ fn by_name(lent: Vec<Lent<'_>>) -> Vec<Lent<'_>>
     lent
 }
 
-// How long their records are at the most.
+// The most bytes of their records.
 fn room_for(lent: &[Lent<'_>]) -> usize {
     let mut room = 0usize;
     for one in lent {
@@ -45,8 +45,8 @@ fn write_all(alloc: Global, lent: &[Lent<'_>]) -> Result<Vec<u8>, AllocError>
     Ok(text)
 }
 
-// The records of the objects that links lead to from these roots, past none of the hidden names, ascending
-// by name, where all of them are lent.
+// The records of the objects that links reach from these roots, and not past the hidden names,
+// ascending by name, if all of them are borrowed.
 pub(crate) fn lent_records<S: Source>(
     alloc: Global,
     source: &S,

@@ -1,10 +1,12 @@
-"""Begins processes that stay on one processor, and takes from it what it has at hand of them."""
+"""Processes that stay on one processor, whose caches are filled with other memory before a measure."""
 import os
 import subprocess
 import sys
 
-# Goes over more bytes than the caches of a processor hold. It is a process of its own, as the peak memory of this one
-# is the floor of what its children tell.
+from lib.program import Program
+
+# Reads more bytes than the caches of a processor hold. It is a process of its own, as the peak memory of this one is
+# the floor of what its children report.
 OTHERS = [sys.executable, "-c", "bytearray(b'x') * 67_108_864"]
 
 
@@ -19,8 +21,15 @@ def held(words, **how):
         os.sched_setaffinity(0, free)
 
 
-def go_over_others():
-    """Goes over other memory there. A few objects that just came would stand in the processor's caches whole, and ten
-    times as many would not; behind this neither do."""
+class Held(Program):
+    """The program on that processor."""
+
+    def begun(self, *words, stdin=subprocess.PIPE, stdout=subprocess.PIPE):
+        return held([self.path, *words], stdin=stdin, stdout=stdout)
+
+
+def fill_caches():
+    """Reads other memory there. A few objects that were just sent would be in the processor's caches whole, and ten
+    times as many would not; after this neither are."""
     if held(OTHERS).wait():
-        sys.exit("other memory was not gone over")
+        sys.exit("the caches were not filled")

@@ -1,7 +1,7 @@
 -- How a reader keeps lengths (own).
 use Rattle.std.specs.Prelude.{◌<◌, ℕ, Bool, List, slice_index}
 
--- the first lengths, this many, rise
+-- this many lengths at the front rise
 abbrev pub IsRising : List ℕ → ℕ → Type 0
 IsRising lengths count = (i j : ℕ) → i < j → j < count → slice_index lengths i < slice_index lengths j
 

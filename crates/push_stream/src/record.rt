@@ -133,7 +133,7 @@ pub(crate) fn awaited(text: &[u8]) -> usize
     }
 }
 
-// The bytes of a record after a line of this many, with its two LF.
+// The bytes of a record whose line has this many, with its two LF.
 fn awaited_behind(line: usize, head: Head) -> usize
     requires { line ≤ 512 }
     ensures whole { head.size ≤ MAX_CONTENT → result ≡ line + 2 + head.size }

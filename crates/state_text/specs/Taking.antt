@@ -185,7 +185,7 @@ fault_of_offer offering.OutOfOrder = Wrong
 fault_of_offer offering.TooMany = Wrong
 fault_of_offer offering.Memory = Memory
 
--- what was read are these lines, this many, and the rest of the text is left
+-- what was read is this many lines, which are these, and the rest of the text is left
 pub record IsReadSoFar (version : Version) (text : List ℕ) (taken : Taken) (lines : ℕ) (rest : List ℕ) : Type 0 where
   pub parts : text ≡ flat_map ended (open_lines version taken) ++ rest
   pub count : lines ≡ length (open_lines version taken)

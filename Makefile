@@ -18,10 +18,20 @@ CLIENTS = forkhost-ask forkhost-door forkhost-http forkhost-metrics forkhost-she
 MODULES = forkhost_client forkhost_front
 HOOKS = forkhost_front/hooks
 
-.PHONY: all install uninstall deb
+# The tests that end soon: what Git makes, tables of turns, plain programs of definitions, names, and what is kept of reads.
+CHECKS = real_git.sh sessions plain_programs check_ref_format cache
+
+.PHONY: all check install uninstall deb
 
 all:
 	@echo "build by .ci/run or rt, and then: make install"
+
+# Proves nothing. It takes two minutes or less; .ci/run runs all tests, and proves every crate.
+check:
+	@test -x "$(PROGRAM)" || { echo "$(PROGRAM) does not exist; build it, or name another one by PROGRAM=" >&2; exit 1; }
+	docs/clauses --check
+	docs/pictures --check
+	@for test in $(CHECKS); do echo "tests/$$test"; "tests/$$test" "$(PROGRAM)" || exit 1; done
 
 install:
 	@test -x "$(PROGRAM)" || { echo "$(PROGRAM) is not there; build it, or name another one by PROGRAM=" >&2; exit 1; }

@@ -4,7 +4,7 @@
 # It is pushed in one body and in parts of many sizes, reversed, cut, corrupted and lacking one object; then references
 # are deleted and moved, and what none reaches is pruned. Each object, reference, use and refusal is compared with what
 # Git says, in memory and over a folder, whose files are compared with Git's objects. Then histories of many shapes are
-# pushed, walked, and fetched into Git and into other tenants (`real_git/history/check`). It takes some half a minute
+# pushed, walked, and fetched into Git and into other tenants (`real_git/history`). It takes some half a minute
 # and no network. Each subject has a file in `real_git`.
 # tests/real_git.sh [PROGRAM]: the program is crates/forkhost/out/forkhost where none is given.
 # The last line is `N passed, M failed`, and the status is 0 where M is 0.

@@ -1,8 +1,8 @@
 """What Git asks of a helper that nobody asked Git for; and a push that makes its repository, where that is wanted."""
-from making import commit, line
-from program import done
-from watching import Watcher
-from world import World
+from lib.making import commit, line
+from lib.program import done
+from lib.watching import Watcher
+from lib.world import World
 
 
 def show_rounds(checks, program, folder):

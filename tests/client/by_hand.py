@@ -4,13 +4,13 @@ import shlex
 import socket
 import subprocess
 import threading
-import time
 
-from forkhost_client.frames import BAD_FRAME, frame, framed
-from live import to_end
-from making import line, name_of
-from program import Ran, done
-from world import CLIENTS, World
+from lib.frames import BAD_FRAME, frame, framed
+from lib.live import to_end
+from lib.making import line, name_of
+from lib.program import Ran, done
+from lib.waiting import until, until_it_waits
+from lib.world import CLIENTS, World
 
 BLOB = b"hello\n"
 NAME = name_of(b"blob", BLOB)
@@ -224,7 +224,9 @@ def show_frames(checks, world, door):
     for label, (given, wanted) in turns.items():
         checks.same(f"through the door: {label}", wanted, door.told(given))
     with socket.socket(socket.AF_UNIX) as idle:
+        before = len(door.children)
         idle.connect(door.path)
         idle.sendall(quota[:5])
-        time.sleep(0.3)
+        until(lambda: len(door.children) > before)
+        until_it_waits(door.children[before].pid)
         checks.same("one that has sent no frame holds nobody", told, door.told(quota))

@@ -1,6 +1,6 @@
 """Clones, listings, and what is said where a clone can not be what was asked for."""
-from making import commit, everything, imported, history, line
-from world import World
+from lib.making import commit, everything, imported, history, line
+from lib.world import World
 
 EMPTY = b"warning: You appear to have cloned an empty repository.\n"
 

@@ -1,12 +1,13 @@
 """A host that is held by another client, replies that are cut or are something else, and objects that are elsewhere."""
+import select
 import socket
-import time
 
-from forkhost_client.frames import framed
-from making import commit, line
-from program import Ran
-from watching import Watcher
-from world import World, finished
+from lib.frames import framed
+from lib.making import commit, line
+from lib.program import Ran
+from lib.waiting import until
+from lib.watching import Watcher
+from lib.world import World, finished
 
 
 def show_held(checks, program, folder):
@@ -21,10 +22,10 @@ def show_held(checks, program, folder):
         children = [world.begun(*push, f"main:refs/heads/b{number}", at="source") for number in range(2)]
         children.append(world.begun("git", "ls-remote", world.url("r")))
         children.append(world.begun("forkhost-ask", world.host.socket, "alice", "quota"))
-        time.sleep(3)
+        said = lambda: len(select.select([child.stderr for child in children[2:]], [], [], 0)[0]) == 2
+        checks.same("two say that they wait", True, until(said))
         checks.same("they wait", [None] * 4, [child.poll() for child in children])
-        time.sleep(5)
-        checks.same("and wait on", [None] * 4, [child.poll() for child in children])
+        checks.same("and wait on", False, until(lambda: any(child.poll() is not None for child in children), 1))
     told = [finished(child) for child in children]
     checks.same("then they are served", [0] * 4, [ran.status for ran in told])
     checks.same("who is not to be silent said it", [True, True], [waiting in ran.fault for ran in told[2:]])

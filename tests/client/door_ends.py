@@ -2,10 +2,10 @@
 import socket
 import threading
 
-from cut_off import CUTS
-from doors import FETCH, QUOTA, Doors, User
-from forkhost_client.frames import frame
-from watching import Watcher
+from client.cut_off import CUTS
+from client.doors import FETCH, QUOTA, Doors, User
+from lib.frames import frame
+from lib.watching import Watcher
 
 LOST = b"forkhost-door: the host ended the connection\n"
 UNREAD = b"forkhost-door: this is not a reply of a forkhost\n"

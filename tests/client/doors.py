@@ -7,13 +7,14 @@ import socket
 import subprocess
 import time
 
-from by_hand import StandIn, authorized_line
-from forkhost_client.frames import frame, framed
-from killed import great
-from live import to_end
-from making import hashed
-from program import PATIENCE
-from world import World, finished
+from client.by_hand import StandIn, authorized_line
+from client.killed import great
+from lib.frames import frame, framed
+from lib.live import to_end
+from lib.making import hashed
+from lib.program import PATIENCE
+from lib.waiting import until, until_it_waits
+from lib.world import World, finished
 
 # Seconds in which others are answered, those after which a door ends, and those after which a busy machine has ended it.
 AT_ONCE, CUT, ENDED = 2, 30, 240
@@ -35,8 +36,7 @@ class User:
         self.reader = self.stream.makefile("rb")
         self.send(frame(who, b"quota\n"))
         self.is_begun = self.reader.read(len(NOBODY)) == NOBODY
-        while len(door.children) == before:
-            time.sleep(0.01)
+        until(lambda: len(door.children) > before)
         self.process = door.children[before]
 
     def send(self, given):
@@ -147,7 +147,7 @@ def show_slow(checks, program, folder):
         checks.same(f"{label}: the door is there", True, user.is_begun)
         for given in before:
             user.send(given)
-            time.sleep(1)
+            time.sleep(1) if "a second" in label else until_it_waits(user.process.pid)
         doors.others_are_answered(label)
         for given in after:
             user.send(given)

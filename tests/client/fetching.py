@@ -1,9 +1,9 @@
 """Fetches into what is there already: what comes, and how little is asked for."""
 import os
 
-from making import commit, line
-from watching import Watcher
-from world import World
+from lib.making import commit, line
+from lib.watching import Watcher
+from lib.world import World
 
 
 class Pair:

@@ -1,10 +1,10 @@
 """A fork between two people, from an offer to what comes back, as docs/CLIENTS.md has it."""
 import os
 
-from by_hand import refused
-from making import commit, line
-from program import done
-from world import CLIENTS, World
+from client.by_hand import refused
+from lib.making import commit, line
+from lib.program import done
+from lib.world import CLIENTS, World
 
 PAGE = os.path.join(CLIENTS, "../docs/CLIENTS.md")
 HEADING = "## A fork between two people\n"

@@ -1,8 +1,8 @@
 """HEAD of a repository of the host, beside that of a bare repository in a folder, as Git shows it."""
-from by_hand import refused
-from making import commit, line
-from program import done
-from world import World
+from client.by_hand import refused
+from lib.making import commit, line
+from lib.program import done
+from lib.world import World
 
 # A clone is told of a HEAD whose branch is not there by the second version of Git's protocol, and not by a helper.
 FIRST = ["-c", "protocol.version=0"]

@@ -4,9 +4,9 @@ import random
 import signal
 import time
 
-from making import commit, commit_of, hashed, history, imported, tree_of
-from watching import Watcher
-from world import World, finished, killed
+from lib.making import commit, commit_of, hashed, history, imported, tree_of
+from lib.watching import Watcher
+from lib.world import World, finished, killed
 
 KILLS = 6
 PART = 1_000_000

@@ -1,9 +1,9 @@
 """Pushes at the edges of a frame and of an upload, and above them."""
 import random
 
-from making import commit_of, hashed, tree_of
-from watching import Watcher
-from world import World
+from lib.making import commit_of, hashed, tree_of
+from lib.watching import Watcher
+from lib.world import World
 
 MAX_PAYLOAD, MAX_UPLOAD, MAX_CONTENT = 1_048_576, 33_554_432, 8_388_608
 ZERO = "0" * 64

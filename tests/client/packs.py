@@ -3,9 +3,9 @@ import os
 import random
 import stat
 
-from making import commit_of, hashed, line, tree_of
-from watching import Watcher
-from world import World
+from lib.making import commit_of, hashed, line, tree_of
+from lib.watching import Watcher
+from lib.world import World
 
 
 def packs(world, at, ending):

@@ -1,10 +1,10 @@
 """Pushes beside those of Git over a folder: the same words, the same status, the same references afterwards."""
 import os
 
-from making import commit, hashed, line
-from program import done
-from watching import Watcher
-from world import World
+from lib.making import commit, hashed, line
+from lib.program import done
+from lib.watching import Watcher
+from lib.world import World
 
 
 class Both:

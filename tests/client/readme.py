@@ -1,8 +1,8 @@
 """The lines of the README for plain Git, run as they stand, and what they print."""
 import os
 
-from making import commit
-from world import CLIENTS, World
+from lib.making import commit
+from lib.world import CLIENTS, World
 
 README = os.path.join(CLIENTS, "../README.md")
 HEADING = "## With plain Git\n"

@@ -1,7 +1,7 @@
 """What a person is told where the host refuses: in which words, with which status, and that nothing has changed."""
-from making import commit, commit_of, hashed, line, tree_of
-from watching import Watcher
-from world import World
+from lib.making import commit, commit_of, hashed, line, tree_of
+from lib.watching import Watcher
+from lib.world import World
 
 WRONG_IDENT = "Ada 1700000000 +0000"
 

@@ -1,9 +1,9 @@
 """A second tenant names what the first one has, and is told what a host without the first would tell."""
 import os
 
-from making import commit, commit_of, hashed, line, tree_of
-from program import Ran
-from world import World
+from lib.making import commit, commit_of, hashed, line, tree_of
+from lib.program import Ran
+from lib.world import World
 
 BOTH = ["alice=1000000000", "bob=1000000"]
 

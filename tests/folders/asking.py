@@ -1,6 +1,6 @@
 """Requests by chance: a small history, pushes of parts of it, and whatever else a tenant may ask."""
-from cases import raw
-from objects import links_of, name_of, record
+from folders.cases import raw
+from lib.objects import links_of, name_of, record
 
 HEADS = [b"refs/heads/a", b"refs/heads/a/b", b"refs/heads/b", b"refs/tags/a", b"refs/x/y"]
 REPOSITORIES = [b"q", b"r", b"s"]

@@ -2,11 +2,11 @@
 import os
 import shutil
 
-from folder import Folder, content
-from forkhost_client.frames import framed, frames
-from objects import name_of, record, whole
-from program import done, sound
-from state_text import read, spelled
+from folders.state_text import read, spelled
+from lib.folder import Folder, content
+from lib.frames import framed, frames
+from lib.objects import name_of, record, whole
+from lib.program import done, sound
 
 FIXTURES = os.path.join(os.path.dirname(os.path.abspath(__file__)), "fixtures")
 BASE = os.path.join(FIXTURES, "version_1")

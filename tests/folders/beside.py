@@ -2,11 +2,11 @@
 import os
 import random
 
-from asking import ABSENT, HEADS, History, Requests
-from forkhost_client.frames import frames, replies
-from objects import record
-from program import done
-from sweeps import COUNT, HOST, host_turn
+from folders.asking import ABSENT, HEADS, History, Requests
+from folders.sweeps import COUNT, HOST, host_turn
+from lib.frames import frames, replies
+from lib.objects import record
+from lib.program import done
 
 ALICE, OTHERS = b"alice", [b"a", b"bob", b"carol", b"zoe"]
 OWN, LIMITS = "alice=20000", ["a=1000000", "bob=1000000", "carol=4000", "zoe=1000000"]

@@ -1,12 +1,12 @@
 """What is kept of reads: the objects that were read last, for all who see them and for nobody else."""
 import os
 
-from checks import Checks
-from folder import Folder
-from forkhost_client.frames import frames, framed
-from live import Live
-from objects import name_of, record, stored
-from program import done
+from lib.checks import Checks
+from lib.folder import Folder
+from lib.frames import frames, framed
+from lib.live import Live
+from lib.objects import name_of, record, stored
+from lib.program import done
 
 ALICE, BOB, CAROL, HOST = b"alice", b"bob", b"carol", b"@host"
 TENANTS = ["alice=10000000", "bob=10000000", "carol=10000000"]

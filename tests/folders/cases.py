@@ -2,9 +2,9 @@
 import hashlib
 import random
 
-from loading import verdict
-from objects import USE, name_of, stored
-from state_text import Offer, Repository, Tenant, spelled
+from folders.loading import verdict
+from folders.state_text import Offer, Repository, Tenant, spelled
+from lib.objects import USE, name_of, stored
 
 ABSENT = b"f" * 64
 WHO = b"A <a@x> 100 +0000"

@@ -1,16 +1,16 @@
 """Tenants that are added, limited and taken out while no host serves a folder, and what a start shows then."""
 import os
 
-from cases import B, C, D, OBJECTS, USED, alone, tenant
-from clients import ALICE, BOB, PUSH
-from folder import Folder
-from forkhost_client.frames import frame, framed, frames
-from journals import INIT, killed
-from live import Live
-from objects import record
-from program import done, failed, sound
-from state_text import Offer, Repository, Tenant, spelled
-from sweeps import HOST
+from folders.cases import B, C, D, OBJECTS, USED, tenant
+from folders.clients import ALICE, BOB, PUSH
+from folders.journals import INIT, killed
+from folders.state_text import Offer, Repository, Tenant, spelled
+from folders.sweeps import HOST
+from lib.folder import Folder
+from lib.frames import frame, framed, frames
+from lib.live import Live
+from lib.objects import record
+from lib.program import done, failed, sound
 
 OK = b"ok\n"
 MAIN = (b"refs/heads/main", D)

@@ -2,13 +2,13 @@
 import os
 import socket
 import threading
-import time
 
-from cases import B, D, OBJECTS
-from forkhost_client.frames import frame, framed, frames
-from live import Serving, to_end
-from objects import name_of, record
-from program import done
+from folders.cases import B, D, OBJECTS
+from lib.frames import frame, framed, frames
+from lib.live import Serving, to_end
+from lib.objects import name_of, record
+from lib.program import done
+from lib.waiting import unread, until, until_it_waits
 
 ALICE, BOB = b"alice", b"bob"
 TENANTS = ["alice=100000000", "bob=1000"]
@@ -119,6 +119,11 @@ def send_all(stream, text):
         pass
 
 
+def is_held(serving, slow):
+    """Waits until bytes of a reply wait for a client that reads none, and the host waits for it; whether that is so."""
+    return until(lambda: unread(slow) > 0) and until_it_waits(serving.child.pid)
+
+
 def show_slow_clients(checks, program, folder):
     """Clients that read nothing for a while: the host waits for them, and then for the next."""
     serving = served(program, folder, 4)
@@ -128,7 +133,7 @@ def show_slow_clients(checks, program, folder):
     sender = threading.Thread(target=send_all, args=(slow, GREAT_ASK * 20), daemon=True)
     sender.start()
     next_one.sendall(QUOTA)
-    time.sleep(0.5)
+    checks.same("bytes wait for it", True, is_held(serving, slow))
     checks.same("the host waits", None, serving.child.poll())
     checks.same("all is told in the end", GREAT_TOLD * 20, to_end(slow))
     sender.join()
@@ -138,7 +143,7 @@ def show_slow_clients(checks, program, folder):
     slow = serving.client()
     sender = threading.Thread(target=send_all, args=(slow, GREAT_ASK * 20), daemon=True)
     sender.start()
-    time.sleep(0.2)
+    is_held(serving, slow)
     slow.shutdown(socket.SHUT_RDWR)
     slow.close()
     sender.join()

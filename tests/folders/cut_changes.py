@@ -4,12 +4,12 @@ import random
 import shutil
 import time
 
-from cases import OBJECTS, tenant
-from changed import ADD, LIMIT, MAIN, REMOVE, change, pushed
-from clients import ALICE, BOB
-from folder import Folder, requests_in
-from program import done, failed, sound
-from state_text import Tenant, spelled
+from folders.cases import OBJECTS, tenant
+from folders.changed import ADD, LIMIT, MAIN, REMOVE, change, pushed
+from folders.clients import ALICE, BOB
+from folders.state_text import Tenant, spelled
+from lib.folder import Folder, requests_in
+from lib.program import done, failed, sound
 
 KILLS = 15
 BEFORE = [Tenant(ALICE, 10000, [], []), tenant(BOB, [], limit=1000)]

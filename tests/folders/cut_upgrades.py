@@ -5,10 +5,10 @@ import shutil
 import subprocess
 import time
 
-from before import LEFT, NEW, OLD, copy, show_all
-from kills import CALLS, some_of
-from program import PATIENCE, Ran, failed, sound
-from upgrades import STATE_2, upgraded
+from folders.before import LEFT, NEW, OLD, copy, show_all
+from folders.kills import CALLS, some_of
+from folders.upgrades import STATE_2, upgraded
+from lib.program import PATIENCE, Ran, failed, sound
 
 KILLS = 60
 # Those of the fixture's journal.

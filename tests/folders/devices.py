@@ -3,14 +3,14 @@ import os
 import shutil
 import subprocess
 
-from cases import B, C, D, FILES, O, OBJECTS, alone
-from checks import Checks
-from folder import Folder, content
-from forkhost_client.frames import framed, frames
-from live import Live
-from objects import name_of, record, stored
-from program import done, ended, failed, sound
-from state_text import Repository, Tenant, spelled
+from folders.cases import B, C, D, FILES, O, OBJECTS, alone
+from folders.state_text import Repository, Tenant, spelled
+from lib.checks import Checks
+from lib.folder import Folder, content
+from lib.frames import framed, frames
+from lib.live import Live
+from lib.objects import name_of, record, stored
+from lib.program import done, ended, failed, sound
 
 PUSH = b"push r\ncreate refs/heads/main %s\n\n" % D + b"".join(record(*thing) for thing in OBJECTS.values())
 ALICE, BOB = b"alice", b"bob"

@@ -2,11 +2,11 @@
 import os
 import random
 
-from asking import HEADS, History, Requests
-from beside import ALICE, KINDS, OTHERS, OWN, LIMITS, apart, one_of_each, other_turns, ran, told, verb
-from cases import B, C, D, G, O, OBJECTS, T, commit, raw, tag
-from objects import name_of, record
-from sweeps import HOST
+from folders.asking import HEADS, History, Requests
+from folders.beside import ALICE, KINDS, OTHERS, OWN, LIMITS, apart, one_of_each, other_turns, ran, told, verb
+from folders.cases import B, C, D, G, O, OBJECTS, T, commit, raw, tag
+from folders.sweeps import HOST
+from lib.objects import name_of, record
 
 BOB = b"bob"
 NAMES = sorted(OBJECTS)

@@ -4,7 +4,7 @@ import os
 import struct
 import subprocess
 
-from program import Program
+from lib.program import Program
 
 # The calls below `objects` and `swept`, by kinds. What is shared says which kinds count, how many pass, how many fail
 # then, and how many were counted and failed.

@@ -2,13 +2,13 @@
 import os
 import shutil
 
-from cases import B, C, D, OBJECTS
-from failing import KINDS, Failing
-from folder import Folder
-from live import Live
-from objects import name_of, record
-from program import done, sound
-from sweeps import COUNT, HOST
+from folders.cases import B, C, D, OBJECTS
+from folders.failing import KINDS, Failing
+from folders.sweeps import COUNT, HOST
+from lib.folder import Folder
+from lib.live import Live
+from lib.objects import name_of, record
+from lib.program import done, sound
 
 ALICE, BOB = b"alice", b"bob"
 TENANTS = ["alice=200000", "bob=200000"]

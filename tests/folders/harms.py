@@ -2,15 +2,15 @@
 import os
 import random
 
-from caching import tag_of
-from cases import altered
-from folder import Folder, content
-from forkhost_client.frames import frame, frames, replies
-from live import Live, Serving
-from loading import verdict
-from objects import name_of, record, stored, whole
-from program import done, failed, of_verdict, sound
-from state_text import read
+from folders.caching import tag_of
+from folders.cases import altered
+from folders.loading import verdict
+from folders.state_text import read
+from lib.folder import Folder, content
+from lib.frames import frame, frames, replies
+from lib.live import Live, Serving
+from lib.objects import name_of, record, stored, whole
+from lib.program import done, failed, of_verdict, sound
 
 ALICE, BOB, CAROL, HOST = b"alice", b"bob", b"carol", b"@host"
 TENANTS = ["alice=10000000", "bob=10000000", "carol=10000000"]

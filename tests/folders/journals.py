@@ -3,17 +3,17 @@ import os
 import random
 import shutil
 
-from cases import C, D, OBJECTS, USED
-from clients import ALICE, BOB, PUSH
-from devices import homes
-from folder import Folder, requests_in, write
-from forkhost_client.frames import frame, framed, frames, replies
-from killing import changes
-from live import Live, Serving
-from objects import name_of, record
-from program import done, failed, sound
-from asking import History, Requests
-from sweeps import COUNT, HOST, show_collected
+from folders.asking import History, Requests
+from folders.cases import C, D, OBJECTS, USED
+from folders.clients import ALICE, BOB, PUSH
+from folders.devices import homes
+from folders.killing import changes
+from folders.sweeps import COUNT, HOST, show_collected
+from lib.folder import Folder, requests_in, write
+from lib.frames import frame, framed, frames, replies
+from lib.live import Live, Serving
+from lib.objects import name_of, record
+from lib.program import done, failed, sound
 
 INIT = (ALICE, b"init r\n")
 GREAT = (b"blob", bytes(3_000_000))

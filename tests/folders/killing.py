@@ -7,13 +7,13 @@ import socket
 import subprocess
 import time
 
-from asking import REPOSITORIES, History, Requests
-from folder import Folder
-from forkhost_client.frames import frames, replies
-from live import to_end
-from objects import whole
-from program import PATIENCE, done, ended, sound
-from sweeps import COUNT, HOST, collected, plain, show_collected, with_sweeps
+from folders.asking import REPOSITORIES, History, Requests
+from folders.sweeps import COUNT, HOST, collected, plain, show_collected, with_sweeps
+from lib.folder import Folder
+from lib.frames import frames, replies
+from lib.live import to_end
+from lib.objects import whole
+from lib.program import PATIENCE, done, ended, sound
 
 TENANTS = [b"alice", b"bob", b"carol", b"dave"]
 GRANTS = ["alice=60000", "bob=60000", "carol=4000000", "dave=5000"]

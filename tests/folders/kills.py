@@ -5,12 +5,12 @@ import shutil
 import subprocess
 import time
 
-from asking import History
-from folder import Folder, requests_in
-from forkhost_client.frames import framed, frames, replies
-from objects import whole
-from program import PATIENCE, Ran, done, sound
-from sweeps import HOST, of_tenants, plain
+from folders.asking import History
+from folders.sweeps import HOST, of_tenants, plain
+from lib.folder import Folder, requests_in
+from lib.frames import framed, frames, replies
+from lib.objects import whole
+from lib.program import PATIENCE, Ran, done, sound
 
 KILLS = 150
 SAVES = 150

@@ -1,6 +1,6 @@
 """What `check` finds in a folder: the first wrong thing of its state and its files, or that all is sound."""
-from objects import USE, links_of, whole
-from state_text import read
+from folders.state_text import read
+from lib.objects import USE, links_of, whole
 
 
 def found_of(name, seen, files):

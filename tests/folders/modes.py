@@ -2,10 +2,10 @@
 import os
 import stat
 
-from devices import ALICE, PUSH
-from forkhost_client.frames import frames
-from live import Live
-from sweeps import HOST
+from folders.devices import ALICE, PUSH
+from folders.sweeps import HOST
+from lib.frames import frames
+from lib.live import Live
 
 
 def modes(path):

@@ -1,15 +1,15 @@
 """Offers between tenants over a folder: what stands behind each request is there again behind a start or a kill."""
 import os
 
-from cases import commit
-from folder import Folder
-from forkhost_client.frames import frame, framed, frames
-from killing import changes
-from live import Live
-from objects import name_of, record, whole
-from program import done, sound
-from state_text import Offer, read
-from sweeps import HOST
+from folders.cases import commit
+from folders.killing import changes
+from folders.state_text import Offer, read
+from folders.sweeps import HOST
+from lib.folder import Folder
+from lib.frames import frame, framed, frames
+from lib.live import Live
+from lib.objects import name_of, record, whole
+from lib.program import done, sound
 
 ALICE, BOB, NOBODY = b"alice", b"bob", b"nobody"
 OK = b"ok\n"

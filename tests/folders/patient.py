@@ -3,10 +3,10 @@ import os
 import threading
 import time
 
-from clients import ALICE, GREAT_ASK, GREAT_PUSH, QUOTA, TENANTS, TOLD
-from forkhost_client.frames import framed, frames
-from live import Serving
-from program import done
+from folders.clients import ALICE, GREAT_ASK, GREAT_PUSH, QUOTA, TENANTS, TOLD
+from lib.frames import framed, frames
+from lib.live import Serving
+from lib.program import done
 
 # A peer has so many seconds; what a machine with much to do takes longer is not counted against the host.
 LEAST, MOST = 29, 42

@@ -3,11 +3,11 @@ import os
 import threading
 import time
 
-from clients import ALICE, BOB
-from folder import Folder, content, write
-from program import PATIENCE, failed
-from sockets import mode, one, one_refused, serves, stale
-from state_text import Tenant, spelled
+from folders.clients import ALICE, BOB
+from folders.sockets import mode, one, one_refused, serves, stale
+from folders.state_text import Tenant, spelled
+from lib.folder import Folder, content, write
+from lib.program import PATIENCE, failed
 
 STARTS = 30
 

@@ -4,14 +4,14 @@ import socket
 import stat
 import threading
 
-from cases import B, D, FILES, OBJECTS, alone
-from clients import ALICE, BOB, PUSH, QUOTA, TENANTS, TOLD
-from folder import Folder, content, requests_in, write
-from forkhost_client.frames import frame, framed, frames
-from live import Live, Serving
-from objects import record
-from program import done, failed, sound
-from state_text import Tenant, spelled
+from folders.cases import B, D, FILES, OBJECTS, alone
+from folders.clients import ALICE, BOB, PUSH, QUOTA, TENANTS, TOLD
+from folders.state_text import Tenant, spelled
+from lib.folder import Folder, content, requests_in, write
+from lib.frames import frame, framed, frames
+from lib.live import Live, Serving
+from lib.objects import record
+from lib.program import done, failed, sound
 
 
 def mode(path):

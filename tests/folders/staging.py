@@ -4,12 +4,12 @@ import random
 import re
 import time
 
-from cases import B, C, D, OBJECTS, O, T
-from folder import Folder, content, write
-from forkhost_client.frames import frame, framed, frames
-from live import Live, Serving
-from objects import name_of, record, stored
-from program import done, sound
+from folders.cases import B, C, D, OBJECTS, O, T
+from lib.folder import Folder, content, write
+from lib.frames import frame, framed, frames
+from lib.live import Live, Serving
+from lib.objects import name_of, record, stored
+from lib.program import done, sound
 
 ALICE, BOB, HOST = b"alice", b"bob", b"@host"
 BLOBS = [(b"blob", b"%d more\n" % number * number) for number in range(35)]

@@ -2,9 +2,9 @@
 import itertools
 import re
 
-from forkhost_client.frames import frame, replies
-from program import done, sound
-from state_text import read
+from folders.state_text import read
+from lib.frames import frame, replies
+from lib.program import done, sound
 
 HOST = b"@host"
 COUNT = re.compile(rb"ok\n(0|[1-9][0-9]*)\n")

@@ -2,14 +2,14 @@
 import os
 import shutil
 
-from cases import B, C, FILES, O, OBJECTS
-from devices import ALICE, PUSH, SAVED
-from folder import Folder, write
-from forkhost_client.frames import framed, frames
-from killing import one_told
-from live import Live, Serving
-from objects import record
-from program import done, failed, sound
+from folders.cases import B, C, FILES, O, OBJECTS
+from folders.devices import ALICE, PUSH, SAVED
+from folders.killing import one_told
+from lib.folder import Folder, write
+from lib.frames import framed, frames
+from lib.live import Live, Serving
+from lib.objects import record
+from lib.program import done, failed, sound
 
 QUOTA = frames([(ALICE, b"quota\n")])
 OTHERS = ["part", "readme", "0" * 63, "0" * 65, "A" * 64, b"\xff"]

@@ -1,5 +1,5 @@
 """Texts that are no state texts, each with the number of its first wrong line, and state texts, with None."""
-from state_text import read
+from folders.state_text import read
 
 E = b"473a0f4c3be8a93681a267e3b1e9a7dcda1185436fe141f7749120a303721813"
 F = b"6ef19b41225c5369f1c104d45d8d85efa9b057b53b14b4b9b939dd74decc5321"

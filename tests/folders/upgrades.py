@@ -3,13 +3,13 @@ import os
 import shutil
 import subprocess
 
-from before import ALICE, FIRST, LEFT, NEW, OLD, TIP, copy, new_text, show_all
-from folder import Folder, content, write
-from forkhost_client.frames import framed, frames
-from killing import limited
-from live import Live
-from program import PATIENCE, Ran, done, failed, sound
-from state_text import read
+from folders.before import ALICE, FIRST, LEFT, NEW, OLD, TIP, copy, new_text, show_all
+from folders.killing import limited
+from folders.state_text import read
+from lib.folder import Folder, content, write
+from lib.frames import framed, frames
+from lib.live import Live
+from lib.program import PATIENCE, Ran, done, failed, sound
 
 STATE_2 = done(b"state 2\n")
 LINES = OLD.count(b"\n")

@@ -2,8 +2,8 @@
 import urllib.error
 import urllib.request
 
-from making import line
-from web import password
+from front.web import password
+from lib.making import line
 
 
 def show_web(world):

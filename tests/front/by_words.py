@@ -2,10 +2,10 @@
 import os
 import re
 import subprocess
-import time
 
-from making import imported, history, line
-from program import Ran, done
+from lib.making import imported, history, line
+from lib.program import Ran, done
+from lib.waiting import until
 
 LINE = re.compile(r"\d{4}-\d\d-\d\dT\d\d:\d\d:\d\dZ [a-z]+ [a-z-]+ [a-z0-9_-]+(?:\.git)? [a-z,-]+ \d+ \d+\n")
 
@@ -204,6 +204,5 @@ def holder(world, name):
     """A process that uses a cache, as one that serves a slow client."""
     path = world.cache(name) + ".use"
     child = subprocess.Popen(["flock", "--no-fork", "-s", path, "sleep", "60"])
-    while subprocess.run(["flock", "-n", "-x", path, "true"]).returncode == 0:
-        time.sleep(0.01)
+    until(lambda: subprocess.run(["flock", "-n", "-x", path, "true"]).returncode)
     return child

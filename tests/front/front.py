@@ -2,10 +2,9 @@
 import os
 import socket
 import subprocess
-import time
 
-from program import PATIENCE
-from world import CLIENTS, World
+from lib.waiting import until
+from lib.world import CLIENTS, World
 
 TENANTS = ["alice=1000000000", "bob=1000000", "carol=20000"]
 BYTES = 1_000_000_000
@@ -41,14 +40,15 @@ class FrontWorld(World):
 
     def wait(self):
         """The server listens."""
-        end = time.monotonic() + PATIENCE
-        while self.server.poll() is None and time.monotonic() < end:
-            try:
-                socket.create_connection(("127.0.0.1", self.port), timeout=1).close()
-                return
-            except OSError:
-                time.sleep(0.02)
-        raise ValueError(f"the server does not listen: {self.server.stderr.read1(1000)}")
+        if not until(lambda: self.listens() or self.server.poll() is not None) or self.server.poll() is not None:
+            raise ValueError(f"the server does not listen: {self.server.stderr.read1(1000)}")
+
+    def listens(self):
+        try:
+            socket.create_connection(("127.0.0.1", self.port), timeout=1).close()
+            return True
+        except OSError:
+            return False
 
     def __enter__(self):
         return self

@@ -1,8 +1,8 @@
 """A host that is down: a user is told that it can not be reached, and the log where it was looked for."""
-from front import BYTES
-from making import line
-from program import Ran
-from watching import Watcher
+from front.front import BYTES
+from lib.making import line
+from lib.program import Ran
+from lib.watching import Watcher
 
 SAID = "the host cannot be reached"
 

@@ -5,11 +5,11 @@ import shutil
 import signal
 import time
 
-from front import BYTES
-from killed import anew, great
-from making import everything, line
-from watching import Watcher
-from world import killed
+from client.killed import anew, great
+from front.front import BYTES
+from lib.making import everything, line
+from lib.watching import Watcher
+from lib.world import killed
 
 KILLS = 20
 

@@ -3,6 +3,8 @@ import os
 import shutil
 import subprocess
 
+from lib.checks import Checks
+
 PATH = os.pathsep.join([os.environ.get("PATH", os.defpath), "/usr/sbin", "/usr/lib/git-core"])
 
 
@@ -17,3 +19,21 @@ def found(name, package):
     if not path:
         raise ValueError(f"{name} is not there, and apt-get did not install {package}")
     return path
+
+
+def lacking(name, package):
+    """Why a program is not there, before several subjects want it at once."""
+    try:
+        return found(name, package) and None
+    except ValueError as fault:
+        return str(fault)
+
+
+def show_over(world, subjects):
+    """Shows the subjects over this front end, three at once, where its programs are there."""
+    checks = Checks()
+    for name, package in world.PROGRAMS.items():
+        checks.holds(f"{name} is there", lacking(name, package))
+    if checks.failed:
+        checks.end()
+    checks.show_at_once(subjects, 3, world)

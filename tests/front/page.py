@@ -7,8 +7,8 @@ import shutil
 import stat
 import subprocess
 
-from making import commit, line
-from world import CLIENTS
+from lib.making import commit, line
+from lib.world import CLIENTS
 
 PAGE = os.path.join(CLIENTS, "../docs/OPERATING.md")
 # Bytes that a web server keeps in a file, as they come.

@@ -1,9 +1,9 @@
 """What is refused, by the host and by Git's own check at the door: in which words, and that nothing comes of it."""
 import random
 
-from killed import great
-from making import commit, commit_of, hashed, line, tree_of
-from world import finished
+from client.killed import great
+from lib.making import commit, commit_of, hashed, line, tree_of
+from lib.world import finished
 
 
 def pushed(world, tenant, *words):

@@ -1,8 +1,8 @@
 """A second tenant names what the first has, by the front end, and is told what a host without the first would tell."""
 import os
 
-from program import Ran
-from tenants import BOTH, Bob, alice
+from client.tenants import BOTH, Bob, alice
+from lib.program import Ran
 
 KINDS = ("commit", "blob")
 

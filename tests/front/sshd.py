@@ -1,11 +1,10 @@
 """A real `sshd` with keys, a port and a configuration of its own; each key has its tenant by a forced command."""
 import os
 import subprocess
-import time
 
-from front import FrontWorld
-from packages import found
-from program import PATIENCE
+from front.front import FrontWorld
+from front.packages import found
+from lib.waiting import until
 
 SERVER = """ListenAddress 127.0.0.1
 Port {port}
@@ -53,12 +52,9 @@ class SshWorld(FrontWorld):
         words = ["ssh", "-F", self.path("ssh_config"), "-N", "-o", "ControlMaster=yes"]
         begun = lambda tenant: subprocess.Popen([*words, tenant], stdin=subprocess.DEVNULL)
         self.shared = [begun(tenant) for tenant in self.names]
-        end = time.monotonic() + PATIENCE
         paths = [self.path(f"shared_{tenant}") for tenant in self.names]
-        while not all(map(os.path.exists, paths)):
-            if time.monotonic() > end:
-                raise ValueError("ssh does not connect")
-            time.sleep(0.02)
+        if not until(lambda: all(map(os.path.exists, paths))):
+            raise ValueError("ssh does not connect")
 
     def __exit__(self, *_):
         for child in self.shared:

@@ -4,10 +4,10 @@ import hashlib
 import os
 import subprocess
 
-from front import FrontWorld
-from packages import found
-from page import configuration, placed
-from world import CLIENTS
+from front.front import FrontWorld
+from front.packages import found
+from front.page import configuration, placed
+from lib.world import CLIENTS
 
 USER, ERRORS = "server.username", "/var/log/forkhost/lighttpd"
 

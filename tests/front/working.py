@@ -1,9 +1,9 @@
 """Everyday work by a front end, beside the same work over a folder."""
 import os
 
-from cloning import EMPTY
-from making import commit, everything, line
-from pushing import PUSHES, Both, sources
+from client.cloning import EMPTY
+from client.pushing import PUSHES, Both, sources
+from lib.making import commit, everything, line
 
 CHOSEN = ("a new branch", "forward", "up to date", "aside", "aside, forced", "back", "several", "several, one aside")
 CHOSEN += ("several, one aside, all or none", "several, all or none", "a deletion", "a deletion and more")

@@ -2,14 +2,14 @@
 import os
 import random
 
-from alterations import BYTES, HUGE, THINGS, alter, clear, kinds_of, put_back, write
-from folder import content
-from found import DAMAGED, FOUND, RIGHT, STORE
-from objects import record, whole
-from program import done, failed, sound
-from runs import HANGS, give
-from sessions import NO_REPLY, Session
-from stores import ALICE, BOB, Store
+from hostile.alterations import BYTES, alter, clear, kinds_of, put_back, write
+from hostile.found import DAMAGED, FOUND, RIGHT, STORE
+from hostile.runs import PATIENCE
+from hostile.stores import ALICE, BOB, Store
+from lib.folder import content
+from lib.live import NO_REPLY, Doubted
+from lib.objects import record, whole
+from lib.program import done, failed, sound
 
 ROUNDS = 30
 SESSIONS = 3
@@ -120,7 +120,7 @@ class Watched:
         self.begin()
 
     def begin(self):
-        self.session = Session(self.program, "--dir", self.folder.path)
+        self.session = Doubted(self.program, PATIENCE, "--dir", self.folder.path)
         self.knows_fsck = self.session.asked(b"@host", b"fsck\n") != b"no bad-request\n"
 
     def asked(self, label, wanted, who, payload):
@@ -186,7 +186,7 @@ def show_walks(checks, program, work):
     """Some files are altered at once, and asked for by walks: what is told is right, or a fault, and nothing changes."""
     store, chance = Store(work), random.Random(25)
     folder = store.copy(os.path.join(work, "folder"))
-    session = Session(program, "--dir", folder.path)
+    session = Doubted(program, PATIENCE, "--dir", folder.path)
     right = {payload: session.asked(ALICE, payload) for payload in queries(store)}
     checks.same("the queries are answered", [b"ok\n"] * len(right), [reply[:3] for reply in right.values()])
     checks.same("its end", done(), session.ended())
@@ -194,7 +194,7 @@ def show_walks(checks, program, work):
     for number in range(60):
         names = chance.sample(store.history.tips + [n for n in store.names if store.objects[n][0] == b"tree"], 3)
         kinds = {name: chance.choice(SINGLE + ["without rights"]) for name in names}
-        session = Session(program, "--dir", folder.path)
+        session = Doubted(program, PATIENCE, "--dir", folder.path)
         checks.same(f"walk {number}: it begins", b"ok\n", session.asked(ALICE, b"quota\n")[:3])
         for name, kind in kinds.items():
             alter(kind, folder.file_of(name), store.files[name], chance)
@@ -211,7 +211,7 @@ def show_walks(checks, program, work):
 
 def begun(program, folder):
     """A session that has begun: its folder is loaded."""
-    session = Session(program, "--dir", folder.path)
+    session = Doubted(program, PATIENCE, "--dir", folder.path)
     session.asked(b"@host", b"census\n")
     return session
 

@@ -3,16 +3,16 @@ import os
 import random
 import stat
 
-from alterations import THINGS, alter, clear, put_back, write
-from altered_objects import one_of
-from folder import requests_in
-from forkhost_client.frames import frame, framed, frames
-from loading import verdict
-from objects import record
-from program import done, failed, of_verdict, sound
-from runs import HANGS, give
-from sessions import Session
-from stores import ALICE, BOB, Store
+from folders.loading import verdict
+from hostile.alterations import THINGS, alter, clear, put_back, write
+from hostile.altered_objects import one_of
+from hostile.runs import PATIENCE, give
+from hostile.stores import ALICE, BOB, Store
+from lib.folder import requests_in
+from lib.frames import frame, frames
+from lib.live import Doubted
+from lib.objects import record
+from lib.program import done, failed, of_verdict, sound
 
 UNREADABLE = [kind for kind in THINGS if kind not in ("nothing", "a link to a copy", "a link to nothing", "one byte too long")]
 EXTRA = (b"blob", b"one more\n")
@@ -71,7 +71,7 @@ def show_state_things(checks, program, work):
 def journaled(program, store, path):
     """A folder with a journal of some requests behind its state."""
     folder = store.copy(path)
-    session = Session(program, "--dir", folder.path)
+    session = Doubted(program, PATIENCE, "--dir", folder.path)
     turns = [(ALICE, b"init s\n"), (BOB, b"part\n\n" + record(*EXTRA)), (ALICE, b"push s\n\n" + record(*EXTRA))]
     turns += [(ALICE, b"fork r t\n"), (BOB, b"part-end r\n"), (ALICE, b"drop s\n")]
     told = [session.asked(*turn) for turn in turns]

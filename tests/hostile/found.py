@@ -1,7 +1,7 @@
 """What is found where something else stands in an object's place."""
 from typing import NamedTuple
 
-from alterations import BYTES
+from hostile.alterations import BYTES
 
 
 class Found(NamedTuple):

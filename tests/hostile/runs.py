@@ -3,7 +3,7 @@ import os
 import shutil
 import subprocess
 
-from program import Program, Ran
+from lib.program import Program, Ran
 
 NOBODY = 65534
 PATIENCE = 10

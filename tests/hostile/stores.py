@@ -3,11 +3,11 @@ import os
 import random
 import shutil
 
-from asking import History
-from folder import Folder
-from objects import stored
-from runs import give
-from state_text import Repository, Tenant, spelled
+from folders.asking import History
+from folders.state_text import Repository, Tenant, spelled
+from hostile.runs import give
+from lib.folder import Folder
+from lib.objects import stored
 
 ALICE, BOB = b"alice", b"bob"
 OBJECTS, SPARE, GREAT = 500, 40, 8

@@ -31,7 +31,7 @@ run_session() {
 
 # Sends all histories to the program.
 run_history() {
-    add_up < <("$here/real_git/history/check" "$1" || true)
+    add_up < <(cd "$here" && python3 -B -m real_git.history "$1" || true)
 }
 
 report() {

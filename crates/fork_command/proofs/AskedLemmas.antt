@@ -1,4 +1,4 @@
--- Words that ask for a command give no ground to refuse them.
+-- Words that ask for a command are not refused.
 use Rattle.std.proofs.Common.{◌≡◌, ◌≢◌, ◌∙◌, inl, inr, sym, ap, subst, arith, All, ℕ, List, [], ◌∷◌, ◌++◌, map, drop, get_or, codes, Option, Some, unwrap_or, refl}
 use Rattle.std.proofs.lemmas.List.Elements.{All-drop}
 use Rattle.clap.specs.Words.{Row, Text, first_of}

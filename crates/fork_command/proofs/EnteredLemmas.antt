@@ -1,4 +1,4 @@
--- Words in which clap finds no fault name a subcommand of the table, and give it what it needs.
+-- Words in which clap finds no fault name a subcommand of the table, and give what it needs.
 use Rattle.std.proofs.Common.{◌≡◌, Bool, true, false, cond, codes, List, [], ◌∷◌, Option, Some, None, is_some, refl, ap}
 use Rattle.std.specs.Option.{option_map, option_map_or}
 use Rattle.clap.specs.Words.{Row, Shape, Text, fault_of, first_of, subcommand_of}

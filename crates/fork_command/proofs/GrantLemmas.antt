@@ -1,4 +1,4 @@
--- A word is one grant at most.
+-- A word is at most one grant.
 use Rattle.std.proofs.Common.{◌≡◌, ◌≢◌, ℕ, suc, ◌+◌, ◌<◌, ◌≤◌, ◌^◌, true, false, All, List, [], ◌∷◌, ◌++◌, length, map, take, drop, get_or, take-append-drop, drop-cons, add-one, take_all, Bor, Option, option_map, unwrap_or, sym, ap, ◌∙◌}
 use Rattle.std.proofs.Math.Seq.{take-suc}
 use Rattle.std.proofs.lemmas.List.{map-append}

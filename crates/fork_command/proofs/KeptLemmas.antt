@@ -1,4 +1,4 @@
--- What each use of an argument keeps of the rows, a walk in which `clap` finds no fault keeps.
+-- A walk in which `clap` finds no fault keeps what each use of an argument keeps of the rows.
 use Rattle.std.proofs.Common.{◌≡◌, ◌∙◌, ◌&&◌, ap, ℕ, zero, suc, Bool, true, false, List, [], ◌∷◌, Option, Some, None, is_some, if◌then◌else◌, length, not, drop, refl, sym, subst, slice_get}
 use Rattle.std.specs.Prelude.{encode_utf8, find, fold}
 use Rattle.std.specs.Option.{option_map_or}

@@ -1,4 +1,4 @@
--- What the subcommand that clap met says.
+-- What the subcommand that clap found says.
 use Rattle.std.proofs.Common.{◌≡◌, ◌≢◌, ◌∙◌, sym, ap, subst, arith, codes, is_some, slice_index, Option, Some, None, List, [], ℕ, Bool, true}
 use Rattle.std.specs.Option.{option_map}
 use Rattle.std.specs.Str.{bytes_eq}

@@ -1,4 +1,4 @@
--- What `clap` reads of the words that a subcommand needs.
+-- What `clap` reads from the words that a subcommand needs.
 use Rattle.std.proofs.Common.{◌≡◌, ◌∙◌, sym, ap, subst, arith, ℕ, ◌≤◌, true, codes, List, Option, Some, None, is_some, Result, Ok, pos}
 use Rattle.std.specs.Option.{option_map}
 use Rattle.std.specs.Str.Parse.{ParsesUnsigned, digits_value, without_leading_plus}

@@ -1,4 +1,4 @@
--- What the command line asks for (own), by `clap`'s meaning of the words under the table.
+-- What the command line asks for (own), by `clap`'s meaning of the words in the table below.
 use Rattle.std.specs.Prelude.{◌≡◌, ◌≢◌, ◌⊎◌, ◌≤◌, ℕ, Bool, false, List, [], codes, Option, Some, is_some, option_map, pos, true, unwrap_or}
 use Rattle.std.specs.Str.Parse.{digits_value, without_leading_plus}
 use Rattle.clap.specs.Words.{IsAmong, IsSignedIn, Kinds, Row, Text, all_of, first_of, kind_of, one_of, without_minus}
@@ -19,7 +19,7 @@ use Rattle.fork_command.specs.Grant.{AreGrants, IsFirstBad, IsGrant, grant_word}
 abbrev pub type_given : List Row → List ℕ
 type_given rows = unwrap_or (first_of (codes "type") rows) (codes "blob")
 
--- the words given in the place of TENANT=LIMIT
+-- the words given as TENANT=LIMIT
 abbrev pub tenants_given : List Row → List (List ℕ)
 tenants_given rows = unwrap_or (all_of (codes "tenants") rows) []
 
@@ -40,15 +40,15 @@ pub record IsServing (rows : List Row) (path : Text) (n : ℕ) (hosting : Hostin
   pub most : n ≤ 1000000
   pub hosted : IsHosting rows hosting
 
--- a subcommand of this name was met, and this folder was given to it
+-- `clap` found a subcommand of this name, which was given this folder
 abbrev pub AsksOfFolder : Text → Option (Text × List Row) → Text → Type 0
 AsksOfFolder name met dir = (rows : List Row) × (met ≡ Some (name, rows)) × (first_of (codes "dir") rows ≡ Some dir)
 
--- the same, and this word for a tenant
+-- the same, with this word for a tenant
 abbrev pub AsksOfTenant : Text → Option (Text × List Row) → Text → Text → Type 0
 AsksOfTenant name met dir word = (rows : List Row) × (met ≡ Some (name, rows)) × (first_of (codes "dir") rows ≡ Some dir) × (first_of (codes "tenant") rows ≡ Some word)
 
--- the subcommand that `clap` met, and the words given to it, ask for this command
+-- the subcommand that `clap` found, with the words given to it, asks for this command
 abbrev pub Asks : Option (Text × List Row) → Command → Type 0
 Asks met (HashObject kind) = (rows : List Row) × (met ≡ Some (codes "hash-object", rows)) × (type_given rows ≡ type_word kind)
 Asks met (Run hosting) = (rows : List Row) × (met ≡ Some (codes "run", rows)) × IsHosting rows hosting
@@ -59,19 +59,19 @@ Asks met (AddTenant dir grant) = AsksOfTenant (codes "add-tenant") met dir.now (
 Asks met (SetLimit dir grant) = AsksOfTenant (codes "set-limit") met dir.now (grant_word grant) × IsGrant grant
 Asks met (RemoveTenant dir tenant) = AsksOfTenant (codes "remove-tenant") met dir.now tenant × IsTenantName tenant
 
--- the words have what `serve` needs: a socket, and a text that `clap` takes for N
+-- the words have what `serve` needs: a socket, and a text that `clap` reads as N
 pub record HasServeWords (rows : List Row) : Type 0 where
   pub socket : is_some (first_of (codes "socket") rows) ≡ true
   pub text : Text
   pub connections : one_of (codes "connections") rows ≡ Some (without_minus text)
   pub number : IsSignedIn (pos 1) (pos 1000000) text
 
--- the words have what the change of a tenant needs
+-- the words have what a change of a tenant needs
 pub record HasTenantWords (rows : List Row) : Type 0 where
   pub dir : is_some (first_of (codes "dir") rows) ≡ true
   pub tenant : is_some (first_of (codes "tenant") rows) ≡ true
 
--- `clap` met a subcommand of the table, and the words that it needs
+-- `clap` found a subcommand of the table with the words that it needs
 pub data IsCommandMet (met : Option (Text × List Row)) : Type 0 where
   ToHash : (rows : List Row) → met ≡ Some (codes "hash-object", rows) → IsCommandMet met
   ToRun : (rows : List Row) → met ≡ Some (codes "run", rows) → IsCommandMet met
@@ -82,40 +82,40 @@ pub data IsCommandMet (met : Option (Text × List Row)) : Type 0 where
   ToLimit : (rows : List Row) → met ≡ Some (codes "set-limit", rows) → HasTenantWords rows → IsCommandMet met
   ToRemove : (rows : List Row) → met ≡ Some (codes "remove-tenant", rows) → HasTenantWords rows → IsCommandMet met
 
--- the word given as TYPE is the type of no object
+-- the word given as TYPE is not the type of an object
 abbrev pub IsBadType : Option (Text × List Row) → Type 0
 IsBadType met = (rows : List Row) × (met ≡ Some (codes "hash-object", rows)) × ((kind : Kind) → type_given rows ≢ type_word kind)
 
--- this is the word given for a tenant and its limit, and is no grant
+-- this word was given for a tenant and its limit, and is not a grant
 abbrev pub IsNoGrant : List Row → List ℕ → Type 0
 IsNoGrant rows word = (first_of (codes "tenant") rows ≡ Some word) × ((grant : Grant) → IsGrant grant → word ≢ grant_word grant)
 
--- this is the word given for a tenant, and is no tenant's name
+-- this word was given for a tenant, and is not a tenant's name
 abbrev pub IsNoTenant : List Row → List ℕ → Type 0
 IsNoTenant rows word = (first_of (codes "tenant") rows ≡ Some word) × (IsTenantName word → ⊥)
 
--- this word is refused in the place of a tenant
+-- this word is refused as a tenant
 pub data IsBadTenant (met : Option (Text × List Row)) (word : List ℕ) : Type 0 where
-  -- the first word given to `run` or to `serve` that is no grant
+  -- the first word given to `run` or `serve` that is not a grant
   BadOfRun : (rows : List Row) → met ≡ Some (codes "run", rows) → IsFirstBad word (tenants_given rows) → IsBadTenant met word
   BadOfServe : (rows : List Row) → met ≡ Some (codes "serve", rows) → IsFirstBad word (tenants_given rows) → IsBadTenant met word
-  -- the word given to the others, which is none, or no name
+  -- the word given to one of the others, which is missing or not a name
   BadOfAdd : (rows : List Row) → met ≡ Some (codes "add-tenant", rows) → IsNoGrant rows word → IsBadTenant met word
   BadOfLimit : (rows : List Row) → met ≡ Some (codes "set-limit", rows) → IsNoGrant rows word → IsBadTenant met word
   BadOfRemove : (rows : List Row) → met ≡ Some (codes "remove-tenant", rows) → IsNoTenant rows word → IsBadTenant met word
 
--- words of this kind ask for a text of `clap`'s: its help, or the version
+-- these kinds of error ask for a text of `clap`: its help, or the version
 abbrev pub IsShown : ErrorKind → Type 0
 IsShown kind = (kind ≡ DisplayHelp) ⊎ (kind ≡ DisplayVersion)
 
--- why the words are refused: `faults` are the kinds of error that `clap` finds in them, none where it takes them
+-- why the words are refused: `faults` are the kinds of error that `clap` finds in them; there are none if it takes them
 abbrev pub IsRefused : Kinds → Option (Text × List Row) → CommandError → Type 0
 IsRefused faults met (Help error) = IsShown (kind_of error) × IsAmong (kind_of error) faults
 IsRefused faults met (Usage error) = (IsShown (kind_of error) → ⊥) × (IsAmong (kind_of error) faults ⊎ ((faults ≡ []) × IsBadType met))
 IsRefused faults met (BadTenant word) = (faults ≡ []) × IsBadTenant met word.now
 IsRefused faults met Memory = Unit {0}
 
--- an error of `clap`'s comes only of words that `clap` does not take, or of a bad TYPE
+-- `clap` reports an error only for words that it does not take, or for a bad TYPE
 abbrev pub IsFaulty : Bool → Option (Text × List Row) → CommandError → Type 0
 IsFaulty taken met (Help error) = taken ≡ false
 IsFaulty taken met (Usage error) = (taken ≡ false) ⊎ IsBadType met

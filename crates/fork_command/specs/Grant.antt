@@ -18,7 +18,7 @@ pub record AreGrants (grants : List Grant) (words : List (List ℕ)) : Type 0 wh
   pub right : All IsGrant grants
   pub spelled : words ≡ map grant_word grants
 
--- this is the first of the words that is no grant
+-- this is the first of the words that is not a grant
 pub record IsFirstBad (word : List ℕ) (words : List (List ℕ)) : Type 0 where
   pub before : List Grant
   pub behind : List (List ℕ)
@@ -26,7 +26,7 @@ pub record IsFirstBad (word : List ℕ) (words : List (List ℕ)) : Type 0 where
   pub parts : words ≡ map grant_word before ++ word ∷ behind
   pub bad : (grant : Grant) → IsGrant grant → word ≢ grant_word grant
 
--- why the words are no grants
+-- why the words are not grants
 abbrev pub IsBadGrant : List (List ℕ) → CommandError → Type 0
 IsBadGrant words (Help error) = ⊥
 IsBadGrant words (Usage error) = ⊥

@@ -4,11 +4,11 @@ use Rattle.clap.specs.Words.{App, Rule, Text, new_app, new_rule, with_rule, with
 use Rattle.clap.specs.declared.builder.ArgAction.TheVariants.{Set, Append}
 use Rattle.clap.specs.declared.builder.value_parser.ValueParser.TheVariants.{Signed}
 
--- `--NAME VALUE`, once at most
+-- `--NAME VALUE`, at most once
 abbrev pub option_rule : Text → Rule
 option_rule name = record (new_rule name) { long = Some name; action = Some Set; value_names = 1 }
 
--- the same, where it must be given
+-- the same, required
 abbrev pub needed_rule : Text → Rule
 needed_rule name = record (option_rule name) { required = true }
 
@@ -16,7 +16,7 @@ needed_rule name = record (option_rule name) { required = true }
 abbrev pub connections_rule : Rule
 connections_rule = record (needed_rule (codes "connections")) { parser = Some (Signed (pos 1) (pos 1000000)) }
 
--- a word in its place, which must be given
+-- a required word at its place
 abbrev pub word_rule : Text → Rule
 word_rule name = record (new_rule name) { action = Some Set; value_names = 1; required = true }
 
@@ -40,7 +40,7 @@ serve_app =
     (with_rule (with_rule (new_app (codes "serve")) (needed_rule (codes "socket"))) connections_rule)
     (option_rule (codes "dir"))) tenants_rule
 
--- a subcommand that is given a folder, `--dir PATH`
+-- a subcommand that takes a folder, `--dir PATH`
 abbrev pub folder_app : Text → App
 folder_app name = with_rule (new_app name) (needed_rule (codes "dir"))
 
@@ -51,7 +51,7 @@ check_app = folder_app (codes "check")
 abbrev pub upgrade_app : App
 upgrade_app = folder_app (codes "upgrade")
 
--- a subcommand that is given a folder and a tenant of it
+-- a subcommand that takes a folder and one of its tenants
 abbrev pub tenant_app : Text → App
 tenant_app name = with_rule (folder_app name) (word_rule (codes "tenant"))
 
@@ -69,10 +69,10 @@ remove_tenant_app = tenant_app (codes "remove-tenant")
 abbrev pub top_app : App
 top_app = let top = new_app (codes "forkhost") in record top { top = record top.top { subcommand_required = true; disable_help_subcommand = true; has_version = true } }
 
--- those that serve, and those that read or renew a folder
+-- the subcommands that serve, and those that read or upgrade a folder
 abbrev pub serving_app : App
 serving_app = with_subcommand (with_subcommand (with_subcommand (with_subcommand (with_subcommand top_app hash_object_app.top) run_app.top) serve_app.top) check_app.top) upgrade_app.top
 
--- and those that change its tenants
+-- the subcommands that change its tenants
 unfoldable pub table_app : App
 table_app = with_subcommand (with_subcommand (with_subcommand serving_app add_tenant_app.top) set_limit_app.top) remove_tenant_app.top

@@ -17,49 +17,49 @@ use fork_request::TenantName;
 use git_name::Kind;
 use std::alloc::Global;
 
-/// What the command line asks for. A path is as it was written.
+/// What the command line asks for. Paths are as written.
 #[derive(Debug, Drop)]
 pub enum Command<'a> {
-    /// To print the name of the object of this kind that standard input holds.
+    /// Print the name of the object of this kind that standard input holds.
     HashObject {
         kind: Kind,
     },
-    /// To serve frames from standard input to standard output.
+    /// Serve frames from standard input to standard output.
     Run {
         hosting: Hosting<'a>,
     },
-    /// To serve this many connections to a Unix socket, one after another.
+    /// Serve this many connections to a Unix socket, one after another.
     Serve {
         socket: &'a str,
         connections: u32,
         hosting: Hosting<'a>,
     },
-    /// To read all that a folder keeps, and to tell what is wrong with it.
+    /// Read all that a folder keeps and report what is wrong with it.
     Check {
         dir: &'a str,
     },
-    /// To save what a folder keeps in the newest form.
+    /// Save what a folder keeps in the newest form.
     Upgrade {
         dir: &'a str,
     },
-    /// To add a tenant to what a folder keeps.
+    /// Add a tenant to a folder.
     AddTenant {
         dir: &'a str,
         grant: Grant,
     },
-    /// To give a tenant of what a folder keeps another limit.
+    /// Change the limit of a tenant in a folder.
     SetLimit {
         dir: &'a str,
         grant: Grant,
     },
-    /// To take a tenant out of what a folder keeps, with all that it has.
+    /// Remove a tenant from a folder, with all that it has.
     RemoveTenant {
         dir: &'a str,
         tenant: TenantName,
     },
 }
 
-// What clap's refusal of the words is.
+// Why clap refuses the words.
 fn refusal<'a>(error: Error) -> CommandError<'a>
     ensures refused { (faults : Kinds) (met : Option (Text × List Row)) → HasKind faults error → IsRefused faults met result }
     ensures faulty { (taken : Bool) (met : Option (Text × List Row)) → (taken ≡ true → kind_of error ≡ ErrorKind.OutOfMemory) → IsFaulty taken met result }
@@ -71,7 +71,7 @@ fn refusal<'a>(error: Error) -> CommandError<'a>
     }
 }
 
-// The kind of object that this word names; a blob where there is none.
+// The kind of object that this word names; a blob if there is no word.
 fn kind_given(word: Option<&str>) -> Option<Kind>
     ensures found { IfSome result (λ kind. unwrap_or (option_map (λ s. s.now) word.entry) (codes "blob") ≡ type_word kind) }
     ensures none { IfNone result ((kind : Kind) → unwrap_or (option_map (λ s. s.now) word.entry) (codes "blob") ≢ type_word kind) }
@@ -102,7 +102,7 @@ fn serving<'a>(alloc: Global, matches: &ArgMatches<'a>) -> Result<Command<'a>, C
     })
 }
 
-// The folder that the words give, and the tenant with its limit.
+// The folder, and the tenant with its limit.
 fn granted<'a>(matches: &ArgMatches<'a>) -> Result<(&'a str, Grant), CommandError<'a>>
     requires words { HasTenantWords (rows_of (found_of matches.now)) }
     ensures dir { IfOk result (λ given. first_of (codes "dir") (rows_of (found_of matches.entry.now)) ≡ Some given.0.now) }
@@ -122,7 +122,7 @@ fn granted<'a>(matches: &ArgMatches<'a>) -> Result<(&'a str, Grant), CommandErro
     Ok((dir, grant))
 }
 
-// The folder that the words give, and the tenant.
+// The folder and the tenant.
 fn named<'a>(matches: &ArgMatches<'a>) -> Result<(&'a str, TenantName), CommandError<'a>>
     requires words { HasTenantWords (rows_of (found_of matches.now)) }
     ensures dir { IfOk result (λ given. first_of (codes "dir") (rows_of (found_of matches.entry.now)) ≡ Some given.0.now) }
@@ -142,7 +142,7 @@ fn named<'a>(matches: &ArgMatches<'a>) -> Result<(&'a str, TenantName), CommandE
     Ok((dir, tenant))
 }
 
-// What the words ask for that clap took; nothing where TYPE is bad.
+// What words that clap took ask for; nothing if TYPE is bad.
 fn asked<'a>(
     alloc: Global,
     matches: &ArgMatches<'a>,
@@ -207,8 +207,8 @@ fn bad_type<'a>(top: &mut clap::Command<'_>) -> CommandError<'a>
     }
 }
 
-/// What the words ask for; the first of them is the program's name. Each word in the place of a
-/// tenant is judged before any command is answered, and after all that `clap` judges.
+/// What the words ask for; the first word is the program's name. Each word given for a tenant is
+/// checked before any command is returned, and after all that `clap` checks.
 pub fn command_of<'a>(alloc: Global, words: &'a [&'a str]) -> Result<Command<'a>, CommandError<'a>>
     ensures ok { let texts = map (λ word. word.now) words.entry.now in
         IfOk result (λ command. (fault_of table_app texts ≡ []) × Asks (subcommand_of table_app texts) command) }

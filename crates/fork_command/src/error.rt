@@ -1,14 +1,14 @@
 use clap::Error;
 
-/// Why the words are no command.
+/// Why the words are not a command.
 #[derive(Debug, Drop)]
 pub enum CommandError<'a> {
-    /// Help or the version was asked for. Its text belongs on standard output, with status 0.
+    /// Help or the version was asked for. Print its text on standard output, with status 0.
     Help(Error),
-    /// A faulty command line. The text belongs on standard error, with status 2.
+    /// A usage error. Print its text on standard error, with status 2.
     Usage(Error),
-    /// The first word in the place of TENANT=LIMIT, or of TENANT, that is none. Status 2.
+    /// The first word given as TENANT=LIMIT, or as TENANT, that is not one. Status 2.
     BadTenant(&'a str),
-    /// There was no memory.
+    /// Memory ran out.
     Memory,
 }

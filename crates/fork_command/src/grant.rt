@@ -16,7 +16,7 @@ impl Grant {
     ghost use Rattle.fork_command.specs.declared.grant.Grant.{Grant};
     ghost use Rattle.fork_command.specs.Grant.{IsGrant, grant_word};
 
-    /// Reads a word TENANT=LIMIT. It takes no memory.
+    /// Reads a word TENANT=LIMIT. It allocates nothing.
     pub fn read(word: &[u8]) -> Option<Grant>
         ensures found { IfSome result (λ grant. IsGrant grant × (word.now ≡ grant_word grant)) }
         ensures none { IfNone result ((grant : Grant) → IsGrant grant → word.now ≢ grant_word grant) }

@@ -5,7 +5,7 @@ use crate::error::CommandError;
 use crate::grant::Grant;
 use std::alloc::Global;
 
-/// Reads the words, and tells the first that is no grant.
+/// Reads the words, and reports the first that is not a grant.
 pub(crate) fn grants_of<'a>(
     alloc: Global,
     words: &[&'a str],

@@ -12,14 +12,13 @@ use std::alloc::Global;
 /// What is hosted, and where it is kept.
 #[derive(Debug, Drop)]
 pub struct Hosting<'a> {
-    /// The folder that keeps the host, as it was written; where there is none the host is kept in
-    /// memory alone.
+    /// The folder that keeps the host, as written; without one the host is kept only in memory.
     pub dir: Option<&'a str>,
     /// The tenants to add, in the order of the words.
     pub tenants: Vec<Grant>,
 }
 
-// The tenants that the words give.
+// The tenants given by the words.
 fn tenants_of<'a>(alloc: Global, matches: &ArgMatches<'a>) -> Result<Vec<Grant>, CommandError<'a>>
     ensures ok { IfOk result (λ grants. AreGrants grants.items (tenants_given (rows_of (found_of matches.entry.now)))) }
     ensures err { IfErr result (IsBadGrant (tenants_given (rows_of (found_of matches.entry.now)))) }
@@ -30,7 +29,7 @@ fn tenants_of<'a>(alloc: Global, matches: &ArgMatches<'a>) -> Result<Vec<Grant>,
     }
 }
 
-// What the words give of the host.
+// What the words say about the host.
 pub(crate) fn hosting_of<'a>(
     alloc: Global,
     matches: &ArgMatches<'a>,

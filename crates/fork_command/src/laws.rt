@@ -4,8 +4,8 @@ ghost use Rattle.fork_command.specs.declared.command.Command.{Command};
 ghost use Rattle.fork_command.specs.declared.error.CommandError.{CommandError};
 ghost use Rattle.fork_command.specs.Command.{Asks, IsRefused};
 
-/// A law, and no work: words in which `clap` finds no fault, and that ask for a command, are refused
-/// for want of memory alone.
+/// A law, with no code to run: words in which `clap` finds no fault, and which ask for a command, are
+/// refused only if memory runs out.
 pub fn what_is_asked_is_not_refused()
     ensures { (met : Option (Text × List Row)) (command : Command) (error : CommandError)
         → Asks met command → IsRefused [] met error → error ≡ CommandError.Memory }

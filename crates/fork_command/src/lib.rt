@@ -1,6 +1,5 @@
-//! The command line of `forkhost`, read by `clap`.
-//! A command is answered only where `clap`'s meaning of the words asks for it, and refused, want of
-//! memory aside, only where the words ask for none.
+//! The command line of `forkhost`, read by `clap`. A command is returned only if `clap`'s meaning of
+//! the words asks for it. Words are refused only if they ask for no command, or if memory runs out.
 #![tactic(auto)]
 
 mod command;

@@ -92,7 +92,7 @@ fn serve<'a>(alloc: Global) -> Result<Command<'a>, AllocError>
         .arg(tenants(alloc))
 }
 
-// A subcommand that is given a folder.
+// A subcommand that takes a folder.
 fn of_folder<'a>(alloc: Global, name: &'a str, about: &'a str) -> Result<Command<'a>, AllocError>
     ensures table { IfOk result (λ c. app_of c ≡ folder_app name.entry.now) }
     ensures local { IfOk result (λ c. (out-Command c).has_globals ≡ false) }
@@ -102,7 +102,7 @@ fn of_folder<'a>(alloc: Global, name: &'a str, about: &'a str) -> Result<Command
         .arg(dir(alloc).required(true))
 }
 
-// A word in the place of a tenant.
+// A word given for a tenant.
 fn tenant<'a>(alloc: Global, shape: &'a str, help: &'a str) -> Arg<'a>
     ensures rule { rule_of result ≡ word_rule (codes "tenant") }
     ensures local { result.global ≡ false }
@@ -114,7 +114,7 @@ fn tenant<'a>(alloc: Global, shape: &'a str, help: &'a str) -> Arg<'a>
         .action(ArgAction::Set)
 }
 
-// A subcommand that is given a folder and a tenant of it.
+// A subcommand that takes a folder and one of its tenants.
 fn of_tenant<'a>(
     alloc: Global,
     name: &'a str,
@@ -129,7 +129,7 @@ fn of_tenant<'a>(
     of_folder(alloc, name, about)?.arg(tenant)
 }
 
-// The table with what serves, and what reads or renews a folder.
+// The table with the subcommands that serve, and those that read or upgrade a folder.
 fn serving<'a>(alloc: Global) -> Result<Command<'a>, AllocError>
     ensures table { IfOk result (λ c. app_of c ≡ serving_app) }
 {

@@ -1,4 +1,4 @@
--- What was taken of the input is a frame, or shows that no frame comes.
+-- What was taken of the input is a frame, or shows that there is none.
 use Rattle.std.proofs.Common.{◌≡◌, ◌≢◌, ℕ, ◌+◌, ◌<◌, ◌≤◌, ◌⊎◌, inl, inr, All, Option, Some, None, IfSome, List, [], ◌∷◌, ◌++◌, length, refl, sym, ap, ◌∙◌, subst, arith}
 use Rattle.std.proofs.lemmas.List.{append-nil, append_assoc, length-append}
 use Rattle.std.specs.Io.KnownBytes.{Consumes, IsAtEnd}

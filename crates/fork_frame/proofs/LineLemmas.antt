@@ -1,4 +1,4 @@
--- A frame's line is read in one way: what stands before its first SP, and a number in decimal.
+-- A frame's line is read in one way: what precedes its first SP, and a number in decimal.
 use Rattle.std.proofs.Common.{◌≡◌, ◌≢◌, ℕ, ◌<◌, ◌≤◌, ◌^◌, ◌+◌, true, false, All, List, [], ◌∷◌, ◌++◌, codes, length, slice_index, Option, option_map, unwrap_or, refl, sym, ap, ◌∙◌, arith, rules}
 use Rattle.std.specs.Fmt.{decimal}
 use Rattle.std.specs.Str.Parse.{AllDigits, digits_value}

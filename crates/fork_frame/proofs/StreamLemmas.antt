@@ -1,4 +1,4 @@
--- The frames of a session: none at first, one more at each reading, and then the end of the input.
+-- The frames of a session: none at first, one more with each reading, and then the end of the input.
 use Rattle.std.proofs.Common.{◌≡◌, ℕ, List, [], ◌∷◌, ◌++◌, Option, None, Some, IfSome, refl, sym, ap₂, ◌∙◌}
 use Rattle.std.specs.Prelude.{flat_map}
 use Rattle.std.specs.Io.KnownBytes.{Consumes, IsAtEnd}

@@ -1,4 +1,4 @@
--- Bytes of which a front was written.
+-- Bytes of which a prefix was written.
 use Rattle.std.proofs.Common.{◌≡◌, ◌++◌, ◌-◌, ℕ, List, Option, append_assoc, ap, arith, drop, length, length-drop, sym, take, ◌∙◌}
 use Rattle.std.proofs.lemmas.List.{take_all, take-append-drop}
 use Rattle.std.specs.Io.KnownBytes.{Appends}

@@ -4,7 +4,7 @@ use Rattle.fork_request.specs.Names.{IsTenantName}
 use Rattle.fork_frame.specs.declared.asker.Asker.{Asker}
 use Rattle.fork_frame.specs.declared.asker.Asker.TheVariants.{Tenant, Host}
 
--- the word that a line has for who asks
+-- the word that a line uses for who asks
 abbrev pub asker_word : Asker → List ℕ
 asker_word (Tenant name) = name
 asker_word Host = codes "@host"

@@ -1,4 +1,4 @@
--- Frames of requests (own): a line, LF, and the payload. An input is frames, one after another.
+-- Frames of requests (own): a line, LF, and the payload. An input is a sequence of frames.
 use Rattle.std.specs.Prelude.{◌≡◌, ◌≢◌, ℕ, ◌≤◌, All, List, [], ◌∷◌, ◌++◌, length, flat_map}
 use Rattle.fork_frame.specs.declared.frame.Frame.{Frame}
 use Rattle.fork_frame.specs.declared.ended.Ended.{Ended}
@@ -11,12 +11,12 @@ use Rattle.fork_request.specs.declared.request.TheConstants.{MAX_PAYLOAD}
 abbrev pub frame_bytes : Frame → List ℕ
 frame_bytes frame = line_text (record { asker = frame.asker; len = length frame.payload }) ++ 10 ∷ frame.payload
 
--- who asks may ask, and the payload isn't too long
+-- the asker has a valid name, and the payload is not too long
 pub record IsFrame (frame : Frame) : Type 0 where
   pub named : IsAsker frame.asker
   pub fits : length frame.payload ≤ MAX_PAYLOAD
 
--- there is more input, and it begins with no frame
+-- there is more input, and it does not begin with a frame
 pub record IsBad (input : List ℕ) : Type 0 where
   pub some : 1 ≤ length input
   pub none : (frame : Frame) (rest : List ℕ) → IsFrame frame → input ≢ frame_bytes frame ++ rest
@@ -31,7 +31,7 @@ abbrev pub EndsAt : Ended → List ℕ → Type 0
 EndsAt Clean rest = rest ≡ []
 EndsAt BadFrame rest = IsBad rest
 
--- the input is these frames, and ends so
+-- the input is these frames, and ends this way
 pub record IsRequestStream (input : List ℕ) (frames : List Frame) (ended : Ended) : Type 0 where
   pub came : List ℕ
   pub rest : List ℕ
@@ -39,10 +39,10 @@ pub record IsRequestStream (input : List ℕ) (frames : List Frame) (ended : End
   pub right : AreFrames frames came
   pub ends : EndsAt ended rest
 
--- bytes begin with one frame at most
+-- bytes begin with at most one frame
 abbrev pub OneFrame : Type 0
 OneFrame = (f g : Frame) (r s : List ℕ) → IsFrame f → IsFrame g → frame_bytes f ++ r ≡ frame_bytes g ++ s → (f ≡ g) × (r ≡ s)
 
--- an input is one list of frames at most, and ends in one way
+-- an input is at most one list of frames, and ends in one way
 abbrev pub OneStream : Type 0
 OneStream = (input : List ℕ) (fs gs : List Frame) (a b : Ended) → IsRequestStream input fs a → IsRequestStream input gs b → (fs ≡ gs) × (a ≡ b)

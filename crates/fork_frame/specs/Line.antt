@@ -8,7 +8,7 @@ use Rattle.fork_request.specs.declared.request.TheConstants.{MAX_PAYLOAD}
 abbrev pub line_text : Line → List ℕ
 line_text line = asker_word line.asker ++ 32 ∷ decimal line.len
 
--- the text is this line's: who asks may ask, and the length is allowed
+-- the text is this line's: the asker has a valid name, and the length is allowed
 pub record IsFrameLine (line : Line) (text : List ℕ) : Type 0 where
   pub named : IsAsker line.asker
   pub fits : line.len ≤ MAX_PAYLOAD

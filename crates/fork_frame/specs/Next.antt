@@ -1,4 +1,4 @@
--- What reading the next frame takes of a reader's bytes: `old` are those before, `new` those after, where they are known.
+-- What reading the next frame takes from a reader's bytes: `old` are the bytes before, `new` those after, if they are known.
 use Rattle.std.specs.Prelude.{◌≡◌, ℕ, ◌≤◌, ◌<◌, List, ◌∷◌, ◌++◌, length, Option, IfSome}
 use Rattle.std.specs.Io.KnownBytes.{Keeps, Consumes, IsAtEnd}
 use Rattle.fork_frame.specs.declared.line.Line.{Line}
@@ -8,19 +8,20 @@ use Rattle.fork_frame.specs.Line.{IsFrameLine}
 use Rattle.fork_frame.specs.Frame.{IsFrame, IsBad, frame_bytes}
 use Rattle.fork_frame.specs.declared.text.TheConstants.{LONGEST}
 
--- so much may be read before it is known that no frame comes: as many bytes as are looked at for an LF, or a right line, LF, and too short a payload
+-- how much may be read before it is known that there is no frame: as many bytes as are searched for an LF, or a valid line, LF, and
+-- too short a payload
 pub data IsEnough (front : List ℕ) : Type 0 where
   OfLine : length front ≤ LONGEST → IsEnough front
   OfPayload : (line : Line) (text payload : List ℕ) → IsFrameLine line text → length payload < line.len → front ≡ text ++ 10 ∷ payload → IsEnough front
 
--- no frame comes, and no more was read than shows it
+-- there is no frame, and no more was read than shows it
 pub record FindsNoFrame (old new : Option (List ℕ)) : Type 0 where
   pub bad : IfSome old IsBad
   pub front : List ℕ
   pub taken : Consumes old new front
   pub enough : IsEnough front
 
--- a right line comes, LF, and the frame is to have a payload
+-- a valid line and its LF come next, and the frame has a payload
 pub record BeginsFrame (input : List ℕ) : Type 0 where
   pub line : Line
   pub text : List ℕ
@@ -29,7 +30,7 @@ pub record BeginsFrame (input : List ℕ) : Type 0 where
   pub some : 1 ≤ line.len
   pub parts : input ≡ text ++ 10 ∷ rest
 
--- a frame was taken, and nothing more; or there was nothing; or no frame comes
+-- a frame was taken, and nothing more; or the input was at its end; or there is no frame
 abbrev pub IsNext : Option (List ℕ) → Option (List ℕ) → Next → Type 0
 IsNext old new (Frame frame) = IsFrame frame × Consumes old new (frame_bytes frame)
 IsNext old new End = Keeps old new × IsAtEnd old

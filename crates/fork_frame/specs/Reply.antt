@@ -1,4 +1,4 @@
--- What goes out (own): the frames of replies, and a last line where the input went on with no frame.
+-- What is sent (own): the frames of replies, and a last line if the input continued with something that is not a frame.
 use Rattle.std.specs.Prelude.{◌≡◌, ◌≢◌, ℕ, ◌<◌, ◌^◌, List, [], ◌∷◌, ◌++◌, Option, length, codes, decimal}
 use Rattle.std.specs.Io.KnownBytes.{Appends}
 use Rattle.fork_frame.specs.declared.ended.Ended.{Ended}
@@ -8,19 +8,19 @@ use Rattle.fork_frame.specs.declared.ended.Ended.TheVariants.{Clean, BadFrame}
 abbrev pub reply_frame : List ℕ → List ℕ
 reply_frame bytes = decimal (length bytes) ++ 10 ∷ bytes
 
--- what goes out last
+-- what is sent last
 abbrev pub last_line : Ended → List ℕ
 last_line Clean = []
 last_line BadFrame = codes "! bad-frame\n"
 
--- the known bytes grew by a front of these, and by nothing else
+-- the known bytes grew by a prefix of these, and by nothing else
 pub record WritesFront (old new : Option (List ℕ)) (bytes : List ℕ) : Type 0 where
   pub front : List ℕ
   pub rest : List ℕ
   pub parts : bytes ≡ front ++ rest
   pub written : Appends old new front
 
--- bytes begin with one reply at most
+-- bytes begin with at most one reply
 abbrev pub OneReply : Type 0
 OneReply = (a b r s : List ℕ) → length a < 2 ^ 64 → length b < 2 ^ 64 → reply_frame a ++ r ≡ reply_frame b ++ s → (a ≡ b) × (r ≡ s)
 

@@ -1,8 +1,8 @@
 /// How a session ends.
 #[derive(Clone, Copy, Debug, PartialEq, Eq)]
 pub enum Ended {
-    /// The input ends behind a whole frame, or is empty.
+    /// The input ends after a whole frame, or is empty.
     Clean,
-    /// What comes next in the input is no frame.
+    /// What comes next is not a frame.
     BadFrame,
 }

@@ -3,15 +3,15 @@
 pub enum FrameFault {
     /// The reader failed.
     Read,
-    /// There was no memory for the payload.
+    /// Memory for the payload ran out.
     Memory,
 }
 
-/// Why a reply did not go out.
+/// Why a reply was not sent.
 #[derive(Clone, Copy, Debug, PartialEq, Eq)]
 pub enum ReplyFault {
-    /// There was no memory for the reply's bytes; nothing was written.
+    /// Memory for the reply's bytes ran out; nothing was written.
     Memory,
-    /// The writer failed. A front of the frame was written.
+    /// The writer failed. It may have written a prefix of the frame.
     Write,
 }

@@ -10,27 +10,27 @@ use fork_request::ByteString;
 use std::alloc::Global;
 use std::io::Read;
 
-/// A request as it came.
+/// A request as received.
 #[derive(Debug, Drop)]
 pub struct Frame {
     pub asker: Asker,
     pub payload: ByteString,
 }
 
-/// What stands next in the input.
+/// What comes next in the input.
 #[derive(Debug, Drop)]
 pub enum Next {
-    /// A frame, which was taken.
+    /// A frame. It was taken.
     Frame(Frame),
-    /// Nothing.
+    /// The end.
     End,
-    /// No frame. Nothing behind it is to be read as one.
+    /// Not a frame. Nothing after it may be read as one.
     Bad,
 }
 
-/// Takes the next frame, byte for byte and no more, and tries an interrupted read again. The line is
-/// read a byte at a time, so the reader had better be buffered. Memory is taken for the payload as it
-/// comes. After an `Err` nothing more is to be read as a frame.
+/// Takes the next frame and not a byte more; retries an interrupted read. The line is read one byte at
+/// a time, so the reader should be buffered. Memory for the payload is allocated as it is received.
+/// After an `Err` nothing more may be read as a frame.
 pub fn next_frame<R: Read>(alloc: Global, reader: &mut R) -> Result<Next, FrameFault>
     ensures next { IfOk result (λ next. IsNext (R.remaining reader.old) (R.remaining reader.new) next) }
     ensures memory { IfErr result (λ fault. fault ≡ FrameFault.Memory → IfSome (R.remaining reader.old) BeginsFrame) }

@@ -1,15 +1,15 @@
 ghost use Rattle.fork_frame.specs.Frame.{OneFrame, OneStream};
 ghost use Rattle.fork_frame.specs.Reply.{NoReplyIsLast, OneReply};
 
-/// The grammar of frames is unambiguous: bytes begin with one frame at most, and an input is one list
-/// of requests, and ends in one way.
+/// The grammar of frames is unambiguous: bytes begin with at most one frame, and an input is one list
+/// of requests with one end.
 pub fn same_bytes_are_same_requests()
     ensures frame { OneFrame }
     ensures stream { OneStream }
 {}
 
-/// What goes out can be read in one way: bytes begin with one reply at most, and the line for a bad
-/// frame begins none.
+/// What is sent can be read in only one way: bytes begin with at most one reply, and no reply begins as
+/// the line for a bad frame does.
 pub fn same_bytes_are_same_replies()
     ensures reply { OneReply }
     ensures last { NoReplyIsLast }

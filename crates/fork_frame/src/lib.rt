@@ -1,5 +1,5 @@
-//! Frames: requests are read one at a time from any reader, and replies written to any writer.
-//! The same bytes are always the same requests, and no more is read than the next frame has.
+//! Frames: reads requests one at a time from any reader, and writes replies to any writer. The same
+//! bytes are always the same requests, and no more is read than the next frame has.
 #![tactic(auto)]
 
 mod asker;

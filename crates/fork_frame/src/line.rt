@@ -13,7 +13,7 @@ pub struct Line {
     pub len: usize,
 }
 
-// Who this word says asks.
+// Who asks, by this word.
 fn asker_of(word: &[u8]) -> Option<Asker>
     ensures found { IfSome result (λ asker. IsAsker asker × (word.now ≡ asker_word asker)) }
     ensures none { IfNone result ((asker : Asker) → IsAsker asker → word.now ≢ asker_word asker) }
@@ -31,7 +31,7 @@ impl Line {
     ghost use Rattle.fork_frame.specs.declared.line.Line.{Line};
     ghost use Rattle.fork_frame.specs.Line.{IsFrameLine};
 
-    /// Reads the line, given without its LF. It takes no memory.
+    /// Reads a line, given without its LF. It allocates nothing.
     pub fn read(text: &[u8]) -> Option<Line>
         ensures found { IfSome result (λ line. IsFrameLine line text.now) }
         ensures none { IfNone result ((line : Line) → ¬ IsFrameLine line text.now) }

@@ -7,8 +7,8 @@ use fork_request::ByteString;
 use std::alloc::Global;
 use std::io::Read;
 
-/// Takes a payload of this length, or none where the input ends before. Memory is taken for what
-/// came and for one read more, never for all that `len` promises.
+/// Takes a payload of this length, or nothing if the input ends before. Allocates for what was received
+/// and for one read more, never for all that `len` promises.
 pub(crate) fn take_payload<R: Read>(
     alloc: Global,
     reader: &mut R,

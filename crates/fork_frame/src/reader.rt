@@ -8,22 +8,21 @@ use crate::fault::FrameFault;
 use crate::text::{LONGEST, Text};
 use std::io::{ErrorKind, Read};
 
-/// What stands before the next LF.
+/// What comes before the next LF.
 #[derive(Debug, Drop)]
 pub(crate) enum Taken {
-    /// A line and its LF were taken.
+    /// A line. It and its LF were taken.
     Line(Text),
-    /// There is nothing more.
+    /// The end.
     Nothing,
-    /// No LF came within the bytes that are looked at, or before the end.
+    /// There is no LF within the bytes that are searched, or before the end.
     NoLine,
 }
 
-// A read asks for so many bytes at the most: more than a buffered reader keeps, so that they come past
-// its buffer.
+// The most bytes of one read: more than a buffered reader keeps, so that they bypass its buffer.
 pub(crate) const CHUNK: usize = 65536;
 
-/// One read, tried again where a signal interrupts it.
+/// One read, retried if a signal interrupts it.
 pub fn read_some<R: Read>(reader: &mut R, buf: &mut [u8]) -> Result<usize, FrameFault>
     ensures bound { ReadsAtMost result buf.new }
     ensures bytes { ReadConsumes (R.remaining reader.old) (R.remaining reader.new) result buf.new }
@@ -57,7 +56,8 @@ fn read_byte<R: Read>(reader: &mut R) -> Result<Option<u8>, FrameFault>
     Ok(Some(one[0]))
 }
 
-/// Adds up to so many bytes, and says how many; none only at the end. They are read where they stay.
+/// Appends up to this many bytes and returns how many; none only at the end. They are read into their
+/// final place.
 pub(crate) fn read_onto<R: Read>(
     reader: &mut R,
     most: usize,
@@ -78,7 +78,7 @@ pub(crate) fn read_onto<R: Read>(
     Ok(n)
 }
 
-/// Takes a line. It takes no memory.
+/// Takes a line. It allocates nothing.
 pub(crate) fn take_line<R: Read>(reader: &mut R) -> Result<Taken, FrameFault>
     ensures taken { IfOk result (λ taken. TakesLine (R.remaining reader.old) (R.remaining reader.new) taken) }
     ensures cause { IfErr result (λ fault. fault ≡ FrameFault.Read) }

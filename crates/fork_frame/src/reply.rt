@@ -10,7 +10,7 @@ use fork_request::Reply;
 use std::alloc::Global;
 use std::io::Write;
 
-// Writes all of it, so that the peer has it before more is read.
+// Writes all of it and flushes, so that the peer has it before more is read.
 fn send<W: Write>(writer: &mut W, bytes: &[u8]) -> Result<(), ReplyFault>
     ensures ok { OnOk result (Appends (W.contents writer.old) (W.contents writer.new) bytes.now) }
     ensures err { OnErr result (WritesFront (W.contents writer.old) (W.contents writer.new) bytes.now) }
@@ -23,7 +23,7 @@ fn send<W: Write>(writer: &mut W, bytes: &[u8]) -> Result<(), ReplyFault>
     Ok(())
 }
 
-/// Sends the frame of a reply with these bytes, and flushes. It takes no memory.
+/// Sends the frame of a reply with these bytes, and flushes. It allocates nothing.
 pub fn send_bytes<W: Write>(writer: &mut W, bytes: &[u8]) -> Result<(), ReplyFault>
     ensures ok { OnOk result (Appends (W.contents writer.old) (W.contents writer.new) (reply_frame bytes.now)) }
     ensures err { OnErr result (WritesFront (W.contents writer.old) (W.contents writer.new) (reply_frame bytes.now)) }
@@ -33,10 +33,10 @@ pub fn send_bytes<W: Write>(writer: &mut W, bytes: &[u8]) -> Result<(), ReplyFau
     send(writer, bytes)
 }
 
-// What stands before the data of a reply that has some.
+// What comes before a reply's data.
 const OK: &[u8] = b"ok\n";
 
-// Sends the frame of a reply whose data this is, written from where it lies, and flushes.
+// Sends the frame of a reply with this data, without copying it, and flushes.
 fn send_data<W: Write>(writer: &mut W, text: &[u8]) -> Result<(), ReplyFault>
     ensures ok { OnOk result (Appends (W.contents writer.old) (W.contents writer.new) (reply_frame (codes "ok\n" ++ text.now))) }
     ensures err { OnErr result (WritesFront (W.contents writer.old) (W.contents writer.new) (reply_frame (codes "ok\n" ++ text.now))) }
@@ -47,7 +47,7 @@ fn send_data<W: Write>(writer: &mut W, text: &[u8]) -> Result<(), ReplyFault>
     send(writer, text)
 }
 
-/// Sends the frame of a reply, and flushes. Memory is taken for the bytes of a reply that has no data.
+/// Sends the frame of a reply, and flushes. Allocates only for a reply that has no data.
 pub fn send_reply<W: Write>(alloc: Global, writer: &mut W, reply: Reply) -> Result<(), ReplyFault>
     ensures ok { OnOk result (Appends (W.contents writer.old) (W.contents writer.new) (reply_frame (bytes_of reply))) }
     ensures err { OnErr result (WritesFront (W.contents writer.old) (W.contents writer.new) (reply_frame (bytes_of reply))) }
@@ -62,7 +62,7 @@ pub fn send_reply<W: Write>(alloc: Global, writer: &mut W, reply: Reply) -> Resu
     send_bytes(writer, bytes.as_slice())
 }
 
-/// Tells the peer that what came is no frame, and flushes.
+/// Tells the peer that its bytes were not a frame, and flushes.
 pub fn send_bad_frame<W: Write>(writer: &mut W) -> Result<(), ReplyFault>
     ensures ok { OnOk result (Appends (W.contents writer.old) (W.contents writer.new) (last_line Ended.BadFrame)) }
     ensures err { OnErr result (WritesFront (W.contents writer.old) (W.contents writer.new) (last_line Ended.BadFrame)) }

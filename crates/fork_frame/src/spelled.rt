@@ -8,7 +8,7 @@ use crate::frame::Frame;
 use std::io;
 use std::io::Write;
 
-// The word that a line has for who asks.
+// The word that a line uses for who asks.
 fn word_of(asker: &Asker) -> &[u8]
     ensures { result.now ≡ asker_word asker.now }
 {
@@ -18,7 +18,8 @@ fn word_of(asker: &Asker) -> &[u8]
     }
 }
 
-/// Writes a frame as it came: a frame has one spelling. It takes no memory, and flushes nothing.
+/// Writes a frame as it was received: a frame has one spelling. It allocates nothing and does not
+/// flush.
 pub fn write_frame<W: Write>(writer: &mut W, frame: &Frame) -> io::Result<()>
     ensures { OnOk result (Appends (W.contents writer.old) (W.contents writer.new) (frame_bytes frame.now)) }
 {

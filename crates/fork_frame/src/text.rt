@@ -3,10 +3,10 @@ ghost use Rattle.fork_frame.specs.declared.text.TheConstants.{LONGEST};
 
 use std::marker::Model;
 
-/// The most bytes of a line that are looked at for its LF. The longest right line has one less, and LF.
+/// How many bytes of a line are searched for its LF. The longest valid line has one less, and LF.
 pub(crate) const LONGEST: usize = 41;
 
-/// The bytes of a line as they come, on the stack.
+/// The bytes of a line as they are received, on the stack.
 #[derive(Debug, Drop)]
 pub(crate) struct Text {
     bytes: [u8; LONGEST],

@@ -1,4 +1,4 @@
-// Bytes that go out, of which all is known that was written.
+// Writing, with a record of all that was written.
 ghost use Rattle.std.specs.Prelude.{◌≡◌, ◌∷◌, ◌++◌, [], IfErr, OnErr, OnOk, decimal};
 ghost use Rattle.std.specs.Io.KnownBytes.{Appends, WriteAppends};
 ghost use Rattle.std.specs.Io.{WritesAtMost};
@@ -8,7 +8,7 @@ use crate::fault::ReplyFault;
 use itoa::Buffer;
 use std::io::{ErrorKind, Write};
 
-// One write, tried again where a signal interrupts it.
+// One write, retried if a signal interrupts it.
 fn write_some<W: Write>(writer: &mut W, bytes: &[u8]) -> Result<usize, ReplyFault>
     ensures bound { WritesAtMost result bytes.now }
     ensures bytes { WriteAppends (W.contents writer.old) (W.contents writer.new) result bytes.now }
@@ -27,7 +27,7 @@ fn write_some<W: Write>(writer: &mut W, bytes: &[u8]) -> Result<usize, ReplyFaul
     Err(ReplyFault::Write)
 }
 
-// Writes all of it. Where that fails, a front of it was written.
+// Writes all of it. If that fails, a prefix was written.
 pub(crate) fn put<W: Write>(writer: &mut W, bytes: &[u8]) -> Result<(), ReplyFault>
     ensures ok { OnOk result (Appends (W.contents writer.old) (W.contents writer.new) bytes.now) }
     ensures err { OnErr result (WritesFront (W.contents writer.old) (W.contents writer.new) bytes.now) }
@@ -44,7 +44,7 @@ pub(crate) fn put<W: Write>(writer: &mut W, bytes: &[u8]) -> Result<(), ReplyFau
     Ok(())
 }
 
-// Writes the line that tells a reply's length.
+// Writes the line that gives a reply's length.
 pub(crate) fn put_length<W: Write>(writer: &mut W, len: usize) -> Result<(), ReplyFault>
     ensures ok { OnOk result (Appends (W.contents writer.old) (W.contents writer.new) (decimal len ++ 10 ∷ [])) }
     ensures err { OnErr result (WritesFront (W.contents writer.old) (W.contents writer.new) (decimal len ++ 10 ∷ [])) }

@@ -1,4 +1,4 @@
--- What a census tells between the steps of a run, and what a collection there leaves.
+-- What a census reports between the steps of a run, and what a collection there leaves.
 use Rattle.std.proofs.Common.{◌≡◌, ◌⊎◌, inl, inr, ℕ, true, List, [], ◌∷◌, ◌++◌, Option, None, Some, length, arith, refl, sym, ap, subst, ◌∙◌}
 use Rattle.std.specs.FinMap.{get}
 use Rattle.std.specs.List.{AllByRecursion}

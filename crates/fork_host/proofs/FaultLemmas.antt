@@ -1,4 +1,4 @@
--- Which host faults came along a run.
+-- Which host faults were reported in a run.
 use Rattle.std.proofs.Common.{◌≡◌, ◌≢◌, ◌⊎◌, inl, inr, ℕ, ◌≤◌, arith, ◌++◌, ◌∷◌, [], List, sym, ap, ◌∙◌}
 use Rattle.std.specs.Prelude.{Contains}
 use Rattle.std.specs.List.{AllByRecursion}

@@ -1,4 +1,4 @@
--- What a request to fork an offer comes to by what it meets.
+-- The result of a request to fork an offer, by what it meets.
 use Rattle.std.proofs.Common.{◌≡◌, ℕ, true, List, Some, None, sym, ◌∙◌}
 use Rattle.std.specs.FinMap.{get}
 use Rattle.git_reftx.specs.Repository.{Repository}

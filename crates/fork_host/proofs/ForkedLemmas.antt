@@ -1,4 +1,4 @@
--- What becomes of an offer that is forked: of the vault, of what is staged, of the view, and which faults may come.
+-- The effect of forking an offer: on the vault, on what is staged, on the view, and which faults may occur.
 use Rattle.std.proofs.Common.{◌≡◌, ◌⊎◌, inl, inr, ℕ, ◌+◌, ◌≤◌, ◌<◌, Bool, true, false, cond, IsTrue, List, [], Option, Some, None, refl, sym, ap, subst, ◌∙◌, is_some, arith}
 use Rattle.std.specs.Prelude.{Contains, nat_le, nat_lt}
 use Rattle.std.specs.Option.{option_map}

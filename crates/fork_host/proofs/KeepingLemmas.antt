@@ -1,4 +1,4 @@
--- What is put behind the others of a state, in order.
+-- What is appended to a state, in order.
 use Rattle.std.proofs.Common.{◌≡◌, ℕ, ◌<◌, ◌≤◌, List, [], ◌∷◌, ◌++◌, Some, refl, sym, ap, subst, ◌∙◌, get_or, length, map, length-append, arith}
 use Rattle.std.specs.Prelude.{All, T}
 use Rattle.std.proofs.lemmas.List.{append_assoc, length-map, map-append}

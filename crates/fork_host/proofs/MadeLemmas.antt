@@ -1,4 +1,4 @@
--- Offers as they are kept, as they are shown, and as a state tells them.
+-- Offers as they are kept, as they are shown, and as a state describes them.
 use Rattle.std.proofs.Common.{◌≡◌, ℕ, Bool, true, false, cond, List, [], ◌∷◌, ◌++◌, Option, None, Some, refl, sym, ap, ◌∙◌, is_some, length, map, suc, codes, nat_le, not, ◌&&◌, ◌<◌, ◌≤◌, le-leb}
 use Rattle.std.proofs.lemmas.Bool.{lt-leb}
 use Rattle.std.specs.Option.{option_map}

@@ -1,4 +1,4 @@
--- Names that ascend are known by what is among them.
+-- A list of ascending names is determined by its members.
 use Rattle.std.proofs.Common.{◌≡◌, ℕ, Bool, true, false, List, Option, None, Some, refl, sym, ap, ◌∙◌, is_some}
 use Rattle.std.proofs.lemmas.Map.Lookups.{btree_set_from_contains}
 use Rattle.std.specs.FinMap.{FinMap, contains_key, contains_key-keys, get, keys}

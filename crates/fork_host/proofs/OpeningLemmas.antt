@@ -1,4 +1,4 @@
--- What opens an upload again is what came, over an honest store.
+-- Over an honest store, what opens an upload again is what was received.
 use Rattle.std.proofs.Common.{◌≡◌, inl, inr, Result, Ok, Err, ℕ, ◌+◌, ◌<◌, Bool, true, IsTrue, List, [], ◌∷◌, ◌++◌, refl, sym, ap, ap₂, append_assoc, subst, ◌∙◌, length, get_or, take, map}
 use Rattle.std.specs.Prelude.{IfErr}
 use Rattle.std.specs.FinMap.{contains_key}

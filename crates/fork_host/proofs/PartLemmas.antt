@@ -1,4 +1,4 @@
--- Rows of uploads: a piece comes, the upload is at its end, or it goes.
+-- Rows of uploads: a piece is received, the upload ends, or it is discarded.
 use Rattle.std.proofs.Common.{◌≡◌, ℕ, ◌+◌, ◌-◌, ◌≤◌, Bool, true, false, cond, IsTrue, List, [], ◌++◌, Option, None, Some, Result, Ok, Err, refl, sym, ap, subst, ◌∙◌, is_some, length, length-append, arith}
 use Rattle.std.specs.Prelude.{Contains, IfErr, IfOk, nat_lt}
 use Rattle.std.proofs.lemmas.Bool.Decides.{nat_tests}

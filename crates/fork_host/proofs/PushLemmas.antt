@@ -1,4 +1,4 @@
--- Rows of pushes: what a stream holds, and what a row comes to that ends the upload.
+-- Rows of pushes: what a stream holds, and the result of a row that ends the upload.
 use Rattle.std.proofs.Common.{◌≡◌, ℕ, true, false, cond, List, [], ◌∷◌, Option, Some, Result, Ok, Err, sym, ap, ◌∙◌, is_some, map}
 use Rattle.std.specs.Prelude.{IfErr, IfOk}
 use Rattle.git_name.specs.Object.{Object, object_name}

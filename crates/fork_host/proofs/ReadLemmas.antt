@@ -1,4 +1,4 @@
--- What a source tells of what a read of the vault gave.
+-- What a source reports of a read of the vault.
 use Rattle.std.proofs.Common.{◌≡◌, ◌≢◌, ℕ, Option, Some, Result, Ok, Err, refl, sym, subst, ap, ◌∙◌}
 use Rattle.std.specs.Prelude.{IfErr, IfOk}
 use Rattle.std.specs.Result.{IsOk, is_ok}

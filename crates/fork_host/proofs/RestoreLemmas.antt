@@ -1,4 +1,4 @@
--- Objects that a tenant sees again, as they stand on the store and as they are judged.
+-- Objects that a tenant sees again, as they are on the store and as they are judged.
 use Rattle.std.proofs.Common.{◌≡◌, ◌⊎◌, inl, inr, ℕ, ◌<◌, Bool, true, false, Option, None, Some, List, [], ◌∷◌, refl, sym, ap, subst, ◌∙◌, is_some}
 use Rattle.std.specs.Prelude.{Contains, ◌||◌}
 use Rattle.std.specs.Cmp.{eq_by_cmp_equiv}

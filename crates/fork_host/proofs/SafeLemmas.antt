@@ -1,4 +1,4 @@
--- What names, kinds and lengths decide of an answer.
+-- What names, kinds and lengths determine of an answer.
 use Rattle.std.proofs.Common.{◌≡◌, ℕ, ◌≤◌, true, IsTrue, List, [], Option, None, Some, refl, sym, ap, subst, ◌∙◌}
 use Rattle.std.specs.Option.{option_map}
 use Rattle.std.specs.FinMap.{contains_key, get, insert, len, retain_keys}

@@ -1,4 +1,4 @@
--- The shape of a view does not tell its upload, and it tells its offers.
+-- The shape of a view determines its offers, and not its upload.
 use Rattle.std.proofs.Common.{◌≡◌, Option, None, Some, refl, sym, ap, ◌∙◌}
 use Rattle.std.specs.Option.{option_map}
 use Rattle.fork_model.specs.Answer.{without_upload}

@@ -1,4 +1,4 @@
--- A step from state to state, as the calls below it make it, and a run of steps.
+-- A step from state to state, as the calls in it make it, and a run of steps.
 use Rattle.std.proofs.Common.{◌≡◌, ◌≢◌, ◌⊎◌, ℕ, false, true, List, [], ◌∷◌, ◌++◌, Some, length, arith, refl, sym, ap, subst, ◌∙◌}
 use Rattle.std.specs.FinMap.{get}
 use Rattle.std.specs.List.{AllByRecursion}

@@ -1,4 +1,4 @@
--- What a push that was judged comes to.
+-- The result of a push that was judged.
 use Rattle.std.proofs.Common.{◌≡◌, ℕ, true, false, inl, List, [], Option, Some, None, Result, Ok, Err, refl, sym, ap, subst, ◌∙◌, is_some, map}
 use Rattle.std.specs.Option.{option_or}
 use Rattle.std.specs.FinMap.{get, insert}

@@ -1,4 +1,4 @@
--- Values that are found, and maps that are as they were.
+-- Values that are found, and maps that are unchanged.
 use Rattle.std.proofs.Common.{◌≡◌, ℕ, Bool, true, false, cond, List, Option, Some, None, is_some, Result, Ok, Err, refl, ap, ◌∙◌}
 use Rattle.std.specs.Prelude.{IfErr}
 use Rattle.std.specs.Ordering.{eq_by_cmp}

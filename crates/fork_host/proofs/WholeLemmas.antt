@@ -1,4 +1,4 @@
--- States stay whole: where tenants come, and where one is answered.
+-- States stay whole: when tenants are added, and when one is answered.
 use Rattle.std.proofs.Common.{◌≡◌, ◌≢◌, inl, inr, ℕ, ◌+◌, ◌<◌, ◌≤◌, Bool, true, false, cond, List, Option, None, Some, refl, sym, ap, subst, ◌∙◌, is_some}
 use Rattle.std.specs.Option.{option_map, unwrap_or}
 use Rattle.std.specs.Cmp.{eq_by_cmp_equiv}

@@ -1,4 +1,4 @@
--- What stands between the steps of a run (own): what a census tells there, and what a collection leaves.
+-- What holds between the steps of a run (own): what a census reports there, and what a collection leaves.
 use Rattle.std.specs.Prelude.{◌≡◌, ◌⊎◌, ◌++◌, ℕ, true, List, [], ◌∷◌, length, Contains}
 use Rattle.std.specs.List.{AllByRecursion}
 use Rattle.git_name.specs.Object.{Object}
@@ -20,13 +20,13 @@ abbrev pub BringsNothing : Event → Type 0
 BringsNothing (Asks tenant ask) = (view : View) → sent_by view ask ≡ []
 BringsNothing (HostAsks request) = ⊥
 
--- behind such requests a census tells how many names were catalogued before them, whatever comes behind it
+-- after such requests a census reports how many names were catalogued before them, whatever follows it
 abbrev pub CountsWhatStood : Type 0
 CountsWhatStood = (old new : HostState) (front back : List Event) (told after : List Reply) (text : List ℕ) → IsRun old (front ++ HostAsks Census ∷ back) (told ++ Done text ∷ after) new → length told ≡ length front
     → AllByRecursion BringsNothing front → text ≡ number_line (length old.vault.places.names)
 
--- over an honest store, behind a collection that was answered and steps that told no `store` and no `memory`, an object stands whole
--- only under a name that was held as it was collected, or it was sent in those steps
+-- over an honest store, after a collection that was answered and steps that reported no `store` and no `memory`, an object is whole
+-- on the store only under a name that was held when it was collected, or if it was sent in those steps
 abbrev pub LeavesHeldAndSent : Type 0
 LeavesHeldAndSent = (old mid new : HostState) (text : List ℕ) (events : List Event) (replies : List Reply) (along : IsRun mid events replies new) → Trusted old → IsStep old (HostAsks Collect) (Done text) mid → AllByRecursion IsCalm replies
     → (name : List ℕ) (object : Object) → Whole new.vault.files name object → (is_taken old.vault.tenants name ≡ true) ⊎ Contains (sent_along mid events replies new along) object

@@ -1,4 +1,4 @@
--- Which host faults a step may be answered with, by what became of the store under the vault.
+-- Which host faults a step may report, depending on what happened to the store under the vault.
 use Rattle.std.specs.Prelude.{◌≡◌, ◌≢◌, ◌⊎◌, ℕ, IsTrue, List, Contains, Option}
 use Rattle.git_name.specs.Object.{Object, object_name}
 use Rattle.git_name.specs.Count.{Rises}
@@ -14,7 +14,7 @@ use Rattle.fork_ledger.specs.Tenants.{VaultState}
 use Rattle.fork_ledger.specs.AllStaged.{StoresAmong}
 use Rattle.std.specs.Prelude.{Some}
 
--- a failure of the store is counted and told, and nothing else is
+-- a failure of the store is counted and reported, and nothing else is
 abbrev pub CountsReply : ℕ → ℕ → Reply → Type 0
 CountsReply before now (Done text) = now ≡ before
 CountsReply before now (Refused refusal) = now ≡ before
@@ -23,7 +23,7 @@ CountsReply before now (Failed Store) = Rises before now
 CountsReply before now (Failed Damaged) = now ≡ before
 CountsReply before now (Failed Collision) = now ≡ before
 
--- two different objects of one name met: one was sent, and the other was sent too, or stands on the store
+-- two different objects of one name met: one was sent, and the other was sent too, or is on the store
 pub record IsCollision (sent : List Object) (files : Files) : Type 0 where
   pub object : Object
   pub other : Object
@@ -32,9 +32,10 @@ pub record IsCollision (sent : List Object) (files : Files) : Type 0 where
   pub named : object_name other ≡ object_name object
   pub differ : other ≢ object
 
--- the store stays as honest as it was; and the host faults of a step in which these objects were sent: `store` only where the count of failures rose; `damaged` never over
--- an honest store; and over an honest store `collision` only where two different objects met. But for a fault of the store or want
--- of memory, which may leave anything under the one name that was written, an honest store gains nothing that was not sent
+-- the store stays as honest as it was. The host faults of a step in which these objects were sent: `store` only if the count of
+-- failures rose; `damaged` never over an honest store; and over an honest store `collision` only if two different objects of one
+-- name met. An honest store gains nothing that was not sent, except that a fault of the store or lack of memory may leave anything
+-- under the one name that was written
 pub record IsBounded (sent : List Object) (old new : VaultState) (reply : Reply) : Type 0 where
   pub honest : new.honest ≡ old.honest
   pub counted : CountsReply old.failures new.failures reply
@@ -42,13 +43,13 @@ pub record IsBounded (sent : List Object) (old new : VaultState) (reply : Reply)
   pub collided : IsTrue old.honest → reply ≡ Failed Collision → IsCollision sent old.files
   pub stored : IsTrue old.honest → reply ≢ Failed Store → reply ≢ Failed Memory → StoresAmong sent old.files new.files
 
--- the store was asked with success, and at the most these objects came to it
+-- the store was asked successfully, and at most these objects were added to it
 pub record Gains (sent : List Object) (old new : VaultState) : Type 0 where
   pub honest : new.honest ≡ old.honest
   pub failures : new.failures ≡ old.failures
   pub stored : IsTrue old.honest → StoresAmong sent old.files new.files
 
--- the store was read, with this fault or none, and the catalogue stayed
+-- the store was read, with this fault or none, and the catalogue is as it was
 pub record ReadsStore (old new : VaultState) (fault : Option SourceFault) : Type 0 where
   pub honest : new.honest ≡ old.honest
   pub counted : CountsFault old.failures new.failures fault

@@ -1,4 +1,4 @@
--- Why a host fault is told along a run (own).
+-- Why a host fault is reported in a run (own).
 use Rattle.std.specs.Prelude.{◌≡◌, ◌≢◌, List, [], ◌∷◌, ◌++◌}
 use Rattle.std.specs.List.{AllByRecursion}
 use Rattle.git_name.specs.Object.{Object}
@@ -19,22 +19,22 @@ sent_along old (event ∷ events) (reply ∷ replies) new along = sent_at old ev
 sent_along old [] (reply ∷ replies) new along = []
 sent_along old (event ∷ events) [] new along = []
 
--- the store did not fail, and memory was not wanting
+-- the store did not fail, and memory did not run out
 pub record IsCalm (reply : Reply) : Type 0 where
   pub store : reply ≢ Failed Store
   pub memory : reply ≢ Failed Memory
 
--- over an honest store, and with no `store` and no `memory` before it, `collision` is told only where an object that was sent in the
--- run differs from another of its name, which was sent in it too, or stood on the store before it
+-- over an honest store, and with no `store` and no `memory` before it, `collision` is reported only if an object that was sent in
+-- the run differs from another of its name, which was also sent in the run or was on the store before it
 abbrev pub CollidesForCause : Type 0
 CollidesForCause = (old new : HostState) (events : List Event) (replies front back : List Reply) (along : IsRun old events replies new) → Trusted old → replies ≡ front ++ Failed Collision ∷ back → AllByRecursion IsCalm front
     → IsCollision (sent_along old events replies new along) old.vault.files
 
--- over an honest store `damaged` is never told
+-- over an honest store `damaged` is never reported
 abbrev pub NeverDamaged : Type 0
 NeverDamaged = (old new : HostState) (events : List Event) (replies : List Reply) → IsRun old events replies new → Trusted old → AllByRecursion (λ reply. reply ≢ Failed Damaged) replies
 
--- and over any store `store` only where the count of failures rose, or stands at its greatest
+-- over any store `store` is reported only if the count of failures rose, or is at its greatest
 abbrev pub FailsForCause : Type 0
 FailsForCause = (old new : HostState) (events : List Event) (replies : List Reply) → IsRun old events replies new → new.vault.failures ≡ old.vault.failures → old.vault.failures ≢ greatest_count
     → AllByRecursion (λ reply. reply ≢ Failed Store) replies

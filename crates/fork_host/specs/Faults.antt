@@ -1,4 +1,4 @@
--- Which host faults a step may be answered with, from state to state.
+-- Which host faults a step may report, from state to state.
 use Rattle.std.specs.Prelude.{◌≡◌, ◌≢◌, ◌⊎◌, false, List, []}
 use Rattle.git_name.specs.Object.{Object}
 use Rattle.fork_request.specs.declared.host_fault.HostFault.TheVariants.{Damaged, Memory, Collision}
@@ -13,13 +13,13 @@ use Rattle.fork_host.specs.Bounds.{IsBounded}
 use Rattle.fork_host.specs.Sent.{sent_in_world}
 use Rattle.fork_host.specs.Shown.{HostState, world_of}
 
--- no object is given or comes: no host fault tells of one
+-- no object is read or added: no host fault concerns one
 pub record NoneOfObjects (reply : Reply) : Type 0 where
   pub undamaged : reply ≢ Failed Damaged
   pub apart : reply ≢ Failed Collision
 
--- the host faults of a request of the host's own: of a sweep, a collection and a check want of memory and failures of the store, of
--- the census and the list of tenants want of memory, and of a bad request none
+-- the host faults of a request of the host itself: lack of memory and failures of the store for a sweep, a collection and a check;
+-- lack of memory for the census and the list of tenants; none for a bad request
 abbrev pub HostFaults : HostRequest → Reply → Type 0
 HostFaults (Sweep most) reply = NoneOfObjects reply
 HostFaults Collect reply = NoneOfObjects reply
@@ -28,7 +28,7 @@ HostFaults Census reply = (is_host_fault reply ≡ false) ⊎ (reply ≡ Failed 
 HostFaults Tenants reply = (is_host_fault reply ≡ false) ⊎ (reply ≡ Failed Memory)
 HostFaults Bad reply = is_host_fault reply ≡ false
 
--- the objects that a step brings with it; a host's own brings none
+-- the objects that a step brings; a request of the host itself brings none
 abbrev pub sent_at : HostState → Event → List Object
 sent_at old (Asks tenant ask) = sent_in_world (world_of old) tenant ask
 sent_at old (HostAsks request) = []

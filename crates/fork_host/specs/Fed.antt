@@ -1,4 +1,4 @@
--- What a piece of an upload comes to (own).
+-- What a piece of an upload does (own).
 use Rattle.std.specs.Prelude.{◌≡◌, ℕ, ◌+◌, true, false, nat_lt, List, [], ◌++◌, length}
 use Rattle.push_stream.specs.declared.upload.TheConstants.{MAX_UPLOAD}
 use Rattle.push_stream.specs.Reading.{Reading}
@@ -11,10 +11,10 @@ use Rattle.fork_host.specs.Own.{KeepsStaged, staged_in}
 use Rattle.fork_host.specs.Staged.{Came}
 
 pub data IsFed (tenant : List ℕ) (old : Reading) (piece : List ℕ) (before : VaultState) (reply : Reply) (new : Reading) (after : VaultState) : Type 0 where
-  -- it has room: whichever bytes came before, these came too
+  -- there is room for it: whatever bytes were received before, these were received too
   Fed : reply ≡ Done [] → nat_lt MAX_UPLOAD (old.count + length piece) ≡ false
       → ((bytes : List ℕ) → Came before.honest bytes old (staged_in before tenant) → Came before.honest (bytes ++ piece) new (staged_in after tenant)) → IsFed tenant old piece before reply new after
-  -- it has none
+  -- there is no room for it
   Full : reply ≡ Refused StagedTooLong → nat_lt MAX_UPLOAD (old.count + length piece) ≡ true → new ≡ old → KeepsStaged tenant before after → IsFed tenant old piece before reply new after
-  -- a host fault leaves it
+  -- a host fault, which leaves the upload
   Unfed : (fault : HostFault) → reply ≡ Failed fault → new ≡ old → KeepsStaged tenant before after → IsFed tenant old piece before reply new after

@@ -1,4 +1,4 @@
--- What becomes of an offer that is forked, once it is known what it holds.
+-- What happens when an offer is forked, once it is known what it holds.
 use Rattle.std.specs.Prelude.{◌≡◌, ◌⊎◌, ℕ, ◌≤◌, ◌<◌, [], IsTrue, List, Some, option_map}
 use Rattle.std.specs.FinMap.{get, insert}
 use Rattle.git_name.specs.Maps.{joined}
@@ -19,14 +19,14 @@ use Rattle.fork_model.specs.World.{World}
 use Rattle.fork_host.specs.Own.{visible_in}
 use Rattle.fork_host.specs.Shown.{Account}
 
--- a tenant comes to have this repository, and to see these objects beside its own
+-- a tenant gets this repository, and sees these objects beside its own
 pub data IsForked (tenant copy : List ℕ) (repository : Repository) (objects : Objects) (account now : Account) (old new : VaultState) (reply : Reply) : Type 0 where
   -- they are within the limit, and are seen under their names
   Forked : reply ≡ Done [] → use_of (joined (visible_in old tenant) objects) ≤ account.limit → now ≡ record account { repositories = insert account.repositories copy repository }
       → new.tenants ≡ at_tenant old.tenants tenant (with_adopted objects) → AreAmong objects (visible_in new tenant) → IsForked tenant copy repository objects account now old new reply
   -- they are not, and nothing changes
   Full : reply ≡ Refused OverQuota → account.limit < use_of (joined (visible_in old tenant) objects) → now ≡ account → new.tenants ≡ old.tenants → IsForked tenant copy repository objects account now old new reply
-  -- a host fault, which changes nothing: over an honest store want of memory
+  -- a host fault, which changes nothing: over an honest store only lack of memory
   Unforked : (fault : HostFault) → reply ≡ Failed fault → (fault ≡ Memory) ⊎ (fault ≡ Damaged) → (IsTrue old.honest → fault ≡ Memory) → now ≡ account → new.tenants ≡ old.tenants → IsForked tenant copy repository objects account now old new reply
 
 -- an account has a new repository, as it was offered

@@ -28,11 +28,12 @@ both_by own = both_in own.vault.now own.tenant.now
 abbrev pub staged_by : {S : Type 0} → Own S → Objects
 staged_by own = staged_in own.vault.now own.tenant.now
 
--- the view of the tenant, of this account
+-- the view of the tenant with this account
 abbrev pub shown_by : {S : Type 0} → Account → Own S → View
 shown_by account own = shown account own.vault.now own.tenant.now
 
--- what it stands on that stays over any store: the vault that it lends, the tenant, the shape of all private maps, and the catalogue
+-- what it relies on that stays over any store: the vault that it borrows, the tenant, the shape of all private maps, and the
+-- catalogue
 abbrev pub Base : Type 0
 Base = (ℕ × Bor (List ℕ)) × FinMap name_cmp (Measures × Measures) × Places
 
@@ -40,7 +41,7 @@ Base = (ℕ × Bor (List ℕ)) × FinMap name_cmp (Measures × Measures) × Plac
 abbrev pub Rest : Type 0
 Rest = Tenants × Files
 
--- what it shows as a source: the objects that the tenant sees
+-- its state as a source: the objects that the tenant sees
 abbrev pub own_state : {S : Type 0} → Own S → SourceState Base Rest
 own_state own = record {
   objects = visible_by own;
@@ -54,18 +55,18 @@ own_state own = record {
 abbrev pub Ready : {S : Type 0} → Own S → ℕ → Type 0
 Ready own limit = IsReady own.vault.now own.tenant.now limit
 
--- it lends the same vault still, for the same tenant
+-- it still borrows the same vault, for the same tenant
 pub record IsSame {S : Type 0} (old new : Own S) : Type 0 where
   pub vault : new.vault.ghost_name ≡ old.vault.ghost_name
   pub tenant : new.tenant ≡ old.tenant
 
--- it was used for a request: of the vault the tenant's part alone changed, and to the catalogue names of these alone came
+-- it was used for a request: only the tenant's part of the vault changed, and only names of these were added to the catalogue
 pub record Touches {S : Type 0} (names : List (List ℕ)) (old new : Own S) : Type 0 where
   pub same : IsSame old new
   pub own : IsOwn old.tenant.now old.vault.now new.vault.now
   pub grows : GrowsAmong names old.vault.now.places new.vault.now.places
 
--- and what is staged stayed
+-- and what is staged is as it was
 pub record Uses {S : Type 0} (names : List (List ℕ)) (old new : Own S) : Type 0 where
   pub same : IsSame old new
   pub own : IsOwn old.tenant.now old.vault.now new.vault.now

@@ -1,4 +1,4 @@
--- Offers that a tenant has made, as a host keeps them (own): of each the repository alone.
+-- Offers that a tenant has made, as a host keeps them (own): only the repository of each.
 use Rattle.std.specs.Prelude.{◌≢◌, ℕ, List, [], codes, if◌then◌else◌}
 use Rattle.std.specs.Coded.{Coded}
 use Rattle.std.specs.FinMap.{FinMap, code, keys, values}
@@ -16,7 +16,7 @@ use Rattle.state_text.specs.Offer.{Offer}
 abbrev pub Made : Type 0
 Made = FinMap pair_cmp Repository
 
--- as they are shown, where these objects are seen: each with what its references reach among them
+-- as they are shown, if these objects are seen: each with what its references reach among them
 abbrev pub made_shown : Objects → Made → Offers
 made_shown objects made = map_values (offered objects) made
 
@@ -35,7 +35,7 @@ pair_of offer = (offer.receiver, offer.name)
 abbrev pub entry_of : Offer → Pair × Repository
 entry_of offer = (pair_of offer, offer.repository)
 
--- and as a state tells it
+-- and as a state describes it
 abbrev pub offer_told : Pair × Repository → Offer
 offer_told (pair, repository) = record { receiver = pair.0; name = pair.1; repository = repository }
 

@@ -1,4 +1,4 @@
--- What a request meets of the offers that others have made to its tenant, as the host hands it on.
+-- The offers of others that a request depends on, as the host passes them on.
 use Rattle.std.specs.Prelude.{◌≡◌, ℕ, List, None, Some, codes, ⊤}
 use Rattle.std.specs.FinMap.{get}
 use Rattle.git_reftx.specs.Repository.{IsBranch, Repository}
@@ -19,7 +19,7 @@ pub record MeetsOffer (vault : VaultState) (context : Context) (giver word who :
   pub head : IsBranch repository.head
   pub references : AreReferences (visible_in vault giver) repository.references
 
--- what is handed on is what the request meets in this context
+-- what is passed on is what the request depends on in this context
 abbrev pub IsMet : VaultState → Context → Ask → Met → Type 0
 IsMet vault context AsksOffers (Rows rows) = rows.items ≡ offer_rows (codes "from ") context.offered
 IsMet vault context AsksOffers Nothing = ⊥

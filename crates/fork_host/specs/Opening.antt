@@ -1,4 +1,4 @@
--- How an open upload's objects are read from the store (own), and nothing is changed by it.
+-- How the objects of an open upload are read from the store (own), which changes nothing.
 use Rattle.std.specs.Prelude.{◌≡◌, IsTrue, [], Result, Ok, Err}
 use Rattle.fork_request.specs.declared.host_fault.HostFault.{HostFault}
 use Rattle.fork_request.specs.declared.reply.Reply.{Reply}
@@ -8,13 +8,13 @@ use Rattle.fork_host.specs.declared.own.Own.{Own}
 use Rattle.fork_host.specs.Bounds.{IsBounded}
 use Rattle.fork_host.specs.Handle.{IsSame}
 
--- how a reply would tell that it was read, or the host fault that came
+-- how a reply would report that it was read, or the host fault
 abbrev pub reading_told : {A : Type 0} → Result A HostFault → Reply
 reading_told (Ok read) = Done []
 reading_told (Err fault) = Failed fault
 
--- it lends the same vault still, whose private maps are the same over an honest store, and over any as far as no store can change
--- them; and the store keeps the bounds of a step in which nothing is sent
+-- it still borrows the same vault, whose private maps are the same over an honest store, and over any store as far as no store can
+-- change them; and the store keeps the bounds of a step in which nothing is sent
 pub record OnlyReads {S : Type 0} (old new : Own S) (reply : Reply) : Type 0 where
   pub kept : IsTrue old.vault.now.honest → new.vault.now.tenants ≡ old.vault.now.tenants
   pub shape : shape_of new.vault.now.tenants ≡ shape_of old.vault.now.tenants

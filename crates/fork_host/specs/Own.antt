@@ -1,4 +1,4 @@
--- One tenant's own part of the vault, and what a request may change of the vault: this part alone.
+-- One tenant's own part of the vault, and what a request may change of the vault: only this part.
 use Rattle.std.specs.Prelude.{◌≡◌, ◌≢◌, ℕ, ◌≤◌, true, IsTrue, List}
 use Rattle.std.specs.FinMap.{contains_key, empty}
 use Rattle.fork_reach.specs.Objects.{measures_of, use_of}
@@ -7,7 +7,7 @@ use Rattle.fork_ledger.specs.Private.{Private, both_of, private_measures}
 use Rattle.fork_ledger.specs.Store.{Becomes}
 use Rattle.fork_ledger.specs.Tenants.{Tenants, VaultState, private_of, shape_of}
 
--- what a tenant sees, what it has staged, and both as one
+-- what a tenant sees, what it has staged, and both together
 abbrev pub visible_in : VaultState → List ℕ → Objects
 visible_in vault tenant = (private_of vault.tenants tenant).visible
 
@@ -17,19 +17,19 @@ staged_in vault tenant = (private_of vault.tenants tenant).staged
 abbrev pub both_in : VaultState → List ℕ → Objects
 both_in vault tenant = both_of (private_of vault.tenants tenant)
 
--- the vault has the tenant, and what is seen keeps the limit
+-- the vault has the tenant, and what it sees is within the limit
 pub record IsReady (vault : VaultState) (tenant : List ℕ) (limit : ℕ) : Type 0 where
   pub there : contains_key vault.tenants tenant ≡ true
   pub within : use_of (visible_in vault tenant) ≤ limit
 
--- a tenant's part was used: each other tenant has what it had, and over any store what no store can change of it
+-- a tenant's part was used: every other tenant has what it had, and over any store what no store can change of it
 pub record IsOwn (tenant : List ℕ) (old new : VaultState) : Type 0 where
   pub there : (other : List ℕ) → contains_key new.tenants other ≡ contains_key old.tenants other
   pub shape : (other : List ℕ) → other ≢ tenant → private_measures (private_of new.tenants other) ≡ private_measures (private_of old.tenants other)
   pub others : IsTrue old.honest → (other : List ℕ) → other ≢ tenant → private_of new.tenants other ≡ private_of old.tenants other
   pub honest : new.honest ≡ old.honest
 
--- what the tenant has staged stays, and over any store what no store can change of it
+-- what the tenant has staged is as it was, and over any store what no store can change of it
 abbrev pub KeepsStaged : List ℕ → VaultState → VaultState → Type 0
 KeepsStaged tenant old new = Becomes measures_of old.honest (staged_in old tenant) (staged_in new tenant)
 
@@ -37,13 +37,13 @@ KeepsStaged tenant old new = Becomes measures_of old.honest (staged_in old tenan
 abbrev pub KeepsSeen : List ℕ → VaultState → VaultState → Type 0
 KeepsSeen tenant old new = Becomes measures_of old.honest (visible_in old tenant) (visible_in new tenant)
 
--- each other tenant has what it had
+-- every other tenant has what it had
 pub record LeavesOthers (tenant : List ℕ) (old new : Tenants) : Type 0 where
   pub there : (other : List ℕ) → contains_key new other ≡ contains_key old other
   pub others : (other : List ℕ) → other ≢ tenant → private_of new other ≡ private_of old other
 
--- a tenant's private maps alone changed in this way, and the vault shows them: over an honest store themselves, and over any what
--- no store can change of them
+-- only a tenant's private maps changed, in this way, and the vault shows them: over an honest store the maps, and over any store
+-- what no store can change of them
 pub record ChangesTenant (tenant : List ℕ) (Way : Private → Private → Type 0) (old new : VaultState) : Type 0 where
   pub tenants : Tenants
   pub leaves : LeavesOthers tenant old.tenants tenants
@@ -51,7 +51,7 @@ pub record ChangesTenant (tenant : List ℕ) (Way : Private → Private → Type
   pub shown : Becomes shape_of new.honest tenants new.tenants
   pub honest : new.honest ≡ old.honest
 
--- they are what a function makes of those before
+-- they are the result of a function on those before
 abbrev pub MadeBy : (Private → Private) → Private → Private → Type 0
 MadeBy change before after = after ≡ change before
 

@@ -1,4 +1,4 @@
--- What a push is given: the parts of a view, and what a stream holds.
+-- The input of a push: the parts of a view, and what a stream holds.
 use Rattle.std.specs.Prelude.{◌≡◌, ℕ, List, [], Result, Ok, Err, ⊤}
 use Rattle.git_name.specs.Object.{Object}
 use Rattle.fork_reach.specs.Source.{Objects}
@@ -14,22 +14,22 @@ use Rattle.fork_model.specs.Answer.{Finished}
 use Rattle.fork_model.specs.View.{View, Repositories}
 use Rattle.fork_host.specs.Own.{both_in, visible_in}
 
--- a view of these parts, and else like another
+-- a view with these parts, otherwise like another
 abbrev pub view_of : View → Repositories → Objects → ℕ → View
 view_of rest repositories objects limit = record rest { repositories = repositories; objects = objects; limit = limit }
 
--- what the bytes of a stream gave, are these objects
+-- what was read from the bytes of a stream is these objects
 abbrev pub Sends : List Object → Result Body BodyError → Type 0
 Sends sent (Ok body) = body.objects.items ≡ sent
 Sends sent (Err error) = ⊤
 
--- what the bytes of a stream gave is what the stream holds; want of memory tells nothing
+-- what was read from the bytes of a stream is what the stream holds; running out of memory reports nothing
 abbrev pub TellsHeld : Finished → Result Body BodyError → Type 0
 TellsHeld held (Ok body) = held ≡ Ok (body.commands.items, body.objects.items)
 TellsHeld held (Err (Fault fault)) = held ≡ Err fault
 TellsHeld held (Err Memory) = ⊤
 
--- a brief that was made of a stream is that of what the stream holds; want of memory tells nothing
+-- the brief of a stream is that of what the stream holds; running out of memory reports nothing
 abbrev pub TellsBrief : Finished → Result Brief BodyError → Type 0
 TellsBrief held (Ok brief) = brief_of held ≡ Ok (brief.commands.items, brief.names.items)
 TellsBrief held (Err (Fault fault)) = held ≡ Err fault

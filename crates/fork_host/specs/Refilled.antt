@@ -1,4 +1,4 @@
--- A tenant that sees again what it saw, on the way to a host that is restored.
+-- A tenant that sees again what it saw, while a host is restored.
 use Rattle.std.specs.Prelude.{◌≡◌, ℕ, ◌≤◌, ◌<◌, ◌++◌, ◌∷◌, [], IsTrue, Option, None, Some, Result, Ok, Err, List, Contains, map}
 use Rattle.std.specs.BTreeSet.{BTreeSet, contains}
 use Rattle.std.specs.FinMap.{entries, get, insert}
@@ -28,8 +28,8 @@ use Rattle.fork_host.specs.declared.restore_error.RestoreError.TheVariants.{Unso
 use Rattle.fork_host.specs.declared.seeing.Against.{Against}
 use Rattle.fork_host.specs.declared.seeing.Against.TheVariants.{Memory as NoMemory, BadObject, Astray, Limit}
 
--- objects of some of these names came to what a tenant sees and has staged, and all of it is seen; over an honest store those
--- that stand whole on it
+-- objects of some of these names were added to what a tenant sees and has staged, and all of it is seen; over an honest store those
+-- that are whole on it
 pub record SeesAgain (tenant : List ℕ) (names : List (List ℕ)) (old new : VaultState) : Type 0 where
   pub came : List Object
   pub among : (object : Object) → Contains came object → Contains names (object_name object)
@@ -37,7 +37,7 @@ pub record SeesAgain (tenant : List ℕ) (names : List (List ℕ)) (old new : Va
   pub whole : IsTrue old.honest → (object : Object) → Contains came object → Whole old.files (object_name object) object
   pub all : IsTrue old.honest → (name : List ℕ) (object : Object) → Contains names name → Whole old.files name object → Contains came object
 
--- of the names of a set the first whose object is bad
+-- the first name of a set whose object is bad
 abbrev pub bad_in : BTreeSet (List ℕ) → Objects → Option (List ℕ)
 bad_in names objects = find (is_bad objects (contains name_cmp names)) names.keys
 
@@ -53,14 +53,15 @@ pub record IsRefilled (tenant : List ℕ) (state : TenantState) (old new : Vault
   pub targets : first_astray (repositories_in state) (visible_in new tenant) ≡ None
   pub within : use_of (visible_in new tenant) ≤ state.limit
 
--- what stands against a state: judged by the names of a set, among what the tenant sees, of the use of what it sees and has staged
+-- what is wrong with a state: checked by the names of a set, among what the tenant sees, and by the use of what it sees and has
+-- staged
 abbrev pub IsAgainst : BTreeSet (List ℕ) → TenantState → Objects → Objects → Against → Type 0
 IsAgainst names state visible both NoMemory = Unit {0}
 IsAgainst names state visible both (BadObject name) = bad_in names visible ≡ Some name
 IsAgainst names state visible both (Astray target) = (bad_in names visible ≡ None) × (reference : List ℕ) × (first_astray (repositories_in state) visible ≡ Some (reference, target))
 IsAgainst names state visible both Limit = (bad_in names visible ≡ None) × (first_astray (repositories_in state) visible ≡ None) × (state.limit < use_of both)
 
--- the same by what stands on the store
+-- the same, by what is on the store
 abbrev pub StandsAgainst : Files → TenantState → Against → Type 0
 StandsAgainst files state NoMemory = Unit {0}
 StandsAgainst files state (BadObject name) = OnStore files state.seen (λ objects. first_bad state.seen objects ≡ Some name)
@@ -82,12 +83,12 @@ pub record IsRefilledIn (files : Files) (tenant : TenantState) (old new : World)
   pub reach : (pair : Pair) (offer : Offer) → get view.made pair ≡ Some offer → IsReach view.objects offer
   pub within : use_of view.objects ≤ tenant.limit
 
--- a tenant's state was judged: what it saw is seen again, or something stands against it
+-- a tenant's state was checked: what it saw is seen again, or something is wrong with it
 abbrev pub IsJudged : Files → TenantState → World → World → Result (Unit {0}) Against → Type 0
 IsJudged files tenant old new (Ok done) = IsRefilledIn files tenant old new
 IsJudged files tenant old new (Err against) = StandsAgainst files tenant against
 
--- where it was judged, the tenant is there, behind the others
+-- if it was checked, the tenant exists, after the others
 abbrev pub IsBehind : List ℕ → List (List ℕ) → List (List ℕ) → Result (Unit {0}) Against → Type 0
 IsBehind name old new (Ok done) = new ≡ old ++ name ∷ []
 IsBehind name old new (Err NoMemory) = Unit {0}
@@ -95,7 +96,8 @@ IsBehind name old new (Err (BadObject bad)) = new ≡ old ++ name ∷ []
 IsBehind name old new (Err (Astray target)) = new ≡ old ++ name ∷ []
 IsBehind name old new (Err Limit) = new ≡ old ++ name ∷ []
 
--- what stands against targets and limits, as one more tenant was judged: the first target is noted, or else the first tenant over its limit
+-- what is wrong with targets and limits, once one more tenant was checked: the first target is noted, otherwise the first tenant
+-- over its limit
 abbrev pub with_target : Later → List ℕ → Later
 with_target Nothing target = LaterTarget target
 with_target (LaterTarget first) target = LaterTarget first
@@ -113,7 +115,7 @@ with_judged later tenant (Err (BadObject name)) = later
 with_judged later tenant (Err (Astray target)) = with_target later target
 with_judged later tenant (Err Limit) = with_limit later tenant
 
--- what is told at once
+-- what is reported at once
 abbrev pub told_at_once : Result (Unit {0}) Against → Option Bad
 told_at_once (Ok done) = None
 told_at_once (Err NoMemory) = Some BadMemory
@@ -121,13 +123,13 @@ told_at_once (Err (BadObject name)) = Some (Object_of name)
 told_at_once (Err (Astray target)) = None
 told_at_once (Err Limit) = None
 
--- and what is told at the end
+-- and what is reported at the end
 abbrev pub first_told : Later → Option RestoreError
 first_told Nothing = None
 first_told (LaterTarget target) = Some (Unsound target)
 first_told (LaterLimit tenant) = Some (OverLimit tenant)
 
--- how what is told at once is told
+-- how what is reported at once is reported
 abbrev pub IsWhy : Files → Bad → RestoreError → Type 0
 IsWhy files BadMemory told = told ≡ WantsMemory
 IsWhy files (Object_of name) told = TellsBad files name told

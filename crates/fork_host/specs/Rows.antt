@@ -1,4 +1,4 @@
--- What a row of the answer comes to: the row itself, or a host fault: want of memory alone, where it does not ask the store.
+-- The result of a row of the answer: the row itself, or a host fault: only lack of memory, unless the row asks the store.
 use Rattle.std.specs.Prelude.{◌≡◌, ℕ, Bool, IsTrue, true, List, [], Contains, Result, Ok, Err}
 use Rattle.std.specs.FinMap.{contains_key, empty, retain_keys}
 use Rattle.fork_request.specs.declared.host_fault.HostFault.{HostFault}
@@ -19,18 +19,18 @@ use Rattle.fork_host.specs.Made.{Made, made_of}
 pub data Gives (row : Reply × View) (old : View) (reply : Reply) (new : View) : Type 0 where
   -- the row's reply and view
   Given : reply ≡ row.0 → new ≡ row.1 → Gives row old reply new
-  -- want of memory, which leaves the view
+  -- lack of memory, which leaves the view
   Wanting : reply ≡ Failed Memory → new ≡ old → Gives row old reply new
 
--- a view, but for the objects of its offers: where the view is right, what it sees decides them
+-- a view without the objects of its offers: if the view is right, what it sees determines them
 abbrev pub plain : View → View × Made
 plain view = (record view { made = empty }, made_of view.made)
 
--- the same of a row that asks the store, of what is plain
+-- the same for a row that asks the store, without the objects of offers
 pub data Yields (row : Reply × View) (old : View) (reply : Reply) (new : View) : Type 0 where
   -- the row's reply and view
   Yielded : reply ≡ row.0 → plain new ≡ plain row.1 → Yields row old reply new
-  -- want of memory, which leaves the view
+  -- lack of memory, which leaves the view
   Lacking : reply ≡ Failed Memory → plain new ≡ plain old → Yields row old reply new
   -- a host fault, which leaves it too
   Faulted : (fault : HostFault) → reply ≡ Failed fault → plain new ≡ plain old → Yields row old reply new
@@ -39,20 +39,20 @@ pub data Yields (row : Reply × View) (old : View) (reply : Reply) (new : View) 
 pub record YieldsOver (honest : Bool) (row : Reply × View) (old : View) (reply : Reply) (new : View) : Type 0 where
   pub yields : IsTrue honest → Yields row old reply new
 
--- how a reply tells a fault of the store
+-- how a reply reports a fault of the store
 abbrev pub fault_told : SourceFault → HostFault
 fault_told source.Store = Store
 fault_told source.Damaged = Damaged
 fault_told source.Memory = Memory
 
--- how a reply tells a fault of the vault
+-- how a reply reports a fault of the vault
 abbrev pub vault_told : VaultFault → HostFault
 vault_told ledger.Store = Store
 vault_told ledger.Damaged = Damaged
 vault_told ledger.Memory = Memory
 vault_told ledger.Collision = Collision
 
--- how a reply tells a query's answer
+-- how a reply reports a query's answer
 abbrev pub query_told : {B : Type 0} → (B → List ℕ) → Result B QueryError → Reply
 query_told view (Ok text) = Done (view text)
 query_told view (Err (query.Refused refusal)) = Refused refusal
@@ -63,13 +63,13 @@ pub data KeepsObjects (kept old : Objects) (reply : Reply) (new : Objects) : Typ
   Kept : reply ≡ Done [] → new ≡ kept → KeepsObjects kept old reply new
   Unkept : (fault : HostFault) → reply ≡ Failed fault → new ≡ old → KeepsObjects kept old reply new
 
--- the same over any store, as far as names, kinds and lengths go: among those that are kept are the roots
+-- the same over any store, as far as names, kinds and lengths go: the roots are among those that are kept
 pub data IsPruned (roots : List (List ℕ)) (old : Objects) (reply : Reply) (new : Objects) : Type 0 where
   Pruned : (kept : List ℕ → Bool) → reply ≡ Done [] → measures_of new ≡ measures_of (retain_keys old kept)
       → ((name : List ℕ) → Contains roots name → contains_key old name ≡ true → kept name ≡ true) → IsPruned roots old reply new
   Unpruned : (fault : HostFault) → reply ≡ Failed fault → measures_of new ≡ measures_of old → IsPruned roots old reply new
 
--- how a source tells a fault of the vault; two objects of one name never meet in a read
+-- how a source reports a fault of the vault; two objects of one name never meet in a read
 abbrev pub fault_read : VaultFault → SourceFault
 fault_read ledger.Store = source.Store
 fault_read ledger.Damaged = source.Damaged

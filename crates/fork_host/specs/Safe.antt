@@ -1,4 +1,4 @@
--- What holds of an answer over any store, also over one that does not give what it was given.
+-- What holds of an answer over any store, even one that does not return what was written to it.
 use Rattle.std.specs.Prelude.{◌≡◌, ◌⊎◌, ℕ, false, List, None, ⊤}
 use Rattle.std.specs.FinMap.{get}
 use Rattle.fork_query.specs.MergeBase.{ListsSeen}
@@ -13,14 +13,14 @@ use Rattle.fork_model.specs.Sound.{IsOrderly}
 use Rattle.fork_model.specs.View.{View}
 use Rattle.fork_host.specs.Shape.{view_shape}
 
--- a view that is in order stays so, its shape stays where the reply has no data, and the reply keeps its bounds
+-- a view that is in order stays so, its shape stays if the reply has no data, and the reply keeps its bounds
 pub record IsSafe (Within : Reply → Type 0) (old : View) (reply : Reply) (new : View) : Type 0 where
   pub orderly : IsOrderly old → IsOrderly new
   pub kept : is_done reply ≡ false → view_shape new ≡ view_shape old
   pub faults : Within reply
 
--- what is answered under a name has that name: the record that `cat-file` gives is of an object of the name that was asked for, and
--- those that `fetch` gives are each of an object under its own name
+-- what is answered under a name has that name: the record that `cat-file` returns is of an object of the name that was asked for,
+-- and those that `fetch` returns are each of an object under its own name
 abbrev pub IsNamedText : Ask → List ℕ → Type 0
 IsNamedText (AsksObject name) text = IsRecordUnder name text
 IsNamedText (Fetches repository items) text = AreRecords text
@@ -29,7 +29,7 @@ IsNamedText ask text = ⊤
 abbrev pub IsNamedReply : Ask → Reply → Type 0
 IsNamedReply ask reply = (text : List ℕ) → reply ≡ Done text → IsNamedText ask text
 
--- `merge-base` tells names of objects that are seen, whatever the parents are that a store gives
+-- `merge-base` returns names of objects that are seen, whatever parents a store returns
 abbrev pub IsSeenText : Objects → Ask → List ℕ → Type 0
 IsSeenText seen (AsksBases repository first second) text = ListsSeen seen text
 IsSeenText seen ask text = ⊤

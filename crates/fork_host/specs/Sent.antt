@@ -1,4 +1,4 @@
--- The objects that a request brings with it, those of the upload that is open among them; and what a tenant of a world sees.
+-- The objects that a request brings, including those of the open upload; and what a tenant of a world sees.
 use Rattle.std.specs.Prelude.{ℕ, List, [], Option, None, Some, map}
 use Rattle.std.specs.FinMap.{empty, get}
 use Rattle.git_name.specs.Object.{Object, object_name}
@@ -10,7 +10,7 @@ use Rattle.fork_model.specs.Answer.{open_upload}
 use Rattle.fork_model.specs.View.{View}
 use Rattle.fork_model.specs.World.{World}
 
--- a push brings those of its body, a part those of the upload that goes on by it, and the end of an upload those of the upload
+-- a push brings those of its body, a part those of the upload that it continues, and the end of an upload those of the upload
 abbrev pub sent_by : View → Ask → List Object
 sent_by view (Inits repository) = []
 sent_by view (Drops repository) = []

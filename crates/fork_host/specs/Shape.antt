@@ -1,4 +1,5 @@
--- What of a view no store can change: its repositories and those of its offers, the names, kinds and lengths of its objects, its limit.
+-- What no store can change of a view: its repositories and those of its offers, the names, kinds and lengths of its objects, its
+-- limit.
 use Rattle.std.specs.Prelude.{◌≡◌, ℕ, List, option_map}
 use Rattle.std.specs.FinMap.{get}
 use Rattle.fork_reach.specs.Objects.{Measures, measures_of}
@@ -19,7 +20,7 @@ view_shape view = record { repositories = view.repositories; made = made_of view
 abbrev pub SameShape : List ℕ → World → World → Type 0
 SameShape tenant old new = option_map view_shape (get new tenant) ≡ option_map view_shape (get old tenant)
 
--- of the tenant's offers each is of the same repository in both worlds
+-- each of the tenant's offers is of the same repository in both worlds
 abbrev pub repositories_offered : View → Made
 repositories_offered view = made_of view.made
 

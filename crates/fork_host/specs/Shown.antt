@@ -17,7 +17,7 @@ use Rattle.fork_host.specs.Made.{Made, made_code, made_shown}
 use Rattle.fork_host.specs.Own.{staged_in}
 use Rattle.fork_host.specs.Staged.{IsStaged}
 
--- what a host keeps of a tenant beside its objects; of an offer its repository, and of an open upload what is known of its bytes
+-- what a host keeps of a tenant besides its objects; of an offer its repository, and of an open upload what is known of its bytes
 pub record Account : Type 0 where
   pub repositories : Repositories
   pub made : Made
@@ -57,17 +57,17 @@ entry_shown vault entry = (entry.0, shown entry.1 vault entry.0)
 unfoldable pub world_of : HostState → World
 world_of state = from_sorted (map (entry_shown state.vault) (entries state.accounts))
 
--- the store gives what it was given
+-- the store returns what was written to it
 abbrev pub Trusted : HostState → Type 0
 Trusted state = IsTrue state.vault.honest
 
--- between requests each tenant has staged just what came of its open upload: none where its bytes are wrong, and none where it has
--- no upload open
+-- between requests each tenant has staged exactly what was received of its open upload: nothing if its bytes are wrong, and nothing
+-- if it has no open upload
 abbrev pub StagesUploads : HostState → Type 0
 StagesUploads state = (tenant : List ℕ) (account : Account) → get state.accounts tenant ≡ Some account → IsStaged state.vault.honest account.upload (staged_in state.vault tenant)
 
--- the world is in order, and right where the store is trusted; the vault has the tenants of the accounts, each with what its
--- open upload has staged
+-- the world is in order, and right if the store is trusted; the vault has the tenants of the accounts, each with what its open
+-- upload has staged
 pub record IsWhole (state : HostState) : Type 0 where
   pub orderly : IsOrderlyWorld (world_of state)
   pub right : Trusted state → IsRightWorld (world_of state)

@@ -54,7 +54,7 @@ use std::alloc::{AllocError, Global};
 use std::collections::BTreeMap;
 use std::marker::Model;
 
-// Tenants under their names, each with its account.
+// Tenants by name, each with its account.
 #[derive(Drop)]
 pub(crate) struct Accounts {
     tenants: BTreeMap<TenantName, Tenant>,
@@ -82,14 +82,14 @@ impl Accounts {
         }
     }
 
-    // How many there are.
+    // The number of tenants.
     pub(crate) fn len(&self) -> usize
         ensures { result ≡ map.len self.now }
     {
         self.tenants.len()
     }
 
-    // Whether there is one of this name.
+    // Whether there is a tenant of this name.
     pub(crate) fn contains(&self, name: &TenantName) -> bool
         ensures { result ≡ map.contains_key self.now name.now }
     {
@@ -109,14 +109,14 @@ impl Accounts {
         put(&mut self.tenants, name, Tenant::new(alloc, limit))
     }
 
-    // Takes out the one of this name. It takes no memory.
+    // Removes the tenant of this name. It allocates nothing.
     pub(crate) fn remove(&mut self, name: &TenantName)
         ensures { self.new ≡ map.remove self.old name.now }
     {
         take_out(&mut self.tenants, name)
     }
 
-    // Gives a tenant these repositories and offers. It takes no memory.
+    // Gives a tenant these repositories and offers. It allocates nothing.
     pub(crate) fn settle(&mut self, name: &TenantName, repositories: Repositories, made: Made)
         ensures { (account : Account) → map.get self.old name.now ≡ Some account
             → self.new ≡ map.insert self.old name.now (record account { repositories = repositories; made = made }) }
@@ -144,7 +144,7 @@ impl Accounts {
         Ok(states)
     }
 
-    // What each tenant has and may have, in numbers: a line for each.
+    // What each tenant has and may have, in numbers: one line each.
     pub(crate) fn figures<S: LooseFiles>(
         &self,
         alloc: Global,
@@ -160,7 +160,7 @@ impl Accounts {
         Ok(text)
     }
 
-    // The tenants that have an upload open, in the order of their names.
+    // The tenants that have an open upload, in the order of their names.
     pub(crate) fn uploading(&self, alloc: Global) -> Result<Vec<TenantName>, AllocError>
         ensures { IfOk result (λ names. names.items ≡ uploading_in (map.entries self.now)) }
     {
@@ -173,7 +173,7 @@ impl Accounts {
         Ok(names)
     }
 
-    // The bytes that open a tenant's upload again, where the tenant is there and has one open.
+    // The bytes that open a tenant's upload again, if the tenant exists and has one open.
     pub(crate) fn upload<S: LooseFiles>(
         &self,
         alloc: Global,
@@ -232,7 +232,7 @@ impl Accounts {
         answer_met(alloc, tenant, vault, name, request, met)
     }
 
-    // What a request of this tenant meets of what others have offered to it.
+    // The offers of others that a request of this tenant depends on.
     fn meet<S: LooseFiles>(
         &self,
         alloc: Global,
@@ -309,8 +309,8 @@ fn read_upload<S: LooseFiles>(
     bytes_of(alloc, &mut own, upload)
 }
 
-// Answers a request from a tenant's account, its own part of the vault, and what the request meets of what
-// others have offered to it.
+// Answers a request from a tenant's account, its own part of the vault, and the offers of others that
+// the request depends on.
 fn answer_met<S: LooseFiles>(
     alloc: Global,
     tenant: &mut Tenant,
@@ -343,7 +343,7 @@ fn answer_met<S: LooseFiles>(
     answer_from(alloc, tenant, vault, name, request)
 }
 
-// Whether a request looks at what others have offered to its tenant.
+// Whether a request depends on what others have offered to its tenant.
 fn looks_at_offers(request: Request<'_>) -> bool
     ensures { result ≡ looks_at_offers (ask_of request.entry) }
 {
@@ -354,7 +354,7 @@ fn looks_at_offers(request: Request<'_>) -> bool
     }
 }
 
-// The same as `answer_met`, of a request that looks at it.
+// The same as `answer_met`, for a request that depends on offers.
 fn look<S: LooseFiles>(
     alloc: Global,
     tenant: &mut Tenant,
@@ -388,7 +388,7 @@ fn look<S: LooseFiles>(
     }
 }
 
-// The offers to the tenant, which are met, then those that it has made.
+// The offers to the tenant, which are passed in, then those that it has made.
 fn list_offers(tenant: &Tenant, met: Met) -> Reply
     ensures { (vault : VaultState) (context : Context) (own : Private) → IsMet vault context AsksOffers met → Gives (offers_answer context (seen_by tenant.now own)) (seen_by tenant.now own) result (seen_by tenant.now own) }
 {
@@ -398,7 +398,7 @@ fn list_offers(tenant: &Tenant, met: Met) -> Reply
     }
 }
 
-// Answers a request that looks at nothing that others have offered, from a tenant's account and its own
+// Answers a request that does not depend on the offers of others, from a tenant's account and its own
 // part of the vault.
 fn answer_from<S: LooseFiles>(
     alloc: Global,

@@ -1,5 +1,5 @@
-// An offer that is forked: of all requests this one alone reaches what another tenant sees, and of that
-// what the offer holds.
+// Forking an offer: the only request that reaches what another tenant sees, and of that only what the
+// offer holds.
 ghost use Rattle.std.specs.Prelude.{◌≡◌, [], IfOk, IsTrue, Contains, ℕ, List, true, false};
 ghost use Rattle.std.specs.FinMap as map;
 ghost use Rattle.std.specs.HashSet.{contains};
@@ -39,8 +39,8 @@ use indexmap::IndexSet;
 use loose_store::LooseFiles;
 use std::alloc::Global;
 
-// Forks an offer that was met: a new repository of what was offered, whose objects the tenant comes to
-// see beside its own.
+// Forks an offer: makes a new repository of what was offered, whose objects the tenant then sees
+// beside its own.
 pub(crate) fn fork_offer<S: LooseFiles>(
     alloc: Global,
     tenant: &mut Tenant,
@@ -81,7 +81,7 @@ pub(crate) fn fork_offer<S: LooseFiles>(
     }
 }
 
-// The same, where the offer is there, and the new repository has a right name.
+// The same, if the offer exists and the new repository has a valid name.
 fn take_offer<S: LooseFiles>(
     alloc: Global,
     tenant: &mut Tenant,
@@ -113,7 +113,7 @@ fn take_offer<S: LooseFiles>(
     }
 }
 
-// The names of what these references reach of what a giver sees.
+// The names of what these references reach among what a giver sees.
 fn reached_from<S: LooseFiles>(
     alloc: Global,
     vault: &mut Vault<S>,
@@ -136,8 +136,8 @@ fn reached_from<S: LooseFiles>(
     theirs.reached(alloc, roots.as_slice())
 }
 
-// The tenant has the repository, and sees the objects of these names that the giver sees, beside its own,
-// where they are within its limit.
+// Gives the tenant the repository, and lets it see the objects of these names that the giver sees, if
+// all that it sees then is within its limit.
 fn adopt<S: LooseFiles>(
     alloc: Global,
     tenant: &mut Tenant,

@@ -35,7 +35,7 @@ use std::alloc::{AllocError, Global};
 use std::marker::Model;
 use thiserror::Error;
 
-/// There was no memory, and nothing was done.
+/// Memory ran out, and nothing was done.
 #[derive(Clone, Copy, Debug, PartialEq, Eq, Error)]
 #[error("no memory")]
 pub struct NoMemory;
@@ -72,7 +72,7 @@ impl<S: LooseFiles + Drop> Host<S> {
         Host::over(alloc, survey)
     }
 
-    // The same over the store of a survey.
+    // The same, over the store of a survey.
     pub(crate) fn over(alloc: Global, survey: Survey<S>) -> Result<Host<S>, OpenError>
         ensures empty { IfOk result (λ host. world_of host ≡ map.empty) }
         ensures trusted { IfOk result (λ host. IsTrue survey.honest → Trusted host) }
@@ -90,14 +90,14 @@ impl<S: LooseFiles + Drop> Host<S> {
 }
 
 impl<S: LooseFiles> Host<S> {
-    /// The store.
+    /// Closes the host and returns its store.
     pub fn close(self) -> S
         ensures { IsOver (S.contents result) (S.honest result) (S.failures result) self.vault }
     {
         self.vault.close()
     }
 
-    /// What holds of every host between requests, for who is to show something of it: nothing is done.
+    /// What holds of every host between requests. It does nothing; proofs call it for its clauses.
     pub fn invariant(&self)
         ensures whole { IsWhole self.now }
         ensures alike { Trusted self.now → IsAlike (world_of self.now) }
@@ -106,15 +106,15 @@ impl<S: LooseFiles> Host<S> {
         self.vault.invariant();
     }
 
-    /// How many tenants there are.
+    /// The number of tenants.
     pub fn tenants(&self) -> usize
         ensures { result ≡ map.len (world_of self.now) }
     {
         self.accounts.len()
     }
 
-    /// What of the host outlives its process: of each tenant its limit, its repositories, the names of
-    /// the objects that it sees, and its offers. Open uploads are not in it.
+    /// What of the host outlives its process: the limit of each tenant, its repositories, the names of the
+    /// objects that it sees, and its offers. Open uploads are not in it.
     pub fn states(&self, alloc: Global) -> Result<States, NoMemory>
         ensures { IfOk result (λ states. states ≡ states_of (world_of self.now)) }
     {
@@ -124,7 +124,7 @@ impl<S: LooseFiles> Host<S> {
         Ok(states)
     }
 
-    /// The tenants that have an upload open, in the order of their names.
+    /// The tenants that have an open upload, in the order of their names.
     pub fn uploading(&self, alloc: Global) -> Result<Vec<TenantName>, NoMemory>
         ensures { IfOk result (λ names. names.items ≡ each (λ upload. upload.0) (uploads_of (world_of self.now))) }
     {
@@ -134,8 +134,8 @@ impl<S: LooseFiles> Host<S> {
         Ok(names)
     }
 
-    /// The bytes of a tenant's open upload, or others that stand for the same upload; nothing where none
-    /// is open or the tenant is unknown. Its objects are read from the store.
+    /// The bytes of a tenant's open upload, or others with the same value; nothing if no upload is open or
+    /// the tenant is unknown. Its objects are read from the store.
     pub fn upload(&mut self, alloc: Global, name: &TenantName) -> Result<Option<Vec<u8>>, HostFault>
         ensures found { Trusted self.old → IfOk result (λ found. option_map (λ bytes. upload_of bytes.items) found ≡ upload_at (world_of self.old) name.now) }
         ensures kept { Trusted self.old → world_of self.new ≡ world_of self.old }
@@ -151,8 +151,7 @@ impl<S: LooseFiles> Host<S> {
         self.accounts.upload(alloc, &mut self.vault, name)
     }
 
-    /// Adds a tenant that sees nothing and may use so many bytes. Where it fails, the host is as it
-    /// was.
+    /// Adds a tenant that sees nothing and may use this many bytes. On failure the host is as it was.
     pub fn add_tenant(
         &mut self,
         alloc: Global,
@@ -168,7 +167,7 @@ impl<S: LooseFiles> Host<S> {
         ensures trusted { Trusted self.old → Trusted self.new }
         ensures store { LeavesStore self.old.vault self.new.vault }
     {
-        // Only for its clause: the bytes are a tenant's name.
+        // Called for its clause: the bytes are a tenant's name.
         let _bytes = name.as_bytes();
         if self.accounts.contains(&name) {
             return Err(AddError::There);
@@ -192,8 +191,8 @@ impl<S: LooseFiles> Host<S> {
         self.accounts.answer(alloc, &mut self.vault, name, request)
     }
 
-    /// Answers a request of the host's own, which changes no view. What a sweep or a collection took
-    /// away before a fault is away.
+    /// Answers a request of the host itself, which changes no view. What a sweep or a collection removed
+    /// before a fault stays removed.
     pub fn host_answer(&mut self, alloc: Global, request: HostRequest) -> Reply
         ensures { IsStep self.old (HostAsks request) result self.new }
     {
@@ -202,7 +201,7 @@ impl<S: LooseFiles> Host<S> {
 
     ghost use Rattle.fork_host.specs.Given.{event_given, events_given};
 
-    /// Answers one step: a tenant's request or one of the host's own.
+    /// Answers one step: a tenant's request or one of the host itself.
     pub fn step(&mut self, alloc: Global, step: HostStep<'_>) -> Reply
         ensures { IsStep self.old (event_given step.entry) result self.new }
     {
@@ -212,22 +211,22 @@ impl<S: LooseFiles> Host<S> {
         }
     }
 
-    /// Answers the steps in turn. Memory for the replies is asked for before the first step.
+    /// Answers the steps in turn. Memory for the replies is allocated before the first step.
     pub fn run(&mut self, alloc: Global, steps: &[HostStep<'_>]) -> Result<Vec<Reply>, NoMemory>
         ensures ran { IfOk result (λ replies. IsRun self.old (events_given steps.now) replies.items self.new) }
         ensures err { OnErr result (self.new ≡ self.old) }
         ensures orderly { IsOrderlyWorld (world_of self.new) }
         ensures right { Trusted self.old → IsRightWorld (world_of self.new) }
 
-        // After sweeps alone that add up to at least twice the number of names that were catalogued, the
-        // store has files of just the names of which some tenant has an object.
+        // After sweeps alone that add up to at least twice the number of names that were catalogued, the store
+        // has files exactly for the names of which some tenant has an object.
         ensures sharp { Trusted self.old → IfOk result (λ replies. SharpAfterSweeps self.old.vault (events_given steps.now) replies.items self.new.vault) }
 
         // It is a run of the world.
         ensures explained { Trusted self.old → IfOk result (λ replies. Explains (world_of self.old) (events_given steps.now) replies.items (world_of self.new)) }
 
-        // To each tenant that no host fault answered, the replies are those of a private host that meets
-        // the same offers; where no offer to it is made or withdrawn, those that stood at first.
+        // The replies to each tenant that no host fault answered are those of a private host that meets the
+        // same offers; if no offer to it is made or withdrawn, those at the start.
         ensures private_replies { Trusted self.old → IfOk result (λ replies. (tenant : List ℕ) (view : View)
             → map.get (world_of self.old) tenant ≡ Some view
             → IsUnfaulted tenant (events_given steps.now) replies.items → LeavesOffers tenant (events_given steps.now) replies.items
@@ -242,8 +241,8 @@ impl<S: LooseFiles> Host<S> {
             → (told tenant (events_given steps.now) replies.items ≡ (alone view (met tenant (world_of self.old) (events_given steps.now) replies.items (world_of self.new) run)).0)
             × (map.get (world_of self.new) tenant ≡ Some (alone view (met tenant (world_of self.old) (events_given steps.now) replies.items (world_of self.new) run)).1)) }
 
-        // What a tenant sees at the end, it saw at the start, or sent itself, or it stood in an offer that
-        // the tenant forked.
+        // What a tenant sees at the end, it saw at the start or sent itself, or it was in an offer that the
+        // tenant forked.
         ensures provenance { IfOk result (λ replies. (tenant : List ℕ) (view last : View) (name : List ℕ) (object : Object) (run : Explains (world_of self.old) (events_given steps.now) replies.items (world_of self.new))
             → map.get (world_of self.old) tenant ≡ Some view → map.get (world_of self.new) tenant ≡ Some last → map.get last.objects name ≡ Some object
             → (map.get view.objects name ≡ Some object) ⊎ (WasSent view (exchanges tenant (events_given steps.now) replies.items) name object
@@ -265,8 +264,7 @@ impl<S: LooseFiles> Host<S> {
     }
 }
 
-// Adds an account that is not there, and its place in the vault. Where there is no memory, nothing
-// was added.
+// Adds a new account and its place in the vault. If memory runs out, nothing is added.
 fn open_account<S: LooseFiles>(
     alloc: Global,
     accounts: &mut Accounts,

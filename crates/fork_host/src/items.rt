@@ -4,7 +4,7 @@ ghost use Rattle.git_name.specs.Text.{words_of};
 use fork_model::MAX_ITEMS;
 use git_name::first_word;
 
-// Whether these are more items than a query may have. They are parted by one SP each.
+// Whether these are more items than a query may have. Items are separated by one SP each.
 pub(crate) fn has_many(items: &[u8]) -> bool
     ensures { result ≡ nat_lt MAX_ITEMS (length (words_of items.now)) }
 {

@@ -1,5 +1,5 @@
-// What is put behind the others of a state that outlives the host's process. Each is asked for in order
-// and within the limits, so that nothing but want of memory may refuse it.
+// Appending to a state that outlives the host's process. What is appended is in order and within the
+// limits, so that it can fail only for lack of memory.
 ghost use Rattle.std.specs.Prelude.{◌≡◌, ◌≢◌, ◌<◌, ◌++◌, ◌∷◌, [], OnOk, length, map};
 ghost use Rattle.fork_model.specs.declared.limits.TheConstants.{MAX_OFFERS, MAX_REPOSITORIES, MAX_TENANTS};
 ghost use Rattle.state_text.specs.Adding.{AreBefore, with_offer, with_repository, with_seen};
@@ -13,7 +13,7 @@ use git_reftx::Repository;
 use state_text::{AddError, Offer, OfferError, States, TenantState};
 use std::alloc::AllocError;
 
-// Puts a tenant's state behind the others.
+// Appends a tenant's state.
 pub(crate) fn keep_tenant(states: &mut States, tenant: TenantState) -> Result<(), AllocError>
     requires before { AreBefore (map (λ other. other.name) states.old) tenant.name }
     requires room { length states.old < MAX_TENANTS }
@@ -26,7 +26,7 @@ pub(crate) fn keep_tenant(states: &mut States, tenant: TenantState) -> Result<()
     }
 }
 
-// Puts a repository behind the others of a tenant.
+// Appends a repository to those of a tenant.
 pub(crate) fn keep_repository(
     tenant: &mut TenantState,
     name: RepositoryName,
@@ -43,7 +43,7 @@ pub(crate) fn keep_repository(
     }
 }
 
-// Puts an offer behind the others of a tenant.
+// Appends an offer to those of a tenant.
 pub(crate) fn keep_offer(tenant: &mut TenantState, offer: Offer) -> Result<(), AllocError>
     requires other { offer.receiver ≢ tenant.old.name }
     requires before { AreBefore (map words_of_offer tenant.old.offers) (words_of_offer offer) }
@@ -57,7 +57,7 @@ pub(crate) fn keep_offer(tenant: &mut TenantState, offer: Offer) -> Result<(), A
     }
 }
 
-// Puts the name of an object behind the others that a tenant sees.
+// Appends the name of an object to those that a tenant sees.
 fn keep_name(tenant: &mut TenantState, name: Name) -> Result<(), AllocError>
     requires { AreBefore tenant.old.seen name }
     ensures { OnOk result (tenant.new ≡ with_seen tenant.old name) }
@@ -69,7 +69,7 @@ fn keep_name(tenant: &mut TenantState, name: Name) -> Result<(), AllocError>
     }
 }
 
-// Puts the names of objects behind the others that a tenant sees.
+// Appends the names of objects to those that a tenant sees.
 pub(crate) fn keep_names(tenant: &mut TenantState, names: Vec<Name>) -> Result<(), AllocError>
     requires { Ascend (tenant.old.seen ++ names.items) }
     ensures { OnOk result (tenant.new ≡ with_names tenant.old names.items) }

@@ -1,4 +1,5 @@
-// What stands against states, tenant by tenant: objects are told at once, targets and limits at the end.
+// What is wrong with states, tenant by tenant: objects are reported at once, targets and limits at the
+// end.
 ghost use Rattle.std.specs.Prelude.{◌≡◌, Err};
 ghost use Rattle.fork_host.specs.Refilled.{first_told, told_at_once, with_judged, with_limit, with_target};
 
@@ -7,16 +8,16 @@ use crate::seeing::Against;
 use fork_request::TenantName;
 use git_name::Name;
 
-// What is told at once.
+// What is reported at once.
 #[derive(Drop)]
 pub(crate) enum Bad {
-    // There was no memory.
+    // Memory ran out.
     Memory,
-    // The object of this name is not there whole, or not sound.
+    // The object of this name is missing, damaged or unsound.
     Object(Name),
 }
 
-// What is told at the end: a target before a limit, and of each the first.
+// What is reported at the end: a target before a limit, and of each the first.
 #[derive(Drop)]
 pub(crate) enum Later {
     Nothing,
@@ -25,7 +26,7 @@ pub(crate) enum Later {
 }
 
 impl Later {
-    // Notes what is told at the end of how this tenant was judged, and gives what is told at once.
+    // Notes what to report at the end about this tenant, and returns what to report at once.
     pub(crate) fn note(&mut self, tenant: &TenantName, judged: Result<(), Against>) -> Option<Bad>
         ensures noted { self.new ≡ with_judged self.old tenant.now judged }
         ensures told { result ≡ told_at_once judged }
@@ -72,7 +73,7 @@ impl Later {
         }
     }
 
-    // How it is told.
+    // How it is reported.
     pub(crate) fn told(self) -> Option<RestoreError>
         ensures { result ≡ first_told self }
     {

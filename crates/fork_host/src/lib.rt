@@ -1,7 +1,6 @@
-//! A host of many tenants over one vault: each request is answered from the asking tenant's
-//! repositories and private objects alone.
-//! What a tenant is told is what a private host that holds it alone would tell it, whatever others
-//! do between.
+//! A host of many tenants over one vault. Each request is answered only from the asking tenant's
+//! repositories and private objects. A tenant is told what a private host that holds it alone would
+//! tell it, whatever others do in between.
 #![tactic(auto)]
 
 mod accounts;

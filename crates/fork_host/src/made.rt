@@ -21,7 +21,7 @@ use std::alloc::{AllocError, Global};
 use std::collections::BTreeMap;
 use std::marker::Model;
 
-// The offers that a tenant has made: under receiver and name, the repository as it was when it was
+// The offers that a tenant has made: by receiver and name, the repository as it was when it was
 // offered.
 #[derive(Drop)]
 pub(crate) struct Made {
@@ -49,7 +49,7 @@ impl Made {
         }
     }
 
-    // The offers of this list, which stand by receiver, then by name.
+    // The offers of this list, which are ordered by receiver, then by name.
     pub(crate) fn gather(alloc: Global, list: &[Offer]) -> Result<Made, AllocError>
         requires { IsStrictlySortedBy pair_cmp (mapped pair_of list.now) }
         ensures { IfOk result (λ gathered. map.entries gathered ≡ mapped entry_of list.now) }
@@ -62,28 +62,29 @@ impl Made {
         Ok(made)
     }
 
-    // How many there are.
+    // The number of offers.
     pub(crate) fn len(&self) -> usize
         ensures { result ≡ map.len self.now }
     {
         self.offers.len()
     }
 
-    // The one to this receiver of the repository of this name.
+    // The offer to this receiver of the repository of this name.
     pub(crate) fn get(&self, receiver: &TenantName, name: &RepositoryName) -> Option<&Repository>
         ensures { option_copied result ≡ map.get self.now (receiver.now, name.now) }
     {
         self.offers.get(&(receiver.copy(), name.copy()))
     }
 
-    // Whether there is one.
+    // Whether there is such an offer.
     pub(crate) fn contains(&self, receiver: &TenantName, name: &RepositoryName) -> bool
         ensures { result ≡ map.contains_key self.now (receiver.now, name.now) }
     {
         self.offers.contains_key(&(receiver.copy(), name.copy()))
     }
 
-    // Takes out the one to this receiver of the repository of this name, if it is there. It takes no memory.
+    // Removes the offer to this receiver of the repository of this name, if it exists. It allocates
+    // nothing.
     pub(crate) fn remove(&mut self, receiver: &TenantName, name: &RepositoryName)
         ensures { self.new ≡ map.remove self.old (receiver.now, name.now) }
     {
@@ -117,7 +118,7 @@ impl Made {
         Ok(())
     }
 
-    // Puts one under a receiver and a name.
+    // Puts an offer under a receiver and a name.
     pub(crate) fn insert(
         &mut self,
         receiver: TenantName,
@@ -141,7 +142,7 @@ impl Made {
         Ok(())
     }
 
-    // Puts a copy of each behind the offers of their giver's state.
+    // Appends a copy of each to the offers of their giver's state.
     pub(crate) fn keep(&self, state: &mut TenantState) -> Result<(), AllocError>
         requires none { state.old.offers ≡ [] }
         requires few { map.len self.now ≤ MAX_OFFERS }

@@ -1,7 +1,7 @@
 use fork_request::TenantName;
 use git_reftx::Repository;
 
-// What a request meets of the offers that others have made to its tenant.
+// The offers of others that a request depends on.
 #[derive(Drop)]
 pub(crate) enum Met {
     // Nothing.

@@ -35,8 +35,8 @@ use loose_store::LooseFiles;
 use push_stream::{Brief, StreamFault};
 use std::alloc::{AllocError, Global};
 
-// One tenant's own part of the vault. It is made once for a request, from the vault and the tenant that
-// asks, and is all of the vault that a row of the answer is given.
+// One tenant's own part of the vault. It is made once for each request, from the vault and the tenant
+// that asks. A row of the answer gets nothing else of the vault.
 #[derive(Drop)]
 pub(crate) struct Own<'a, S: LooseFiles> {
     vault: &'a mut Vault<S>,
@@ -54,7 +54,7 @@ impl<'a, S: LooseFiles> Own<'a, S> {
 
     ghost use Rattle.fork_host.specs.Handle.{IsSame, both_by, staged_by, visible_by};
 
-    // How names of objects are to be hashed.
+    // How to hash names of objects.
     pub(crate) fn hashing_of_names(&self) -> Hashing {
         self.vault.hashing()
     }
@@ -89,7 +89,7 @@ impl<'a, S: LooseFiles> Own<'a, S> {
         self.vault.get(alloc, self.tenant, name)
     }
 
-    // The object that the tenant sees under this name, lent where it need not be read.
+    // The object that the tenant sees under this name, borrowed if it need not be read.
     pub(crate) fn lend_seen(&self, name: Name) -> Option<(Kind, &[u8])>
         ensures found { IfSome result (λ lent. IsTrue self.now.vault.now.honest × (map.get (visible_by self.now) name ≡ Some (record { kind = lent.0; bytes = lent.1.now }))) }
         ensures named { IfSome result (λ lent. object_name (record { kind = lent.0; bytes = lent.1.now }) ≡ name) }
@@ -140,8 +140,7 @@ impl<'a, S: LooseFiles> Own<'a, S> {
         self.vault.stage_all(alloc, self.tenant, objects)
     }
 
-    // Stages the object of this name, where a survey of the store found it there, of this kind and of
-    // so many bytes.
+    // Stages the object of this name, if a survey of the store found it there with this kind and length.
     pub(crate) fn recall(&mut self, name: Name, kind: Kind, length: u64) -> Result<(), RecallFault>
         ensures recalls { OnOk result (Recalls self.old.vault.now.honest self.old.tenant.now name self.old.vault.now.files self.old.vault.now.tenants self.new.vault.now.tenants) }
         ensures err { OnErr result (self.new.vault.now.tenants ≡ self.old.vault.now.tenants) }
@@ -153,7 +152,7 @@ impl<'a, S: LooseFiles> Own<'a, S> {
         self.vault.recall(self.tenant, name, kind, length)
     }
 
-    // What is staged is seen.
+    // Makes what is staged visible.
     pub(crate) fn publish(&mut self)
         ensures tenants { self.new.vault.now.tenants ≡ at_tenant self.old.vault.now.tenants self.old.tenant.now with_published }
         ensures store { LeavesStore self.old.vault.now self.new.vault.now }
@@ -162,7 +161,7 @@ impl<'a, S: LooseFiles> Own<'a, S> {
         self.vault.publish(self.tenant);
     }
 
-    // What is staged goes.
+    // Discards what is staged.
     pub(crate) fn discard(&mut self)
         ensures tenants { self.new.vault.now.tenants ≡ at_tenant self.old.vault.now.tenants self.old.tenant.now with_discarded }
         ensures store { LeavesStore self.old.vault.now self.new.vault.now }
@@ -171,7 +170,7 @@ impl<'a, S: LooseFiles> Own<'a, S> {
         self.vault.discard(self.tenant);
     }
 
-    // Of what the tenant sees, the objects of these names stay.
+    // Keeps only the objects of these names among what the tenant sees.
     pub(crate) fn keep_only(&mut self, names: &IndexSet<Name, Hashing>)
         ensures tenants { self.new.vault.now.tenants ≡ at_tenant self.old.vault.now.tenants self.old.tenant.now (with_kept (λ name. contains same_name names.now name)) }
         ensures store { LeavesStore self.old.vault.now self.new.vault.now }
@@ -180,21 +179,21 @@ impl<'a, S: LooseFiles> Own<'a, S> {
         self.vault.keep_only(self.tenant, names);
     }
 
-    // What the visible objects use.
+    // How many bytes the visible objects use.
     pub(crate) fn used(&self) -> u128
         ensures { result ≡ capped (use_of (visible_by self.now)) }
     {
         self.vault.used(self.tenant)
     }
 
-    // Whether the visible and the staged objects use so many bytes at the most.
+    // Whether the visible and the staged objects use at most this many bytes.
     pub(crate) fn is_within(&self, limit: u64) -> bool
         ensures { result ≡ nat_le (use_of (both_by self.now)) limit }
     {
         self.vault.is_within(self.tenant, limit)
     }
 
-    // The names of what these names reach of what the tenant sees.
+    // The names of what these names reach among what the tenant sees.
     pub(crate) fn reached(
         &mut self,
         alloc: Global,
@@ -212,7 +211,7 @@ impl<'a, S: LooseFiles> Own<'a, S> {
         reach(alloc, self, roots)
     }
 
-    // What a push into a repository of these references comes to, over what the tenant sees and has
+    // The verdict on a push into a repository of these references, over what the tenant sees and has
     // staged.
     pub(crate) fn judge(
         &mut self,
@@ -238,7 +237,7 @@ impl<'a, S: LooseFiles> Own<'a, S> {
     }
 }
 
-// Of commits, their parents: those of the commits that the tenant sees.
+// The parents of commits: those of the commits that the tenant sees.
 impl<S: LooseFiles> Ancestry for Own<'_, S> {
     ghost commits = { λ own. own.vault.now.commits };
 
@@ -269,7 +268,7 @@ impl<S: LooseFiles> Ancestry for Own<'_, S> {
 
 ghost use Rattle.fork_ledger.specs.Private.{kind_seen};
 
-// The kind of an object, where it is seen.
+// The kind of an object, if it is seen.
 fn seen_kind(held: Option<Held>) -> Option<Kind>
     ensures { result ≡ kind_seen held }
 {

@@ -13,7 +13,7 @@ use git_name::Name;
 use loose_store::LooseFiles;
 use std::alloc::Global;
 
-// Keeps of what a tenant sees what these names reach.
+// Keeps, of what a tenant sees, what these names reach.
 pub(crate) fn keep_reached<S: LooseFiles>(
     alloc: Global,
     own: &mut Own<'_, S>,

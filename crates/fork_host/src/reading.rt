@@ -1,4 +1,4 @@
-// What stands on the store of the objects that tenants saw, each read once.
+// Reads, once each, the objects on the store that tenants saw.
 ghost use Rattle.std.specs.Prelude.{◌≡◌, ◌∷◌, [], Contains, IfOk, IsTrue, OnOk};
 ghost use Rattle.std.specs.FinMap as map;
 ghost use Rattle.fork_sound.specs.Reading.{object_reading};
@@ -31,7 +31,7 @@ pub(crate) fn read_states<S: LooseFiles>(
     Ok(readings)
 }
 
-// Reads the objects of these names, but those that were read.
+// Reads the objects of these names that were not read yet.
 fn read_seen<S: LooseFiles>(
     alloc: Global,
     survey: &mut Survey<S>,
@@ -49,7 +49,7 @@ fn read_seen<S: LooseFiles>(
     Ok(())
 }
 
-// Reads the object of this name, unless it was read.
+// Reads the object of this name if it was not read yet.
 fn read_new<S: LooseFiles>(
     alloc: Global,
     survey: &mut Survey<S>,
@@ -67,7 +67,7 @@ fn read_new<S: LooseFiles>(
     read_one(alloc, survey, readings, name)
 }
 
-// Reads the object of this name, where the store has it whole.
+// Reads the object of this name, if the store has it whole.
 fn read_one<S: LooseFiles>(
     alloc: Global,
     survey: &mut Survey<S>,
@@ -81,7 +81,7 @@ fn read_one<S: LooseFiles>(
 {
     match survey.read(alloc, name) {
         Ok(Some(sealed)) => keep(alloc, readings, name, &sealed),
-        // What is not there whole is judged once all is there that is.
+        // What is missing or damaged is judged once all the rest was read.
         Ok(None) => Ok(()),
         Err(VaultFault::Memory) => Err(OpenError::Memory),
         Err(_) => Err(OpenError::Store),

@@ -1,4 +1,4 @@
-// What a tenant saw, by what was read of it.
+// Restoring what a tenant saw, from what was read of it.
 ghost use Rattle.std.specs.Prelude.{◌≡◌, OnErr, OnOk, true};
 ghost use Rattle.std.specs.FinMap as map;
 ghost use Rattle.fork_host.specs.Handle.{IsSame, visible_by};
@@ -13,8 +13,7 @@ use fork_sound::Readings;
 use git_name::Name;
 use loose_store::LooseFiles;
 
-// Lets a tenant see the objects of these names that were read. Where it fails, the tenant sees what it
-// saw.
+// Lets a tenant see the objects of these names that were read. On failure the tenant sees what it saw.
 pub(crate) fn recall_all<S: LooseFiles>(
     own: &mut Own<'_, S>,
     readings: &Readings,
@@ -42,7 +41,7 @@ pub(crate) fn recall_all<S: LooseFiles>(
     Ok(())
 }
 
-// Stages the object of this name, where it was read.
+// Stages the object of this name, if it was read.
 fn recall_read<S: LooseFiles>(
     own: &mut Own<'_, S>,
     readings: &Readings,

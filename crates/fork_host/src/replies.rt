@@ -1,4 +1,4 @@
-// What a tenant is told where a request gives no data.
+// Replies to requests that return no data.
 ghost use Rattle.std.specs.Prelude.{◌≡◌, ◌⊎◌, [], ◌++◌, codes, decimal};
 ghost use Rattle.fork_request.specs.declared.refusal.Refusal.TheVariants.{BadName, BadRef};
 ghost use Rattle.fork_request.specs.Told.{is_done, is_host_fault};
@@ -15,7 +15,7 @@ use push_stream::StreamFault;
 use std::alloc::Global;
 use std::io::Write;
 
-// Whether a reply is done.
+// Whether a reply is `ok`.
 pub(crate) fn is_done(reply: &Reply) -> bool
     ensures { result ≡ is_done reply.now }
 {
@@ -35,7 +35,7 @@ pub(crate) fn is_failed(reply: &Reply) -> bool
     }
 }
 
-// There is nothing more to tell.
+// A reply without data.
 pub(crate) fn done(alloc: Global) -> Reply
     ensures { result ≡ Reply.Done [] }
 {
@@ -53,7 +53,7 @@ pub(crate) fn told_use(alloc: Global, used: u128, limit: u64) -> Reply
     }
 }
 
-// A word that is no name of a repository.
+// The refusal of a word that is not a repository's name.
 pub(crate) fn bad_name(alloc: Global, word: &[u8]) -> Reply
     ensures { (result ≡ Reply.Refused (BadName word.now)) ⊎ (result ≡ Reply.Failed HostFault.Memory) }
 {
@@ -63,7 +63,7 @@ pub(crate) fn bad_name(alloc: Global, word: &[u8]) -> Reply
     }
 }
 
-// A word that is no right name of a branch.
+// The refusal of a word that is not a valid branch name.
 pub(crate) fn bad_ref(alloc: Global, word: &[u8]) -> Reply
     ensures { (result ≡ Reply.Refused (BadRef word.now)) ⊎ (result ≡ Reply.Failed HostFault.Memory) }
 {
@@ -73,7 +73,7 @@ pub(crate) fn bad_ref(alloc: Global, word: &[u8]) -> Reply
     }
 }
 
-// How a reply tells what is wrong with a stream.
+// How a reply reports what is wrong with a stream.
 pub(crate) fn stream_refusal(fault: StreamFault) -> Refusal
     ensures { result ≡ stream_refusal fault }
 {
@@ -87,7 +87,7 @@ pub(crate) fn stream_refusal(fault: StreamFault) -> Refusal
     }
 }
 
-// How a reply tells what is wrong with a body of commands.
+// How a reply reports what is wrong with a body of commands.
 pub(crate) fn command_refusal(fault: CommandFault) -> Refusal
     ensures { result ≡ command_refusal fault }
 {
@@ -98,7 +98,7 @@ pub(crate) fn command_refusal(fault: CommandFault) -> Refusal
     }
 }
 
-// How a reply tells why a transaction was refused.
+// How a reply reports why a transaction was refused.
 pub(crate) fn transaction_refusal(refusal: TxRefusal) -> Refusal
     ensures { result ≡ transaction_refusal refusal }
 {
@@ -113,7 +113,7 @@ pub(crate) fn transaction_refusal(refusal: TxRefusal) -> Refusal
     }
 }
 
-// How a reply tells why a push was refused.
+// How a reply reports why a push was refused.
 pub(crate) fn push_refusal(refusal: PushRefusal) -> Refusal
     ensures { result ≡ push_refusal refusal }
 {
@@ -126,7 +126,7 @@ pub(crate) fn push_refusal(refusal: PushRefusal) -> Refusal
     }
 }
 
-// How a reply tells a fault of the store.
+// How a reply reports a fault of the store.
 pub(crate) fn host_fault(fault: SourceFault) -> HostFault
     ensures { result ≡ fault_told fault }
 {
@@ -137,7 +137,7 @@ pub(crate) fn host_fault(fault: SourceFault) -> HostFault
     }
 }
 
-// How a reply tells a fault of the vault.
+// How a reply reports a fault of the vault.
 pub(crate) fn vault_fault(fault: VaultFault) -> HostFault
     ensures { result ≡ vault_told fault }
 {
@@ -149,7 +149,7 @@ pub(crate) fn vault_fault(fault: VaultFault) -> HostFault
     }
 }
 
-// What a query answers.
+// The answer to a query.
 pub(crate) fn told(found: Result<Vec<u8>, QueryError>) -> Reply
     ensures { result ≡ query_told (λ text. text.items) found }
 {

@@ -22,7 +22,7 @@ use std::alloc::{AllocError, Global};
 use std::collections::BTreeMap;
 use std::marker::Model;
 
-// A tenant's repositories under their names.
+// A tenant's repositories by name.
 #[derive(Drop)]
 pub(crate) struct Repositories {
     repositories: BTreeMap<RepositoryName, Repository>,
@@ -67,28 +67,28 @@ impl Repositories {
         Ok(repositories)
     }
 
-    // How many there are.
+    // The number of repositories.
     pub(crate) fn len(&self) -> usize
         ensures { result ≡ map.len self.now }
     {
         self.repositories.len()
     }
 
-    // Whether there is one of this name.
+    // Whether there is a repository of this name.
     pub(crate) fn contains(&self, name: &RepositoryName) -> bool
         ensures { result ≡ map.contains_key self.now name.now }
     {
         self.repositories.contains_key(name)
     }
 
-    // The one of this name.
+    // The repository of this name.
     pub(crate) fn get(&self, name: &RepositoryName) -> Option<&Repository>
         ensures { option_copied result ≡ map.get self.now name.now }
     {
         self.repositories.get(name)
     }
 
-    // Puts one under a name.
+    // Puts a repository under a name.
     pub(crate) fn insert(
         &mut self,
         name: RepositoryName,
@@ -100,7 +100,7 @@ impl Repositories {
         put(&mut self.repositories, name, repository)
     }
 
-    // The one of this name has these references from now on.
+    // Gives the repository of this name these references.
     pub(crate) fn set_references(&mut self, name: &RepositoryName, references: Refs)
         requires { map.contains_key self.old name.now ≡ true }
         ensures { (old : Shown) → map.get self.old name.now ≡ Some old → self.new ≡ map.insert self.old name.now (record old { references = references }) }
@@ -111,7 +111,7 @@ impl Repositories {
         repository.set_references(references);
     }
 
-    // HEAD of the one of this name is this branch from now on.
+    // Lets HEAD of the repository of this name name this branch.
     pub(crate) fn set_head(&mut self, name: &RepositoryName, head: Branch)
         requires { map.contains_key self.old name.now ≡ true }
         ensures { (old : Shown) → map.get self.old name.now ≡ Some old → self.new ≡ map.insert self.old name.now (record old { head = head }) }
@@ -122,7 +122,7 @@ impl Repositories {
         repository.set_head(head);
     }
 
-    // Carries out the commands on the references of the one of this name, all or none of them.
+    // Carries out the commands on the references of the repository of this name, all or none of them.
     pub(crate) fn apply<K: Known>(
         &mut self,
         alloc: Global,
@@ -178,7 +178,7 @@ impl Repositories {
         Ok(names)
     }
 
-    // Puts a copy of each behind the repositories of a tenant's state.
+    // Appends a copy of each to the repositories of a tenant's state.
     pub(crate) fn keep(&self, state: &mut TenantState) -> Result<(), AllocError>
         requires none { state.old.repositories ≡ [] }
         requires few { map.len self.now ≤ MAX_REPOSITORIES }
@@ -191,7 +191,7 @@ impl Repositories {
         Ok(())
     }
 
-    // Takes out the one of this name, if it is there. It takes no memory.
+    // Removes the repository of this name, if it exists. It allocates nothing.
     pub(crate) fn remove(&mut self, name: &RepositoryName)
         ensures { self.new ≡ map.remove self.old name.now }
     {

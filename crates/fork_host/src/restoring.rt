@@ -1,4 +1,4 @@
-// Hosts as they were.
+// Restoring hosts.
 ghost use Rattle.std.specs.Prelude.{◌≡◌, ◌<◌, IfErr, IfOk, IsTrue, OnErr, OnOk, None, Some, true};
 ghost use Rattle.std.specs.FinMap as map;
 ghost use Rattle.fork_ledger.specs.Private.{nothing};
@@ -31,10 +31,10 @@ use state_text::{States, TenantState};
 use std::alloc::{AllocError, Global};
 
 impl<S: LooseFiles + Drop> Host<S> {
-    /// A host that shows these states, over the store that holds their objects. What stands against it is
-    /// told in this order: the objects of all tenants; the targets of all references, in each tenant those
-    /// of repositories before those of offers; the limits. Each object that tenants see is read from the
-    /// store once, however many they are, and judged for each of them by what is known of it then.
+    /// A host that shows these states, over the store that holds their objects. Problems are reported in
+    /// this order: the objects of all tenants; the targets of all references, in each tenant those of
+    /// repositories before those of offers; the limits. Each object is read from the store once, however
+    /// many tenants see it, and judged for each of them from what was read.
     pub fn restore(alloc: Global, files: S, states: States) -> Result<Host<S>, RestoreError>
         ensures trusted { IfOk result (λ host. IsTrue (S.honest files) → Trusted host) }
         ensures shown { IfOk result (λ host. IsTrue (S.honest files) → IsShownAgain (S.contents files) states (world_of host)) }
@@ -64,14 +64,14 @@ impl<S: LooseFiles + Drop> Host<S> {
 }
 
 impl<S: LooseFiles> Host<S> {
-    // What was read of the store is forgotten.
+    // Forgets what was read of the store.
     fn end_survey(&mut self)
         ensures { self.new ≡ self.old }
     {
         self.vault.end_survey();
     }
 
-    // Adds a tenant behind the others, which sees again what it saw.
+    // Appends a tenant, which sees again what it saw.
     fn restore_tenant(
         &mut self,
         alloc: Global,
@@ -94,7 +94,7 @@ impl<S: LooseFiles> Host<S> {
         self.refill(alloc, readings, state)
     }
 
-    // Adds a tenant that nothing but want of memory may refuse.
+    // Adds a tenant. It can fail only for lack of memory.
     fn add_behind(&mut self, alloc: Global, name: TenantName, limit: u64) -> Result<(), AllocError>
         requires { refusal_to_add (world_of self.old) name limit ≡ None }
         ensures ok { OnOk result (world_of self.new ≡ map.insert (world_of self.old) name (new_view limit)) }
@@ -108,7 +108,7 @@ impl<S: LooseFiles> Host<S> {
         }
     }
 
-    // A tenant that sees nothing sees again what it saw. Where it fails, it sees nothing.
+    // Lets a tenant that sees nothing see again what it saw. On failure it sees nothing.
     fn refill(
         &mut self,
         alloc: Global,
@@ -124,7 +124,7 @@ impl<S: LooseFiles> Host<S> {
         ensures failures { self.new.vault.failures ≡ self.old.vault.failures }
         ensures keys { map.keys self.new.accounts ≡ map.keys self.old.accounts }
     {
-        // For its clause too: the state is in order.
+        // Called for its clause too: the state is in order.
         let name = state.name();
         let Ok(gathered) = Repositories::gather(alloc, state.repositories()) else {
             return Err(Against::Memory);
@@ -164,7 +164,7 @@ pub(crate) fn see_in<S: LooseFiles>(
     see_again(alloc, &mut own, readings, state)
 }
 
-// How what is bad is told.
+// How a bad object is reported.
 fn why<S: LooseFiles + Drop>(alloc: Global, files: S, bad: Bad) -> RestoreError
     ensures { IsTrue (S.honest files) → IsWhy (S.contents files) bad result }
 {

@@ -1,4 +1,4 @@
-// A tenant that sees again what it saw.
+// Letting a tenant see again what it saw.
 ghost use Rattle.std.specs.Prelude.{◌≡◌, ◌≤◌, IfErr, IfOk, IsTrue, None, OnErr, OnOk, true};
 ghost use Rattle.std.specs.BTreeSet.{contains};
 ghost use Rattle.std.specs.FinMap as map;
@@ -25,21 +25,21 @@ use state_text::TenantState;
 use std::alloc::{AllocError, Global};
 use std::collections::BTreeSet;
 
-// What stands against what a tenant saw.
+// What is wrong with what a tenant saw.
 #[derive(Drop)]
 pub(crate) enum Against {
-    // There was no memory.
+    // Memory ran out.
     Memory,
-    // The object of this name is not there whole, or not sound.
+    // The object of this name is missing, damaged or unsound.
     BadObject(Name),
     // A reference points at this name, and may not.
     Astray(Name),
-    // It is of more use than the limit allows.
+    // It uses more than the limit allows.
     Limit,
 }
 
-// Lets a tenant that sees nothing see again the objects of its state, which are judged with its
-// references, those of its offers and its limit. Where it fails, it sees nothing.
+// Lets a tenant that sees nothing see again the objects of its state. They are checked together with
+// its references, those of its offers, and its limit. On failure it sees nothing.
 pub(crate) fn see_again<S: LooseFiles>(
     alloc: Global,
     own: &mut Own<'_, S>,
@@ -57,7 +57,7 @@ pub(crate) fn see_again<S: LooseFiles>(
     ensures failures { own.new.vault.now.failures ≡ own.old.vault.now.failures }
     ensures same { IsSame own.old own.new }
 {
-    // For its clause too: the state is in order.
+    // Called for its clause too: the state is in order.
     let _name = state.name();
     let seen = state.seen();
     let Ok(names) = set_of(alloc, seen) else {
@@ -89,7 +89,7 @@ fn set_of(alloc: Global, names: &[Name]) -> Result<BTreeSet<Name>, AllocError>
     Ok(set)
 }
 
-// Judges what a tenant sees, where these are the names that it saw, by what was read.
+// Checks what a tenant sees, given the names that it saw and what was read.
 pub(crate) fn judge_seen<S: LooseFiles>(
     own: &Own<'_, S>,
     readings: &Readings,

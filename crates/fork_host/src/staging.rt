@@ -20,7 +20,7 @@ use git_name::Sealed;
 use loose_store::LooseFiles;
 use std::alloc::Global;
 
-// Stages these objects in turn, beside what is staged. Where it fails, none of them is.
+// Stages these objects in turn, beside what is staged. On failure none of them is staged.
 pub(crate) fn stage_all<S: LooseFiles>(
     alloc: Global,
     own: &mut Own<'_, S>,
@@ -39,7 +39,7 @@ pub(crate) fn stage_all<S: LooseFiles>(
     own.stage_all(alloc, sent)
 }
 
-// What is staged goes.
+// Discards what is staged.
 pub(crate) fn discard<S: LooseFiles>(own: &mut Own<'_, S>)
     requires there { map.contains_key own.old.vault.now.tenants own.old.tenant.now ≡ true }
     ensures changes { ChangesTenant own.old.tenant.now (MadeBy with_discarded) own.old.vault.now own.new.vault.now }
@@ -52,7 +52,7 @@ pub(crate) fn discard<S: LooseFiles>(own: &mut Own<'_, S>)
     own.discard();
 }
 
-// What is staged is seen.
+// Makes what is staged visible.
 pub(crate) fn publish<S: LooseFiles>(own: &mut Own<'_, S>)
     requires there { map.contains_key own.old.vault.now.tenants own.old.tenant.now ≡ true }
     ensures changes { ChangesTenant own.old.tenant.now (MadeBy with_published) own.old.vault.now own.new.vault.now }

@@ -1,4 +1,4 @@
-// What a whole stream holds is taken: all of it or nothing.
+// Takes what a whole stream holds: all of it or nothing.
 ghost use Rattle.std.specs.Prelude.{◌≡◌, ℕ, IsTrue, IfOk, IfSome, Ok, List, Some, false, map as map_list, true};
 ghost use Rattle.std.specs.FinMap as map;
 ghost use Rattle.git_name.specs.Object.{Object, object_name};
@@ -34,7 +34,7 @@ use push_stream::{Body, BodyError, Brief, StreamFault};
 use std::alloc::{AllocError, Global};
 
 #[tactic(auto, unfolding(fork_push::specs::Push::judged))]
-// What the body of a push gave is taken, where nothing is staged.
+// Takes what the body of a push holds, if nothing is staged.
 pub(crate) fn take_body<S: LooseFiles>(
     alloc: Global,
     repositories: &mut Repositories,
@@ -61,7 +61,7 @@ pub(crate) fn take_body<S: LooseFiles>(
     }
 }
 
-// The commands and objects of a body: the objects are staged while they are judged.
+// Takes the commands and objects of a body: the objects are staged while they are judged.
 fn take<S: LooseFiles>(
     alloc: Global,
     repositories: &mut Repositories,
@@ -109,7 +109,7 @@ fn names_of(alloc: Global, sent: &[Sealed]) -> Result<Vec<Name>, AllocError>
 }
 
 #[tactic(auto, unfolding(fork_push::specs::Push::judged))]
-// What an upload gave at its end is taken, where its objects are staged.
+// Takes what an upload holds at its end, if its objects are staged.
 pub(crate) fn settle_upload<S: LooseFiles>(
     alloc: Global,
     repositories: &mut Repositories,
@@ -139,8 +139,8 @@ pub(crate) fn settle_upload<S: LooseFiles>(
     }
 }
 
-// The commands and the objects of these names, which are staged, are judged, and taken where they are
-// accepted. What is not accepted stays staged.
+// Judges the commands and the staged objects of these names, and takes them if they are accepted. What
+// is not accepted stays staged.
 fn settle<S: LooseFiles>(
     alloc: Global,
     repositories: &mut Repositories,
@@ -171,7 +171,7 @@ fn settle<S: LooseFiles>(
     }
 }
 
-// What is staged is seen, and a repository has these references.
+// Makes what is staged visible, and gives a repository these references.
 fn accept<S: LooseFiles>(
     alloc: Global,
     repositories: &mut Repositories,
@@ -192,7 +192,7 @@ fn accept<S: LooseFiles>(
     done(alloc)
 }
 
-// What a push into a repository that is there comes to.
+// The verdict on a push into a repository that exists.
 fn verdict<S: LooseFiles>(
     alloc: Global,
     repositories: &Repositories,

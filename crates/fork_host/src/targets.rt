@@ -1,4 +1,4 @@
-// Where references point, and whether that is seen.
+// The targets of references, and whether they are seen.
 ghost use Rattle.std.specs.Prelude.{◌≡◌, ◌++◌, OnOk, map as mapped};
 ghost use Rattle.std.specs.List.{find, flat_map};
 ghost use Rattle.std.specs.Option.{option_map};
@@ -23,7 +23,7 @@ pub(crate) fn add_targets(names: &mut Vec<Name>, references: &Refs) -> Result<()
 }
 
 // The target of the first reference of a tenant's repositories, and then of its offers, that points at
-// no known object, or of a branch that points at no commit.
+// no known object, or that is a branch and points at no commit.
 pub(crate) fn first_bad_target<K: Known>(known: &K, state: &TenantState) -> Option<Name>
     ensures { result ≡ option_map target_of (find (is_bad_target (K.kinds known.now)) (flat_map references_in (repositories_in state.now))) }
 {
@@ -34,7 +34,7 @@ pub(crate) fn first_bad_target<K: Known>(known: &K, state: &TenantState) -> Opti
     bad_in_offers(known, state.offers())
 }
 
-// The same of repositories.
+// The same for repositories.
 fn bad_in_repositories<K: Known>(
     known: &K,
     repositories: &[(RepositoryName, Repository)],
@@ -50,7 +50,7 @@ fn bad_in_repositories<K: Known>(
     None
 }
 
-// The same of offers.
+// The same for offers.
 fn bad_in_offers<K: Known>(known: &K, offers: &[Offer]) -> Option<Name>
     ensures { result ≡ option_map target_of (find (is_bad_target (K.kinds known.now)) (flat_map references_in (mapped (λ offer. offer.repository) offers.now))) }
 {
@@ -63,7 +63,7 @@ fn bad_in_offers<K: Known>(known: &K, offers: &[Offer]) -> Option<Name>
     None
 }
 
-// The same of one repository.
+// The same for one repository.
 fn bad_target_in<K: Known>(known: &K, references: &Refs) -> Option<Name>
     ensures { result ≡ option_map target_of (find (is_bad_target (K.kinds known.now)) (map.entries references.now)) }
 {
@@ -75,7 +75,7 @@ fn bad_target_in<K: Known>(known: &K, references: &Refs) -> Option<Name>
     None
 }
 
-// The same of one reference.
+// The same for one reference.
 fn is_bad_target<K: Known>(known: &K, reference: &RefName, target: Name) -> bool
     ensures { result ≡ is_bad_target (K.kinds known.now) (reference.now, target) }
 {

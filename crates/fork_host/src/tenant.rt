@@ -35,7 +35,7 @@ use push_stream::Incoming;
 use std::alloc::Global;
 use std::marker::Model;
 
-// One tenant of a host: its account. Its objects lie in the vault.
+// One tenant of a host: its account. Its objects are in the vault.
 #[derive(Drop)]
 pub(crate) struct Tenant {
     repositories: Repositories,
@@ -68,7 +68,7 @@ impl Tenant {
         }
     }
 
-    // The tenant has these repositories, and has made these offers.
+    // Gives the tenant these repositories and offers.
     pub(crate) fn settle(&mut self, repositories: Repositories, made: Made)
         ensures { self.new ≡ record self.old { repositories = repositories; made = made } }
     {
@@ -77,8 +77,8 @@ impl Tenant {
     }
 
     #[tactic(auto, unfolding(fork_model::specs::Answer::answer))]
-    // Answers a request from the tenant's account and its own part of the vault: a row of the answer a
-    // method, each in the file of its subject. It looks at nothing that others have offered.
+    // Answers a request from the tenant's account and its own part of the vault. Each row of the answer is
+    // a method, in the file of its subject. It does not depend on the offers of others.
     pub(crate) fn answer<S: LooseFiles>(
         &mut self,
         alloc: Global,

@@ -1,5 +1,5 @@
-// What is asked of the host itself: its store is swept and checked, its catalogue is counted, and its
-// tenants are listed in numbers.
+// Requests of the host itself: sweep and check its store, count its catalogue, and list its tenants in
+// numbers.
 ghost use Rattle.std.specs.Prelude.{◌≡◌, ◌⊎◌, ◌≤◌, [], IfOk, length, true};
 ghost use Rattle.std.specs.Vec.{vec_capacity, vec_len};
 ghost use Rattle.std.specs.FinMap as map;
@@ -21,10 +21,11 @@ use itoa::Buffer;
 use loose_store::LooseFiles;
 use std::alloc::{AllocError, Global};
 
-// The most bytes that a number and LF have.
+// The most bytes of a number and its LF.
 const MOST: usize = 21;
 
-// Memory for a number and LF. It is asked for before anything is done, so that what was done is told.
+// Allocates memory for a number and LF. It is allocated before anything is done, so that what was done
+// can be reported.
 fn room(alloc: Global) -> Result<Vec<u8>, AllocError>
     ensures empty { IfOk result (λ text. text.items ≡ []) }
     ensures len { IfOk result (λ text. vec_len text ≡ 0) }
@@ -33,7 +34,7 @@ fn room(alloc: Global) -> Result<Vec<u8>, AllocError>
     Vec::with_capacity(alloc, MOST)
 }
 
-// The number and LF are told.
+// Reports the number and LF.
 fn told_number(text: Vec<u8>, number: u64) -> Reply
     requires empty { text.items ≡ [] }
     requires len { vec_len text ≡ 0 }
@@ -49,7 +50,7 @@ fn told_number(text: Vec<u8>, number: u64) -> Reply
     Reply::Done(ByteString::new(text))
 }
 
-// So many looks at the most.
+// Sweeps: at most this many looks.
 fn sweep<S: LooseFiles>(alloc: Global, vault: &mut Vault<S>, most: u64) -> Reply
     ensures says { (world : World) → HostSays world (HostRequest.Sweep most) result ⊎ (is_host_fault result ≡ true) }
     ensures tends { Tends (HostRequest.Sweep most) vault.old result vault.new }
@@ -83,7 +84,7 @@ fn collect<S: LooseFiles>(alloc: Global, vault: &mut Vault<S>) -> Reply
     }
 }
 
-// How many names are catalogued.
+// Reports how many names are catalogued.
 fn census<S: LooseFiles>(alloc: Global, vault: &Vault<S>) -> Reply
     ensures says { (world : World) → HostSays world HostRequest.Census result ⊎ (is_host_fault result ≡ true) }
     ensures tends { Tends HostRequest.Census vault.now result vault.now }
@@ -96,7 +97,7 @@ fn census<S: LooseFiles>(alloc: Global, vault: &Vault<S>) -> Reply
     told_number(text, vault.census())
 }
 
-// The lines of harms are told.
+// Reports the lines of harms.
 fn told_harms(alloc: Global, harms: &Harms) -> Reply
     ensures { (result ≡ Reply.Done (harm_lines (map.entries harms.now))) ⊎ (result ≡ Reply.Failed HostFault.Memory) }
 {
@@ -106,7 +107,7 @@ fn told_harms(alloc: Global, harms: &Harms) -> Reply
     Reply::Done(ByteString::new(text))
 }
 
-// What is wrong with the files of objects that tenants hold.
+// Reports what is wrong with the files of objects that tenants hold.
 fn fsck<S: LooseFiles>(alloc: Global, vault: &mut Vault<S>) -> Reply
     ensures says { (world : World) → HostSays world HostRequest.Fsck result ⊎ (is_host_fault result ≡ true) }
     ensures tends { Tends HostRequest.Fsck vault.old result vault.new }
@@ -120,7 +121,7 @@ fn fsck<S: LooseFiles>(alloc: Global, vault: &mut Vault<S>) -> Reply
     }
 }
 
-// What each tenant has and may have, in numbers.
+// Reports what each tenant has and may have, in numbers.
 fn tell_tenants<S: LooseFiles>(alloc: Global, accounts: &Accounts, vault: &Vault<S>) -> Reply
     requires orderly { IsOrderlyWorld (world_of (state_of accounts.now vault.now)) }
     ensures says { HostSays (world_of (state_of accounts.now vault.now)) HostRequest.Tenants result ⊎ (is_host_fault result ≡ true) }
@@ -134,7 +135,7 @@ fn tell_tenants<S: LooseFiles>(alloc: Global, accounts: &Accounts, vault: &Vault
     Reply::Done(ByteString::new(text))
 }
 
-// Answers what is asked of the host itself.
+// Answers a request of the host itself.
 pub(crate) fn tend<S: LooseFiles>(
     alloc: Global,
     accounts: &Accounts,

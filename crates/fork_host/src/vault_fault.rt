@@ -4,7 +4,7 @@ ghost use Rattle.fork_host.specs.Rows.{fault_read, read_told};
 use fork_ledger::VaultFault;
 use fork_reach::SourceFault;
 
-// How a source tells a fault of the vault. Two objects of one name never meet in a read.
+// How a source reports a fault of the vault. Two objects of one name never meet in a read.
 pub(crate) fn source_fault(fault: VaultFault) -> SourceFault
     ensures { result ≡ fault_read fault }
 {
@@ -15,7 +15,7 @@ pub(crate) fn source_fault(fault: VaultFault) -> SourceFault
     }
 }
 
-// How a source tells what the vault gave.
+// How a source reports what the vault returned.
 pub(crate) fn told<T>(found: Result<T, VaultFault>) -> Result<T, SourceFault>
     ensures { result ≡ read_told found }
 {

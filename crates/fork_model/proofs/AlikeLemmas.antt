@@ -1,4 +1,4 @@
--- What is offered in a sound world may be taken, where of one name the world has one object.
+-- What is offered in a sound world may be taken, if the world has one object of one name.
 use Rattle.std.proofs.Common.{◌≡◌, ◌⊎◌, ℕ, Bool, true, List, Option, Some, None, refl, sym, ap, subst, ◌∙◌, is_some, inl, inr}
 use Rattle.std.specs.Option.{option_or}
 use Rattle.std.specs.FinMap.{contains_key, entries, get, get-empty, get-entries, values}

@@ -1,4 +1,4 @@
--- Objects that come with links that are met leave right and closed objects.
+-- Adding objects whose links are resolved keeps objects right and closed.
 use Rattle.std.proofs.Common.{◌≡◌, ◌≢◌, ℕ, zero, suc, arith, Bool, true, false, cond, not, List, [], ◌∷◌, ◌++◌, Option, Some, None, refl, sym, ap, subst, ◌∙◌, is_some, inl, inr, ◌⊎◌}
 use Rattle.std.specs.Prelude.{map, Contains}
 use Rattle.std.specs.List.{AllByRecursion, find}

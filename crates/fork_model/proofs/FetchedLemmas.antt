@@ -1,4 +1,4 @@
--- What a fetch gives is a stream of the objects that are reached from one side and not from the other.
+-- What a fetch returns is a stream of the objects that are reached from one side and not from the other.
 use Rattle.std.proofs.Common.{◌≡◌, ℕ, ◌++◌, Bool, true, List, [], ◌∷◌, Some, refl, ap, ap₂, ◌∙◌, map}
 use Rattle.std.specs.List.{AllByRecursion, flat_map}
 use Rattle.std.specs.FinMap.{entries, get, keys, retain_keys, values}

@@ -1,4 +1,4 @@
--- What requests of the host's own come to.
+-- The result of requests of the host itself.
 use Rattle.std.proofs.Common.{◌≡◌, ◌≢◌, ◌⊎◌, true, inl, inr, refl, ap}
 use Rattle.fork_request.specs.Told.{is_done, is_host_fault}
 use Rattle.fork_request.specs.declared.host_request.HostRequest.{HostRequest}

@@ -1,4 +1,4 @@
--- A host's tenants, kept as entries by name: what a look-up and a write make of the world that they show.
+-- A host's tenants, kept as entries by name: the effect of a lookup and a write on the world that they show.
 use Rattle.std.proofs.Common.{◌≡◌, ℕ, cond, List, ◌∷◌, [], ◌++◌, Some, None, refl, ◌∙◌, sym, ap, length}
 use Rattle.std.specs.List.Sorted.{IsStrictlySortedBy}
 use Rattle.std.specs.Map.{lookup, keys_of}

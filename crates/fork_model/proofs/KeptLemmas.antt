@@ -1,4 +1,4 @@
--- Where objects are kept that links lead to, those that are kept are as right as all of them were.
+-- If objects are kept that links lead to, those kept are as right as all of them were.
 use Rattle.std.proofs.Common.{◌≡◌, ℕ, ◌+◌, ◌≤◌, Bool, true, false, cond, List, [], ◌∷◌, ◌++◌, Option, Some, None, refl, sym, ap, subst, ◌∙◌, arith, is_some, zero, suc}
 use Rattle.std.specs.Prelude.{map, sum_by, Contains}
 use Rattle.std.specs.List.{AllByRecursion, filter, flat_map}

@@ -1,4 +1,4 @@
--- What a tenant lacks is told to be missing, by each way of naming it.
+-- What a tenant lacks is reported as missing, for each way of naming it.
 use Rattle.std.proofs.Common.{◌≡◌, ℕ, ◌≤◌, true, false, cond, List, [], ◌∷◌, ◌++◌, Option, None, Some, Result, Ok, Err, is_none, is_some, is_ok, refl, sym, ap, ◌∙◌, inl, inr, arith, length}
 use Rattle.std.specs.Prelude.{nat_lt, map}
 use Rattle.std.specs.List.{AllByRecursion, find}

@@ -1,4 +1,4 @@
--- What answers make of the offers that a tenant has made.
+-- The effect of answers on the offers that a tenant has made.
 use Rattle.std.proofs.Common.{◌≡◌, ◌≢◌, ◌&&◌, not, ℕ, Bool, true, false, cond, List, [], Option, Some, None, refl, sym, ap, ◌∙◌}
 use Rattle.std.specs.Prelude.{nat_le}
 use Rattle.std.specs.FinMap.{contains_key, get, len, remove}

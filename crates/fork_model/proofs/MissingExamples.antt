@@ -1,4 +1,4 @@
--- Requests that name what a tenant lacks, by the definitions: for each way of naming there is one.
+-- Requests that name what a tenant lacks, by the definitions: one for each way of naming.
 use Rattle.std.proofs.Common.{◌≡◌, ◌≢◌, ℕ, true, cond, zero, suc, List, [], ◌∷◌, ◌++◌, None, Some, Option, Ok, codes, refl, ap, subst, ◌∙◌, arith, is_some, append-nil}
 use Rattle.std.specs.Prelude.{replicate, Contains}
 use Rattle.std.specs.FinMap.{empty, get, get-empty, get-insert, insert}

@@ -1,4 +1,4 @@
--- An object that a tenant does not hold is told to be missing.
+-- An object that a tenant does not hold is reported as missing.
 use Rattle.std.proofs.Common.{◌≡◌, ℕ, false, List, None, Some, sym, ap, ◌∙◌}
 use Rattle.std.specs.FinMap.{get}
 use Rattle.fork_query.specs.Objects.{object_told, record_found}

@@ -1,4 +1,4 @@
--- What references reach among closed objects stays, where objects come, or where what is reached is kept.
+-- What references reach among closed objects stays if objects are added, or if what is reached is kept.
 use Rattle.std.proofs.Common.{◌≡◌, ◌≢◌, ℕ, Bool, true, false, cond, List, Option, Some, None, refl, sym, ap, subst, ◌∙◌, is_some}
 use Rattle.std.specs.Prelude.{map, Contains}
 use Rattle.std.specs.Option.{option_or}

@@ -1,4 +1,4 @@
--- An upload is all its parts, from where it goes on to its end.
+-- An upload is all its parts, from where it continues to its end.
 use Rattle.std.proofs.Common.{◌≡◌, ℕ, true, false, List, [], ◌∷◌, ◌++◌, ap, ap₂, refl, sym, ◌∙◌}
 use Rattle.std.specs.List.{AllByRecursion}
 use Rattle.fork_request.specs.Asked.{DropsParts, EndsParts}

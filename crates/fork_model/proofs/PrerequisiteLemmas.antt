@@ -1,4 +1,4 @@
--- A receiver whose objects link to what is there, and that has the excluded names, has what these reach.
+-- A receiver whose objects link to existing objects, and that has the excluded names, has what these reach.
 use Rattle.std.proofs.Common.{◌≡◌, ℕ, true, List, [], Option, None, Some, refl, subst, arith, map}
 use Rattle.std.specs.Prelude.{Contains}
 use Rattle.std.specs.FinMap.{contains_key, get}

@@ -1,4 +1,4 @@
--- What an accepted push says, and what stands in a stream that is at its end.
+-- What an accepted push says, and what is in a stream that is at its end.
 use Rattle.std.proofs.Common.{◌≡◌, ℕ, ◌≤◌, Bool, true, false, cond, [], ◌∷◌, Option, Some, None, Result, Ok, Err, refl, ap, arith}
 use Rattle.std.specs.Prelude.{nat_lt, ⊤}
 use Rattle.std.specs.List.{find}

@@ -1,4 +1,4 @@
--- How each row of the answer goes: it refuses and leaves what a refusal leaves, or it is done and leaves a sound view sound.
+-- What each row of the answer does: it refuses and leaves what a refusal leaves, or it is done and leaves a sound view sound.
 use Rattle.std.proofs.Common.{◌≡◌, ℕ, ◌+◌, ◌≤◌, Bool, true, false, cond, List, [], Option, Some, None, Result, Ok, Err, refl, sym, ap, subst, ◌∙◌, arith, is_some, inl, inr, ◌∷◌, ◌&&◌, ◌≢◌, not, length, ◌-◌}
 use Rattle.std.specs.Prelude.{Contains, nat_le, nat_lt, map}
 use Rattle.std.specs.Option.{option_map}

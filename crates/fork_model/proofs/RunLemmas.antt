@@ -1,4 +1,4 @@
--- A run is settled by the world that it begins in, by its steps and by its replies.
+-- A run is determined by the world that it begins in, by its steps and by its replies.
 use Rattle.std.proofs.Common.{◌≡◌, ℕ, List, [], ◌∷◌, ◌++◌, cond, refl}
 use Rattle.std.specs.Ordering.{eq_by_cmp}
 use Rattle.git_name.specs.Name.{name_cmp}

@@ -1,4 +1,4 @@
--- What was sent, or stood in an offer that was forked, was seen after the answer that took it.
+-- What was sent, or was in an offer that was forked, was seen after the answer that took it.
 use Rattle.std.proofs.Common.{◌≡◌, ℕ, Bool, true, false, cond, zero, suc, List, [], ◌∷◌, ◌++◌, Option, Some, None, Result, Ok, Err, is_some, refl, sym, ap, subst, ◌∙◌, arith}
 use Rattle.std.specs.Option.{option_or}
 use Rattle.std.specs.Prelude.{nat_le, nat_lt}

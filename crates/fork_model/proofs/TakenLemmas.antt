@@ -1,4 +1,4 @@
--- A push without commands of which each link is met is refused by the limit alone; and so is a push of what was fetched.
+-- A push without commands whose links are all resolved can be refused only by the limit; so can a push of what was fetched.
 use Rattle.std.proofs.Common.{◌≡◌, ℕ, ◌≤◌, not, Bool, true, false, cond, List, [], ◌∷◌, Option, None, Some, Ok, Err, refl, sym, ap, ap₂, subst, ◌∙◌, arith, map}
 use Rattle.std.specs.Prelude.{Contains, is_none, nat_lt}
 use Rattle.std.specs.List.{AllByRecursion, find}

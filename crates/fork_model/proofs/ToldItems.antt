@@ -1,4 +1,4 @@
--- An item, or a name, that is told to be missing names what the tenant does not see.
+-- An item or a name that is reported as missing names what the tenant does not see.
 use Rattle.std.proofs.Common.{◌≡◌, ℕ, ◌≤◌, Bool, true, false, cond, List, [], ◌∷◌, Option, None, Some, Result, Ok, Err, is_some, is_ok, refl, sym, ap, ◌∙◌, arith, length}
 use Rattle.std.specs.Prelude.{nat_lt, map}
 use Rattle.std.specs.FinMap.{get}

@@ -1,4 +1,4 @@
--- A push that is told a name to be missing lacks the object of a link, or the target of a command.
+-- A push whose reply reports a missing name lacks the object of a link, or the target of a command.
 use Rattle.std.proofs.Common.{◌≡◌, ℕ, Bool, true, false, cond, List, [], ◌∷◌, Option, None, Some, Result, Ok, Err, is_some, refl, sym, ap, ◌∙◌}
 use Rattle.std.specs.Prelude.{nat_lt, map}
 use Rattle.std.specs.List.{find}

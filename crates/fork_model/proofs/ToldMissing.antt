@@ -1,4 +1,4 @@
--- `missing` is told for no other reason than that the tenant lacks what it names.
+-- `missing` is reported only if the tenant lacks what it names.
 use Rattle.std.proofs.Common.{◌≡◌, ℕ, ◌+◌, Bool, true, false, cond, List, [], Option, None, Some, is_some, refl, sym, ap, ◌∙◌, length, Ok}
 use Rattle.std.specs.Prelude.{nat_le, nat_lt}
 use Rattle.std.specs.FinMap.{get, contains_key, insert, len, remove}

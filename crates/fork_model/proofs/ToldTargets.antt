@@ -1,4 +1,4 @@
--- A transaction that is told a name to be missing lacks the target of a command.
+-- A transaction whose reply reports a missing name lacks the target of a command.
 use Rattle.std.proofs.Common.{◌≡◌, ℕ, Bool, true, false, cond, List, [], ◌∷◌, Option, None, Some, Result, Ok, Err, is_none, is_some, refl, sym, ap, subst, ◌∙◌}
 use Rattle.std.specs.List.{list_any}
 use Rattle.std.specs.Option.{option_map, option_or}

@@ -1,4 +1,4 @@
--- What is fetched from one view, a push into another takes, where that holds what was excluded.
+-- A push accepts what is fetched from one view into another that holds what was excluded.
 use Rattle.std.proofs.Common.{◌≡◌, ℕ, ◌&&◌, not, zero, suc, Bool, true, false, cond, List, [], ◌∷◌, Option, None, Some, refl, sym, ap, ◌∙◌, arith, is_some, inl, inr}
 use Rattle.std.specs.Prelude.{Contains}
 use Rattle.std.specs.List.{AllByRecursion}

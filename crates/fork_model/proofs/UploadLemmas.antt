@@ -1,4 +1,4 @@
--- An open upload is known by its reading and its objects.
+-- An open upload is determined by its reading and its objects.
 use Rattle.std.proofs.Common.{◌≡◌, ℕ, List, [], ◌∷◌, Option, Some, None, refl, sym, ap, ◌∙◌, is_some, inl, inr, length, map}
 use Rattle.std.specs.List.{AllByRecursion}
 use Rattle.std.specs.Option.{option_or, unwrap_or}

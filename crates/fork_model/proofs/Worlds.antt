@@ -1,4 +1,4 @@
--- One tenant's part in a step of a world, and a run that goes on by one step.
+-- One tenant's part in a step of a world, and a run that continues by one step.
 use Rattle.std.proofs.Common.{◌≡◌, Bool, true, false, cond, List, [], ◌∷◌, ◌++◌, Some, refl, sym, ap, subst, ◌∙◌}
 use Rattle.std.specs.declared.cmp.Ordering.{Ordering}
 use Rattle.std.specs.declared.cmp.Ordering.TheVariants.{Less, Equal, Greater}

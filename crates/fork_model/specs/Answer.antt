@@ -1,4 +1,4 @@
--- The answer to each request: the reply, and the view afterwards. Refusals stand in the order in which they are judged.
+-- The answer to each request: the reply, and the view afterwards. Refusals are listed in the order in which they are judged.
 use Rattle.std.specs.Prelude.{ℕ, ◌+◌, nat_le, nat_lt, List, [], ◌++◌, ◌&&◌, not, length, codes, decimal, Option, Some, None, is_some, Result, Ok, Err, if◌then◌else◌}
 use Rattle.fork_request.specs.declared.name.TheConstants.{MAX_REPOSITORY_NAME, MAX_TENANT_NAME}
 use Rattle.push_stream.specs.declared.upload.TheConstants.{MAX_UPLOAD}
@@ -44,11 +44,11 @@ use Rattle.fork_model.specs.Context.{Context}
 use Rattle.fork_model.specs.Offer.{Offer, Offers, Pair, offered}
 use Rattle.fork_model.specs.View.{View, Repositories}
 
--- the answer to a word in a repository's place: a refusal of the word, or the row's answer
+-- the answer to a word given as a repository: a refusal of the word, or the row's answer
 abbrev pub named_repository : View → List ℕ → Reply × View → Reply × View
 named_repository view word row = if is_plain_name MAX_REPOSITORY_NAME word then row else (Refused (BadName word), view)
 
--- one more repository, where none has this name and there is room for it
+-- one more repository, if none has this name and there is room for it
 abbrev pub repository_added : View → List ℕ → Repository → Reply × View
 repository_added view word repository =
     if contains_key view.repositories word then (Refused (RepositoryExists word), view)
@@ -59,7 +59,7 @@ repository_added view word repository =
 unfoldable pub init_answer : View → List ℕ → Reply × View
 init_answer view word = named_repository view word (repository_added view word new_repository)
 
--- `drop REPO`: the repository goes, and its references with it; objects stay
+-- `drop REPO`: removes the repository and its references; objects stay
 abbrev pub dropped : View → List ℕ → Reply × View
 dropped view repository =
     if contains_key view.repositories repository then (Done [], record view { repositories = remove view.repositories repository })
@@ -76,13 +76,13 @@ copied view source copy (Some repository) = repository_added view copy repositor
 unfoldable pub fork_answer : View → List ℕ → List ℕ → Reply × View
 fork_answer view source copy = named_repository view source (named_repository view copy (copied view source copy (get view.repositories source)))
 
--- how a reply tells what is wrong with a body of commands
+-- how a reply reports what is wrong with a body of commands
 abbrev pub command_refusal : CommandFault → Refusal
 command_refusal command.Syntax = Syntax
 command_refusal command.TooMany = TooMany
 command_refusal command.Truncated = Truncated
 
--- how a reply tells why a transaction was refused
+-- how a reply reports why a transaction was refused
 abbrev pub transaction_refusal : TxRefusal → Refusal
 transaction_refusal (tx.BadRef word) = BadRef word
 transaction_refusal (tx.RepeatedRef reference) = RepeatedRef reference
@@ -92,7 +92,7 @@ transaction_refusal (tx.Stale reference) = Stale reference
 transaction_refusal (tx.RefConflict reference) = RefConflict reference
 transaction_refusal tx.TooMany = TooMany
 
--- how a reply tells what is wrong with a stream
+-- how a reply reports what is wrong with a stream
 abbrev pub stream_refusal : StreamFault → Refusal
 stream_refusal stream.Syntax = Syntax
 stream_refusal stream.TooMany = TooMany
@@ -101,7 +101,7 @@ stream_refusal (stream.WrongName name) = WrongName name
 stream_refusal (stream.BadObject name) = BadObject name
 stream_refusal stream.Truncated = Truncated
 
--- how a reply tells why a push was refused
+-- how a reply reports why a push was refused
 abbrev pub push_refusal : PushRefusal → Refusal
 push_refusal (push.Stream fault) = stream_refusal fault
 push_refusal (push.Missing name) = Missing name
@@ -113,7 +113,7 @@ push_refusal push.OverQuota = OverQuota
 abbrev pub Finished : Type 0
 Finished = Result (List Command × List Object) StreamFault
 
--- the objects that the tenant sees and the sent ones: of several of one name the one that it sees counts, else the first sent
+-- the objects that the tenant sees and those sent: if several share a name, the one that it sees counts, otherwise the first sent
 abbrev pub both : View → Finished → Objects
 both view (Ok held) = with_objects view.objects held.1
 both view (Err fault) = view.objects
@@ -128,7 +128,7 @@ taken view word old objects (Err refusal) = (Refused (push_refusal refusal), vie
 abbrev pub pushed : View → List ℕ → Repository → Finished → Reply × View
 pushed view word old held = taken view word old (both view held) (judged (both view held) old.references view.limit (brief_of held))
 
--- `push REPO` and a body: the repository is there, no upload is open, and the body is judged
+-- `push REPO` and a body: the repository exists, no upload is open, and the body is judged
 abbrev pub push_into : View → List ℕ → List ℕ → Option Repository → Reply × View
 push_into view word body None = (Refused (NoRepository word), view)
 push_into view word body (Some old) = if is_some view.upload then (Refused UploadOpen, view) else pushed view word old (finished (stream_of body))
@@ -136,12 +136,12 @@ push_into view word body (Some old) = if is_some view.upload then (Refused Uploa
 unfoldable pub push_answer : View → List ℕ → List ℕ → Reply × View
 push_answer view word body = named_repository view word (push_into view word body (get view.repositories word))
 
--- the upload that is open, or one of which nothing came yet
+-- the upload that is open, or one of which nothing was received yet
 abbrev pub open_upload : Option UploadValue → UploadValue
 open_upload (Some upload) = upload
 open_upload None = upload_of []
 
--- `part` and a body: the upload goes on by these bytes; what is wrong with it is told at its end
+-- `part` and a body: continues the upload by these bytes; what is wrong with it is reported at its end
 unfoldable pub part_answer : View → List ℕ → Reply × View
 part_answer view body =
     if nat_lt MAX_UPLOAD ((open_upload view.upload).count + length body) then (Refused StagedTooLong, view)
@@ -164,11 +164,11 @@ abbrev pub end_in : View → List ℕ → Option Repository → Reply × View
 end_in view word None = (Refused (NoRepository word), view)
 end_in view word (Some old) = upload_into view word old view.upload
 
--- `part-end REPO`: the repository is there, an upload is open, and it is judged
+-- `part-end REPO`: the repository exists, an upload is open, and it is judged
 unfoldable pub part_end_answer : View → List ℕ → Reply × View
 part_end_answer view word = upload_ended (named_repository view word (end_in view word (get view.repositories word)))
 
--- `part-drop`: the upload goes
+-- `part-drop`: discards the upload
 unfoldable pub part_drop_answer : View → Reply × View
 part_drop_answer view = if is_some view.upload then (Done [], without_upload view) else (Refused NoUpload, view)
 
@@ -190,12 +190,12 @@ update_in view word body (Some old) = carried_out view word old (commands_of bod
 unfoldable pub update_answer : View → List ℕ → List ℕ → Reply × View
 update_answer view word body = named_repository view word (update_in view word body (get view.repositories word))
 
--- HEAD names this branch, be it there or not
+-- HEAD names this branch, whether it exists or not
 abbrev pub with_head : View → List ℕ → Repository → List ℕ → Option (List ℕ) → Reply × View
 with_head view word old reference (Some branch) = (Done [], record view { repositories = insert view.repositories word (record old { head = branch }) })
 with_head view word old reference None = (Refused (BadRef reference), view)
 
--- `set-head REPO REF`: the word is the right name of a branch
+-- `set-head REPO REF`: the word is a valid branch name
 abbrev pub set_head_in : View → List ℕ → List ℕ → Option Repository → Reply × View
 set_head_in view word reference None = (Refused (NoRepository word), view)
 set_head_in view word reference (Some old) = with_head view word old reference (branch_in reference)
@@ -203,11 +203,11 @@ set_head_in view word reference (Some old) = with_head view word old reference (
 unfoldable pub set_head_answer : View → List ℕ → List ℕ → Reply × View
 set_head_answer view word reference = named_repository view word (set_head_in view word reference (get view.repositories word))
 
--- the answer to a word in a receiver's place: a refusal of the word, and of the own name, or the row's answer
+-- the answer to a word given as a receiver: a refusal of the word or of the tenant's own name, or the row's answer
 abbrev pub named_receiver : Context → View → List ℕ → Reply × View → Reply × View
 named_receiver context view word row = if is_plain_name MAX_TENANT_NAME word && not (same_name word context.own) then row else (Refused (BadName word), view)
 
--- one more offer of a repository as it is, where none stands of it to the receiver and there is room for it
+-- one more offer of a repository as it is, if there is none of it to the receiver and there is room for it
 abbrev pub offer_added : View → Pair → Repository → Reply × View
 offer_added view key repository =
     if contains_key view.made key then (Refused (OfferExists key.0 key.1), view)
@@ -222,19 +222,19 @@ offer_in view word receiver (Some repository) = offer_added view (receiver, word
 unfoldable pub offer_answer : Context → View → List ℕ → List ℕ → Reply × View
 offer_answer context view word receiver = named_repository view word (named_receiver context view receiver (offer_in view word receiver (get view.repositories word)))
 
--- an offer goes, where it stands
+-- removes an offer, if it exists
 abbrev pub withdrawn : View → Pair → Reply × View
 withdrawn view key = if contains_key view.made key then (Done [], record view { made = remove view.made key }) else (Refused (NoOffer key.0 key.1), view)
 
--- `withdraw REPO TENANT`: the offer goes; the repository need not be there any more
+-- `withdraw REPO TENANT`: removes the offer; the repository need not exist any more
 unfoldable pub withdraw_answer : Context → View → List ℕ → List ℕ → Reply × View
 withdraw_answer context view word receiver = named_repository view word (named_receiver context view receiver (withdrawn view (receiver, word)))
 
--- the answer to a word in a giver's place
+-- the answer to a word given as a giver
 abbrev pub named_giver : View → List ℕ → Reply × View → Reply × View
 named_giver view word row = if is_plain_name MAX_TENANT_NAME word then row else (Refused (BadName word), view)
 
--- a new repository of what was offered, whose objects are seen beside the others, where it is within the limit
+-- a new repository of what was offered, whose objects are seen beside the others, if all is within the limit
 abbrev pub offer_taken : View → List ℕ → Offer → Reply × View
 offer_taken view copy offer =
     if contains_key view.repositories copy then (Refused (RepositoryExists copy), view)
@@ -263,7 +263,7 @@ offer_rows word offers = flat_map (offer_row word) (keys offers)
 unfoldable pub offers_answer : Context → View → Reply × View
 offers_answer context view = (Done (offer_rows (codes "from ") context.offered ++ offer_rows (codes "to ") view.made), view)
 
--- how a reply tells what was found
+-- how a reply reports what was found
 abbrev pub reply_of : Result (List ℕ) Refusal → Reply
 reply_of (Ok text) = Done text
 reply_of (Err refusal) = Refused refusal
@@ -276,16 +276,16 @@ cat_file_answer view name = (reply_of (object_told view.objects name), view)
 unfoldable pub ls_tree_answer : View → List ℕ → Reply × View
 ls_tree_answer view name = (reply_of (tree_told view.objects name), view)
 
--- what is asked over a repository that is there
+-- what is asked about a repository that exists
 abbrev pub told_over : List ℕ → (Repository → Result (List ℕ) Refusal) → Option Repository → Reply
 told_over word query None = Refused (NoRepository word)
 told_over word query (Some repository) = reply_of (query repository)
 
--- items, of which there are not too many
+-- items, if there are not too many
 abbrev pub few_items : List (List ℕ) → Reply → Reply
 few_items items reply = if nat_lt MAX_ITEMS (length items) then Refused TooMany else reply
 
--- `rev-list REPO ITEM..`: the ancestors of the wanted commits that are none of the excluded ones, the newest first
+-- `rev-list REPO ITEM..`: the ancestors of the wanted commits except those of the excluded ones, the newest first
 unfoldable pub rev_list_answer : View → List ℕ → List (List ℕ) → Reply × View
 rev_list_answer view word items =
     named_repository view word (few_items items (told_over word (λ repository. revisions_told view.objects repository items) (get view.repositories word)), view)
@@ -308,7 +308,7 @@ told_references view word prefix (Some repository) = Done (listing view.objects 
 unfoldable pub references_answer : View → List ℕ → Option (List ℕ) → Reply × View
 references_answer view word prefix = named_repository view word (told_references view word prefix (get view.repositories word), view)
 
--- `head REPO`: the branch that HEAD names, and where it is there SP and its target, LF
+-- `head REPO`: the branch that HEAD names, and if it exists SP and its target, LF
 unfoldable pub head_answer : View → List ℕ → Reply × View
 head_answer view word = named_repository view word (told_over word (λ repository. Ok (head_told repository)) (get view.repositories word), view)
 
@@ -328,11 +328,11 @@ targets_of repositories = flat_map (λ repository. values repository.references)
 abbrev pub targets_made : Offers → List (List ℕ)
 targets_made made = flat_map (λ offer. values offer.repository.references) (values made)
 
--- where what is kept begins: at the references of repositories, and at those of offers that stand
+-- where pruning starts: at the references of repositories, and at those of offers that exist
 abbrev pub roots_of : View → List (List ℕ)
 roots_of view = targets_of view.repositories ++ targets_made view.made
 
--- `prune`: objects that no reference of a repository or of an own offer reaches go
+-- `prune`: removes objects that no reference of a repository or of one of the tenant's own offers reaches
 abbrev pub pruned : View → View
 pruned view = record view { objects = retain_keys view.objects (is_reached (linked_names view.objects) view.objects (roots_of view)) }
 
@@ -366,7 +366,7 @@ answer context view AsksUse = quota_answer view
 answer context view Prunes = prune_answer view
 answer context view NoRequest = (Refused BadRequest, view)
 
--- what a refusal leaves: the view, and without the upload where its end was asked for
+-- what a refusal leaves: the view, and without the upload if its end was asked for
 abbrev pub left_by : View → Ask → View
 left_by view (EndsParts repository) = without_upload view
 left_by view ask = view

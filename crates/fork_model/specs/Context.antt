@@ -1,4 +1,4 @@
--- What a tenant meets of the world beside its own view: its name, and the offers that others have made to it.
+-- What a tenant meets of the world besides its own view: its name, and the offers that others have made to it.
 use Rattle.std.specs.Prelude.{ℕ, List, map}
 use Rattle.std.specs.List.{flat_map}
 use Rattle.std.specs.FinMap.{FinMap, empty, entries, from_entries, retain_keys}
@@ -7,7 +7,7 @@ use Rattle.git_name.specs.Same.{same_name}
 use Rattle.fork_model.specs.Offer.{Offer, Offers, Pair}
 use Rattle.fork_model.specs.View.{View}
 
--- the offers stand under their givers
+-- the offers by their givers
 pub record Context : Type 0 where
   pub own : List ℕ
   pub offered : Offers
@@ -28,6 +28,6 @@ offered_to world receiver = from_entries (flat_map (given_by receiver) (entries 
 abbrev pub met_by : FinMap name_cmp View → List ℕ → Context
 met_by world tenant = record { own = tenant; offered = offered_to world tenant }
 
--- what it meets where nobody offers it anything
+-- what it meets if nobody offers it anything
 abbrev pub nothing_offered : List ℕ → Context
 nothing_offered tenant = record { own = tenant; offered = empty }

@@ -1,4 +1,4 @@
--- What offers disclose to a tenant: what happens to it along a run, and which requests meet and change offers.
+-- What offers disclose to a tenant: what happens to it in a run, and which requests depend on offers and change them.
 use Rattle.std.specs.Prelude.{ℕ, ◌++◌, Bool, true, false, cond, List, [], ◌∷◌, Option, None, Some}
 use Rattle.std.specs.Ordering.{eq_by_cmp}
 use Rattle.std.specs.FinMap.{get, insert, remove}
@@ -10,7 +10,7 @@ use Rattle.fork_model.specs.Offer.{Offer, Offers, Pair}
 use Rattle.fork_model.specs.Runs
 use Rattle.fork_model.specs.World.{Event, Explains, Meeting, World, deals_with}
 
--- what happens to a tenant: it asks, or from now on this is offered to it under this key, an offer or nothing
+-- what happens to a tenant: it asks, or from now on it is offered this under this key, an offer or nothing
 pub data Happening : Type 0 where
   Asked : (ask : Ask) → Happening
   Changes : (key : Pair) (offer : Option Offer) → Happening
@@ -21,11 +21,11 @@ word_of (MakesOffer repository receiver) = repository
 word_of (Withdraws repository receiver) = repository
 word_of ask = []
 
--- the change of what a tenant is offered that a request of this giver makes, and which leads to this world
+-- the change of what a tenant is offered by a request of this giver, which leads to this world
 abbrev pub change_in : List ℕ → List ℕ → Ask → Reply → World → List Happening
 change_in tenant giver ask reply world = cond (deals_with tenant (Runs.Asks giver ask) reply) (Changes (giver, word_of ask) (get (offered_to world tenant) (giver, word_of ask)) ∷ []) []
 
--- what happens to a tenant along a run, in order
+-- what happens to a tenant in a run, in order
 abbrev pub happenings : (tenant : List ℕ) (old : World) (steps : List Event) (replies : List Reply) (new : World) → Explains old steps replies new → List Happening
 happenings tenant old (Runs.Asks who ask ∷ steps) (reply ∷ replies) new run =
     cond (eq_by_cmp name_cmp tenant who) (Asked ask ∷ []) [] ++ (change_in tenant who ask reply run.0 ++ happenings tenant run.0 steps replies new run.2)
@@ -38,13 +38,13 @@ abbrev pub with_change : Offers → Pair → Option Offer → Offers
 with_change offers key (Some offer) = insert offers key offer
 with_change offers key None = remove offers key
 
--- what a tenant asks among what happens to it, in order, each beside what it meets, where it meets this at first
+-- what a tenant asks among what happens to it, in order, each with what it meets, if it meets this at first
 abbrev pub met_along : Context → List Happening → List Meeting
 met_along context [] = []
 met_along context (Asked ask ∷ more) = (context, ask) ∷ met_along context more
 met_along context (Changes key offer ∷ more) = met_along (record context { offered = with_change context.offered key offer }) more
 
--- whether a request looks at what its tenant is offered
+-- whether a request depends on what its tenant is offered
 abbrev pub looks_at_offers : Ask → Bool
 looks_at_offers AsksOffers = true
 looks_at_offers (ForksOffer giver repository copy) = true

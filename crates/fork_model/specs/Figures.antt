@@ -1,4 +1,4 @@
--- What the host reports of each of its tenants (own): numbers, and no name but the tenant's.
+-- What the host reports about each of its tenants (own): numbers, and no name except the tenant's.
 use Rattle.std.specs.Prelude.{ℕ, List, [], ◌∷◌, ◌++◌, Option, Some, None, codes, decimal, sum_by}
 use Rattle.std.specs.List.{flat_map}
 use Rattle.std.specs.FinMap.{FinMap, entries, len, values}
@@ -11,13 +11,13 @@ use Rattle.fork_model.specs.View.{View, Repositories}
 abbrev pub references_in : Repositories → ℕ
 references_in repositories = sum_by (λ repository. len repository.references) (values repositories)
 
--- how many bytes of an open upload came, and 0 where none is open
+-- how many bytes of an open upload were received, and 0 if none is open
 abbrev pub uploaded : Option UploadValue → ℕ
 uploaded None = 0
 uploaded (Some upload) = upload.count
 
 -- what the objects of a tenant use, its limit, how many repositories, references and objects it has, how many bytes of its open
--- upload came, and how many offers it has made
+-- upload were received, and how many offers it has made
 abbrev pub figures_of : View → List ℕ
 figures_of view =
     use_of view.objects ∷ view.limit ∷ len view.repositories ∷ references_in view.repositories ∷ len view.objects ∷ uploaded view.upload ∷ len view.made ∷ []

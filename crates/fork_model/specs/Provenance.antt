@@ -26,15 +26,15 @@ pub record IsOffered (context : Context) (giver repository name : List ℕ) (obj
   pub stands : get context.offered (giver, repository) ≡ Some offer
   pub holds : get offer.objects name ≡ Some object
 
--- where an object comes from that is seen behind an answer
+-- where an object comes from that is seen after an answer
 pub data IsFrom (context : Context) (view : View) (exchange : Exchange) (name : List ℕ) (object : Object) : Type 0 where
   -- it was seen before
   Seen : get view.objects name ≡ Some object → IsFrom context view exchange name object
-  -- it stands in the body of this push, which is answered `ok`
+  -- it is in the body of this push, which is answered `ok`
   Pushed : (repository body : List ℕ) → exchange ≡ (Pushes repository body, Done []) → IsAmong (sent_in (stream_of body)) name object → IsFrom context view exchange name object
-  -- it stands in the upload that ends here, and its end is answered `ok`
+  -- it is in the upload that ends here, and its end is answered `ok`
   Uploaded : (repository : List ℕ) (upload : UploadValue) → exchange ≡ (EndsParts repository, Done []) → view.upload ≡ Some upload → IsAmong (sent_in upload.stream) name object → IsFrom context view exchange name object
-  -- it stands in the offer that is forked here, which is answered `ok`
+  -- it is in the offer that is forked here, which is answered `ok`
   Taken : (giver repository copy : List ℕ) → exchange ≡ (ForksOffer giver repository copy, Done []) → IsOffered context giver repository name object → IsFrom context view exchange name object
 
 -- the body of a part that is answered `ok`
@@ -46,23 +46,23 @@ part_in exchange = []
 abbrev pub parts_in : List Exchange → List (List ℕ)
 parts_in exchanges = flat_map part_in exchanges
 
--- no upload is open behind `part-end` and `part-drop`, whatever is answered but a host fault
+-- no upload is open after `part-end` and `part-drop`, whatever is answered except a host fault
 abbrev pub ends_upload : Exchange → Bool
 ends_upload (EndsParts repository, reply) = not (is_host_fault reply)
 ends_upload (DropsParts, reply) = not (is_host_fault reply)
 ends_upload exchange = false
 
--- where an upload comes from that is open behind an answer
+-- where an upload comes from that is open after an answer
 pub data IsUploadFrom (view : View) (exchange : Exchange) (upload : Option UploadValue) : Type 0 where
-  -- no part came, and no end: it is the one that was open, or none was
+  -- no part was received and nothing ended it: it is the one that was open, or none was
   Stays : part_in exchange ≡ [] → ends_upload exchange ≡ false → upload ≡ view.upload → IsUploadFrom view exchange upload
-  -- none is open behind an end
+  -- none is open after an end
   Ends : ends_upload exchange ≡ true → upload ≡ None → IsUploadFrom view exchange upload
-  -- it is the one that was open, or a new one, and goes on by the body of this part
+  -- it is the one that was open, or a new one, continued by the body of this part
   GoesOn : (body : List ℕ) → part_in exchange ≡ body ∷ [] → upload ≡ Some (continued (open_upload view.upload) body) → IsUploadFrom view exchange upload
 
--- these are the bodies of all parts of the upload that goes on here, up to the `part-end` that publishes it, with none left out and
--- no other end between
+-- these are the bodies of all parts of the upload that continues here, up to the `part-end` that publishes it, with none left out
+-- and no other end in between
 pub record AreParts (exchanges : List Exchange) (bodies : List (List ℕ)) : Type 0 where
   pub during : List Exchange
   pub behind : List Exchange
@@ -73,18 +73,18 @@ pub record AreParts (exchanges : List Exchange) (bodies : List (List ℕ)) : Typ
 
 -- what a tenant sent by its requests, or began to send before them
 pub data WasSent (view : View) (exchanges : List Exchange) (name : List ℕ) (object : Object) : Type 0 where
-  -- it stands in the body of a push that was answered `ok`
+  -- it is in the body of a push that was answered `ok`
   InPush : (repository body : List ℕ) → Contains exchanges (Pushes repository body, Done []) → IsAmong (sent_in (stream_of body)) name object → WasSent view exchanges name object
-  -- it stands in the bytes of one upload, which began behind the end of another: in all its parts
+  -- it is in the bytes of one upload, which began after the end of another: in all its parts
   InParts : (front behind : List Exchange) (end : Exchange) (bodies : List (List ℕ)) → exchanges ≡ front ++ end ∷ behind → ends_upload end ≡ true → AreParts behind bodies → IsAmong (sent_in (stream_of (concat bodies))) name object → WasSent view exchanges name object
-  -- it stands in the upload that was open at first, or in one of no bytes where none was, and in all parts by which that one went on
+  -- it is in the upload that was open at first, or in an empty one if none was, and in all parts that continued it
   InUpload : (bodies : List (List ℕ)) → AreParts exchanges bodies → IsAmong (sent_in (fed (open_upload view.upload) bodies).stream) name object → WasSent view exchanges name object
 
--- of what a tenant asks, each beside what it meets, and of what it is told, this is one
+-- this is one of a tenant's requests, each with what it meets and the reply
 abbrev pub IsAnsweredAmong : List Meeting → List Reply → Meeting → Reply → Type 0
 IsAnsweredAmong asked replies met reply = Contains (zip asked replies) (met, reply)
 
--- an offer held the object that the tenant met beside a `fork-offer` that was answered `ok`
+-- the tenant met an offer that held the object, with a `fork-offer` that was answered `ok`
 pub record WasOffered (asked : List Meeting) (replies : List Reply) (name : List ℕ) (object : Object) : Type 0 where
   pub context : Context
   pub giver : List ℕ
@@ -93,6 +93,6 @@ pub record WasOffered (asked : List Meeting) (replies : List Reply) (name : List
   pub taken : IsAnsweredAmong asked replies (context, ForksOffer giver repository copy) (Done [])
   pub offered : IsOffered context giver repository name object
 
--- at some moment of what a private host is asked it sees an object of this name
+-- at some moment of these requests a private host sees an object of this name
 abbrev pub WasShown : View → List Meeting → List ℕ → Type 0
 WasShown view asked name = (front behind : List Meeting) × (asked ≡ front ++ behind) × (contains_key (alone view front).1.objects name ≡ true)

@@ -1,5 +1,5 @@
--- Sound views (own): in order, which is that references name what is there and the limits hold; and right, which is that
--- objects stand under their own names, are in their grammars and link to what is there.
+-- Sound views (own): in order, which is that references name existing objects and the limits hold; and right, which is that objects
+-- are under their own names, are in their grammars and link to existing objects.
 use Rattle.std.specs.Prelude.{◌≡◌, ◌≢◌, ℕ, ◌≤◌, Bool, true, false, List, [], ◌∷◌, Some, None, ⊤}
 use Rattle.fork_request.specs.declared.limit.TheConstants.{MAX_LIMIT}
 use Rattle.git_reftx.specs.declared.transact.TheConstants.{MAX_REFERENCES}
@@ -31,27 +31,27 @@ use Rattle.fork_model.specs.World.{Event, Explains, World}
 abbrev pub AreRight : Objects → Type 0
 AreRight objects = (name : List ℕ) (object : Object) → get objects name ≡ Some object → object_in object.kind object.bytes ≢ None
 
--- what the link names is there, and has the kind that the link demands
+-- the object that the link names exists, and has the kind that the link requires
 abbrev pub IsMet : Objects → Link → Type 0
 IsMet objects link = kind_in objects link.name ≡ Some link.kind
 
--- each link of each object is met
+-- each link of each object is resolved
 abbrev pub IsClosed : Objects → Type 0
 IsClosed objects = (name : List ℕ) (object : Object) → get objects name ≡ Some object → AllByRecursion (IsMet objects) (links_in object.kind object.bytes)
 
--- a reference has a right name and points at an object that is there, a branch at a commit
+-- a reference has a valid name and points at an existing object, a branch at a commit
 pub record IsReference (objects : Objects) (reference target : List ℕ) : Type 0 where
   pub named : IsRefName reference
   pub there : contains_key objects target ≡ true
   pub commit : is_branch reference ≡ true → is_commit (kind_in objects target) ≡ true
 
--- references that a repository may have: no name stands above another, and there are 4,096 at the most
+-- references that a repository may have: no name is above another, and there are at most 4,096
 pub record AreReferences (objects : Objects) (references : References) : Type 0 where
   pub each : (reference target : List ℕ) → get references reference ≡ Some target → IsReference objects reference target
   pub apart : least_upper (keys references) ≡ None
   pub few : len references ≤ MAX_REFERENCES
 
--- an offer that a tenant which sees these objects may have made: the names are right, HEAD names a branch, and the references hold
+-- an offer that a tenant which sees these objects may have made: the names are valid, HEAD names a branch, and the references hold
 -- over the objects
 pub record IsOffer (objects : Objects) (key : Pair) (offer : Offer) : Type 0 where
   pub receiver : IsTenantName key.0
@@ -59,7 +59,7 @@ pub record IsOffer (objects : Objects) (key : Pair) (offer : Offer) : Type 0 whe
   pub head : IsBranch offer.repository.head
   pub references : AreReferences objects offer.repository.references
 
--- what names, kinds, lengths, references and limits decide of a view: it holds over any store
+-- what names, kinds, lengths, references and limits determine of a view: it holds over any store
 pub record IsOrderly (view : View) : Type 0 where
   pub upload : (upload : UploadValue) → view.upload ≡ Some upload → upload.count ≤ MAX_UPLOAD
   pub within_limit : use_of view.objects ≤ view.limit
@@ -71,12 +71,12 @@ pub record IsOrderly (view : View) : Type 0 where
   pub few_offers : len view.made ≤ MAX_OFFERS
   pub offers : (key : Pair) (offer : Offer) → get view.made key ≡ Some offer → IsOffer view.objects key offer
 
--- an offer holds what its references reach among what is seen, their targets with it
+-- an offer holds what its references reach among what is seen, including their targets
 pub record IsReach (seen : Objects) (offer : Offer) : Type 0 where
   pub targets : (reference target : List ℕ) → get offer.repository.references reference ≡ Some target → contains_key offer.objects target ≡ true
   pub objects : offer.objects ≡ reached_by seen offer.repository.references
 
--- what bytes decide of a view: it holds where the store is honest
+-- what bytes determine of a view: it holds if the store is honest
 pub record IsRight (view : View) : Type 0 where
   pub named : IsNamed view.objects
   pub right : AreRight view.objects
@@ -93,7 +93,7 @@ pub record IsSound (view : View) : Type 0 where
 abbrev pub MayTake : Context → Objects → Type 0
 MayTake context objects = (key : Pair) (offer : Offer) → get context.offered key ≡ Some offer → IsBranch offer.repository.head × AreReferences (joined objects offer.objects) offer.repository.references
 
--- objects that stand under their own names, are in their grammars, and link to what is there
+-- objects that are under their own names, are in their grammars, and link to existing objects
 pub record AreSoundObjects (objects : Objects) : Type 0 where
   pub named : IsNamed objects
   pub right : AreRight objects
@@ -107,18 +107,18 @@ IsSoundBeside context objects = (key : Pair) (offer : Offer) → get context.off
 abbrev pub AreToOthers : List ℕ → View → Type 0
 AreToOthers tenant view = (key : Pair) (offer : Offer) → get view.made key ≡ Some offer → key.0 ≢ tenant
 
--- no more tenants than a host may have, of right names, each with an orderly view, and no offer of a tenant to itself
+-- no more tenants than a host may have, with valid names, each with an orderly view, and no offer of a tenant to itself
 pub record IsOrderlyWorld (world : World) : Type 0 where
   pub few : len world ≤ MAX_TENANTS
   pub named : (tenant : List ℕ) → contains_key world tenant ≡ true → IsTenantName tenant
   pub views : (tenant : List ℕ) (view : View) → get world tenant ≡ Some view → IsOrderly view
   pub to_others : (tenant : List ℕ) (view : View) → get world tenant ≡ Some view → AreToOthers tenant view
 
--- what bytes decide of each view
+-- what bytes determine of each view
 abbrev pub IsRightWorld : World → Type 0
 IsRightWorld world = (tenant : List ℕ) (view : View) → get world tenant ≡ Some view → IsRight view
 
--- of one name the world has one object
+-- the world has one object of one name
 abbrev pub IsAlike : World → Type 0
 IsAlike world = (tenant other name : List ℕ) (view another : View) (object same : Object) → get world tenant ≡ Some view → get world other ≡ Some another
     → get view.objects name ≡ Some object → get another.objects name ≡ Some same → object ≡ same
@@ -133,7 +133,8 @@ abbrev pub takes_offer : Event → Bool
 takes_offer (Runs.Asks tenant (ForksOffer giver repository copy)) = true
 takes_offer event = false
 
--- wherever an offer is taken along a run, of one name the world has one object: names are hashes, and no two of one name are known
+-- whenever an offer is taken in a run, the world has one object of one name: names are hashes, and no two objects of one name are
+-- known
 abbrev pub IsAlikeWhereTaken : (old : World) (steps : List Event) (replies : List Reply) (new : World) → Explains old steps replies new → Type 0
 IsAlikeWhereTaken old (step ∷ steps) (reply ∷ replies) new run = (takes_offer step ≡ true → IsAlike old) × IsAlikeWhereTaken run.0 steps replies new run.2
 IsAlikeWhereTaken old [] replies new run = ⊤

@@ -1,4 +1,4 @@
--- What goes from one view into another by `fetch` and `push` (own).
+-- What `fetch` and `push` bring from one view into another (own).
 use Rattle.std.specs.Prelude.{◌≡◌, ℕ, ◌≤◌, nat_lt, true, List, [], Some, length, if◌then◌else◌}
 use Rattle.std.specs.FinMap.{get, insert, contains_key, values}
 use Rattle.git_name.specs.Object.{Object}
@@ -24,7 +24,7 @@ use Rattle.fork_model.specs.World.{World}
 abbrev pub AreSendable : Objects → Type 0
 AreSendable objects = (name : List ℕ) (object : Object) → get objects name ≡ Some object → length object.bytes ≤ MAX_CONTENT
 
--- a view whose objects can be sent, those of the open upload and of offers too
+-- a view whose objects can be sent, including those of the open upload and of offers
 pub record IsSendable (view : View) : Type 0 where
   pub objects : AreSendable view.objects
   pub upload : (upload : UploadValue) → view.upload ≡ Some upload → AreWithin (sent_in upload.stream)
@@ -42,7 +42,7 @@ IsSendableWorld world = (tenant : List ℕ) (view : View) → get world tenant �
 abbrev pub fetched_objects : Objects → List (List ℕ) → List (List ℕ) → List Object
 fetched_objects objects wanted excluded = values (beyond (linked_names objects) objects wanted excluded)
 
--- under a name that both hold stands one object: names are hashes, so no two of one name are known
+-- both hold the same object under a name that both hold: names are hashes, so no two objects of one name are known
 abbrev pub HoldTheSame : Objects → Objects → Type 0
 HoldTheSame sender receiver = (name : List ℕ) (object other : Object) → get sender name ≡ Some object → get receiver name ≡ Some other → object ≡ other
 
@@ -55,7 +55,7 @@ pub record HasPrerequisites (receiver sender : Objects) (excluded : List (List �
 abbrev pub received : Objects → Objects → List (List ℕ) → List (List ℕ) → Objects
 received receiver sender wanted excluded = with_objects receiver (fetched_objects sender wanted excluded)
 
--- the answer to a push without commands of which the limit alone is in question
+-- the answer to a push without commands that only the limit may refuse
 abbrev pub within_quota : View → List ℕ → Repository → Objects → Reply × View
 within_quota view word repository objects =
     if nat_lt view.limit (use_of objects) then (Refused OverQuota, view)

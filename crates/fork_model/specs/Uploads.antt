@@ -1,4 +1,4 @@
--- What an open upload is, by what is known of its bytes and by the objects that came with them (own).
+-- An open upload, by what is known of its bytes and by the objects that arrived with them (own).
 use Rattle.std.specs.Prelude.{◌≡◌, ℕ, List, [], Some, map}
 use Rattle.std.specs.List.{AllByRecursion}
 use Rattle.std.specs.Option.{unwrap_or}
@@ -16,7 +16,7 @@ pub record AreSent (objects : Objects) (sent : List Object) : Type 0 where
   pub each : AllByRecursion (λ object. get objects (object_name object) ≡ Some object) sent
   pub alone : (name : List ℕ) (object : Object) → get objects name ≡ Some object → IsAmong sent name object
 
--- one that was sent, among these objects; where it is not there, of no bytes
+-- one that was sent, among these objects; an empty one if it does not exist
 abbrev pub object_sent : Objects → Sent → Object
 object_sent objects sent = unwrap_or (get objects sent.name) (record { kind = sent.kind; bytes = [] })
 

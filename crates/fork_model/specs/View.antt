@@ -12,7 +12,7 @@ use Rattle.fork_model.specs.Offer.{Offers}
 abbrev pub Repositories : Type 0
 Repositories = FinMap name_cmp Repository
 
--- a private view: it holds whole objects, and shares nothing; an open upload is what its bytes stand for
+-- a private view: it holds whole objects, and shares nothing; an open upload is the value of its bytes
 pub record View : Type 0 where
   pub repositories : Repositories
   pub made : Offers

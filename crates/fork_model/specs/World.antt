@@ -1,4 +1,4 @@
--- The world of a host: a view for each tenant, and how runs go from one world to the next.
+-- The world of a host: a view for each tenant, and how runs lead from one world to the next.
 use Rattle.std.specs.Prelude.{◌≡◌, ◌≤◌, ◌++◌, ◌&&◌, ℕ, Bool, false, List, codes, decimal, map}
 use Rattle.std.specs.FinMap.{FinMap, get}
 use Rattle.std.specs.List.{AllByRecursion, zip}
@@ -22,7 +22,7 @@ use Rattle.fork_model.specs.View.{View}
 abbrev pub World : Type 0
 World = FinMap name_cmp View
 
--- a tenant's request, or one of the host's own
+-- a tenant's request, or one of the host itself
 abbrev pub Event : Type 0
 Event = Runs.Event (List ℕ) Ask HostRequest
 
@@ -30,9 +30,9 @@ Event = Runs.Event (List ℕ) Ask HostRequest
 abbrev pub number_line : ℕ → List ℕ
 number_line n = decimal n ++ codes "\n"
 
--- what may be told of the host: how many names left its catalogue or are in it, and of a sweep no more than it looked at; what is
--- wrong with the files of objects. Which number and which harms these are the store settles, and no world. The figures of tenants are
--- those of the world. A bad request is refused
+-- what may be reported about the host: how many names left its catalogue or are in it, and for a sweep no more than it looked at;
+-- what is wrong with the files of objects. The store, and no world, determines which number and which harms these are. The figures
+-- of tenants are those of the world. A bad request is refused
 abbrev pub HostSays : World → HostRequest → Reply → Type 0
 HostSays world (Sweep most) reply = (n : ℕ) × (n ≤ most) × (reply ≡ Done (number_line n))
 HostSays world Collect reply = (n : ℕ) × (reply ≡ Done (number_line n))
@@ -61,31 +61,31 @@ told = Runs.told name_cmp
 abbrev pub Exchange : Type 0
 Exchange = Ask × Reply
 
--- what a tenant asks, each beside what it is told, in order
+-- what a tenant asks, each with the reply, in order
 abbrev pub exchanges : List ℕ → List Event → List Reply → List Exchange
 exchanges tenant steps replies = zip (own tenant steps) (told tenant steps replies)
 
--- a tenant's request, and what it meets beside it
+-- a tenant's request, and what it meets
 abbrev pub Meeting : Type 0
 Meeting = Context × Ask
 
--- what a tenant asks along a run, in order, each beside what it meets: the offers that stand to it then
+-- what a tenant asks in a run, in order, each with what it meets: the offers to it at that time
 abbrev pub met : (tenant : List ℕ) (old : World) (steps : List Event) (replies : List Reply) (new : World) → Explains old steps replies new → List Meeting
 met = Runs.met name_cmp met_by answer (Refused UnknownTenant) is_host_fault HostSays
 
--- requests beside each of which this is met
+-- requests, each of which meets this
 abbrev pub meeting : Context → List Ask → List Meeting
 meeting = Runs.meeting
 
--- the replies and the last view of a private host, which has this view and no other tenant, and meets this beside each request
+-- the replies and the last view of a private host, which has this view and no other tenant, and meets this with each request
 abbrev pub alone : View → List Meeting → List Reply × View
 alone = Runs.alone answer
 
--- no reply of these is a host fault
+-- none of these replies is a host fault
 abbrev pub AreFine : List Reply → Type 0
 AreFine = Runs.AreFine is_host_fault
 
--- no reply to the tenant is one
+-- none of the replies to the tenant is one
 abbrev pub IsUnfaulted : List ℕ → List Event → List Reply → Type 0
 IsUnfaulted tenant steps replies = Runs.AreFine is_host_fault (told tenant steps replies)
 
@@ -94,11 +94,11 @@ pub record Agree (tenant : List ℕ) (world other : World) : Type 0 where
   pub views : get world tenant ≡ get other tenant
   pub offers : offered_to world tenant ≡ offered_to other tenant
 
--- a tenant's own part in a step beside which it meets this
+-- a tenant's own part in a step with which it meets this
 abbrev pub Answers : Context → View → Ask → Reply → View → Type 0
 Answers = Runs.Answers answer is_host_fault
 
--- what a private host is asked, each beside what it answers, in order
+-- what a private host is asked, each with what it answers, in order
 abbrev pub exchanges_alone : View → List Meeting → List Exchange
 exchanges_alone view asked = zip (map (λ met. met.1) asked) (alone view asked).0
 

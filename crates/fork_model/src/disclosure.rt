@@ -15,13 +15,13 @@ ghost use Rattle.fork_model.specs.Runs.{Asks};
 ghost use Rattle.fork_model.specs.View.{View};
 ghost use Rattle.fork_model.specs.World.{Agree, Event, Explains, IsUnfaulted, Steps, World, deals_with, met, told};
 
-/// Disclosure by offer. Two runs from worlds that show a tenant alike and offer it the same, in which
-/// the same happens to it in the same order, tell it the same and leave worlds that show it alike and
-/// offer it the same, whatever else the runs and the worlds are. What happens to it is that it asks,
-/// and that offers to it are made and withdrawn: equal ones, at the same places between its requests.
-/// That is an equal list of happenings: the order of changes at one place counts too. `replies_met` and
-/// `views_met` ask for less: what it meets beside each request is equal, in whatever order that came.
-/// `worlds_met` adds only that both runs offer it the same in the end.
+/// Disclosure by offers. Take two runs from worlds that show a tenant alike and offer it the same, in
+/// which the same happens to it in the same order. Both runs tell it the same, and leave worlds that
+/// show it alike and offer it the same, whatever else the runs and the worlds are. What happens to a
+/// tenant is that it asks, and that offers to it are made and withdrawn: equal ones, at the same places
+/// between its requests. Two equal lists of happenings also agree on the order of changes at one place.
+/// `replies_met` and `views_met` require less: what it meets with each request is equal, in whatever
+/// order that came about. `worlds_met` adds only that both runs offer it the same in the end.
 pub fn offers_disclose_what_they_hold()
     ensures replies { (tenant : List ℕ) (old new : World) (steps : List Event) (replies : List Reply)
         (old2 new2 : World) (steps2 : List Event) (replies2 : List Reply)
@@ -56,17 +56,17 @@ pub fn offers_disclose_what_they_hold()
         → Agree tenant new new2 }
 {}
 
-/// What happens to a tenant along a run, and what it met at first, settle what it meets beside each
-/// of its requests. Nothing else does: no request of another tenant, but one that makes or withdraws
-/// an offer to it.
+/// What happens to a tenant in a run, and what it met at first, determine what it meets with each of
+/// its requests. Nothing else does: no request of another tenant, except one that makes or withdraws an
+/// offer to it.
 pub fn what_happens_settles_what_is_met()
     ensures { (tenant : List ℕ) (old new : World) (steps : List Event) (replies : List Reply)
         → (run : Explains old steps replies new)
         → met tenant old steps replies new run ≡ met_along (met_by old tenant) (happenings tenant old steps replies new run) }
 {}
 
-/// A step that makes no offer to a tenant, and withdraws none, leaves what that one is offered. Any
-/// other step changes it under one key at most: the giver's name, and the repository that it names.
+/// A step that makes no offer to a tenant, and withdraws none, leaves what that tenant is offered. Any
+/// other step changes it under at most one key: the giver's name, and the repository that it names.
 pub fn a_step_offers_what_it_deals_with()
     ensures apart { (tenant : List ℕ) (old new : World) (event : Event) (reply : Reply)
         → Steps old event reply new → deals_with tenant event reply ≡ false
@@ -76,8 +76,8 @@ pub fn a_step_offers_what_it_deals_with()
         → get (offered_to new tenant) key ≡ get (offered_to old tenant) key }
 {}
 
-/// Who forks an offer, or tries to, tells its giver nothing. The step leaves the views of all others,
-/// the giver's among them, and what every tenant is offered: the offer stands as it stood.
+/// Forking an offer, or trying to, reveals nothing to its giver. The step leaves the views of all
+/// others, including the giver's, and what every tenant is offered: the offer stays as it is.
 pub fn forking_an_offer_tells_its_giver_nothing()
     ensures views { (old new : World) (tenant other giver repository copy : List ℕ) (reply : Reply)
         → Steps old (Asks tenant (ForksOffer giver repository copy)) reply new → other ≢ tenant
@@ -87,8 +87,9 @@ pub fn forking_an_offer_tells_its_giver_nothing()
         → offered_to new receiver ≡ offered_to old receiver }
 {}
 
-/// Who forks what is not offered to it is told that there is no such offer, and its view stays. It is
-/// told the same whether or not there is such a giver, and whatever that one has or offers to others.
+/// A tenant that forks what is not offered to it gets the reply that there is no such offer, and its
+/// view stays. It gets the same reply whether or not there is such a giver, and whatever that one has
+/// or offers to others.
 pub fn an_offer_that_was_not_made_is_no_offer()
     ensures { (context : Context) (view : View) (giver repository copy : List ℕ)
         → is_plain_name MAX_TENANT_NAME giver ≡ true → is_plain_name MAX_REPOSITORY_NAME repository ≡ true → is_plain_name MAX_REPOSITORY_NAME copy ≡ true
@@ -96,9 +97,9 @@ pub fn an_offer_that_was_not_made_is_no_offer()
         → answer context view (ForksOffer giver repository copy) ≡ (Refused (NoOffer giver repository), view) }
 {}
 
-/// `offers` and `fork-offer` alone meet what a tenant is offered: every other answer is the same,
-/// whatever that is. `offers` tells by whom and of which repositories, and nothing of what they hold;
-/// `fork-offer` meets the one offer that it names.
+/// Only `offers` and `fork-offer` depend on what a tenant is offered: every other answer is the same,
+/// whatever that is. `offers` lists by whom and of which repositories offers are, and nothing that they
+/// hold; `fork-offer` depends on the one offer that it names.
 pub fn offers_are_met_by_two_requests()
     ensures others { (context other : Context) (view : View) (ask : Ask) → context.own ≡ other.own → looks_at_offers ask ≡ false → answer context view ask ≡ answer other view ask }
     ensures listed { (context other : Context) (view : View) → keys context.offered ≡ keys other.offered → answer context view AsksOffers ≡ answer other view AsksOffers }
@@ -106,8 +107,8 @@ pub fn offers_are_met_by_two_requests()
         → answer context view (ForksOffer giver repository copy) ≡ answer other view (ForksOffer giver repository copy) }
 {}
 
-/// `offer` and `withdraw` alone change the offers that a tenant has made: every other answer leaves
-/// them. And each of the two leaves those to other receivers and of other repositories.
+/// Only `offer` and `withdraw` change the offers that a tenant has made: every other answer leaves
+/// them. Each of the two leaves those to other receivers and of other repositories.
 pub fn offers_are_changed_by_two_requests()
     ensures others { (context : Context) (view : View) (ask : Ask) → changes_offers ask ≡ false → (answer context view ask).1.made ≡ view.made }
     ensures made { (context : Context) (view : View) (repository receiver : List ℕ) (key : Pair) → key ≢ (receiver, repository)
@@ -116,8 +117,8 @@ pub fn offers_are_changed_by_two_requests()
         → get (answer context view (Withdraws repository receiver)).1.made key ≡ get view.made key }
 {}
 
-/// A tenant that is added, and has made no offer, changes nothing of what is offered. So the others
-/// are offered what they were; and the new one meets from the start what was offered to its name before.
+/// Adding a tenant, which has made no offer, changes nothing that is offered. So the others are offered
+/// what they were, and the new one meets from the start what was offered to its name before.
 pub fn a_new_tenant_changes_no_offer()
     ensures { (world : World) (name receiver : List ℕ) (view : View) → get world name ≡ None → view.made ≡ empty
         → offered_to (insert world name view) receiver ≡ offered_to world receiver }

@@ -1,7 +1,6 @@
-//! What a tenant sees of a host, what it is told, and the laws of runs: definitions, and no code that
-//! runs.
-//! A run of a host is private: whatever others do between, a tenant is told what a host of its own
-//! would tell it.
+//! What a tenant sees of a host, what it is told, and the laws of runs: definitions, with no code to
+//! run. A run of a host is private: whatever others do in between, a tenant is told what a host of its
+//! own would tell it.
 #![tactic(auto)]
 
 mod disclosure;
@@ -38,9 +37,9 @@ pub use crate::transfer::{
 };
 pub use crate::uploads::uploads_are_their_readings_and_objects;
 
-/// What a tenant is told, and its view afterwards, are those of a private host that holds this tenant
-/// alone and meets the same offers, whatever requests of others stand between, where no host fault
-/// answered it. Where no offer to it is made or withdrawn, the offers are those that stood at first.
+/// If no host fault answered a tenant, then what it is told, and its view afterwards, are those of a
+/// private host that holds this tenant alone and meets the same offers, whatever requests of others
+/// come in between. If no offer to it is made or withdrawn, the offers are those at the start.
 pub fn a_run_is_private()
     ensures replies { (tenant : List ℕ) (old new : World) (steps : List Event) (replies : List Reply) (view : View)
         → Explains old steps replies new → IsUnfaulted tenant steps replies → LeavesOffers tenant steps replies → get old tenant ≡ Some view
@@ -83,16 +82,16 @@ ghost use Rattle.fork_model.specs.Context.{Context};
 ghost use Rattle.fork_model.specs.Sound.{IsAlikeWhereTaken, IsOrderly, IsOrderlyWorld, IsRight, IsSound, IsSoundBeside, IsSoundWorld, MayTake, takes_offer};
 ghost use Rattle.fork_request.specs.Told.{is_host_fault};
 
-/// A refused request leaves the view as it was, but that a refused `part-end` takes the upload away;
+/// A refused request leaves the view as it was, except that a refused `part-end` discards the upload;
 /// and no answer of the model is a host fault.
 pub fn refusals_leave_the_view()
     ensures view { (context : Context) (view : View) (ask : Ask) (refusal : Refusal) → (answer context view ask).0 ≡ Refused refusal → (answer context view ask).1 ≡ left_by view ask }
     ensures reply { (context : Context) (view : View) (ask : Ask) → is_host_fault (answer context view ask).0 ≡ false }
 {}
 
-/// Answers keep a view in order and right, where what is offered may be taken, and runs a world, where
-/// of one name it has one object whenever an offer is taken. Where none is, what names, kinds, lengths,
-/// references and limits decide needs nothing of what bytes decide.
+/// Answers keep a view in order and right, if what is offered may be taken. Runs do the same for a
+/// world, if it has one object of one name whenever an offer is taken. If none is taken, what names,
+/// kinds, lengths, references and limits determine does not depend on what bytes determine.
 pub fn runs_keep_worlds_sound()
     ensures orderly { (context : Context) (view : View) (ask : Ask) → MayTake context view.objects → IsOrderly view → IsOrderly (answer context view ask).1 }
     ensures right { (context : Context) (view : View) (ask : Ask) → IsSoundBeside context view.objects → IsSound view → IsRight (answer context view ask).1 }
@@ -106,7 +105,8 @@ ghost use Rattle.fork_request.specs.declared.refusal.Refusal.TheVariants.{BadReq
 ghost use Rattle.fork_model.specs.Runs.{HostAsks};
 ghost use Rattle.fork_model.specs.World.{Steps};
 
-/// A bad request of the host's own is refused as that, or met by a host fault, and leaves the world.
+/// A bad request of the host itself is refused as such, or answered by a host fault, and leaves the
+/// world.
 pub fn bad_host_requests_are_refused()
     ensures reply { (old new : World) (reply : Reply) → Steps old (HostAsks Bad) reply new → (reply ≡ Refused BadRequest) ⊎ (is_host_fault reply ≡ true) }
     ensures world { (old new : World) (reply : Reply) → Steps old (HostAsks Bad) reply new → new ≡ old }
@@ -117,8 +117,8 @@ ghost use Rattle.fork_request.specs.declared.host_request.HostRequest.{HostReque
 ghost use Rattle.fork_model.specs.Figures.{figure_lines};
 ghost use Rattle.fork_request.specs.declared.reply.Reply.TheVariants.{Done};
 
-/// Whatever is asked of the host itself leaves the world, and what is no bad request is answered, or
-/// met by a host fault. The figures that it reports of tenants are those of the world.
+/// Whatever is asked of the host itself leaves the world. A request that is not bad is answered, or
+/// reports a host fault. The figures that it reports about tenants are those of the world.
 pub fn host_requests_leave_the_world()
     ensures world { (old new : World) (request : HostRequest) (reply : Reply) → Steps old (HostAsks request) reply new → new ≡ old }
     ensures reply { (old new : World) (request : HostRequest) (reply : Reply) → Steps old (HostAsks request) reply new → request ≢ Bad → (is_done reply ≡ true) ⊎ (is_host_fault reply ≡ true) }
@@ -130,8 +130,8 @@ ghost use Rattle.fork_request.specs.Asked.{AsksObject};
 ghost use Rattle.fork_request.specs.declared.refusal.Refusal.TheVariants.{Missing};
 ghost use Rattle.fork_model.specs.Runs.{Asks};
 
-/// An object that a tenant does not hold is told to be missing, whatever others hold: by the answer,
-/// and so in each step that no host fault answers.
+/// An object that a tenant does not hold is reported as missing, whatever others hold: by the answer,
+/// and so in each step without a host fault.
 pub fn what_is_not_held_is_missing()
     ensures answer { (context : Context) (view : View) (name : List ℕ) → get view.objects name ≡ None → answer context view (AsksObject name) ≡ (Refused (Missing name), view) }
     ensures step { (old new : World) (tenant : List ℕ) (view : View) (name : List ℕ) (reply : Reply)

@@ -12,10 +12,10 @@ ghost use Rattle.fork_model.specs.Runs.{Asks};
 ghost use Rattle.fork_model.specs.View.{View};
 ghost use Rattle.fork_model.specs.World.{World, Steps};
 
-/// What a request names and the tenant neither sees nor sends is told to be missing where nothing
-/// stands against the request before, whatever others hold: by the answer, and so in each step that
-/// no host fault answers, and nothing changes but that a refused `part-end` takes the upload away.
-/// And `missing` is told of nothing else.
+/// What a request names and the tenant neither sees nor sends is reported as missing if nothing is
+/// wrong with the request before, whatever others hold: by the answer, and so in each step without a
+/// host fault. Nothing changes, except that a refused `part-end` discards the upload. `missing` is
+/// reported for nothing else.
 pub fn what_is_lacking_is_missing()
     ensures answer { (context : Context) (view : View) (name : List ℕ) (ask : Ask) → IsMissing view name ask → answer context view ask ≡ (Refused (Missing name), left_by view ask) }
     ensures step { (old new : World) (tenant : List ℕ) (view : View) (name : List ℕ) (ask : Ask) (reply : Reply)

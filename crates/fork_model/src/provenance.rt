@@ -9,16 +9,17 @@ ghost use Rattle.fork_model.specs.Provenance.{IsFrom, IsUploadFrom, WasOffered, 
 ghost use Rattle.fork_model.specs.View.{View};
 ghost use Rattle.fork_model.specs.World.{World, Event, Explains, Meeting, alone, exchanges, exchanges_alone, met, told};
 
-/// What a tenant sees behind an answer, it saw before, or it stands in the body of this push or in
-/// the upload that ends here, or in the offer that is forked; and an open upload was open before, or began or went on by this part.
+/// What a tenant sees after an answer, it saw before, or it is in the body of this push, in the upload
+/// that ends here, or in the offer that is forked. An open upload was open before, or this part began
+/// or continued it.
 pub fn what_is_seen_was_seen_or_sent()
     ensures object { (context : Context) (view : View) (ask : Ask) (name : List ℕ) (object : Object) → get (answer context view ask).1.objects name ≡ Some object → IsFrom context view (ask, (answer context view ask).0) name object }
     ensures upload { (context : Context) (view : View) (ask : Ask) → IsUploadFrom view (ask, (answer context view ask).0) (answer context view ask).1.upload }
 {}
 
-/// What a tenant sees at the end of a run, it saw at its start, or sent itself: in the body of a
-/// push, or in all the parts of one upload, from its beginning to its end; or it stood in an offer that
-/// the tenant met and forked. What others send is nowhere else in it, whatever host faults come.
+/// What a tenant sees at the end of a run, it saw at its start, or sent itself, in the body of a push
+/// or in all the parts of one upload from its beginning to its end; or it was in an offer that the
+/// tenant met and forked. Nothing else that others send is in it, whatever host faults occur.
 pub fn what_runs_show_was_seen_or_sent()
     ensures alone { (view : View) (asked : List Meeting) (name : List ℕ) (object : Object)
         → get (alone view asked).1.objects name ≡ Some object
@@ -33,8 +34,8 @@ ghost use Rattle.std.specs.Prelude.{◌++◌, ◌∷◌, [], true};
 ghost use Rattle.fork_model.specs.Provenance.{AreParts, ends_upload};
 ghost use Rattle.fork_model.specs.World.{Exchange};
 
-/// The parts of one upload are one list: none can be left out, and what comes behind an end of an
-/// upload adds nothing.
+/// The parts of one upload are one list: none can be left out, and what follows the end of an upload
+/// adds nothing to it.
 pub fn an_upload_is_all_its_parts()
     ensures one { (exchanges : List Exchange) (bodies others : List (List ℕ)) → AreParts exchanges bodies → AreParts exchanges others → bodies ≡ others }
     ensures behind { (front behind : List Exchange) (end : Exchange) (bodies : List (List ℕ)) → ends_upload end ≡ true → AreParts (front ++ end ∷ behind) bodies → AreParts (front ++ end ∷ []) bodies }
@@ -42,8 +43,8 @@ pub fn an_upload_is_all_its_parts()
 
 ghost use Rattle.fork_model.specs.Provenance.{WasShown};
 
-/// What was sent was seen at some moment: after the push, or the end of the upload, that brought it.
-/// And what stood in an offer that was forked was seen too: after the fork.
+/// What was sent was seen at some moment: after the push that brought it, or after the end of the
+/// upload that did. What was in an offer that was forked was seen too: after the fork.
 pub fn what_was_sent_was_seen()
     ensures sent { (view : View) (asked : List Meeting) (name : List ℕ) (object : Object) → WasSent view (exchanges_alone view asked) name object → WasShown view asked name }
     ensures offered { (view : View) (asked : List Meeting) (name : List ℕ) (object : Object) → WasOffered asked (alone view asked).0 name object → WasShown view asked name }

@@ -22,8 +22,8 @@ ghost use Rattle.fork_model.specs.Transfer.{AreSendable, AreSendableOffers, HasP
 ghost use Rattle.fork_model.specs.View.{View};
 ghost use Rattle.fork_model.specs.World.{World, Event, Explains};
 
-/// What is fetched is, behind an empty line, a whole stream without commands, of the objects that
-/// the wanted names reach and the excluded ones do not, where no object is longer than a stream takes.
+/// After an empty line, what is fetched is a whole stream without commands, of the objects that the
+/// wanted names reach and the excluded ones do not, if no object is longer than a stream takes.
 pub fn what_is_fetched_is_a_stream()
     ensures { (view : View) (wanted excluded : List (List ℕ)) → IsRight view → AreSendable view.objects
         → finished (stream_of (10 ∷ fetched view.objects wanted excluded)) ≡ Ok ([], fetched_objects view.objects wanted excluded) }
@@ -37,8 +37,8 @@ pub fn what_is_fetched_is_enough()
         → get (received receiver sender.objects wanted excluded) name ≡ get sender.objects name }
 {}
 
-/// A push of what is fetched is taken by a tenant that holds what the excluded names reach: the
-/// limit alone may refuse it.
+/// A push of what is fetched is accepted from a tenant that holds what the excluded names reach: only
+/// the limit may refuse it.
 pub fn what_is_fetched_is_taken()
     ensures verdict { (receiver sender : View) (wanted excluded : List (List ℕ)) (old : References)
         → IsRight sender → HasPrerequisites receiver.objects sender.objects excluded → AreReferences receiver.objects old
@@ -49,8 +49,8 @@ pub fn what_is_fetched_is_taken()
         → pushed receiver word old (finished (stream_of (10 ∷ fetched sender.objects wanted excluded))) ≡ within_quota receiver word old (received receiver.objects sender.objects wanted excluded) }
 {}
 
-/// The data of a `fetch`, pushed behind an empty line by another tenant that holds what was
-/// excluded: it is answered as one with the objects there, where its limit has room for them.
+/// The data of a `fetch`, pushed after an empty line by another tenant that holds what was excluded, is
+/// answered as a push of the objects there, if its limit has room for them.
 pub fn what_is_fetched_can_be_pushed()
     ensures { (context other : Context) (receiver sender : View) (source word : List ℕ) (items : List (List ℕ)) (repository old : Repository) (selection : Selection) (text : List ℕ)
         → IsRight sender → AreSendable sender.objects → IsOrderly receiver
@@ -61,16 +61,16 @@ pub fn what_is_fetched_can_be_pushed()
         → answer other receiver (Pushes word (10 ∷ text)) ≡ within_quota receiver word old (received receiver.objects sender.objects selection.wanted selection.excluded) }
 {}
 
-/// A receiver whose objects link to what is there has the prerequisites as soon as it has the
-/// excluded objects themselves.
+/// A receiver whose objects link to existing objects has the prerequisites if it has the excluded
+/// objects themselves.
 pub fn excluded_objects_are_enough()
     ensures { (receiver sender : Objects) (excluded : List (List ℕ)) → IsClosed receiver → HoldTheSame sender receiver
         → ((name : List ℕ) → Contains excluded name → contains_key sender name ≡ true → contains_key receiver name ≡ true)
         → HasPrerequisites receiver sender excluded }
 {}
 
-/// Answers keep a view's objects such that they can be sent, and runs each view's: no object of a
-/// host that began without any is longer than a stream takes.
+/// Answers keep a view's objects such that they can be sent, and runs those of each view: no object of
+/// a host that began without objects is longer than a stream takes.
 pub fn answers_keep_views_sendable()
     ensures view { (context : Context) (view : View) (ask : Ask) → AreSendableOffers context → IsSendable view → IsSendable (answer context view ask).1 }
     ensures world { (old new : World) (steps : List Event) (replies : List Reply) → Explains old steps replies new → IsSendableWorld old → IsSendableWorld new }

@@ -1,4 +1,4 @@
--- What a push comes to: its links, its transaction and the limit, judged in this order (own).
+-- The verdict on a push: its links, its transaction and the limit, judged in this order (own).
 use Rattle.std.specs.Prelude.{ℕ, Bool, true, false, not, nat_lt, List, Option, None, Some, Result, Ok, Err, is_none, if◌then◌else◌}
 use Rattle.std.specs.List.{find, flat_map}
 use Rattle.std.specs.Option.{option_map, option_or}
@@ -45,7 +45,7 @@ is_wrong both link = not (has_kind link.kind (kind_in both link.name))
 abbrev pub wrong_type : Objects → List Link → Option PushRefusal
 wrong_type both links = option_map (λ link. WrongType link.name) (find (is_wrong both) links)
 
--- what stands against the links
+-- what is wrong with the links
 abbrev pub link_refusal : Objects → List Link → Option PushRefusal
 link_refusal both links = option_or (missing both links) (wrong_type both links)
 
@@ -58,8 +58,8 @@ abbrev pub refusal_or : Option PushRefusal → Result References PushRefusal →
 refusal_or (Some refusal) verdict = Err refusal
 refusal_or None verdict = verdict
 
--- the references after a push over both sides' objects, or the first refusal. `both` are the objects that the tenant
--- sees and the sent ones; of several of one name the one that the tenant sees counts, else the first that was sent
+-- the references after a push over both sides' objects, or the first refusal. `both` are the objects that the tenant sees and those
+-- sent. If several share a name, the one that the tenant sees counts, otherwise the first sent
 unfoldable pub judged : Objects → References → ℕ → Result BriefValue StreamFault → Result References PushRefusal
 judged both old limit (Err fault) = Err (Stream fault)
 judged both old limit (Ok brief) =

@@ -1,4 +1,4 @@
--- What a verdict tells.
+-- What a verdict reports.
 use Rattle.std.specs.Prelude.{◌≡◌, ℕ, ◌≤◌, List, Option, None, Some, Result, Ok, Err, ⊤}
 use Rattle.git_reftx.specs.declared.command.Command.{Command}
 use Rattle.git_reftx.specs.Transaction.{References, transacted}
@@ -9,13 +9,13 @@ use Rattle.fork_push.specs.declared.refusal.PushRefusal.{PushRefusal}
 use Rattle.fork_push.specs.declared.verdict.Verdict.{Verdict}
 use Rattle.fork_push.specs.declared.verdict.Verdict.TheVariants.{Accepted, Refused, Failed}
 
--- the verdict tells what was judged; a fault tells nothing
+-- the verdict reports what was judged; a fault reports nothing
 abbrev pub TellsJudged : Result References PushRefusal → Verdict → Type 0
 TellsJudged judged (Accepted new) = judged ≡ Ok new
 TellsJudged judged (Refused refusal) = judged ≡ Err refusal
 TellsJudged judged (Failed fault) = ⊤
 
--- the fault that a verdict tells
+-- the fault that a verdict reports
 abbrev pub fault_of_verdict : Verdict → Option SourceFault
 fault_of_verdict (Accepted new) = None
 fault_of_verdict (Refused refusal) = None

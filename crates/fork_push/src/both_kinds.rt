@@ -2,7 +2,7 @@ use fork_reach::Source;
 use git_name::{Kind, Name};
 use git_reftx::Known;
 
-// What both sides of a push find, as what a transaction may name.
+// The objects of both sides, as those that a transaction may name.
 #[derive(Drop)]
 pub(crate) struct BothKinds<'a, S>(pub(crate) &'a S);
 

@@ -17,8 +17,8 @@ use push_stream::{Brief, StreamFault};
 use std::alloc::Global;
 
 #[tactic(auto, unfolding(crate::specs::Push::judged))]
-/// Judges a push into a repository of these references, under a limit on what all objects may use.
-/// It changes nothing. It reads the sent objects that are no blobs, and no others.
+/// Judges a push into a repository of these references, under a limit on what all objects may use. It
+/// changes nothing. Of the sent objects it reads only those that are not blobs.
 pub fn judge<S: Sides>(
     alloc: Global,
     sides: &mut S,
@@ -39,7 +39,7 @@ pub fn judge<S: Sides>(
 }
 
 #[tactic(auto, unfolding(crate::specs::Push::judged))]
-// The same where the stream is right.
+// The same, if the stream is valid.
 fn judge_brief<S: Sides>(
     alloc: Global,
     sides: &mut S,
@@ -58,7 +58,7 @@ fn judge_brief<S: Sides>(
     }
 }
 
-// The same where nothing stands against the links.
+// The same, if nothing is wrong with the links.
 fn judge_transaction<S: Sides>(
     alloc: Global,
     sides: &S,

@@ -1,6 +1,5 @@
-//! What a push comes to: whether its links lead to objects that are there, its transaction, and the
-//! limit of what the objects may use.
-//! The first reason against a push decides, and judging it changes nothing.
+//! The verdict on a push: whether its links lead to known objects, its transaction, and the limit on
+//! what the objects may use. The first reason against a push decides, and judging it changes nothing.
 #![tactic(auto)]
 
 mod both_kinds;

@@ -13,7 +13,7 @@ use git_name::{Kind, Name};
 use git_object::{Link, Object, links};
 use git_tree::{TreeEntry, first_entry};
 
-// Whether the object of this name is there, and of this kind.
+// Whether the object of this name exists and has this kind.
 fn is_met<S: Source>(source: &S, name: Name, kind: Kind) -> bool
     ensures { OnTrue result (is_wrong (S.state source.now).objects (link_to name kind) ≡ false) }
 {
@@ -23,8 +23,8 @@ fn is_met<S: Source>(source: &S, name: Name, kind: Kind) -> bool
     }
 }
 
-// Whether the object of a tree's entry is there, and of the kind that the mode wants. A gitlink wants
-// none.
+// Whether the object of a tree's entry exists and has the kind that the mode requires. A gitlink
+// requires none.
 fn is_entry_met<S: Source>(source: &S, entry: TreeEntry<'_>) -> bool
     ensures { OnTrue result (find (is_wrong (S.state source.now).objects) (entry_links (plain_entry entry.entry)) ≡ None) }
 {
@@ -34,8 +34,8 @@ fn is_entry_met<S: Source>(source: &S, entry: TreeEntry<'_>) -> bool
     }
 }
 
-// Whether the objects of all entries are so, if the bytes are a tree. Whether they are one is not asked,
-// so this takes one look at each entry.
+// The same for all entries, if the bytes are a tree. It does not check that they are one, so it needs
+// one look at each entry.
 fn are_entries_met<S: Source>(source: &S, bytes: &[u8]) -> bool
     ensures { OnTrue result (find (is_wrong (S.state source.now).objects) (links_in Kind.Tree bytes.now) ≡ None) }
 {
@@ -49,8 +49,8 @@ fn are_entries_met<S: Source>(source: &S, bytes: &[u8]) -> bool
     true
 }
 
-// Whether the objects of the tree and of all parents are so, if the bytes are a commit. Whether they are
-// one is not asked.
+// The same for the tree and all parents, if the bytes are a commit. It does not check that they are
+// one.
 fn are_names_met<S: Source>(source: &S, bytes: &[u8]) -> bool
     ensures { OnTrue result (find (is_wrong (S.state source.now).objects) (links_in Kind.Commit bytes.now) ≡ None) }
 {
@@ -69,8 +69,8 @@ fn are_names_met<S: Source>(source: &S, bytes: &[u8]) -> bool
     true
 }
 
-// Whether nothing stands against the links of an object of this kind and these bytes, as far as that is
-// seen without its grammar.
+// Whether the links of an object of this kind and these bytes are all right, as far as that shows
+// without its grammar.
 fn are_met<S: Source>(source: &S, kind: Kind, bytes: &[u8]) -> bool
     ensures { OnTrue result (find (is_wrong (S.state source.now).objects) (links_in kind bytes.now) ≡ None) }
 {
@@ -81,8 +81,8 @@ fn are_met<S: Source>(source: &S, kind: Kind, bytes: &[u8]) -> bool
     }
 }
 
-// The first link of an object of this kind and these bytes whose object is not there. Where there is
-// none, the first link to another kind is noted, unless one was before.
+// The first link of an object of this kind and these bytes whose object does not exist. If there is
+// none, the first link to another kind is noted, unless one was noted before.
 pub(crate) fn judge_links<S: Source>(
     source: &S,
     kind: Kind,

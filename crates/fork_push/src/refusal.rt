@@ -5,11 +5,11 @@ use push_stream::StreamFault;
 /// Why a push is refused, in the order in which it is judged.
 #[derive(Debug, Drop)]
 pub enum PushRefusal {
-    /// The stream is wrong, or not whole.
+    /// The stream is wrong or not complete.
     Stream(StreamFault),
-    /// No side has an object that a sent one links to.
+    /// Neither side has an object that a sent one links to.
     Missing(Name),
-    /// An object that a sent one links to has another kind than the link demands.
+    /// An object that a sent one links to has another kind than the link requires.
     WrongType(Name),
     /// The transaction of references is refused.
     Transaction(TxRefusal),

@@ -16,8 +16,8 @@ use git_name::{Kind, Name};
 use git_object::Link;
 use std::alloc::Global;
 
-// What stands against the links of the sent objects. A blob has none and is not read; each other one
-// is read once for each time that it was sent.
+// What is wrong with the links of the sent objects. A blob has none and is not read; every other
+// object is read once for each time that it was sent.
 pub(crate) fn judge_sent<S: Source>(
     alloc: Global,
     source: &mut S,
@@ -38,7 +38,7 @@ pub(crate) fn judge_sent<S: Source>(
     }
 }
 
-// Whether the object of this name is there, and a blob.
+// Whether the object of this name exists and is a blob.
 fn is_blob<S: Source>(source: &S, name: Name) -> bool
     ensures { OnTrue result (kind_in (S.state source.now).objects name ≡ Some Kind.Blob) }
 {
@@ -48,8 +48,8 @@ fn is_blob<S: Source>(source: &S, name: Name) -> bool
     }
 }
 
-// The first link of the object of this name whose object is not there. Where there is none, the first
-// link to another kind is noted, unless one was before.
+// The first link of the object of this name whose object does not exist. If there is none, the first
+// link to another kind is noted, unless one was noted before.
 fn judge_object<S: Source>(
     alloc: Global,
     source: &mut S,

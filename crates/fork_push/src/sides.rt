@@ -3,11 +3,11 @@ ghost use Rattle.fork_reach.specs.Objects.{use_of};
 
 use fork_reach::Source;
 
-/// Both sides of a push: a source that finds the objects that a tenant sees and those that it sent.
-/// Of several of one name the one that the tenant sees counts, else the first that was sent.
+/// Both sides of a push: a source that finds the objects that a tenant sees and those that it sent. If
+/// several share a name, the one that the tenant sees counts, otherwise the first sent.
 pub trait Sides: Source {
-    /// Whether all of them together use at most so many bytes. It is a running total's answer, and
-    /// walks no objects.
+    /// Whether all of them together use at most this many bytes. The answer is a running total's; it visits
+    /// no objects.
     fn is_within(&self, limit: u64) -> bool
         ensures { result ≡ nat_le (use_of (Self.state self.now).objects) limit };
 }

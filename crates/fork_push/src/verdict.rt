@@ -2,13 +2,13 @@ use crate::refusal::PushRefusal;
 use fork_reach::SourceFault;
 use git_reftx::Refs;
 
-/// What a push comes to.
+/// The verdict on a push.
 #[derive(Drop)]
 pub enum Verdict {
-    /// It may be done, and these are the references afterwards.
+    /// It is accepted; these are the references afterwards.
     Accepted(Refs),
     /// It is refused, for the first reason against it.
     Refused(PushRefusal),
-    /// A sent object was not read, or there was no memory.
+    /// A sent object could not be read, or memory ran out.
     Failed(SourceFault),
 }

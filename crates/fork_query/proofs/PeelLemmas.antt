@@ -1,4 +1,4 @@
--- Tags that are followed: the steps, where they end, and circles.
+-- Tags that are followed: the steps, where they end, and cycles.
 use Rattle.std.proofs.Common.{◌≡◌, ◌≢◌, ℕ, zero, suc, Bool, true, false, List, Option, None, Some, is_some, refl, sym, ap, subst, ◌∙◌}
 use Rattle.std.specs.FinMap.{contains_key, get, keys, len}
 use Rattle.std.specs.Option.{option_map}

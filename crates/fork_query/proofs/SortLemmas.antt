@@ -1,4 +1,4 @@
--- Keys that are put at their places one by one, and keys that are sorted.
+-- Keys inserted at their places one by one, and sorted keys.
 use Rattle.std.proofs.Common.{◌≡◌, ◌+◌, ◌||◌, Bool, true, false, List, [], ◌∷◌, refl, sym, ap, ◌∙◌, arith}
 use Rattle.std.specs.Prelude.{fold}
 use Rattle.std.specs.BTreeMap.{is_at}

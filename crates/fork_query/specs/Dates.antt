@@ -1,4 +1,4 @@
--- Commits by date, as git-rev-list(1) lists them with `--date-order` and no heed of who descends from whom (own).
+-- Commits by date, as git-rev-list(1) lists them with `--date-order`, regardless of ancestry (own).
 use Rattle.std.specs.Prelude.{ℕ, List, [], fold}
 use Rattle.std.specs.BTreeSet.{insert_key}
 use Rattle.std.specs.declared.cmp.Ordering.{Ordering}
@@ -13,11 +13,11 @@ use Rattle.fork_query.specs.declared.dated.Dated.{Dated}
 abbrev pub reverse : ℕ → Reverse ℕ
 reverse seconds = record { 0 = seconds }
 
--- the newer first, and of one time the lesser name
+-- the newer first; of one time, the lesser name
 abbrev pub by_date : Dated → Dated → Ordering
 by_date a b = ordering_then (nat_cmp b.seconds.0 a.seconds.0) (name_cmp a.name b.name)
 
--- dates in order, each put at its place among the earlier ones
+-- dates in order, each inserted at its place among the earlier ones
 abbrev pub newest_first : List Dated → List Dated
 newest_first dates = fold (insert_key by_date) [] dates
 
@@ -25,6 +25,6 @@ newest_first dates = fold (insert_key by_date) [] dates
 abbrev pub dated : List ℕ × Object → Dated
 dated entry = record { seconds = reverse (seconds_in entry.1.kind entry.1.bytes); name = entry.0 }
 
--- the same of what is noted of it
+-- the same of what is noted about it
 abbrev pub noted_date : List ℕ × Note → Dated
 noted_date entry = record { seconds = reverse entry.1.seconds; name = entry.0 }

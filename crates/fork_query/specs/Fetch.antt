@@ -13,7 +13,7 @@ use Rattle.fork_query.specs.Items.{object_of_item}
 use Rattle.fork_query.specs.Reached.{beyond}
 use Rattle.fork_query.specs.Sides.{Selection, selected}
 
--- the record of an object, where there is one
+-- the record of an object, if there is one
 abbrev pub record_or_none : Option Object → List ℕ
 record_or_none None = []
 record_or_none (Some object) = record_of object

@@ -1,4 +1,4 @@
--- What an item of a request names (gitrevisions(7); that it is an object's name or a reference's, and no more, is own).
+-- What an item of a request names (gitrevisions(7); that it is only an object's name or a reference's is own).
 use Rattle.std.specs.Prelude.{ℕ, List, Option, None, Some, Result, Ok, Err, codes, if◌then◌else◌}
 use Rattle.std.specs.Option.{option_or}
 use Rattle.std.specs.FinMap.{contains_key, get}
@@ -21,7 +21,7 @@ reference_of repository item = if bytes_eq item (codes "HEAD") then repository.h
 abbrev pub named_by : Repository → List ℕ → Option (List ℕ)
 named_by repository item = option_or (name_in item) (get repository.references (reference_of repository item))
 
--- a name whose object is there
+-- a name whose object exists
 abbrev pub found_name : Objects → List ℕ → Option (List ℕ) → Result (List ℕ) Refusal
 found_name objects item None = Err (NoRef item)
 found_name objects item (Some name) = if contains_key objects name then Ok name else Err (Missing name)

@@ -20,7 +20,7 @@ is_common objects a b name = is_ancestor objects a name && is_ancestor objects b
 abbrev pub is_outdone : Objects → List ℕ → List ℕ → List ℕ → Bool
 is_outdone objects a b name = list_any (λ other. is_common objects a b other && not (bytes_eq other name) && is_ancestor objects other name) (keys objects)
 
--- it is common, and none outdoes it
+-- it is common, and no other common ancestor descends from it
 abbrev pub is_base : Objects → List ℕ → List ℕ → List ℕ → Bool
 is_base objects a b name = is_common objects a b name && not (is_outdone objects a b name)
 

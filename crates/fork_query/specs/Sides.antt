@@ -38,7 +38,7 @@ abbrev pub selected : (List ℕ → Result (List ℕ) Refusal) → List (List �
 selected judge [] = Ok (record { wanted = []; excluded = [] })
 selected judge (item ∷ items) = with_item (is_excluded item) (judge (bare item)) (selected judge items)
 
--- one more name behind those of its side
+-- one more name after those of its side
 abbrev pub added_name : Selection → Bool → List ℕ → Selection
 added_name selection true name = record { wanted = selection.wanted; excluded = selection.excluded ++ name ∷ [] }
 added_name selection false name = record { wanted = selection.wanted ++ name ∷ []; excluded = selection.excluded }

@@ -51,7 +51,7 @@ abbrev pub tree_name_of : List ℕ → Option Object → List ℕ
 tree_name_of name None = name
 tree_name_of name (Some object) = tree_name_in name object.kind object.bytes
 
--- the entries of the tree that bytes of a kind are
+-- the entries of the tree with bytes of this kind
 abbrev pub entries_of_kind : Kind → List ℕ → Option (List Entry)
 entries_of_kind kind.Blob bytes = None
 entries_of_kind kind.Tree bytes = tree_in bytes
@@ -62,7 +62,7 @@ abbrev pub entries_of_found : Option Object → Option (List Entry)
 entries_of_found None = None
 entries_of_found (Some object) = entries_of_kind object.kind object.bytes
 
--- the entries of what tags lead to: of a tree, or of a commit's tree
+-- the entries of what tags lead to: a tree, or the tree of a commit
 abbrev pub entries_at_end : Objects → Option (List ℕ) → Option (List Entry)
 entries_at_end objects None = None
 entries_at_end objects (Some end) = entries_of_found (get objects (tree_name_of end (get objects end)))

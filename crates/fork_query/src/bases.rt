@@ -19,7 +19,7 @@ use git_reftx::Repository;
 use indexmap::IndexSet;
 use std::alloc::Global;
 
-// The best common ancestors, by both histories, which are read.
+// The best common ancestors, from both histories, which are read.
 fn read_bases<S: Source>(
     alloc: Global,
     source: &mut S,
@@ -39,7 +39,7 @@ fn read_bases<S: Source>(
     }
 }
 
-// The same by the parents that the source tells, which it learns where it can.
+// The same, from the parents that the source knows, which it learns if it can.
 fn best<S: Ancestry>(
     alloc: Global,
     source: &mut S,
@@ -84,9 +84,9 @@ fn bases<S: Ancestry>(
 }
 
 #[tactic(auto, unfolding(crate::specs::MergeBase::bases_told))]
-/// The best common ancestors of two commits, one a line, ascending by name: those that no other common
-/// ancestor has among its own. Each commit is read once, and none whose parents the source knows. A `^` is
-/// part of an item.
+/// The best common ancestors of two commits, one a line, ascending by name: those that are no ancestor
+/// of another common ancestor. Each commit is read once, and none whose parents the source knows. A `^`
+/// is part of an item.
 pub fn merge_base<S: Ancestry>(
     alloc: Global,
     source: &mut S,

@@ -1,7 +1,7 @@
 use git_name::Name;
 use std::cmp::Reverse;
 
-// A commit and when it was committed, in seconds since 1970. The newer comes first, and of one time the
+// A commit and when it was committed, in seconds since 1970. The newer comes first; of one time, the
 // lesser name.
 #[derive(Clone, Copy, PartialEq, Eq, PartialOrd, Ord)]
 pub(crate) struct Dated {

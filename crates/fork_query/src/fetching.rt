@@ -21,7 +21,7 @@ use indexmap::IndexSet;
 use push_stream::add_record;
 use std::alloc::Global;
 
-// The text with the record of the object of this name behind it. The object is read once.
+// Appends the record of the object of this name to the text. The object is read once.
 fn send<S: Source>(
     alloc: Global,
     source: &mut S,
@@ -58,8 +58,8 @@ fn send_all<S: Source>(
     Ok(text)
 }
 
-// The records of what is reached from these roots past the hidden names, ascending by name, each read once for
-// the walk, if at all, and once to be sent.
+// The records of what is reached from these roots and not past the hidden names, ascending by name.
+// Each is read at most once for the walk, and once to be sent.
 fn read_records<S: Source>(
     alloc: Global,
     source: &mut S,
@@ -77,7 +77,7 @@ fn read_records<S: Source>(
     send_all(alloc, source, names)
 }
 
-// The same; nothing is read where all is lent.
+// The same; nothing is read if all is borrowed.
 fn records_past<S: Source>(
     alloc: Global,
     source: &mut S,
@@ -109,9 +109,9 @@ fn records<S: Source>(alloc: Global, source: &mut S, sides: &Sides) -> Result<Ve
 }
 
 #[tactic(auto, unfolding(crate::specs::Fetch::fetch_told))]
-/// The records of the objects to which links lead from the items' objects, but for those to which they lead
-/// from the items that begin with `^`; ascending by name. Each tree, commit and tag is read once for the walk
-/// and once to be sent, a blob only to be sent; what is lent is not read. The items are words, parted by one SP each.
+/// The records of the objects that the items reach, except those that the items with `^` reach;
+/// ascending by name. Each tree, commit and tag is read once for the walk and once to be sent, a blob
+/// only to be sent; what is borrowed is not read. The items are words, separated by one SP each.
 pub fn fetch<S: Source>(
     alloc: Global,
     source: &mut S,

@@ -10,7 +10,7 @@ use std::alloc::{AllocError, Global};
 use std::collections::BTreeMap;
 use std::marker::Model;
 
-// What tags stand for, as far as a query has followed them; nothing where a chain comes back to itself.
+// What tags stand for, as far as a query has followed them; nothing if a chain comes back to itself.
 // Contracts see a map from names to what they stand for.
 #[derive(Drop)]
 pub(crate) struct Followed {
@@ -30,7 +30,7 @@ impl Model for Followed {
 }
 
 impl Followed {
-    // No tag was followed yet.
+    // No tag followed yet.
     #[tactic(auto, using(crate::proofs::FollowedLemmas::none_followed))]
     pub(crate) fn new(alloc: Global) -> Followed
         ensures { (objects : Objects) → AreEnds objects result }
@@ -40,7 +40,7 @@ impl Followed {
         }
     }
 
-    // What the tag of this name stands for, where it was followed.
+    // What the tag of this name stands for, if it was followed.
     pub(crate) fn end_of(&self, tag: Name) -> Option<Option<Name>>
         ensures { result ≡ map.get self.now tag }
     {

@@ -6,7 +6,7 @@ use git_reftx::Repository;
 use std::alloc::{AllocError, Global};
 
 #[tactic(auto, unfolding(crate::specs::Head::head_told))]
-/// The branch that HEAD names, and where it is there the object at which it points.
+/// The branch that HEAD names, and if it exists the object at which it points.
 pub fn head(alloc: Global, repository: &Repository) -> Result<Vec<u8>, AllocError>
     ensures { IfOk result (λ text. text.items ≡ head_told repository.now) }
 {

@@ -20,7 +20,7 @@ use git_reftx::Repository;
 use std::alloc::Global;
 
 // The object at which the reference of this name points. `HEAD` has no `/`, so it is never a
-// reference's own name: it is the branch that HEAD names.
+// reference's own name: it means the branch that HEAD names.
 fn target_of(repository: &Repository, item: &[u8]) -> Option<Name>
     ensures { result ≡ map.get repository.now.references (reference_of repository.now item.now) }
 {
@@ -34,7 +34,7 @@ fn target_of(repository: &Repository, item: &[u8]) -> Option<Name>
     }
 }
 
-// The name that the digits write, or else the target of the reference.
+// The name that the digits write, otherwise the target of the reference.
 fn named_by(repository: &Repository, item: &[u8]) -> Option<Name>
     ensures { result ≡ named_by repository.now item.now }
 {
@@ -44,7 +44,7 @@ fn named_by(repository: &Repository, item: &[u8]) -> Option<Name>
     }
 }
 
-// The name of the item's object, which is there. No object is read.
+// The name of the item's object, which exists. No object is read.
 fn object_of_item<S: Source>(
     alloc: Global,
     source: &S,

@@ -1,5 +1,5 @@
-//! What is asked of a tenant's objects and of a repository.
-//! Each answer is its definition, over whatever answers as a `Source`.
+//! Queries about a tenant's objects and a repository. Each answer is its definition, over anything that
+//! is a `Source`.
 #![tactic(auto)]
 
 mod bases;

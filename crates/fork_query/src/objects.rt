@@ -11,7 +11,7 @@ use push_stream::write_record;
 use std::alloc::Global;
 
 #[tactic(auto, unfolding(crate::specs::Objects::object_told))]
-/// The record of the object of this name, which is read once. It is refused where there is none.
+/// The record of the object of this name, which is read once. It is refused if there is no such object.
 pub fn cat_file<S: Source>(alloc: Global, source: &mut S, name: Name) -> Result<Vec<u8>, QueryError>
     ensures told { IsTrue (S.state source.old).honest → Tells (λ text. text.items) (object_told (S.state source.old).objects name) result }
     // Over any source.

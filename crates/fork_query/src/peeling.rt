@@ -26,7 +26,7 @@ fn is_tag<S: Source>(source: &S, name: Name) -> bool
     }
 }
 
-// The name that the object stands for, where it is a tag.
+// The name that the object stands for, if it is a tag.
 fn target_of(sealed: &Sealed) -> Option<Name>
     ensures { result ≡ target_in sealed.now.kind sealed.now.bytes }
 {
@@ -39,7 +39,7 @@ fn target_of(sealed: &Sealed) -> Option<Name>
     }
 }
 
-// The name that the tag of this name stands for. It is read once.
+// The name that the tag of this name stands for. The tag is read once.
 fn read_target<S: Source>(
     alloc: Global,
     source: &mut S,
@@ -55,8 +55,7 @@ fn read_target<S: Source>(
     }
 }
 
-// A walk along tags: those that it met, and the name to which it led, none where it came back to one of
-// them.
+// A walk along tags: those visited, and the name at the end, none if it came back to one of them.
 #[derive(Drop)]
 struct Trail {
     tags: BTreeSet<Name>,

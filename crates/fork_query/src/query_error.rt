@@ -9,7 +9,7 @@ use fork_request::Refusal;
 pub enum QueryError {
     /// The request is refused.
     Refused(Refusal),
-    /// The source failed, or memory was wanted.
+    /// The source failed, or memory ran out.
     Failed(SourceFault),
 }
 

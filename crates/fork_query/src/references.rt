@@ -9,8 +9,8 @@ use git_reftx::Refs;
 use std::alloc::{AllocError, Global};
 
 #[tactic(auto, unfolding(crate::specs::References::listing))]
-/// The rows of the references that the prefix asks for, ascending by name; of all where there is no
-/// prefix. No object is read.
+/// The rows of the references that match the prefix, or of all if there is no prefix, ascending by
+/// name. No object is read.
 pub fn for_each_ref<S: Source>(
     alloc: Global,
     source: &S,
@@ -31,7 +31,7 @@ pub fn for_each_ref<S: Source>(
     Ok(text)
 }
 
-// Whether a reference is asked for.
+// Whether a reference is wanted.
 fn is_asked(prefix: Option<&[u8]>, reference: &[u8]) -> bool
     ensures { result ≡ is_asked (option_map (λ word. word.now) prefix.entry) reference.now }
 {
@@ -41,7 +41,7 @@ fn is_asked(prefix: Option<&[u8]>, reference: &[u8]) -> bool
     }
 }
 
-// Whether a reference is the prefix, or stands below it.
+// Whether a reference is the prefix, or is below it.
 fn matches(prefix: &[u8], reference: &[u8]) -> bool
     ensures { result ≡ matches prefix.now reference.now }
 {

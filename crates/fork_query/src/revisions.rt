@@ -18,7 +18,7 @@ use git_reftx::Repository;
 use std::alloc::{AllocError, Global};
 use std::cmp::Reverse;
 
-// The commits of the history, which goes, the newest first.
+// The commits of the history, the newest first. It consumes the history.
 fn dates_of(alloc: Global, history: History) -> Result<Vec<Dated>, AllocError>
     ensures { IfOk result (λ dates. dates.items ≡ newest_first (mapped noted_date (map.entries history))) }
 {
@@ -68,9 +68,9 @@ fn revisions<S: Source>(
 }
 
 #[tactic(auto, unfolding(crate::specs::RevList::revisions_told))]
-/// The ancestors of the items' commits, one a line, but for those of the items that begin with `^`; by the
+/// The ancestors of the items' commits, one a line, except those of the items with `^`; by the
 /// committer's seconds, the newest first, and of one time by name. A commit is its own ancestor, and is
-/// read once. The items are words, parted by one SP each.
+/// read once. The items are words, separated by one SP each.
 pub fn rev_list<S: Source>(
     alloc: Global,
     source: &mut S,

@@ -68,7 +68,7 @@ fn put_item<S: Source>(
     }
 }
 
-// The names of the items, which are words parted by one SP each. The first refused item decides.
+// The names of the items, which are words separated by one SP each. The first refused item decides.
 pub(crate) fn select<S: Source>(
     alloc: Global,
     want: Want,

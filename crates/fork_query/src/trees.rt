@@ -101,7 +101,7 @@ fn tree_name(name: Name, sealed: &Sealed) -> Name
     }
 }
 
-// The same of the object of this name. Only a commit is read.
+// The same for the object of this name. Only a commit is read.
 fn read_tree_name<S: Source>(alloc: Global, source: &mut S, name: Name) -> Result<Name, SourceFault>
     ensures tree { IsTrue (S.state source.old).honest → IfOk result (λ tree. tree ≡ tree_name_of name (map.get (S.state source.old).objects name)) }
     ensures asked { IsAsked (S.state source.old) (S.state source.new) (fault_in result) }
@@ -116,7 +116,7 @@ fn read_tree_name<S: Source>(alloc: Global, source: &mut S, name: Name) -> Resul
     }
 }
 
-// The rows of the object, where it is a tree.
+// The rows of the object, if it is a tree.
 fn rows_of_sealed(alloc: Global, sealed: &Sealed) -> Result<Option<Vec<u8>>, AllocError>
     ensures { IfOk result (λ rows. option_map (λ text. text.items) rows ≡ option_map (flat_map entry_row) (entries_of_kind sealed.now.kind sealed.now.bytes)) }
 {
@@ -142,7 +142,8 @@ fn read_rows<S: Source>(
     }
 }
 
-// The rows of the tree to which tags lead from this name, or of the tree of the commit to which they do.
+// The rows of the tree to which tags lead from this name, or of the tree of the commit to which they
+// lead.
 fn rows_behind<S: Source>(
     alloc: Global,
     source: &mut S,
@@ -162,8 +163,8 @@ fn rows_behind<S: Source>(
 }
 
 #[tactic(auto, unfolding(crate::specs::Trees::tree_told))]
-/// The entries of a tree, in its order, each in a row with a zero byte behind it. A name of a tag stands
-/// for what the tag leads to, and that of a commit for its tree. Each of them is read once.
+/// The entries of a tree, in its order, each in a row that ends in a zero byte. The name of a tag
+/// stands for what the tag leads to, and that of a commit for its tree. Each of them is read once.
 pub fn ls_tree<S: Source>(alloc: Global, source: &mut S, name: Name) -> Result<Vec<u8>, QueryError>
     ensures told { IsTrue (S.state source.old).honest → Tells (λ text. text.items) (tree_told (S.state source.old).objects name) result }
     // Over any source.

@@ -1,4 +1,4 @@
-// What the items of a request are to name.
+// What the items of a request must name.
 #[derive(Clone, Copy)]
 pub(crate) enum Want {
     // Objects of any kind.

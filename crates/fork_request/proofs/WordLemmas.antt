@@ -1,4 +1,4 @@
--- The words of a line where there is more than one.
+-- The words of a line that has more than one.
 use Rattle.std.proofs.Common.{◌≡◌, ℕ, List, ◌∷◌, None, sym, ap, ◌∙◌}
 use Rattle.git_name.specs.Text.{words_of}
 use Rattle.git_name.proofs.TextLemmas.{first_of_words}

@@ -95,7 +95,7 @@ asked_part_end (Some repository) [] = EndsParts repository
 asked_part_end (Some repository) (b ∷ body) = NoRequest
 asked_part_end None body = NoRequest
 
--- this, where nothing stands behind the line
+-- this, if nothing follows the line
 abbrev pub asked_plain : Ask → List ℕ → Ask
 asked_plain ask [] = ask
 asked_plain ask (b ∷ body) = NoRequest
@@ -125,7 +125,7 @@ abbrev pub asked_fork_offer : Option (List ℕ × List ℕ × List ℕ) → List
 asked_fork_offer (Some p) body = asked_plain (ForksOffer p.0 p.1 p.2) body
 asked_fork_offer None body = NoRequest
 
--- the object of a name, where there is a name and nothing behind it
+-- the object of a name, if there is a name and nothing after it
 abbrev pub asked_object : Option (List ℕ) → List ℕ → Ask
 asked_object (Some name) [] = AsksObject name
 asked_object (Some name) (b ∷ body) = NoRequest
@@ -136,7 +136,7 @@ abbrev pub asked_cat_file : Option (List ℕ) → List ℕ → Ask
 asked_cat_file (Some digits) body = asked_object (name_in digits) body
 asked_cat_file None body = NoRequest
 
--- the tree that a name leads to, where there is a name and nothing behind it
+-- the tree that a name leads to, if there is a name and nothing after it
 abbrev pub asked_tree : Option (List ℕ) → List ℕ → Ask
 asked_tree (Some name) body = asked_plain (AsksTree name) body
 asked_tree None body = NoRequest
@@ -172,7 +172,7 @@ abbrev pub asked_fetch : Option (List ℕ × List (List ℕ)) → List ℕ → A
 asked_fetch (Some p) body = asked_plain (Fetches p.0 p.1) body
 asked_fetch None body = NoRequest
 
--- a query, by its verb and the words behind it
+-- a query, by its verb and the words after it
 abbrev pub asked_query : List ℕ → List (List ℕ) → List ℕ → Ask
 asked_query verb words body =
     if bytes_eq verb (codes "cat-file") then asked_cat_file (sole words) body
@@ -184,7 +184,7 @@ asked_query verb words body =
     else if bytes_eq verb (codes "fetch") then asked_fetch (word_and_items words) body
     else NoRequest
 
--- a change of offers, or a query, by its verb and the words behind it
+-- a change of offers, or a query, by its verb and the words after it
 abbrev pub asked_offering : List ℕ → List (List ℕ) → List ℕ → Ask
 asked_offering verb words body =
     if bytes_eq verb (codes "offer") then asked_offer (pair words) body
@@ -192,7 +192,7 @@ asked_offering verb words body =
     else if bytes_eq verb (codes "fork-offer") then asked_fork_offer (three words) body
     else asked_query verb words body
 
--- by a verb and the words behind it
+-- the request, depending on a verb and the words after it
 abbrev pub asked_verb : List ℕ → List (List ℕ) → List ℕ → Ask
 asked_verb verb words body =
     if bytes_eq verb (codes "init") then asked_init (sole words) body
@@ -204,7 +204,7 @@ asked_verb verb words body =
     else if bytes_eq verb (codes "set-head") then asked_set_head (pair words) body
     else asked_offering verb words body
 
--- by a verb that stands alone: `part` and a body, `part-drop`, `offers`, `repos`, `quota`, `prune`
+-- the request, depending on a verb that stands alone: `part` and a body, `part-drop`, `offers`, `repos`, `quota`, `prune`
 abbrev pub asked_alone : List ℕ → List ℕ → Ask
 asked_alone verb body =
     if bytes_eq verb (codes "part") then SendsPart body
@@ -215,13 +215,13 @@ asked_alone verb body =
     else if bytes_eq verb (codes "prune") then asked_plain Prunes body
     else NoRequest
 
--- by the line's first word
+-- the request, depending on the line's first word
 abbrev pub asked_words : List (List ℕ) → List ℕ → Ask
 asked_words [] body = NoRequest
 asked_words (verb ∷ []) body = asked_alone verb body
 asked_words (verb ∷ word ∷ words) body = asked_verb verb (word ∷ words) body
 
--- by the line and what stands behind its LF
+-- the request, depending on the line and what follows its LF
 abbrev pub asked_parts : Option (List ℕ × List ℕ) → Ask
 asked_parts None = NoRequest
 asked_parts (Some (line, body)) = asked_words (words_of line) body
@@ -232,12 +232,12 @@ asked payload = if nat_le (length payload) MAX_PAYLOAD then asked_parts (split_o
 
 -- ---- what is asked of the host itself
 
--- this, where nothing stands behind the line
+-- this, if nothing follows the line
 abbrev pub host_plain : HostRequest → List ℕ → HostRequest
 host_plain request [] = request
 host_plain request (b ∷ body) = Bad_host
 
--- so many looks, where there is a number, and no more than a sweep may have
+-- this many looks, if there is a number, and no more than a sweep may make
 abbrev pub host_looks : Option ℕ → List ℕ → HostRequest
 host_looks (Some most) body = if nat_le most MAX_SWEEP then host_plain (Sweep most) body else Bad_host
 host_looks None body = Bad_host
@@ -247,11 +247,11 @@ abbrev pub host_sweep : Option (List ℕ) → List ℕ → HostRequest
 host_sweep (Some digits) body = host_looks (number_in digits) body
 host_sweep None body = Bad_host
 
--- by a verb and the words behind it
+-- the request, depending on a verb and the words after it
 abbrev pub host_verb : List ℕ → List (List ℕ) → List ℕ → HostRequest
 host_verb verb words body = if bytes_eq verb (codes "sweep") then host_sweep (sole words) body else Bad_host
 
--- by a verb that stands alone: `collect`, `census`, `fsck`, `tenants`
+-- the request, depending on a verb that stands alone: `collect`, `census`, `fsck`, `tenants`
 abbrev pub host_alone : List ℕ → List ℕ → HostRequest
 host_alone verb body =
     if bytes_eq verb (codes "collect") then host_plain Collect body
@@ -260,13 +260,13 @@ host_alone verb body =
     else if bytes_eq verb (codes "tenants") then host_plain Tenants body
     else Bad_host
 
--- by the line's first word
+-- the request, depending on the line's first word
 abbrev pub host_words : List (List ℕ) → List ℕ → HostRequest
 host_words [] body = Bad_host
 host_words (verb ∷ []) body = host_alone verb body
 host_words (verb ∷ word ∷ words) body = host_verb verb (word ∷ words) body
 
--- by the line and what stands behind its LF
+-- the request, depending on the line and what follows its LF
 abbrev pub host_parts : Option (List ℕ × List ℕ) → HostRequest
 host_parts None = Bad_host
 host_parts (Some (line, body)) = host_words (words_of line) body

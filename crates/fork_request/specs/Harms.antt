@@ -1,4 +1,4 @@
--- How it is told what is wrong with the files of objects (own): a line for each, `lost NAME` or `damaged NAME`.
+-- How damage to the files of objects is reported (own): a line for each, `lost NAME` or `damaged NAME`.
 use Rattle.std.specs.Prelude.{ℕ, List, ◌++◌, codes, flat_map}
 use Rattle.hex.specs.Hex.{encode_lower}
 use Rattle.fork_request.specs.declared.harm.Harm.{Harm}

@@ -8,7 +8,7 @@ use Rattle.fork_request.specs.declared.host_request.HostRequest.{HostRequest}
 use Rattle.fork_request.specs.declared.host_request.HostRequest.TheVariants.{Sweep, Collect, Census, Fsck, Tenants, Bad}
 use Rattle.fork_request.specs.declared.host_request.TheConstants.{MAX_SWEEP}
 
--- a word of a line: some bytes, none of which is SP or LF
+-- a word of a line: at least one byte, none of them SP or LF
 pub record IsWord (word : List ℕ) : Type 0 where
   pub some : 1 ≤ length word
   pub no_space : All (λ byte. byte ≢ 32) word
@@ -19,16 +19,16 @@ pub record IsItem (item : List ℕ) : Type 0 where
   pub word : IsWord item
   pub more : item ≢ codes "^"
 
--- items, one at least
+-- at least one item
 pub record AreItems (items : List (List ℕ)) : Type 0 where
   pub some : 1 ≤ length items
   pub each : All IsItem items
 
--- the words, each behind a SP
+-- the words, each after a SP
 abbrev pub behind_spaces : List (List ℕ) → List ℕ
 behind_spaces words = flat_map (λ word. codes " " ++ word) words
 
--- the payload that asks for this; what is no request is spelled by none
+-- the payload that asks for this; no payload spells what is not a request
 abbrev pub Spells : Ask → List ℕ → Type 0
 Spells (Inits repository) payload = IsWord repository × (payload ≡ codes "init " ++ repository ++ codes "\n")
 Spells (Drops repository) payload = IsWord repository × (payload ≡ codes "drop " ++ repository ++ codes "\n")
@@ -56,7 +56,7 @@ Spells AsksUse payload = payload ≡ codes "quota\n"
 Spells Prunes payload = payload ≡ codes "prune\n"
 Spells NoRequest payload = ⊥
 
--- the payload that asks this of the host itself; what is no request is spelled by none
+-- the payload that asks this of the host itself; no payload spells what is not a request
 abbrev pub HostSpells : HostRequest → List ℕ → Type 0
 HostSpells (Sweep most) payload = (most ≤ MAX_SWEEP) × (payload ≡ codes "sweep " ++ decimal most ++ codes "\n")
 HostSpells Collect payload = payload ≡ codes "collect\n"

@@ -1,4 +1,4 @@
--- The bytes of replies (own): `ok` and data, `no` and why not, or `host` and the host's own fault.
+-- The bytes of replies (own): `ok` and data, `no` and the refusal, or `host` and a fault of the host.
 use Rattle.std.specs.Prelude.{ℕ, List, ◌++◌, Bool, true, false, codes}
 use Rattle.hex.specs.Hex.{encode_lower}
 use Rattle.fork_request.specs.declared.refusal.Refusal.{Refusal}
@@ -8,7 +8,7 @@ use Rattle.fork_request.specs.declared.host_fault.HostFault.TheVariants.{Memory,
 use Rattle.fork_request.specs.declared.reply.Reply.{Reply}
 use Rattle.fork_request.specs.declared.reply.Reply.TheVariants.{Done, Refused, Failed}
 
--- a refusal's word, and what it is about behind a SP
+-- a refusal's word, and what it is about after a SP
 abbrev pub refusal_text : Refusal → List ℕ
 refusal_text BadRequest = codes "bad-request"
 refusal_text UnknownTenant = codes "unknown-tenant"

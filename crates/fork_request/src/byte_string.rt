@@ -2,8 +2,8 @@ ghost use Rattle.std.specs.Prelude.{◌≡◌};
 
 use std::marker::Model;
 
-/// Bytes that a reply owns. Contracts see them as a list, so that replies are compared by what they
-/// say and never by where it lies.
+/// Bytes that a reply owns. Contracts see them as a list, so that replies are compared by content and
+/// not by address.
 #[derive(Debug, Drop)]
 pub struct ByteString {
     bytes: Vec<u8>,
@@ -21,7 +21,7 @@ impl Model for ByteString {
 }
 
 impl ByteString {
-    /// These bytes. It takes no memory.
+    /// These bytes. It allocates nothing.
     pub fn new(bytes: Vec<u8>) -> ByteString
         ensures { result ≡ bytes.items }
     {

@@ -7,14 +7,14 @@ use std::alloc::AllocError;
 /// What is wrong with the file of an object that some tenant holds.
 #[derive(Clone, Copy, Debug, PartialEq, Eq)]
 pub enum Harm {
-    /// No file stands there.
+    /// There is no file.
     Lost,
-    /// A file stands there that is not the object's.
+    /// There is a file that is not the object's.
     Damaged,
 }
 
 impl Harm {
-    /// The word that tells the harm.
+    /// The word for the harm.
     pub fn word(self) -> &'static [u8]
         ensures { result.now ≡ harm_word self }
     {
@@ -24,7 +24,7 @@ impl Harm {
         }
     }
 
-    /// Adds the line that tells the harm of the object of this name.
+    /// Adds the line that reports this harm for the object of this name.
     pub fn write(self, name: Name, text: &mut Vec<u8>) -> Result<(), AllocError>
         ensures { OnOk result (text.new.items ≡ text.old.items ++ harm_line (name, self)) }
     {

@@ -1,10 +1,10 @@
 ghost use Rattle.std.specs.Prelude.{◌≡◌};
 ghost use Rattle.fork_request.specs.Told.{fault_word};
 
-/// Why the host could not answer. A host fault is no answer to the request, and changes no view.
+/// Why the host could not answer. A host fault is not an answer to the request, and changes no view.
 #[derive(Clone, Copy, Debug, PartialEq, Eq)]
 pub enum HostFault {
-    /// A growth was refused.
+    /// Memory ran out.
     Memory,
     /// The store failed.
     Store,
@@ -15,7 +15,7 @@ pub enum HostFault {
 }
 
 impl HostFault {
-    /// The word that tells the fault.
+    /// The word for the fault.
     pub fn word(self) -> &'static [u8]
         ensures { result.now ≡ fault_word self }
     {

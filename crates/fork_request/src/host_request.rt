@@ -9,21 +9,21 @@ use git_name::{decimal, first_word, split_once};
 /// The most places of the catalogue that one sweep may look at (own).
 pub const MAX_SWEEP: u64 = 1_048_576;
 
-/// A request of the host's own side, which names no tenant.
+/// A request of the host itself, which names no tenant.
 #[derive(Clone, Copy, Debug, PartialEq, Eq)]
 pub enum HostRequest {
-    /// `sweep K`: the next places of the catalogue are looked at, so many at the most, and what nobody
-    /// holds is taken away. The number is in decimal, with no needless zero.
+    /// `sweep K`: looks at the next places of the catalogue, at most this many, and removes what nobody
+    /// holds. The number is in decimal, without leading zeros.
     Sweep(u64),
-    /// `collect`: each place is looked at once, from the beginning.
+    /// `collect`: looks at each place once, from the beginning.
     Collect,
-    /// `census`: how many names are catalogued.
+    /// `census`: reports how many names are catalogued.
     Census,
-    /// `fsck`: the files of all objects that some tenant holds are read, and what is wrong is told.
+    /// `fsck`: reads the files of all objects that some tenant holds, and reports what is wrong.
     Fsck,
-    /// `tenants`: what each tenant has and may have, in numbers.
+    /// `tenants`: reports what each tenant has and may have, in numbers.
     Tenants,
-    /// What is no request.
+    /// Not a request.
     Bad,
 }
 
@@ -31,7 +31,7 @@ impl HostRequest {
     ghost use Rattle.fork_request.specs.Asked.{asked_host};
 
     #[tactic(auto, unfolding(crate::specs::Asked::asked_host))]
-    /// What a payload asks of the host. Each payload is a request, or a bad one.
+    /// What a payload asks of the host. Every payload is a request, or a bad one.
     pub fn read(payload: &[u8]) -> HostRequest
         ensures { result ≡ asked_host payload.now }
     {
@@ -45,7 +45,7 @@ impl HostRequest {
     }
 }
 
-// What a line and the body behind it ask.
+// What a line and the body after it ask.
 fn read_line(line: &[u8], body: &[u8]) -> HostRequest
     ensures { result ≡ host_words (words_of line.now) body.now }
 {
@@ -74,7 +74,7 @@ fn read_verb(verb: &[u8], body: &[u8]) -> HostRequest
     HostRequest::Bad
 }
 
-// What the words behind a verb ask.
+// What the words after a verb ask.
 fn read_words(verb: &[u8], words: &[u8], body: &[u8]) -> HostRequest
     ensures { result ≡ host_verb verb.now (words_of words.now) body.now }
 {

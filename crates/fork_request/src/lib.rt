@@ -1,6 +1,6 @@
-//! What is asked of a host of many tenants and what it tells: the names of tenants and repositories,
-//! the payloads of requests, the bytes of replies.
-//! Every payload is a request or a bad one, and a reply has one spelling.
+//! Requests to a host of many tenants, and its replies: the names of tenants and repositories, the
+//! payloads of requests, the bytes of replies. Every payload is a request or a bad one, and a reply has
+//! one spelling.
 #![tactic(auto)]
 
 mod byte_string;

@@ -43,7 +43,7 @@ impl<const MOST: usize> Model for PlainName<MOST> {
 }
 
 impl<const MOST: usize> PlainName<MOST> {
-    /// The name of these bytes, where they are one. It takes no memory.
+    /// The name of these bytes, if they are a valid one. It allocates nothing.
     pub fn read(text: &[u8]) -> Option<PlainName<MOST>>
         ensures found { IfSome result (λ name. (name ≡ text.now) × IsPlainName MOST text.now) }
         ensures none { IfNone result (¬ IsPlainName MOST text.now) }
@@ -60,7 +60,7 @@ impl<const MOST: usize> PlainName<MOST> {
         })
     }
 
-    /// The same name once more. It takes no memory.
+    /// A copy of the name. It allocates nothing.
     pub fn copy(&self) -> PlainName<MOST>
         ensures { result ≡ self.now }
     {

@@ -22,7 +22,7 @@ fn are_name_bytes(text: &[u8]) -> bool
     text.iter().all(|byte| is_name_byte(*byte))
 }
 
-// Whether these bytes are a name of at most so many bytes.
+// Whether these bytes are a name of at most this many bytes.
 pub(crate) fn is_plain_word(text: &[u8], most: usize) -> bool
     ensures { IsTrue result ↔ IsPlainName most text.now }
 {

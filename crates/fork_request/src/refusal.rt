@@ -7,15 +7,15 @@ use git_name::Name;
 use git_refname::RefName;
 use std::alloc::AllocError;
 
-/// Why a request was refused, and what the refusal is about. A refused request changes no view, but
-/// that a refused `part-end` takes the upload away.
+/// Why a request was refused, and what the refusal is about. A refused request changes no view, except
+/// that a refused `part-end` discards the upload.
 #[derive(Debug, Drop)]
 pub enum Refusal {
-    /// No request.
+    /// Not a request.
     BadRequest,
     /// The host has no tenant of this name.
     UnknownTenant,
-    /// This word is no name of a repository.
+    /// This word is not a repository's name.
     BadName(ByteString),
     /// The tenant has this repository already.
     RepositoryExists(RepositoryName),
@@ -25,35 +25,35 @@ pub enum Refusal {
     NoRef(ByteString),
     /// The word breaks a rule of reference names.
     BadRef(ByteString),
-    /// The reference stands in two commands.
+    /// The reference is in two commands.
     RepeatedRef(RefName),
-    /// The reference is not as a command demands.
+    /// The reference is not as a command requires.
     Stale(RefName),
-    /// Another reference afterwards would stand below this one.
+    /// Afterwards another reference would be below this one.
     RefConflict(RefName),
-    /// The object is no commit, and one is wanted.
+    /// The object is not a commit, as it must be.
     NotACommit(Name),
     /// The tenant sees no object of this name.
     Missing(Name),
-    /// An object that a sent one links to has another kind than the link demands.
+    /// An object that a sent one links to has another kind than the link requires.
     WrongType(Name),
     /// The name leads to no tree.
     NotATree(Name),
     /// The objects would use more than the tenant's limit.
     OverQuota,
-    /// A limit on a number is met.
+    /// A limit on a number is reached.
     TooMany,
     /// The body breaks its grammar.
     Syntax,
-    /// The content of the record of this name has another name.
+    /// The content of the record of this name hashes to another name.
     WrongName(Name),
-    /// The content of the record of this name is no object of its type.
+    /// The content of the record of this name is not an object of its type.
     BadObject(Name),
     /// The body ends too early.
     Truncated,
-    /// The record of this name says that its content is longer than an object may be.
+    /// The record of this name announces a content longer than an object may be.
     TooLarge(Name),
-    /// The upload would be longer than one may be.
+    /// The upload would be longer than an upload may be.
     StagedTooLong,
     /// There is no open upload.
     NoUpload,
@@ -68,7 +68,7 @@ pub enum Refusal {
 impl Refusal {
     ghost use Rattle.fork_request.specs.Told.{refusal_text};
 
-    /// Adds the refusal's word, and what it is about behind a space.
+    /// Adds the refusal's word, and what it is about after a space.
     pub(crate) fn write(&self, text: &mut Vec<u8>) -> Result<(), AllocError>
         ensures { OnOk result (text.new.items ≡ text.old.items ++ refusal_text self.now) }
     {

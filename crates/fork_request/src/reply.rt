@@ -5,8 +5,8 @@ use crate::host_fault::HostFault;
 use crate::refusal::Refusal;
 use std::alloc::{AllocError, Global};
 
-/// What a host tells: the data that was asked for, why the request is refused, or a fault of the
-/// host's own.
+/// The reply of a host: the data that was asked for, why the request is refused, or a fault of the host
+/// itself.
 #[derive(Debug, Drop)]
 pub enum Reply {
     /// `ok`, LF and the data.

@@ -12,31 +12,31 @@ use offers::read_offering;
 /// The most bytes that a payload has.
 pub const MAX_PAYLOAD: usize = 1_048_576;
 
-/// A tenant's request. Its words and its body are lent from the payload; a word is any bytes but
-/// SP and LF, and whether it is a right name is judged when the request is answered.
+/// A tenant's request. Its words and its body are borrowed from the payload. A word is any bytes except
+/// SP and LF; whether it is a valid name is judged when the request is answered.
 #[derive(Clone, Copy, Debug)]
 pub enum Request<'a> {
     /// `init REPO`: a new repository.
     Init(&'a [u8]),
-    /// `drop REPO`: a repository goes, with its references.
+    /// `drop REPO`: removes a repository with its references.
     Drop(&'a [u8]),
     /// `fork SRC DST`: a new repository with the references and the HEAD of another.
     Fork(&'a [u8], &'a [u8]),
-    /// `push REPO` and a body: a transaction of references, and objects that come.
+    /// `push REPO` and a body: a transaction of references, and new objects.
     Push(&'a [u8], &'a [u8]),
     /// `part` and a body: a piece of an upload.
     Part(&'a [u8]),
-    /// `part-end REPO`: the upload is a push's body.
+    /// `part-end REPO`: uses the upload as a push's body.
     PartEnd(&'a [u8]),
-    /// `part-drop`: the upload goes.
+    /// `part-drop`: discards the upload.
     PartDrop,
     /// `update-refs REPO` and a body: a transaction of references.
     UpdateRefs(&'a [u8], &'a [u8]),
-    /// `set-head REPO REF`: HEAD of a repository names another branch.
+    /// `set-head REPO REF`: lets HEAD of a repository name another branch.
     SetHead(&'a [u8], &'a [u8]),
-    /// `offer REPO TENANT`: a repository is shown to another tenant, as it is now.
+    /// `offer REPO TENANT`: shows a repository, as it is now, to another tenant.
     Offer(&'a [u8], &'a [u8]),
-    /// `withdraw REPO TENANT`: an offer goes.
+    /// `withdraw REPO TENANT`: removes an offer.
     Withdraw(&'a [u8], &'a [u8]),
     /// `fork-offer GIVER REPO DST`: a new repository with the references and the HEAD of an offer.
     ForkOffer(&'a [u8], &'a [u8], &'a [u8]),
@@ -44,9 +44,9 @@ pub enum Request<'a> {
     CatFile([u8; 32]),
     /// `ls-tree NAME`: the rows of the tree that a name leads to.
     LsTree([u8; 32]),
-    /// `rev-list REPO ITEM..`: the commits that the items reach, less those that the items with `^`
-    /// reach. The items stand as in the line, parted by one SP each; there is one at least, and
-    /// none is empty or `^` alone.
+    /// `rev-list REPO ITEM..`: the commits that the items reach, except those that the items with `^`
+    /// reach. The items are as in the line, separated by one SP each; there is at least one, and none is
+    /// empty or `^` alone.
     RevList(&'a [u8], &'a [u8]),
     /// `merge-base REPO A B`: the best common ancestors of two items.
     MergeBase(&'a [u8], &'a [u8], &'a [u8]),
@@ -58,14 +58,14 @@ pub enum Request<'a> {
     Offers,
     /// `repos`: the names of the tenant's repositories.
     Repositories,
-    /// `fetch REPO ITEM..`: the records of the objects that the items reach, less those that the
-    /// items with `^` reach. The items stand as in `RevList`.
+    /// `fetch REPO ITEM..`: the records of the objects that the items reach, except those that the items
+    /// with `^` reach. The items are as in `RevList`.
     Fetch(&'a [u8], &'a [u8]),
-    /// `quota`: what the objects that are seen use, and the limit.
+    /// `quota`: what the visible objects use, and the limit.
     Quota,
-    /// `prune`: objects go that no reference reaches.
+    /// `prune`: removes objects that no reference reaches.
     Prune,
-    /// What is no request.
+    /// Not a request.
     Bad,
 }
 
@@ -73,7 +73,7 @@ impl<'a> Request<'a> {
     ghost use Rattle.fork_request.specs.Asked.{ask_of, asked};
 
     #[tactic(auto, unfolding(crate::specs::Asked::asked))]
-    /// What a payload asks. Each payload is a request, or a bad one.
+    /// What a payload asks. Every payload is a request, or a bad one.
     pub fn read(payload: &'a [u8]) -> Request<'a>
         ensures { ask_of result ≡ asked payload.now }
     {
@@ -90,7 +90,7 @@ impl<'a> Request<'a> {
 ghost use Rattle.git_name.specs.Text.{words_of};
 ghost use Rattle.fork_request.specs.Asked.{ask_of, asked_alone, asked_plain, asked_verb, asked_words};
 
-// What a line and the body behind it ask.
+// What a line and the body after it ask.
 fn read_line<'a>(line: &'a [u8], body: &'a [u8]) -> Request<'a>
     ensures { ask_of result ≡ asked_words (words_of line.now) body.now }
 {
@@ -125,7 +125,7 @@ fn read_verb<'a>(verb: &'a [u8], body: &'a [u8]) -> Request<'a>
     Request::Bad
 }
 
-// What the words behind a verb ask.
+// What the words after a verb ask.
 fn read_words<'a>(verb: &'a [u8], words: &'a [u8], body: &'a [u8]) -> Request<'a>
     ensures { ask_of result ≡ asked_verb verb.now (words_of words.now) body.now }
 {
@@ -153,7 +153,7 @@ fn read_words<'a>(verb: &'a [u8], words: &'a [u8], body: &'a [u8]) -> Request<'a
     read_offering(verb, words, body)
 }
 
-// This, where nothing stands behind the line.
+// This, if nothing follows the line.
 fn plain<'a>(request: Request<'a>, body: &'a [u8]) -> Request<'a>
     ensures { ask_of result ≡ asked_plain (ask_of request.entry) body.now }
 {

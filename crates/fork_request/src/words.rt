@@ -1,4 +1,4 @@
-// The words behind a verb: none of them may be empty.
+// The words after a verb: none of them may be empty.
 ghost use Rattle.std.specs.Prelude.{◌≡◌, option_map};
 ghost use Rattle.std.specs.List.{list_all};
 ghost use Rattle.std.specs.Str.{bytes_eq};
@@ -24,7 +24,7 @@ fn some_word(word: &[u8]) -> Option<&[u8]>
     Some(word)
 }
 
-// The one word that stands there.
+// The only word there.
 pub(crate) fn sole_word(words: &[u8]) -> Option<&[u8]>
     ensures { option_map (λ word. word.now) result ≡ sole (words_of words.now) }
 {
@@ -34,7 +34,7 @@ pub(crate) fn sole_word(words: &[u8]) -> Option<&[u8]>
     }
 }
 
-// The two words that stand there.
+// The only two words there.
 pub(crate) fn two_words(words: &[u8]) -> Option<(&[u8], &[u8])>
     ensures { option_map (λ p. (p.0.now, p.1.now)) result ≡ pair (words_of words.now) }
 {
@@ -44,7 +44,7 @@ pub(crate) fn two_words(words: &[u8]) -> Option<(&[u8], &[u8])>
     Some((first, second))
 }
 
-// The three words that stand there.
+// The only three words there.
 pub(crate) fn three_words(words: &[u8]) -> Option<(&[u8], &[u8], &[u8])>
     ensures { option_map (λ p. (p.0.now, p.1.now, p.2.now)) result ≡ three (words_of words.now) }
 {
@@ -54,7 +54,7 @@ pub(crate) fn three_words(words: &[u8]) -> Option<(&[u8], &[u8], &[u8])>
     Some((first, second, third))
 }
 
-// The word that stands there, and one more where there is one.
+// The only word there, or the only two.
 pub(crate) fn one_or_two_words(words: &[u8]) -> Option<(&[u8], Option<&[u8]>)>
     ensures { option_map (λ p. (p.0.now, option_map (λ word. word.now) p.1)) result ≡ one_or_two (words_of words.now) }
 {
@@ -89,7 +89,7 @@ fn are_items(words: &[u8]) -> bool
     is_item(rest)
 }
 
-// The text, where each word of it is an item.
+// The text, if each word of it is an item.
 fn some_items(words: &[u8]) -> Option<&[u8]>
     ensures { option_map (λ text. words_of text.now) result ≡ items_in (words_of words.now) }
 {
@@ -99,7 +99,7 @@ fn some_items(words: &[u8]) -> Option<&[u8]>
     Some(words)
 }
 
-// The word that stands there, and the items behind it, parted by one SP each.
+// The first word, and the items after it, separated by one SP each.
 pub(crate) fn word_and_items(words: &[u8]) -> Option<(&[u8], &[u8])>
     ensures { option_map (λ p. (p.0.now, words_of p.1.now)) result ≡ word_and_items (words_of words.now) }
 {

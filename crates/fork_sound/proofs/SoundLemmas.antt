@@ -1,4 +1,4 @@
--- What is told of the first bad object: a blob is never bad, and where none is bad all are sound.
+-- What is reported of the first bad object: a blob is never bad, and if none is bad all are sound.
 use Rattle.std.proofs.Common.{◌≡◌, ◌≢◌, ℕ, Bool, true, false, not, List, [], ◌∷◌, Option, None, Some, cond, refl, sym, ap, ◌∙◌, is_some}
 use Rattle.std.specs.Prelude.{◌||◌, is_none}
 use Rattle.std.specs.List.{AllByRecursion, find, list_any}

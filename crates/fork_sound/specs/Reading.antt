@@ -1,4 +1,4 @@
--- What is known of objects once they were read (own): enough to judge what is seen, without their bytes.
+-- What is known of objects once they were read (own): enough to judge what is seen without their bytes.
 use Rattle.std.specs.Prelude.{◌≡◌, ℕ, Bool, true, ◌||◌, not, List, Option, None, Some, is_none, length}
 use Rattle.std.specs.FinMap.{FinMap, get}
 use Rattle.std.specs.List.{list_any}
@@ -11,7 +11,7 @@ use Rattle.git_object.specs.declared.link.Link.{Link}
 use Rattle.fork_reach.specs.Source.{Objects}
 use Rattle.fork_sound.specs.Sound.{is_other}
 
--- of one object: its kind, the bytes of its content, whether it is in no grammar of its kind, and its links
+-- of one object: its kind, the length of its content, whether it breaks the grammar of its kind, and its links
 pub record ReadingValue : Type 0 where
   pub kind : Kind
   pub size : ℕ
@@ -38,7 +38,7 @@ AreReadings readings seen objects = (name : List ℕ) → seen name ≡ true →
 abbrev pub kind_read : ReadingMap → List ℕ → Option Kind
 kind_read readings name = option_map (λ reading. reading.kind) (get readings name)
 
--- by what was read: a link isn't met, an object is unsound, and what stands under a name is bad
+-- by what was read: a link is unresolved, an object is unsound, and what is under a name is bad
 abbrev pub is_unmet_read : ReadingMap → (List ℕ → Bool) → Link → Bool
 is_unmet_read readings seen link = not (seen link.name) || is_other link.kind (kind_read readings link.name)
 

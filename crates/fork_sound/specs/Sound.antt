@@ -1,4 +1,4 @@
--- Whether an object is sound among those that are seen (own): in the grammar of its kind, each link seen and of its kind.
+-- Whether an object is sound among those that are seen (own): valid in the grammar of its kind, each link seen and of its kind.
 use Rattle.std.specs.Prelude.{ℕ, Bool, true, ◌&&◌, ◌||◌, not, List, Option, None, Some, is_none, is_some}
 use Rattle.std.specs.List.{list_any}
 use Rattle.std.specs.FinMap.{get}
@@ -13,11 +13,11 @@ use Rattle.fork_reach.specs.Source.{Objects, kind_in}
 abbrev pub is_other : Kind → Option Kind → Bool
 is_other kind found = is_some found && not (has_kind kind found)
 
--- what the link names isn't seen, or has another kind
+-- what the link names is not seen, or has another kind
 abbrev pub is_unmet : Objects → (List ℕ → Bool) → Link → Bool
 is_unmet objects seen link = not (seen link.name) || is_other link.kind (kind_in objects link.name)
 
--- the object isn't in its grammar, or a link isn't met
+-- the object is not in its grammar, or a link is not met
 abbrev pub is_unsound : Objects → (List ℕ → Bool) → Object → Bool
 is_unsound objects seen object = is_none (object_in object.kind object.bytes) || list_any (is_unmet objects seen) (links_in object.kind object.bytes)
 

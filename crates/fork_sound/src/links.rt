@@ -9,7 +9,7 @@ use git_name::Name;
 use git_object::Link;
 use std::collections::BTreeSet;
 
-// Whether the object is not in the grammar of its kind, or one of its links is not met.
+// Whether the object breaks the grammar of its kind, or one of its links is unresolved.
 pub(crate) fn is_unsound(readings: &Readings, seen: &BTreeSet<Name>, reading: &Reading) -> bool
     ensures { result ≡ is_unsound_read readings.now (contains name_cmp seen.now) reading.now }
 {

@@ -8,8 +8,8 @@ use git_object::{Link, Object, links};
 use std::alloc::{AllocError, Global};
 use std::marker::Model;
 
-/// What is known of an object once it was read: its kind, the bytes of its content, whether it is in no
-/// grammar of its kind, and its links, none where it is in none.
+/// What is known of an object once it was read: its kind, the length of its content, whether it breaks
+/// the grammar of its kind, and its links, which are none if it does.
 #[derive(Drop)]
 pub struct Reading {
     kind: Kind,
@@ -27,7 +27,7 @@ impl Model for Reading {
 }
 
 impl Reading {
-    /// Of this object.
+    /// What is known of this object.
     pub fn of(alloc: Global, sealed: &Sealed) -> Result<Reading, AllocError>
         ensures { IfOk result (λ reading. reading ≡ object_reading sealed.now) }
     {
@@ -57,14 +57,14 @@ impl Reading {
         self.kind
     }
 
-    /// The bytes of its content.
+    /// The length of its content.
     pub fn size(&self) -> u64
         ensures { result ≡ self.now.size }
     {
         self.size
     }
 
-    // Whether it is in no grammar of its kind.
+    // Whether it breaks the grammar of its kind.
     pub(crate) fn is_wrong(&self) -> bool
         ensures { result ≡ self.now.wrong }
     {

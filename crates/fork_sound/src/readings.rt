@@ -30,7 +30,7 @@ impl Model for Readings {
 }
 
 impl Readings {
-    /// Of no objects.
+    /// Empty readings.
     pub fn new(alloc: Global) -> Readings
         ensures { result ≡ map.empty }
     {

@@ -1,4 +1,4 @@
--- What is loaded of a text that was saved: nothing stands against the states of a sound world, and they show that world again.
+-- What is loaded from a text that was saved: nothing is wrong with the states of a sound world, and they show that world again.
 use Rattle.std.proofs.Common.{◌≡◌, ◌≢◌, ℕ, arith, Bool, true, false, cond, not, List, [], ◌∷◌, ◌++◌, Option, None, Some, refl, sym, ap, subst, ◌∙◌, is_some, map, suc, inl, inr}
 use Rattle.std.specs.Prelude.{Contains, ◌||◌, ◌&&◌, is_none}
 use Rattle.std.specs.List.{AllByRecursion, find, flat_map, list_any}

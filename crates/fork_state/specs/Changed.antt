@@ -7,11 +7,11 @@ use Rattle.fork_model.specs.View.{View}
 use Rattle.fork_model.specs.World.{World}
 use Rattle.state_text.specs.States.{States, TenantState}
 
--- whether this is the tenant that is meant
+-- whether this is the tenant meant
 abbrev pub is_name : List ℕ → List ℕ → Bool
 is_name = eq_by_cmp name_cmp
 
--- a tenant's state, with this limit where it is the one that is meant
+-- a tenant's state, with this limit if it is the tenant meant
 abbrev pub limited : List ℕ → ℕ → TenantState → TenantState
 limited name limit tenant = if is_name name tenant.name then record tenant { limit = limit } else tenant
 
@@ -23,7 +23,7 @@ states_limited name limit states = map (limited name limit) states
 abbrev pub states_without : List ℕ → States → States
 states_without name states = filter (λ tenant. not (is_name name tenant.name)) states
 
--- a tenant's view, with this limit where it is the one that is meant
+-- a tenant's view, with this limit if it is the tenant meant
 abbrev pub view_limited : List ℕ → ℕ → List ℕ × View → List ℕ × View
 view_limited name limit (tenant, view) = (tenant, if is_name name tenant then record view { limit = limit } else view)
 

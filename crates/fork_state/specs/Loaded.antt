@@ -1,4 +1,4 @@
--- Why a text is not loaded, and what is loaded of a text that was saved.
+-- Why a text is not loaded, and what is loaded from a text that was saved.
 use Rattle.std.specs.Prelude.{◌≡◌, ℕ, List, ⊤}
 use Rattle.loose_store.specs.Files.{Files}
 use Rattle.fork_model.specs.Sound.{IsSoundWorld}
@@ -14,7 +14,7 @@ use Rattle.fork_host.specs.declared.restore_error.RestoreError.TheVariants as re
 use Rattle.fork_state.specs.declared.fault.LoadFault.{LoadFault}
 use Rattle.fork_state.specs.declared.fault.LoadFault.TheVariants.{Line, Lost, Damaged, Unsound, OverLimit, Store, Memory}
 
--- how what stands against a restored host is told
+-- how what is wrong with a restored host is reported
 abbrev pub restore_fault : RestoreError → LoadFault
 restore_fault (restore.Lost name) = Lost name
 restore_fault (restore.Damaged name) = Damaged name
@@ -27,19 +27,19 @@ restore_fault restore.Memory = Memory
 abbrev pub IsText : List ℕ → Type 0
 IsText text = (states : States) × IsStateText states text
 
--- what a text settles of a fault, over any store: its first wrong line, or that it is a state text, where memory was not wanted
+-- what a text alone decides of a fault, over any store: its first wrong line, or that it is a state text, if memory did not run out
 abbrev pub IsTextFault : List ℕ → LoadFault → Type 0
 IsTextFault text (Line number) = IsWrongLine text number
 IsTextFault text Memory = ⊤
 IsTextFault text fault = IsText text
 
--- the text is a state text, and its states are refused so
+-- the text is a state text, and its states are refused for this reason
 pub record IsRefusedText (files : Files) (text : List ℕ) (error : RestoreError) : Type 0 where
   pub states : States
   pub tells : IsStateText states text
   pub refused : AreRefused files states error
 
--- the first wrong line of what is no state text; or else why its states are refused
+-- the first wrong line of what is not a state text; otherwise why its states are refused
 abbrev pub IsLoadFault : Files → List ℕ → LoadFault → Type 0
 IsLoadFault files text (Line number) = IsWrongLine text number
 IsLoadFault files text (Lost name) = IsRefusedText files text (restore.Lost name)
@@ -49,20 +49,20 @@ IsLoadFault files text (OverLimit tenant) = IsRefusedText files text (restore.Ov
 IsLoadFault files text Store = IsRefusedText files text restore.Store
 IsLoadFault files text Memory = ⊤
 
--- the text is a state text, and the world is the one that it tells
+-- the text is a state text, and the world is the one that it describes
 pub record IsLoaded (files : Files) (text : List ℕ) (world : World) : Type 0 where
   pub states : States
   pub tells : IsStateText states text
   pub shown : IsShownAgain files states world
 
--- where the store has the objects of a sound world, the world's states are refused for want of memory or of the store alone
+-- if the store has the objects of a sound world, the world's states are refused only if memory runs out or the store fails
 abbrev pub AcceptsItsWorld : Type 0
 AcceptsItsWorld = (world : World) (files : Files) (error : RestoreError) → IsSoundWorld world → HasWorld files world → AreRefused files (states_of world) error → IsStoreOrMemory error
 
--- and what is shown again is that world, uploads aside
+-- and what is shown again is that world, except open uploads
 abbrev pub ShowsItsWorld : Type 0
 ShowsItsWorld = (world new : World) (files : Files) → IsSoundWorld world → HasWorld files world → IsShownAgain files (states_of world) new → new ≡ without_uploads world
 
--- and so is what is loaded of the text that is saved of it
+-- and so is what is loaded from the text that was saved
 abbrev pub LoadsItsWorld : Type 0
 LoadsItsWorld = (world new : World) (files : Files) (text : List ℕ) → IsSoundWorld world → HasWorld files world → IsStateText2 (states_of world) text → IsLoaded files text new → new ≡ without_uploads world

@@ -26,7 +26,7 @@ pub(crate) fn has(states: &States, name: &TenantName) -> bool
     states.as_slice().iter().any(|tenant| is_of(name, tenant))
 }
 
-// Puts a tenant's state behind the others.
+// Appends a tenant's state.
 fn keep_tenant(states: &mut States, tenant: TenantState) -> Result<(), AllocError>
     requires before { AreBefore (map (λ other. other.name) states.old) tenant.name }
     requires room { length states.old < MAX_TENANTS }
@@ -39,7 +39,7 @@ fn keep_tenant(states: &mut States, tenant: TenantState) -> Result<(), AllocErro
     }
 }
 
-// The states, with this limit of the tenant of this name.
+// The states, with this limit for the tenant of this name.
 pub(crate) fn with_limit(
     alloc: Global,
     states: States,
@@ -49,7 +49,7 @@ pub(crate) fn with_limit(
     requires { limit ≤ MAX_LIMIT }
     ensures { IfOk result (λ changed. changed ≡ states_limited name.now limit states) }
 {
-    // Only for its clause: the states are right.
+    // Called for its clause: the states are right.
     let _states = states.as_slice();
     let mut changed = States::new(alloc);
     for tenant in states.into_vec() {
@@ -67,7 +67,7 @@ pub(crate) fn without(
 ) -> Result<States, AllocError>
     ensures { IfOk result (λ changed. changed ≡ states_without name.now states) }
 {
-    // Only for its clause: the states are right.
+    // Called for its clause: the states are right.
     let _states = states.as_slice();
     let mut changed = States::new(alloc);
     for tenant in states.into_vec() {

@@ -1,6 +1,5 @@
-//! The state of a host: saved as a text, and loaded again over a store.
-//! A host that is loaded shows what the text tells; a text that tells of what the store does not hold is
-//! refused.
+//! The state of a host, saved as a text and loaded again over a store. A loaded host shows what the
+//! text describes; a text that describes objects that the store does not hold is refused.
 #![tactic(auto)]
 
 mod changing;

@@ -1,4 +1,4 @@
-// A tenant's state with another limit, put together anew.
+// A tenant's state with another limit, built anew.
 ghost use Rattle.std.specs.Prelude.{◌≡◌, ◌≢◌, ◌<◌, ◌≤◌, ◌∷◌, ◌++◌, [], IfOk, OnOk, length, map};
 ghost use Rattle.fork_request.specs.declared.limit.TheConstants.{MAX_LIMIT};
 ghost use Rattle.fork_model.specs.declared.limits.TheConstants.{MAX_OFFERS, MAX_REPOSITORIES};
@@ -15,7 +15,7 @@ use git_reftx::Repository;
 use state_text::{AddError, Offer, OfferError, TenantState};
 use std::alloc::{AllocError, Global};
 
-// Puts a repository behind the others.
+// Appends a repository.
 fn keep_repository(
     tenant: &mut TenantState,
     name: RepositoryName,
@@ -32,7 +32,7 @@ fn keep_repository(
     }
 }
 
-// Puts repositories behind the others.
+// Appends repositories.
 fn keep_repositories(
     tenant: &mut TenantState,
     repositories: Vec<(RepositoryName, Repository)>,
@@ -46,7 +46,7 @@ fn keep_repositories(
     Ok(())
 }
 
-// Puts the name of an object behind the others.
+// Appends the name of an object.
 fn keep_name(tenant: &mut TenantState, name: Name) -> Result<(), AllocError>
     requires { AreBefore tenant.old.seen name }
     ensures { OnOk result (tenant.new ≡ with_seen tenant.old name) }
@@ -58,7 +58,7 @@ fn keep_name(tenant: &mut TenantState, name: Name) -> Result<(), AllocError>
     }
 }
 
-// Puts the names of objects behind the others.
+// Appends the names of objects.
 fn keep_names(tenant: &mut TenantState, names: Vec<Name>) -> Result<(), AllocError>
     requires { IsTenantState (with_names tenant.old names.items) }
     ensures { OnOk result (tenant.new ≡ with_names tenant.old names.items) }
@@ -69,7 +69,7 @@ fn keep_names(tenant: &mut TenantState, names: Vec<Name>) -> Result<(), AllocErr
     Ok(())
 }
 
-// Puts an offer behind the others.
+// Appends an offer.
 fn keep_offer(tenant: &mut TenantState, offer: Offer) -> Result<(), AllocError>
     requires other { offer.receiver ≢ tenant.old.name }
     requires before { AreBefore (map words_of_offer tenant.old.offers) (words_of_offer offer) }
@@ -83,7 +83,7 @@ fn keep_offer(tenant: &mut TenantState, offer: Offer) -> Result<(), AllocError>
     }
 }
 
-// Puts offers behind the others.
+// Appends offers.
 fn keep_offers(tenant: &mut TenantState, offers: Vec<Offer>) -> Result<(), AllocError>
     requires { IsTenantState (with_offers tenant.old offers.items) }
     ensures { OnOk result (tenant.new ≡ with_offers tenant.old offers.items) }
@@ -99,7 +99,7 @@ fn relimited(alloc: Global, tenant: TenantState, limit: u64) -> Result<TenantSta
     requires { limit ≤ MAX_LIMIT }
     ensures { IfOk result (λ changed. changed ≡ record tenant { limit = limit }) }
 {
-    // Only for its clause: the state is right.
+    // Called for its clause: the state is right.
     let _name = tenant.name();
     let (name, _, repositories, seen, offers) = tenant.into_parts();
     let Some(mut changed) = TenantState::new(alloc, name, limit) else {
@@ -111,7 +111,7 @@ fn relimited(alloc: Global, tenant: TenantState, limit: u64) -> Result<TenantSta
     Ok(changed)
 }
 
-// The tenant's state, and with this limit where it is that of the tenant of this name.
+// The tenant's state, with this limit if it is the tenant of this name.
 pub(crate) fn limited(
     alloc: Global,
     tenant: TenantState,

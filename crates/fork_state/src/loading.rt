@@ -9,8 +9,8 @@ use loose_store::LooseFiles;
 use state_text::{StateFault, read};
 use std::alloc::Global;
 
-/// The host of this state, over the store that holds its objects. The text is of either version, and is
-/// judged first, whatever the store does, then what it tells.
+/// The host of this state, over the store that holds its objects. The text may be of either version. It
+/// is checked first, whatever the store does, and then what it describes.
 pub fn load<S: LooseFiles + Drop>(
     alloc: Global,
     text: &[u8],
@@ -36,7 +36,7 @@ pub fn load<S: LooseFiles + Drop>(
     }
 }
 
-// How what stands against a restored host is told.
+// How what is wrong with a restored host is reported.
 fn of_restore(error: RestoreError) -> LoadFault
     ensures { result ≡ restore_fault error }
 {

@@ -13,7 +13,7 @@ use loose_store::LooseFiles;
 use state_text::{States, write};
 use std::alloc::Global;
 
-/// The state of a host, as a text of version 2. Open uploads are not in it.
+/// The state of a host, as a text of version 2. It does not contain open uploads.
 pub fn save<S: LooseFiles>(alloc: Global, host: &Host<S>) -> Result<Vec<u8>, NoMemory>
     ensures { IfOk result (λ text. IsStateText2 (states_of (world_of host.now)) text.items) }
 {
@@ -25,7 +25,7 @@ pub fn save<S: LooseFiles>(alloc: Global, host: &Host<S>) -> Result<Vec<u8>, NoM
 fn spell(alloc: Global, states: &States) -> Result<Vec<u8>, NoMemory>
     ensures { IfOk result (λ text. IsStateText2 states.now text.items) }
 {
-    // Only for its clause: the states are right.
+    // Called for its clause: the states are right.
     let _tenants = states.as_slice();
     let Ok(text) = write(alloc, states) else {
         return Err(NoMemory);
@@ -33,7 +33,7 @@ fn spell(alloc: Global, states: &States) -> Result<Vec<u8>, NoMemory>
     Ok(text)
 }
 
-/// The same, in which this tenant has this limit; nothing where the tenant is not there, or the limit is
+/// The same, with this limit for this tenant; nothing if the tenant does not exist or the limit is
 /// above the greatest.
 pub fn save_limited<S: LooseFiles>(
     alloc: Global,
@@ -61,8 +61,8 @@ pub fn save_limited<S: LooseFiles>(
     }
 }
 
-/// The same without this tenant: its repositories, what it sees and its offers are not in it. Offers that
-/// others made to it are. Nothing where the tenant is not there.
+/// The same without this tenant: its repositories, what it sees and its offers. Offers that others made
+/// to it stay. Nothing if the tenant does not exist.
 pub fn save_without<S: LooseFiles>(
     alloc: Global,
     host: &Host<S>,

@@ -1,4 +1,4 @@
--- How a session ends: behind its last frame, at what is no frame, or by a fault.
+-- How a session ends: after its last frame, at what is not a frame, or by a fault.
 use Rattle.std.proofs.Common.{◌≡◌, ◌≢◌, ◌∙◌, Option, Some, None, Result, Ok, Err, IfOk, IfErr, inl, inr, OnErr, refl, sym, subst, ℕ, List, [], ◌∷◌, ◌++◌}
 use Rattle.std.specs.Prelude.{IfSome}
 use Rattle.std.proofs.KnownBytes.{Appends-nil, Appends-trans}

@@ -1,4 +1,4 @@
--- A session goes on by one frame, and ends.
+-- A session continues by one frame, and ends.
 use Rattle.std.specs.Prelude.{IfSome}
 use Rattle.std.proofs.Common.{◌≡◌, ◌≢◌, Option, Some, None, inl, inr, refl, ℕ, List, [], ◌∷◌, ◌++◌, sym, ap, ◌∙◌, subst, length}
 use Rattle.std.proofs.lemmas.Grind.{flat_map-append}

@@ -1,4 +1,4 @@
--- Frames that are served again (own): no host fault answers them, and nothing is told to anyone.
+-- Frames that are served again (own): no host fault answers them, and nothing is sent to anyone.
 use Rattle.std.specs.Prelude.{◌≡◌, ℕ, Bool, true, false, cond, IfSome, List, [], ◌∷◌, Option, length}
 use Rattle.std.specs.List.{AllByRecursion}
 use Rattle.fork_request.specs.Told.{is_host_fault}
@@ -14,7 +14,7 @@ use Rattle.fork_frame.specs.declared.ended.Ended.{Ended}
 use Rattle.fork_frame.specs.declared.frame.Frame.{Frame}
 use Rattle.fork_wire.specs.Sessions.{IsAnswered, event_of}
 
--- whether the world settles what is told of a request of the host itself: what tells of its store it does not
+-- whether the world determines the reply to a request of the host itself: it does not for those that report on the store
 abbrev pub is_settled_host : HostRequest → Bool
 is_settled_host (Sweep most) = false
 is_settled_host Collect = false
@@ -23,28 +23,28 @@ is_settled_host Fsck = false
 is_settled_host Tenants = true
 is_settled_host Bad = true
 
--- the same of a step: what a tenant is told is always settled
+-- the same of a step: the world always determines what a tenant is told
 abbrev pub is_settled : Event → Bool
 is_settled (Asks tenant ask) = true
 is_settled (HostAsks request) = is_settled_host request
 
--- the replies to steps, but those that tell of the store
+-- the replies to steps, except those that report on the store
 abbrev pub settled : List Event → List Reply → List Reply
 settled [] replies = []
 settled (event ∷ events) [] = []
 settled (event ∷ events) (reply ∷ replies) = cond (is_settled event) (reply ∷ settled events replies) (settled events replies)
 
--- no step asks of the store
+-- no step asks about the store
 abbrev pub AreSettled : List Event → Type 0
 AreSettled events = AllByRecursion (λ event. is_settled event ≡ true) events
 
--- one frame was answered, and by no host fault
+-- one frame was answered, without a host fault
 pub record IsAnsweredAgain (old new : HostState) (frame : Frame) : Type 0 where
   pub reply : Reply
   pub fine : is_host_fault reply ≡ false
   pub step : IsStep old (event_of frame) reply new
 
--- so many frames, which are all that the input begins with, were answered, and none by a host fault
+-- this many frames, which are all that the input begins with, were answered, none by a host fault
 pub record IsServedAgain (old new : HostState) (input : Option (List ℕ)) (count : ℕ) : Type 0 where
   pub frames : List Frame
   pub replies : List Reply

@@ -37,18 +37,18 @@ only_asks (Withdraws repository receiver) = false
 only_asks (ForksOffer giver repository copy) = false
 only_asks Prunes = false
 
--- a request that ends the upload, also where it is refused
+-- a request that ends the upload, even if it is refused
 abbrev pub is_part_end : Ask → Bool
 is_part_end (EndsParts repository) = true
 is_part_end ask = false
 
--- the view is as it was before the request was answered so
+-- the view is as it was before the request was answered this way
 abbrev pub leaves : Ask → Reply → Bool
 leaves ask (Done text) = only_asks ask
 leaves ask (Refused refusal) = not (is_part_end ask)
 leaves ask (Failed fault) = true
 
--- what a tenant sends is kept where it may have changed the tenant's view
+-- what a tenant sends is kept if it may have changed the tenant's view
 abbrev pub is_kept_of : Asker → List ℕ → Reply → Bool
 is_kept_of (Tenant name) payload reply = not (leaves (asked payload) reply)
 is_kept_of Host payload reply = false
@@ -76,7 +76,7 @@ replies_kept (frame ∷ frames) (reply ∷ replies) = cond (is_kept frame reply)
 abbrev pub kept_bytes : List Frame → List Reply → List ℕ
 kept_bytes frames replies = flat_map frame_bytes (kept_of frames replies)
 
--- what a session's end says of its journal: that a frame could not be kept, or that it is as whole as it was
+-- what a session's end says about its journal: that a frame could not be kept, or that it is as complete as it was
 abbrev pub TellsCut : {A : Type 0} → Bool → Bool → Result A SessionFault → Type 0
 TellsCut before now (Ok ended) = now ≡ before
 TellsCut before now (Err Read) = now ≡ before

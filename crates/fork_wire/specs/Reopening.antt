@@ -11,7 +11,7 @@ use Rattle.fork_frame.specs.declared.frame.Frame.{Frame}
 abbrev pub part_frame : List ℕ → List ℕ → Frame
 part_frame tenant piece = record { asker = Tenant tenant; payload = codes "part\n" ++ piece }
 
--- frames by which a tenant sends these bytes: one at least, and each a right frame
+-- frames by which a tenant sends these bytes: at least one, and each valid
 pub record ArePartFrames (tenant bytes : List ℕ) (frames : List Frame) : Type 0 where
   pub pieces : List (List ℕ)
   pub some : 1 ≤ length pieces

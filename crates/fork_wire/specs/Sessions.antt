@@ -1,4 +1,4 @@
--- What a session does: the frames that came, the replies that go out, and the worlds that the host shows.
+-- What a session does: the frames received, the replies sent, and the worlds that the host shows.
 use Rattle.std.specs.Prelude.{◌≡◌, ◌⊎◌, ℕ, Bool, false, cond, IfSome, List, [], ◌∷◌, ◌++◌, Option, Some, flat_map, map, ⊤}
 use Rattle.std.specs.FinMap.{get}
 use Rattle.std.specs.Ordering.{eq_by_cmp}
@@ -25,7 +25,7 @@ use Rattle.fork_frame.specs.declared.frame.Frame.{Frame}
 use Rattle.fork_wire.specs.declared.fault.SessionFault.{SessionFault}
 use Rattle.fork_wire.specs.declared.fault.SessionFault.TheVariants.{Read, Write, Memory, Journal}
 
--- what a payload asks, by who sends it
+-- what a payload asks, depending on who sends it
 abbrev pub event_by : Asker → List ℕ → Event
 event_by (Tenant name) payload = Asks name (asked payload)
 event_by Host payload = HostAsks (asked_host payload)
@@ -49,24 +49,24 @@ payloads_of tenant (frame ∷ frames) = cond (is_of tenant frame.asker) (frame.p
 abbrev pub frames_of : List Reply → List ℕ
 frames_of replies = flat_map (λ reply. reply_frame (bytes_of reply)) replies
 
--- the bytes that go out to a tenant: the frames of the replies to what it sent
+-- the bytes sent to a tenant: the frames of the replies to what it sent
 abbrev pub told_to : List ℕ → List Frame → List Reply → List ℕ
 told_to tenant frames replies = frames_of (told tenant (events_of frames) replies)
 
--- each tenant that no host fault answered was told what a private host that meets the same offers would tell it, and is left as there;
--- where no offer to it was made or withdrawn, one that meets those that stood at first
+-- each tenant that no host fault answered was told what a private host that meets the same offers would tell it, and is left as
+-- there; if no offer to it was made or withdrawn, one that meets the offers at the start
 pub record IsPrivateRun (old : World) (events : List Event) (replies : List Reply) (new : World) : Type 0 where
   pub met : (tenant : List ℕ) (view : View) (run : Explains old events replies new) → get old tenant ≡ Some view → IsUnfaulted tenant events replies
       → (told tenant events replies ≡ (alone view (World.met tenant old events replies new run)).0) × (get new tenant ≡ Some (alone view (World.met tenant old events replies new run)).1)
   pub steady : (tenant : List ℕ) (view : View) → get old tenant ≡ Some view → IsUnfaulted tenant events replies → LeavesOffers tenant events replies
       → (told tenant events replies ≡ (alone view (meeting (met_by old tenant) (own tenant events))).0) × (get new tenant ≡ Some (alone view (meeting (met_by old tenant) (own tenant events))).1)
 
--- the replies are one to each frame, and lead from state to state. Over a store that is trusted each tenant's are those of a private host
+-- the replies are one to each frame, and lead from state to state. Over a trusted store each tenant's are those of a private host
 pub record IsAnswered (old new : HostState) (frames : List Frame) (replies : List Reply) : Type 0 where
   pub ran : IsRun old (events_of frames) replies new
   pub private_run : Trusted old → IsPrivateRun (world_of old) (events_of frames) replies (world_of new)
 
--- a session that reached its end: all frames of the input were answered, and their replies went out, then the last line
+-- a session that reached its end: all frames of the input were answered, and their replies were sent, then the last line
 pub record IsServed (old new : HostState) (input before after : Option (List ℕ)) (ended : Ended) : Type 0 where
   pub frames : List Frame
   pub replies : List Reply
@@ -78,24 +78,24 @@ pub record IsServed (old new : HostState) (input before after : Option (List ℕ
 abbrev pub BeginsWith : List Frame → List ℕ → Type 0
 BeginsWith frames input = (came : List ℕ) × (rest : List ℕ) × AreFrames frames came × (input ≡ came ++ rest)
 
--- something is to be told: an answer, or that what came is no frame
+-- something is to be sent: an answer, or that the input is not a frame
 abbrev pub IsTelling : List Frame → Option (List ℕ) → Type 0
 IsTelling [] input = IfSome input IsBad
 IsTelling (frame ∷ frames) input = ⊤
 
--- all replies so far went out, and behind the frames so far a frame comes that is to have a payload
+-- all replies so far were sent, and after the frames so far comes a frame that is to have a payload
 pub record LacksPayload (frames : List Frame) (replies : List Reply) (input before after : Option (List ℕ)) : Type 0 where
   pub comes : IfSome input (λ bytes. (came : List ℕ) × (rest : List ℕ) × AreFrames frames came × (bytes ≡ came ++ rest) × BeginsFrame rest)
   pub written : Appends before after (frames_of replies)
 
--- the last reply did not go out, and nothing of it; those before it did
+-- nothing of the last reply was sent; those before it were
 pub record LacksReply (replies : List Reply) (before after : Option (List ℕ)) : Type 0 where
   pub sent : List Reply
   pub last : Reply
   pub parts : replies ≡ sent ++ last ∷ []
   pub written : Appends before after (frames_of sent)
 
--- of the last reply's frame a front went out; those before it went out whole
+-- a prefix of the last reply's frame was sent; those before it were sent whole
 pub record BreaksReply (replies : List Reply) (before after : Option (List ℕ)) : Type 0 where
   pub sent : List Reply
   pub last : Reply
@@ -104,16 +104,16 @@ pub record BreaksReply (replies : List Reply) (before after : Option (List ℕ))
   pub written : Appends before mid (frames_of sent)
   pub broken : WritesFront mid after (reply_frame (bytes_of last))
 
--- all replies so far went out, what comes behind the frames so far is no frame, and of the line that tells it a front went out
+-- all replies so far were sent, what follows the frames so far is not a frame, and a prefix of the line that reports it was sent
 pub record BreaksEnd (frames : List Frame) (replies : List Reply) (input before after : Option (List ℕ)) : Type 0 where
   pub comes : IfSome input (λ bytes. (came : List ℕ) × (rest : List ℕ) × AreFrames frames came × (bytes ≡ came ++ rest) × IsBad rest)
   pub mid : Option (List ℕ)
   pub written : Appends before mid (frames_of replies)
   pub broken : WritesFront mid after (last_line BadFrame)
 
--- a session that a fault stopped: the first frames of the input were answered; where reading failed all their replies went out,
--- and writing fails only where something is to be told, of which a front went out, behind all before it; memory is wanted for a payload that comes or for the bytes of a reply;
--- where the last frame could not be kept, its reply did not go out
+-- a session that a fault stopped: the first frames of the input were answered. If reading failed, all their replies were sent.
+-- Writing fails only if something is to be sent: then a prefix of it was sent, after all that precedes it. Memory runs out only for
+-- a payload that comes, or for the bytes of a reply. If the last frame could not be kept, its reply was not sent
 pub record IsStopped (old new : HostState) (input before after : Option (List ℕ)) (fault : SessionFault) : Type 0 where
   pub frames : List Frame
   pub replies : List Reply

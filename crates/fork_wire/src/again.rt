@@ -17,7 +17,7 @@ use std::alloc::Global;
 use std::io::Read;
 use thiserror::Error;
 
-/// Why frames were not served again to their end.
+/// Why serving frames again stopped before their end.
 #[derive(Clone, Copy, Debug, PartialEq, Eq, Error)]
 pub enum AgainFault {
     #[error("the input could not be read")]
@@ -30,7 +30,7 @@ pub enum AgainFault {
     Host(HostFault),
 }
 
-// The fault of a request that is done again.
+// The fault of a request that is repeated.
 impl From<HostFault> for AgainFault {
     ghost use Rattle.fork_wire.specs.declared.again.AgainFault.{AgainFault};
 
@@ -41,10 +41,10 @@ impl From<HostFault> for AgainFault {
     }
 }
 
-/// Serves frames that were answered before, up to the input's end or to what is no frame, and says how
-/// many there were. Nothing is told to anyone. A host fault stops it, and so does a frame behind one that
-/// is answered as no journal keeps it: what a kill or a loss of power leaves at the end is passed over,
-/// and what was altered elsewhere is told.
+/// Serves frames that were answered before, up to the end of the input or to what is not a frame, and
+/// returns how many there were. Nothing is sent to anyone. It stops at a host fault, and at a frame
+/// that follows one that no journal would have kept: so what a kill or a loss of power leaves at the
+/// end is skipped, and an alteration elsewhere is reported.
 pub fn serve_again<S: LooseFiles, R: Read>(
     host: &mut Host<S>,
     alloc: Global,
@@ -74,7 +74,7 @@ pub fn serve_again<S: LooseFiles, R: Read>(
     Err(AgainFault::Read)
 }
 
-// Answers a request, and says whether a journal would keep it. It tells a host fault alone.
+// Answers a request, and returns whether a journal would keep it. Reports only host faults.
 fn answer_again<S: LooseFiles>(
     host: &mut Host<S>,
     alloc: Global,

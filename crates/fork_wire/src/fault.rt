@@ -3,7 +3,7 @@ ghost use Rattle.std.specs.Prelude.{◌≡◌, ◌≢◌};
 use fork_frame::{FrameFault, ReplyFault};
 use thiserror::Error;
 
-/// Why a session stopped before its end. The host stands where the requests answered so far leave it.
+/// Why a session stopped before its end. The host is as the requests answered so far leave it.
 #[derive(Clone, Copy, Debug, PartialEq, Eq, Error)]
 pub enum SessionFault {
     #[error("the input could not be read")]

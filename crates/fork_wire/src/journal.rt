@@ -7,22 +7,22 @@ use fork_request::MAX_PAYLOAD;
 use std::alloc::{AllocError, Global};
 use std::io::Write;
 
-/// A frame could not be kept, or not wholly. Nothing more is to be kept behind it.
+/// A frame could not be kept, or only in part. Nothing more may be kept after it.
 #[derive(Clone, Copy, Debug, PartialEq, Eq)]
 pub struct NotKept;
 
-/// What keeps frames, one behind the other, so that they can be served again.
+/// Keeps frames in order, so that they can be served again.
 pub trait Journal {
-    /// The bytes of the frames that it has, where they are known.
+    /// The bytes of the frames that it has, if they are known.
     ghost kept: { Self → Option (List ℕ) };
 
-    /// That a frame may fail to be kept.
+    /// Whether keeping a frame may fail.
     ghost can_fail: { Type 0 };
 
-    /// Whether a frame failed to be kept, so that the last one may be there in part.
+    /// Whether keeping a frame failed, so that the last one may be incomplete.
     ghost is_cut: { Self → Bool };
 
-    /// Keeps a frame behind those that it has.
+    /// Appends a frame.
     fn keep(&mut self, frame: &Frame) -> Result<(), NotKept>
         ensures ok { OnOk result (Appends (kept self.old) (kept self.new) (frame_bytes frame.now)) }
         ensures cause { IfErr result (λ _. can_fail) }
@@ -48,7 +48,7 @@ impl Journal for NoJournal {
     }
 }
 
-/// A journal that writes the frames, each at once.
+/// A journal that writes each frame at once.
 #[derive(Drop)]
 pub struct Written<W> {
     writer: W,
@@ -62,7 +62,7 @@ pub struct Written<W> {
 const LONGEST_FRAME: usize = MAX_PAYLOAD + 41;
 
 impl<W: Write + Drop> Written<W> {
-    /// A journal that writes behind what is there. It takes all its memory here.
+    /// A journal that writes after what the writer has. It allocates all its memory here.
     pub fn new(alloc: Global, writer: W) -> Result<Written<W>, AllocError>
         ensures { IfOk result (λ journal. (journal.writer ≡ writer) × (journal.bytes ≡ 0) × (journal.is_cut ≡ false)) }
     {

@@ -8,7 +8,7 @@ use crate::journal::Journal;
 use fork_frame::{Asker, Frame};
 use fork_request::{Reply, Request};
 
-// The request only asks.
+// Whether the request only asks.
 fn only_asks(payload: &[u8]) -> bool
     ensures { result ≡ is_asking (asked payload.now) }
 {
@@ -40,7 +40,7 @@ fn only_asks(payload: &[u8]) -> bool
     }
 }
 
-// The request is to end the upload.
+// Whether the request ends the upload.
 fn ends_upload(payload: &[u8]) -> bool
     ensures { result ≡ may_end (asked payload.now) }
 {
@@ -50,7 +50,7 @@ fn ends_upload(payload: &[u8]) -> bool
     }
 }
 
-// The tenant's view is as it was before the request was answered so.
+// Whether the tenant's view is as it was before the request was answered this way.
 fn leaves(payload: &[u8], reply: &Reply) -> bool
     ensures { result ≡ is_left (asked payload.now) reply.now }
 {
@@ -61,7 +61,7 @@ fn leaves(payload: &[u8], reply: &Reply) -> bool
     }
 }
 
-/// The frame, answered so, may have changed its tenant's view.
+/// Whether the frame, answered this way, may have changed its tenant's view.
 pub(crate) fn may_change(frame: &Frame, reply: &Reply) -> bool
     ensures { result ≡ is_kept frame.now reply.now }
 {
@@ -71,8 +71,8 @@ pub(crate) fn may_change(frame: &Frame, reply: &Reply) -> bool
     }
 }
 
-/// Keeps a frame that was answered so, where it may have changed the host, and says whether that went
-/// well.
+/// Keeps a frame that was answered this way, if it may have changed the host. Returns whether that
+/// succeeded.
 pub(crate) fn keep<J: Journal>(journal: &mut J, frame: &Frame, reply: &Reply) -> bool
     ensures kept { IsTrue result → Appends (J.kept journal.old) (J.kept journal.new) (kept_one frame.now reply.now) }
     ensures cause { result ≡ false → J.can_fail }

@@ -1,6 +1,6 @@
-//! Sessions: requests come as frames, and replies go out as frames.
-//! What a session writes is the frames of the replies that explain how the host went from one world to
-//! the next, one to each request, up to the input's end or to what is no frame.
+//! Sessions: requests are received as frames, and replies are sent as frames, one to each request, up
+//! to the end of the input or to what is not a frame. The replies sent explain how the host went from
+//! one world to the next.
 #![tactic(auto)]
 
 mod again;

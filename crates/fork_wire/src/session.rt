@@ -19,9 +19,9 @@ use loose_store::LooseFiles;
 use std::alloc::Global;
 use std::io::{Read, Write};
 
-/// Serves one session. One frame is in memory at a time, and each reply is out, and flushed, before
-/// the next frame is waited for. After a fault the host stands where the requests answered so far
-/// leave it. Reading fails also once 2^64 - 1 frames were served.
+/// Serves one session. It holds one frame in memory at a time, and sends and flushes each reply before
+/// it waits for the next frame. After a fault the host is as the requests answered so far leave it.
+/// Reading also fails after 2^64 - 1 frames.
 pub fn serve<S: LooseFiles, R: Read, W: Write>(
     host: &mut Host<S>,
     alloc: Global,
@@ -40,9 +40,8 @@ pub fn serve<S: LooseFiles, R: Read, W: Write>(
     serve_kept(host, alloc, &mut NoJournal, reader, writer)
 }
 
-/// Serves one session, as `serve` does, and keeps the frames that may have changed the host: each is
-/// kept before its reply goes out. Where one could not be kept, the session stops, and its reply does
-/// not go out.
+/// Serves one session, as `serve` does, and keeps the frames that may have changed the host, each
+/// before its reply is sent. If one cannot be kept, the session stops and its reply is not sent.
 pub fn serve_kept<S: LooseFiles, J: Journal, R: Read, W: Write>(
     host: &mut Host<S>,
     alloc: Global,
@@ -59,7 +58,7 @@ pub fn serve_kept<S: LooseFiles, J: Journal, R: Read, W: Write>(
     ensures right { Trusted host.old → IsRightWorld (world_of host.new) }
     ensures cause { IfErr result (λ fault. fault ≡ SessionFault.Journal → J.can_fail) }
 
-    // The journal has the frames of the very session that was served, or of that which stopped.
+    // The journal has the frames of the same session that was served, or of the one that stopped.
     ensures kept { IfOk result (λ ended. (session : IsServed host.old host.new
         (R.remaining reader.old) (W.contents writer.old) (W.contents writer.new) ended)
         × Appends (J.kept journal.old) (J.kept journal.new) (kept_bytes session.frames session.replies)) }
@@ -67,7 +66,8 @@ pub fn serve_kept<S: LooseFiles, J: Journal, R: Read, W: Write>(
         (R.remaining reader.old) (W.contents writer.old) (W.contents writer.new) fault)
         × Appends (J.kept journal.old) (J.kept journal.new) (kept_bytes session.frames session.replies)) }
 
-    // Where a frame could not be kept, that is how the session ended, and else the journal is as whole as it was.
+    // If a frame could not be kept, that is how the session ended; otherwise the journal is as complete as
+    // it was.
     ensures cut { TellsCut (J.is_cut journal.old) (J.is_cut journal.new) result }
 {
     a_run_is_private();
@@ -85,7 +85,7 @@ pub fn serve_kept<S: LooseFiles, J: Journal, R: Read, W: Write>(
     Err(SessionFault::Read)
 }
 
-// Answers a request as it came.
+// Answers a request as received.
 pub(crate) fn answer<S: LooseFiles>(host: &mut Host<S>, alloc: Global, frame: &Frame) -> Reply
     ensures { IsStep host.old (event_of frame.now) result host.new }
 {
@@ -96,8 +96,8 @@ pub(crate) fn answer<S: LooseFiles>(host: &mut Host<S>, alloc: Global, frame: &F
     }
 }
 
-// Answers a request as it came, keeps it where it may have changed the host, and says whether that
-// went well.
+// Answers a request as received and keeps it if it may have changed the host. Returns whether keeping
+// succeeded.
 fn answer_kept<S: LooseFiles, J: Journal>(
     host: &mut Host<S>,
     alloc: Global,
@@ -139,7 +139,7 @@ fn send_kept<W: Write>(
     }
 }
 
-// Tells the peer that no frame came.
+// Tells the peer that its bytes were not a frame.
 fn end_badly<W: Write>(writer: &mut W) -> Result<Ended, SessionFault>
     ensures ok { IfOk result (λ ended. (ended ≡ Ended.BadFrame)
         × Appends (W.contents writer.old) (W.contents writer.new) (last_line ended)) }

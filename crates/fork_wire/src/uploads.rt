@@ -16,7 +16,7 @@ use loose_store::LooseFiles;
 use std::alloc::{AllocError, Global};
 use std::io::Write;
 
-// The most bytes of a piece, so that its payload is as long as one may be.
+// The most bytes of a piece, so that its payload has the greatest length.
 const MOST: usize = 1_048_571;
 
 // The frame of a piece.
@@ -60,7 +60,7 @@ fn write_upload<W: Write>(
     ensures { OnOk result ((frames : List FrameValue) × ArePartFrames tenant.now bytes.now frames
         × Appends (W.contents writer.old) (W.contents writer.new) (flat_map frame_bytes frames)) }
 {
-    // Only for its clause: the bytes are a tenant's name.
+    // Called for its clause: the bytes are a tenant's name.
     let _name = tenant.as_bytes();
     let mut at = bytes.len().min(MOST);
     write_part(writer, alloc, tenant, &bytes[..at])?;
@@ -72,8 +72,8 @@ fn write_upload<W: Write>(
     Ok(())
 }
 
-// Writes the frames of a tenant's open upload, and says how many bytes these have. Where none is open
-// nothing is written.
+// Writes the frames of a tenant's open upload, and returns how many bytes they have. Writes nothing if
+// no upload is open.
 fn write_upload_of<S: LooseFiles, W: Write>(
     host: &mut Host<S>,
     alloc: Global,
@@ -98,8 +98,8 @@ fn write_upload_of<S: LooseFiles, W: Write>(
     }
 }
 
-/// Writes frames that open the host's open uploads again, and says how many bytes these have. Nothing
-/// is flushed.
+/// Writes frames that open the host's open uploads again, and returns how many bytes they have. It does
+/// not flush.
 pub fn write_uploads<S: LooseFiles, W: Write>(
     host: &mut Host<S>,
     alloc: Global,

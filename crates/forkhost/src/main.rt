@@ -13,7 +13,7 @@ use std::random::RandomSource;
 use std::rt::{Clock, Env};
 use std::{env, io};
 
-// The arguments of the process; none where one of them is no text, which is told.
+// The arguments of the process; none if one of them is not text, which is reported.
 fn arguments<R: Env + AllocGlobal + Eprint>(rt: &R) -> io::Result<Option<Vec<String>>> {
     let args = match env::args(rt) {
         Ok(args) => args,
@@ -32,19 +32,19 @@ fn arguments<R: Env + AllocGlobal + Eprint>(rt: &R) -> io::Result<Option<Vec<Str
     Ok(Some(texts))
 }
 
-// A block of so many bytes, which glibc maps apart, as it is longer than what it maps apart by itself.
+// The length of a block that glibc maps on its own, as it is longer than glibc's limit for its heap.
 const MAPPED: usize = 33_000_000;
 
-// Keeps memory that is given back for what comes next, up to twice such a block. glibc goes by the longest
-// block mapped apart that was ever given back (mallopt(3), M_MMAP_THRESHOLD); till there was one, it
-// returns the memory of each long answer to the kernel, which clears all its pages anew for the next.
-// No page of the block itself is touched.
+// Keeps freed memory for later use, up to twice such a block. glibc follows the longest block mapped
+// on its own that was ever freed (mallopt(3), M_MMAP_THRESHOLD). Until one is freed, it returns the
+// memory of each long answer to the kernel, which then clears every page for the next one. No page of
+// the block itself is touched.
 fn keep_memory(alloc: Global) {
     let _block = Vec::<u8>::with_capacity(alloc, MAPPED);
 }
 
-// Opens files in the place of the standard streams that the process was begun without, so that no file of
-// a folder stands there: what is read is at its end, and what is written fails.
+// Opens files in place of standard streams that are closed, so that no file of a folder gets their
+// numbers: reading from them is at the end, and writing to them fails.
 fn hold_streams<R: Files<File = File>>(
     rt: &R,
 ) -> (io::Result<File>, io::Result<File>, io::Result<File>) {
@@ -53,7 +53,7 @@ fn hold_streams<R: Files<File = File>>(
     (first, second, File::open(rt, "/dev/null"))
 }
 
-// Runs the program on these words, and answers its exit status, which stays where nothing can be told.
+// Runs the program on these words and returns its exit status, even if nothing can be reported.
 fn ended<R: AllocGlobal + Input + Print + Eprint + Files<File = File> + Net + RandomSource + Clock>(
     rt: &R,
     words: &[&str],
@@ -72,7 +72,7 @@ fn ended<R: AllocGlobal + Input + Print + Eprint + Files<File = File> + Net + Ra
     Ok(status)
 }
 
-// Runs the program on what the process was given.
+// Runs the program on the arguments of the process.
 fn started<
     R: Env + AllocGlobal + Input + Print + Eprint + Files<File = File> + Net + RandomSource + Clock,
 >(rt: &R) -> io::Result<u8> {

@@ -1,4 +1,4 @@
--- Worked commits: what the definitions say of small ones, in the form of git-commit-tree(1), and of bytes that are none.
+-- Worked commits: what the definitions say of small ones, in the form of git-commit-tree(1), and of bytes that are not one.
 use Rattle.std.proofs.Common.{◌≡◌, ℕ, List, [], ◌∷◌, ◌++◌, codes, None, Some, refl}
 use Rattle.std.specs.Fmt.{digits}
 use Rattle.hex.specs.Hex.{encode_with, decode_pairs}

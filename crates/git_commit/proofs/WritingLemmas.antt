@@ -1,4 +1,4 @@
--- What is written line by line is the spelling of the whole, and its parts are right.
+-- What is written line by line is the spelling of the whole, and its parts are valid.
 use Rattle.std.proofs.Common.{◌≡◌, ℕ, ◌+◌, ◌<◌, List, [], ◌∷◌, ◌++◌, map, take, length, get_or, sym, ap, subst, ◌∙◌, append_assoc}
 use Rattle.std.specs.List.{flat_map, AllByRecursion}
 use Rattle.std.proofs.lemmas.List.{take_more, map_push}

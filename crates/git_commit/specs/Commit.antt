@@ -9,7 +9,7 @@ use Rattle.git_header.specs.Value.{ident_line, word_and_name}
 use Rattle.git_name.specs.Text.{ended}
 use Rattle.git_header.specs.Line.{ending}
 
--- a commit, without where it lies in memory; no message and an empty one are two values
+-- a commit, without where it is in memory; no message and an empty one are two values
 pub record CommitValue : Type 0 where
   pub tree : List ℕ
   pub parents : List (List ℕ)
@@ -35,7 +35,7 @@ commit_lines commit =
     word_and_name (codes "tree ") commit.tree ∷ (map parent_line commit.parents
     ++ ident_line (codes "author ") commit.author ∷ ident_line (codes "committer ") commit.committer ∷ flat_map header_lines commit.headers)
 
--- each line and its line feed, and the message behind an empty line where there is one
+-- each line and its line feed, and the message after an empty line if there is one
 abbrev pub spelled_commit : CommitValue → List ℕ
 spelled_commit commit = flat_map ended (commit_lines commit) ++ ending commit.message
 

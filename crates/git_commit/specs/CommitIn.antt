@@ -1,5 +1,5 @@
--- The commit that bytes are, found by tests, for models that compute (own). It says what `IsCommit`
--- says, as the law `tests_find_the_commit` states.
+-- The commit that bytes are, found by tests, for models that compute (own). It agrees with `IsCommit`, as the law
+-- `tests_find_the_commit` states.
 use Rattle.std.specs.Prelude.{ℕ, ◌&&◌, Bool, List, map, drop, length, Option, None, Some, if◌then◌else◌}
 use Rattle.std.specs.List.{list_all, take_while}
 use Rattle.std.specs.Str.{bytes_eq}
@@ -15,7 +15,7 @@ use Rattle.git_header.specs.Tests.{is_name, is_ident, is_header}
 abbrev pub is_right_commit : CommitValue → Bool
 is_right_commit commit = is_name commit.tree && list_all is_name commit.parents && is_ident commit.author && is_ident commit.committer && list_all (is_header Commit) commit.headers
 
--- the parts that lines and a message are, if they are those of a commit at all
+-- the parts that lines and a message are, if they are those of a commit
 abbrev pub commit_from : List (List ℕ) → Option (List ℕ) → CommitValue
 commit_from lines message =
     let parents = take_while is_parent (drop 1 lines) in

@@ -1,4 +1,4 @@
--- Which fault bytes have that are no commit (own): that of the first faulty line.
+-- The fault of bytes that are not a commit (own): that of the first faulty line.
 use Rattle.std.specs.Prelude.{◌⊎◌, ℕ, List, codes, ◌==◌, slice_index, if◌then◌else◌, Bool}
 use Rattle.git_name.specs.declared.kind.Kind.TheVariants.{Commit}
 use Rattle.git_name.specs.Text.{Begins}
@@ -22,25 +22,25 @@ MayStand AfterTree line = Begins (codes "parent ") line ⊎ Begins (codes "autho
 MayStand AfterAuthor line = Begins (codes "committer ") line
 MayStand (Further place) line = (header_grammar Commit).Stands place line
 
--- the lines of a right form
+-- the lines of a valid form
 abbrev pub IsRightLine : Place → List ℕ → Type 0
 IsRightLine First line = HoldsValue (codes "tree ") IsNameText line
 IsRightLine AfterTree line = HoldsValue (codes "parent ") IsNameText line ⊎ HoldsValue (codes "author ") IsIdentLine line
 IsRightLine AfterAuthor line = HoldsValue (codes "committer ") IsIdentLine line
 IsRightLine (Further place) line = (header_grammar Commit).Right place line
 
--- the header may end behind the committer
+-- the header may end after the committer
 abbrev pub MayEndAt : Place → Type 0
 MayEndAt First = ⊥
 MayEndAt AfterTree = ⊥
 MayEndAt AfterAuthor = ⊥
 MayEndAt (Further place) = Unit {0}
 
--- whether the line begins with `p`, as that of a parent does and that of an author does not
+-- whether the line begins with `p`, as a parent's does and an author's does not
 abbrev pub is_parent : List ℕ → Bool
 is_parent line = slice_index line 0 == 112
 
--- the place behind a line
+-- the place after a line
 abbrev pub place_after : Place → List ℕ → Place
 place_after First line = AfterTree
 place_after AfterTree line = if is_parent line then AfterTree else AfterAuthor
@@ -67,6 +67,6 @@ commit_grammar = record {
   form = form_fault;
 }
 
--- the fault of bytes that are no commit
+-- the fault of bytes that are not a commit
 abbrev pub IsCommitFault : HeaderFault → List ℕ → Type 0
 IsCommitFault why bytes = IsFirstFault commit_grammar First why bytes

@@ -1,4 +1,4 @@
--- Lines that stand one after another in bytes, and the parents that they are.
+-- Consecutive lines in bytes, and the parents that they are.
 use Rattle.std.specs.Prelude.{◌≡◌, ℕ, List, map, drop}
 use Rattle.std.specs.List.{flat_map, AllByRecursion}
 use Rattle.git_name.specs.Name.{IsName, name_in}

@@ -1,4 +1,4 @@
--- What a commit that is lent from its bytes stands for.
+-- The value of a commit that is borrowed from its bytes.
 use Rattle.git_header.specs.Left.{headers_left}
 use Rattle.git_header.specs.Lent.{message_of}
 use Rattle.git_header.specs.View.{ident_of}

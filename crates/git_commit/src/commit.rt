@@ -6,7 +6,7 @@ use crate::parents::Parents;
 use git_header::{Ident, take_ident, take_name};
 use git_name::Name;
 
-/// A commit, lent from its bytes.
+/// A commit, borrowed from its bytes.
 #[derive(Clone, Copy, Debug)]
 pub struct Commit<'a> {
     tree: Name,
@@ -52,13 +52,13 @@ impl<'a> Commit<'a> {
         })
     }
 
-    /// The commit that the bytes are. It takes no memory.
+    /// The commit that the bytes are. It allocates nothing.
     pub fn read(bytes: &'a [u8]) -> Result<Commit<'a>, CommitFault>
         // What is read is a commit of these parts.
         ensures found { IfOk result (λ commit. IsCommit (commit_of commit) bytes.now) }
         // What is a commit is read.
         ensures only { (value : CommitValue) → IsCommit value bytes.now → IsOkAnd result (λ commit. commit_of commit ≡ value) }
-        // And what models compute.
+        // The value that models compute.
         ensures value { option_map commit_of (result_ok result) ≡ commit_in bytes.now }
         // Which fault it is.
         ensures exact { IfErr result (λ why. IsCommitFault why bytes.now) }

@@ -1,4 +1,4 @@
 use git_header::HeaderFault;
 
-/// Why bytes are no commit: the fault of the first faulty line.
+/// Why bytes are not a commit: the fault of the first faulty line.
 pub type CommitFault = HeaderFault;

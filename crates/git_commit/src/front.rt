@@ -6,10 +6,10 @@ use crate::parents::Parents;
 use git_header::take_name;
 use git_name::Name;
 
-/// The names in the lines of the tree and of the parents at the front of the bytes, for whoever walks
-/// the links of bytes that may be no commit. It takes no memory.
+/// The names in the lines of the tree and of the parents at the start of the bytes, for callers that
+/// follow links before they check that the bytes are a commit. It allocates nothing.
 pub fn first_links(bytes: &[u8]) -> Option<(Name, Parents<'_>)>
-    // Of a commit they are its tree and its parents.
+    // For a commit they are its tree and its parents.
     ensures tree { IfSome result (λ p. (value : CommitValue) → IsCommit value bytes.now → p.0 ≡ value.tree) }
     ensures parents { IfSome result (λ p. (value : CommitValue) → IsCommit value bytes.now → parents_left p.1 ≡ value.parents) }
 {

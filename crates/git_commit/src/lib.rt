@@ -1,6 +1,6 @@
-//! Commits: a tree, parents, an author, a committer, further headers and a message.
-//! What is read is spelled so, each byte of it, a fault is that of the first faulty line, and what
-//! is written is read again as the same parts.
+//! Commits: a tree, parents, an author, a committer, further headers and a message. A commit is read
+//! only from its one spelling, a fault is that of the first faulty line, and what is written is read as
+//! the same parts.
 #![tactic(auto)]
 
 mod commit;

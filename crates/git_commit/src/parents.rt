@@ -12,7 +12,7 @@ use crate::fault::CommitFault;
 use git_header::{after_word, take_name};
 use git_name::Name;
 
-/// The names of a commit's parents, in order, lent from its bytes.
+/// The names of a commit's parents, in order, borrowed from its bytes.
 #[derive(Clone, Copy, Debug)]
 pub struct Parents<'a> {
     rest: &'a [u8],
@@ -41,7 +41,7 @@ impl<'a> Iterator for Parents<'a> {
     }
 }
 
-// The lines of parents at the front, and what stands behind them.
+// The lines of parents at the start, and what follows them.
 fn take_parents(text: &[u8]) -> Result<(&[u8], &[u8]), CommitFault>
     ensures found { IfOk result (λ p. AreParentLines p.0.now) }
     ensures parts { IfOk result (λ p. text.now ≡ p.0.now ++ p.1.now) }
@@ -62,7 +62,7 @@ fn take_parents(text: &[u8]) -> Result<(&[u8], &[u8]), CommitFault>
 impl<'a> Parents<'a> {
     ghost use Rattle.git_commit.specs.Left.{parents_left};
 
-    // The parents at the front, and what stands behind them.
+    // The parents at the start, and what follows them.
     pub(crate) fn take(text: &'a [u8]) -> Result<(Parents<'a>, &'a [u8]), CommitFault>
         ensures names { IfOk result (λ p. AllByRecursion IsName (parents_left p.0)) }
         ensures found { IfOk result (λ p. text.now ≡ flat_map ended (map parent_line (parents_left p.0)) ++ p.1.now) }

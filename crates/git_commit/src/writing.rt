@@ -22,7 +22,7 @@ fn put_name(out: &mut Vec<u8>, word: &[u8], name: &Name) -> Result<(), AllocErro
     ensures line { OnOk result (out.new.items ≡ out.old.items ++ ended (word_and_name word.now name.now)) }
     ensures name { IsName name.now }
 {
-    // The clauses learn here that it is a name.
+    // Called for its clause: it is a name.
     let _bytes = name.as_bytes();
     let mut digits = [0; 64];
     name.write_hex(&mut digits);
@@ -43,7 +43,7 @@ fn put_parents(out: &mut Vec<u8>, parents: &[Name]) -> Result<(), AllocError>
     Ok(())
 }
 
-// Writes what stands behind the angle brackets.
+// Writes what follows the angle brackets.
 fn put_time(out: &mut Vec<u8>, seconds: u64, sign: Sign, zone: &[u8]) -> Result<(), AllocError>
     ensures { OnOk result (out.new.items ≡ out.old.items ++ spelled_time seconds sign zone.now) }
 {
@@ -110,7 +110,7 @@ fn put_headers(out: &mut Vec<u8>, headers: &[Header<'_>]) -> Result<(), AllocErr
     Ok(())
 }
 
-// Writes the empty line and the message, where there is one.
+// Writes the empty line and the message, if there is one.
 fn put_message(out: &mut Vec<u8>, message: Option<&[u8]>) -> Result<(), AllocError>
     ensures { OnOk result (out.new.items ≡ out.old.items ++ ending (message_of message.entry)) }
 {
@@ -122,7 +122,7 @@ fn put_message(out: &mut Vec<u8>, message: Option<&[u8]>) -> Result<(), AllocErr
     Ok(())
 }
 
-/// The bytes of the commit of these parts, which are right by their types.
+/// The bytes of the commit of these parts, which are valid by their types.
 pub fn write(
     alloc: Global,
     tree: &Name,

@@ -1,4 +1,4 @@
--- The lines of further headers are lines, and begin with none of the demanded words.
+-- The lines of further headers are lines, and begin with none of the required words.
 use Rattle.std.proofs.Common.{◌≡◌, ◌≢◌, inl, inr, ℕ, List, [], ◌∷◌, ◌++◌, refl, sym, ◌∙◌, arith}
 use Rattle.std.proofs.lemmas.List.Elements.{All-from_recursion, All-cons, All-append, All-same}
 use Rattle.git_name.specs.declared.kind.Kind.{Kind}

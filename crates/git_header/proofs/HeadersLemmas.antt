@@ -1,4 +1,4 @@
--- Further headers are lent one after another.
+-- Further headers are borrowed one after another.
 use Rattle.std.proofs.Common.{zero, suc, ◌+◌, get_or, inr, drop, ◌≡◌, ◌≢◌, ℕ, ◌<◌, All, List, [], ◌∷◌, ◌++◌, map, length, refl, sym, ap, subst, ◌∙◌, arith, append_assoc, Some, None}
 use Rattle.std.specs.List.{AllByRecursion, AllWithin, flat_map}
 use Rattle.std.proofs.lemmas.List.Concat.{flat_map-append}

@@ -1,4 +1,4 @@
--- A text of right lines and an ending is parted into just these.
+-- A text of valid lines and an ending is split into exactly these.
 use Rattle.std.proofs.Common.{true, Bool, cond, ◌≡◌, ◌≢◌, ℕ, List, [], ◌∷◌, ◌++◌, length, drop, refl, ap, ◌∙◌, Option, Some, None}
 use Rattle.std.specs.List.{AllByRecursion, flat_map, take_while}
 use Rattle.std.proofs.Math.Seq.{drop-append_seam}

@@ -1,4 +1,4 @@
--- What stands before the first byte of a kind and what behind it, in one way.
+-- What precedes the first byte of a kind and what follows it, in one way.
 use Rattle.std.proofs.Common.{◌≡◌, ◌≢◌, ℕ, ◌<◌, ◌^◌, All, List, [], ◌∷◌, ◌++◌, get_or, refl, sym, ap, ◌∙◌, arith, rules}
 use Rattle.std.specs.Fmt.{decimal}
 use Rattle.std.specs.Str.Parse.{AllDigits, digits_value}

@@ -1,4 +1,4 @@
--- Names and idents behind the word of a line, and where they are lacking.
+-- Names and idents after the word of a line, and where they are missing.
 use Rattle.std.proofs.Common.{◌≡◌, ◌≢◌, inl, inr, ℕ, ◌<◌, ◌≤◌, ◌^◌, All, List, [], ◌∷◌, ◌++◌, refl, sym, ap, subst, ◌∙◌, arith}
 use Rattle.std.specs.Fmt.{decimal}
 use Rattle.std.proofs.lemmas.List.Elements.{All-cons, All-append, All-same, All-weaker, All-head, All-tail}

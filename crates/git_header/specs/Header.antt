@@ -19,11 +19,11 @@ pub record IsPlain (bytes : List ℕ) : Type 0 where
   pub no_end : Lacks 10 bytes
   pub no_zero : Lacks 0 bytes
 
--- the kind of object that a const parameter stands for: 1 a tag, and else a commit
+-- the kind of object that a const parameter stands for: 1 a tag, otherwise a commit
 abbrev pub kind_at : ℕ → Kind
 kind_at code = if code == 1 then Tag else Commit
 
--- the words that begin the demanded lines, so no further header has them as its key
+-- the words that begin the required lines, so no further header has them as its key
 abbrev pub IsOwnWord : Kind → List ℕ → Type 0
 IsOwnWord Commit key = (key ≡ codes "tree") ⊎ ((key ≡ codes "parent") ⊎ ((key ≡ codes "author") ⊎ (key ≡ codes "committer")))
 IsOwnWord Tag key = (key ≡ codes "object") ⊎ ((key ≡ codes "type") ⊎ ((key ≡ codes "tag") ⊎ (key ≡ codes "tagger")))
@@ -59,7 +59,7 @@ pub record IsHeaderLine (kind : Kind) (line : List ℕ) : Type 0 where
   pub value_is : IsPlain value
   pub spelling : line ≡ key ++ 32 ∷ value
 
--- the line goes on a further header
+-- the line continues a further header
 pub record IsContinuation (line : List ℕ) : Type 0 where
   pub value : List ℕ
   pub value_is : IsPlain value
@@ -72,7 +72,7 @@ pub record HasOwnWord (kind : Kind) (line : List ℕ) : Type 0 where
   pub own : IsOwnWord kind word
   pub begins : line ≡ word ++ 32 ∷ rest
 
--- whether a further header stands before
+-- whether a further header precedes
 pub data HeaderPlace : Type 0 where
   NoHeader : HeaderPlace
   SomeHeader : HeaderPlace
@@ -81,7 +81,7 @@ abbrev pub IsFurther : Kind → HeaderPlace → List ℕ → Type 0
 IsFurther kind NoHeader line = IsHeaderLine kind line
 IsFurther kind SomeHeader line = IsHeaderLine kind line ⊎ IsContinuation line
 
--- what may stand behind the demanded lines
+-- what may come after the required lines
 abbrev pub header_grammar : Kind → Grammar HeaderPlace HeaderFault
 header_grammar kind = record {
   Stands = λ _ line. HasOwnWord kind line → ⊥;

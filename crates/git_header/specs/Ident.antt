@@ -4,8 +4,7 @@ use Rattle.git_header.specs.declared.ident.Sign.{Sign}
 use Rattle.git_header.specs.declared.ident.Sign.TheVariants.{Plus, Minus}
 use Rattle.git_name.specs.Text.{Lacks}
 
--- the name, which is all that stands before `<`, the email between the angle brackets, the seconds
--- since 1970, and the time zone
+-- the name, which is all that precedes `<`, the email between the angle brackets, the seconds since 1970, and the time zone
 pub record IdentValue : Type 0 where
   pub name : List ℕ
   pub email : List ℕ
@@ -42,7 +41,7 @@ abbrev pub sign_byte : Sign → ℕ
 sign_byte Plus = 43
 sign_byte Minus = 45
 
--- what stands behind the angle brackets: SP SECONDS SP SIGN ZONE, with no space behind the sign
+-- what follows the angle brackets: SP SECONDS SP SIGN ZONE, with no space after the sign
 abbrev pub spelled_time : ℕ → Sign → List ℕ → List ℕ
 spelled_time seconds sign zone = 32 ∷ (decimal seconds ++ 32 ∷ sign_byte sign ∷ zone)
 

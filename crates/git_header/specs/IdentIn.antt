@@ -1,4 +1,4 @@
--- The ident that a text is, if it is one at all, for models that compute (own).
+-- The ident that a text is, if it is one, for models that compute (own).
 use Rattle.std.specs.Prelude.{ℕ, ◌==◌, List, [], drop, slice_index, if◌then◌else◌}
 use Rattle.std.specs.Option.{unwrap_or}
 use Rattle.git_name.specs.Number.{number_in}
@@ -7,7 +7,7 @@ use Rattle.git_header.specs.declared.ident.Sign.{Sign}
 use Rattle.git_header.specs.declared.ident.Sign.TheVariants.{Plus, Minus}
 use Rattle.git_header.specs.Ident.{IdentValue}
 
--- what stands before the first such byte, and what stands behind it
+-- what precedes the first such byte, and what follows it
 abbrev pub sides : ℕ → List ℕ → List ℕ × List ℕ
 sides byte text = unwrap_or (split_once byte text) ([], [])
 

@@ -1,4 +1,4 @@
--- Header lines are judged in order, and the first faulty one decides (own). Commits and tags share these words.
+-- Header lines are judged in order, and the first faulty one decides (own). Commits and tags share these definitions.
 use Rattle.std.specs.Prelude.{◌≡◌, ◌≢◌, ℕ, List, [], ◌∷◌, ◌++◌}
 use Rattle.std.specs.List.{flat_map}
 use Rattle.git_name.specs.Text.{Lacks, ended}
@@ -15,24 +15,24 @@ pub record Grammar (P F : Type 0) : Type 1 where
   pub zero_byte : F
   pub form : P → List ℕ → F
 
--- the lines are right from a place on, and lead to another one
+-- the lines are valid from one place, and lead to another
 abbrev pub AreRightLines : {P F : Type 0} → Grammar P F → P → List (List ℕ) → P → Type 0
 AreRightLines g place [] last = place ≡ last
 AreRightLines g place (line ∷ lines) last = g.Right place line × AreRightLines g (g.next place line) lines last
 
--- which point a whole line breaks: a zero byte, a word that may not stand there, a wrong form
+-- which rule a complete line breaks: a zero byte, a word that may not stand there, a wrong form
 pub data IsBadLine {P F : Type 0} (g : Grammar P F) (why : F) (place : P) (line : List ℕ) : Type 0 where
   HoldsZero : (Lacks 0 line → ⊥) → why ≡ g.zero_byte → IsBadLine g why place line
   Misplaced : Lacks 0 line → (g.Stands place line → ⊥) → why ≡ g.order → IsBadLine g why place line
   Malformed : Lacks 0 line → g.Stands place line → (g.Right place line → ⊥) → why ≡ g.form place line → IsBadLine g why place line
 
--- which point the next line breaks, or the header's end
+-- which rule the next line breaks, or the header's end
 pub data IsBroken {P F : Type 0} (g : Grammar P F) (why : F) (place : P) (rest : List ℕ) : Type 0 where
   Early : IsEnding rest → (g.MayEnd place → ⊥) → why ≡ g.order → IsBroken g why place rest
   Unended : rest ≢ [] → Lacks 10 rest → why ≡ g.unended → IsBroken g why place rest
   Bad : (line after : List ℕ) → IsLine line after rest → IsBadLine g why place line → IsBroken g why place rest
 
--- a front of the text is right lines, and what comes next breaks this point
+-- a prefix of the text is valid lines, and what comes next breaks this rule
 pub record IsFirstFault {P F : Type 0} (g : Grammar P F) (start : P) (why : F) (text : List ℕ) : Type 0 where
   pub lines : List (List ℕ)
   pub place : P

@@ -1,4 +1,4 @@
--- What a further header stands for, and what the iterators have left.
+-- The value of a further header, and what the iterators have left.
 use Rattle.std.specs.Prelude.{ℕ, List}
 use Rattle.git_header.specs.declared.continuation.Continuation.{Continuation}
 use Rattle.git_header.specs.declared.header.Header.{Header}

@@ -1,4 +1,4 @@
--- Lent bytes as a value, without where they lie in memory.
+-- Borrowed bytes as a value, without where they are in memory.
 use Rattle.std.specs.Prelude.{ℕ, List, Option, Some, None}
 use Rattle.std.specs.Borrow.{Bor}
 

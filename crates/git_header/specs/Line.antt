@@ -1,10 +1,10 @@
--- Lines of a header: bytes without a line feed, and one behind them (own: no zero byte in them).
+-- Lines of a header: bytes without a line feed, then a line feed (own: no zero byte in them).
 use Rattle.std.specs.Prelude.{◌≡◌, ◌≢◌, ◌⊎◌, ℕ, List, [], ◌∷◌, ◌++◌, Option, None, Some}
 use Rattle.git_name.specs.Text.{Begins, Lacks}
 use Rattle.git_header.specs.declared.fault.HeaderFault.{HeaderFault}
 use Rattle.git_header.specs.declared.fault.HeaderFault.TheVariants as fault
 
--- what may stand behind the lines of a header: nothing, or an empty line and a message
+-- what may come after the lines of a header: nothing, or an empty line and a message
 abbrev pub ending : Option (List ℕ) → List ℕ
 ending None = []
 ending (Some message) = 10 ∷ message
@@ -13,13 +13,13 @@ ending (Some message) = 10 ∷ message
 abbrev pub IsEnding : List ℕ → Type 0
 IsEnding text = (message : Option (List ℕ)) × (text ≡ ending message)
 
--- the text begins with the line, which isn't empty, and goes on after its line feed
+-- the text begins with the line, which is not empty, and continues after its line feed
 pub record IsLine (line after text : List ℕ) : Type 0 where
   pub parts : text ≡ line ++ 10 ∷ after
   pub no_end : Lacks 10 line
   pub some : line ≢ []
 
--- why the text begins with no right line, whichever may stand there
+-- why the text begins with no valid line, whatever may stand there
 abbrev pub IsNoLine : HeaderFault → List ℕ → Type 0
 IsNoLine fault.HeaderOrder text = IsEnding text
 IsNoLine fault.HeaderLine text = (text ≢ []) × Lacks 10 text
@@ -27,7 +27,7 @@ IsNoLine fault.ZeroByte text = (line : List ℕ) × (after : List ℕ) × IsLine
 IsNoLine fault.Name text = ⊥
 IsNoLine fault.Ident text = ⊥
 
--- a line with no zero byte that doesn't begin with the word
+-- a line with no zero byte that does not begin with the word
 pub record IsOther (word text : List ℕ) : Type 0 where
   pub line : List ℕ
   pub after : List ℕ

@@ -1,4 +1,4 @@
--- The values of continuation lines, as they lie in bytes or one by one.
+-- The values of continuation lines, as they are in bytes or one by one.
 use Rattle.std.specs.Prelude.{◌≡◌, ℕ, List, map, Option, Some, None}
 use Rattle.git_header.specs.declared.more.More.{More}
 use Rattle.git_header.specs.declared.more.More.TheVariants.{Text, Values}
@@ -8,11 +8,11 @@ abbrev pub more_of : More → List (List ℕ)
 more_of (Text text) = more_in text.now
 more_of (Values values) = map (λ value. value.now) values.now
 
--- the bytes, where the values lie in lines
+-- the bytes, if the values are in lines
 abbrev pub text_in : More → Option (List ℕ)
 text_in (Text text) = Some text.now
 text_in (Values values) = None
 
--- where they do, the bytes are right continuation lines
+-- if they are, the bytes are valid continuation lines
 abbrev pub IsMoreOf : More → Type 0
 IsMoreOf more = (text : List ℕ) → text_in more ≡ Some text → IsMore text

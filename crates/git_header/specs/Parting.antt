@@ -1,4 +1,4 @@
--- A text in two parts: the lines of a header, and the message behind an empty line (own). Commits and tags share these words.
+-- A text in two parts: the lines of a header, and the message after an empty line (own). Commits and tags share these definitions.
 use Rattle.std.specs.Prelude.{ℕ, Bool, true, false, List, [], ◌∷◌, drop, length, get_or, Option, None, Some}
 use Rattle.std.specs.List.{flat_map, take_while}
 use Rattle.git_name.specs.Name.{name_in}
@@ -14,12 +14,12 @@ holds_some (byte ∷ line) = true
 unfoldable pub header_part : List ℕ → List (List ℕ)
 header_part text = take_while holds_some (lines_in text)
 
--- what stands behind the empty line at the front
+-- what follows the empty line at the start
 abbrev pub behind_end : List ℕ → Option (List ℕ)
 behind_end [] = None
 behind_end (byte ∷ message) = Some message
 
--- what stands behind the first empty line
+-- what follows the first empty line
 unfoldable pub message_part : List ℕ → Option (List ℕ)
 message_part text = behind_end (drop (length (flat_map ended (header_part text))) text)
 
@@ -27,6 +27,6 @@ message_part text = behind_end (drop (length (flat_map ended (header_part text))
 abbrev pub nth_line : ℕ → List (List ℕ) → List ℕ
 nth_line place lines = get_or lines place []
 
--- the name behind a word of so many bytes
+-- the name after a word of this many bytes
 abbrev pub name_behind : ℕ → List ℕ → List ℕ
 name_behind len line = name_or_none (name_in (drop len line))

@@ -1,11 +1,11 @@
--- Lines that stand one after another in bytes, and the further headers that they are.
+-- Consecutive lines in bytes, and the further headers that they are.
 use Rattle.std.specs.Prelude.{◌≡◌, ℕ, List, [], ◌∷◌, map, drop, Option, Some, None, ◌==◌, if◌then◌else◌}
 use Rattle.std.specs.List.{flat_map, AllByRecursion}
 use Rattle.git_name.specs.declared.kind.Kind.{Kind}
 use Rattle.git_header.specs.Header.{HeaderValue, IsHeader, IsPlain, continuing, header_lines}
 use Rattle.git_name.specs.Text.{ended, onto_first}
 
--- the bytes cut behind each line feed
+-- the bytes cut after each line feed
 unfoldable pub lines_in : List ℕ → List (List ℕ)
 lines_in [] = []
 lines_in (byte ∷ bytes) = if byte == 10 then [] ∷ lines_in bytes else onto_first byte (lines_in bytes)
@@ -14,7 +14,7 @@ lines_in (byte ∷ bytes) = if byte == 10 then [] ∷ lines_in bytes else onto_f
 unfoldable pub more_in : List ℕ → List (List ℕ)
 more_in bytes = map (λ line. drop 1 line) (lines_in bytes)
 
--- the bytes are right continuation lines
+-- the bytes are valid continuation lines
 pub record IsMore (bytes : List ℕ) : Type 0 where
   pub each : AllByRecursion IsPlain (more_in bytes)
   pub spelling : bytes ≡ flat_map ended (map continuing (more_in bytes))
@@ -24,7 +24,7 @@ abbrev pub name_or_none : Option (List ℕ) → List ℕ
 name_or_none None = []
 name_or_none (Some name) = name
 
--- the bytes before the first space, and those behind it
+-- the bytes before the first space, and those after it
 abbrev pub before_space : List ℕ → List ℕ
 before_space [] = []
 before_space (byte ∷ bytes) = if byte == 32 then [] else byte ∷ before_space bytes
@@ -33,7 +33,7 @@ abbrev pub behind_space : List ℕ → List ℕ
 behind_space [] = []
 behind_space (byte ∷ bytes) = if byte == 32 then bytes else behind_space bytes
 
--- the continuation lines at the front of some lines, and the further headers behind them
+-- the continuation lines at the start of some lines, and the further headers after them
 pub record Gathered : Type 0 where
   pub more : List (List ℕ)
   pub headers : List HeaderValue

@@ -33,7 +33,7 @@ is_zone zone = (length zone == 4) && list_all (λ b. nat_le 48 b) zone && list_a
 abbrev pub is_ident : IdentValue → Bool
 is_ident ident = is_ident_text ident.name && ends_in_space ident.name && is_ident_text ident.email && nat_lt ident.seconds (2 ^ 63) && is_zone ident.zone
 
--- whether the key is the word of a demanded line
+-- whether the key is the word of a required line
 abbrev pub is_own_word : Kind → List ℕ → Bool
 is_own_word Commit key = bytes_eq key (codes "tree") || (bytes_eq key (codes "parent") || (bytes_eq key (codes "author") || bytes_eq key (codes "committer")))
 is_own_word Tag key = bytes_eq key (codes "object") || (bytes_eq key (codes "type") || (bytes_eq key (codes "tag") || bytes_eq key (codes "tagger")))

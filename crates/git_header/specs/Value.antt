@@ -1,4 +1,4 @@
--- Values behind the word of a demanded line: names and idents (own).
+-- Values after the word of a required line: names and idents (own).
 use Rattle.std.specs.Prelude.{◌≡◌, ◌⊎◌, ℕ, List, ◌++◌}
 use Rattle.hex.specs.Hex.{encode_lower}
 use Rattle.git_name.specs.Name.{IsName}
@@ -15,13 +15,13 @@ IsNameText text = (name : List ℕ) × IsName name × (text ≡ encode_lower nam
 abbrev pub IsIdentLine : List ℕ → Type 0
 IsIdentLine text = (ident : IdentValue) × IsIdent ident text
 
--- the line is the word and a right value behind it
+-- the line is the word, followed by a valid value
 pub record HoldsValue (word : List ℕ) (IsValue : List ℕ → Type 0) (line : List ℕ) : Type 0 where
   pub value : List ℕ
   pub spelling : line ≡ word ++ value
   pub is : IsValue value
 
--- a line with no zero byte that begins with the word, and the value behind it is wrong
+-- a line with no zero byte that begins with the word, followed by a wrong value
 pub record IsWrong (word : List ℕ) (IsValue : List ℕ → Type 0) (text : List ℕ) : Type 0 where
   pub value : List ℕ
   pub after : List ℕ
@@ -29,7 +29,7 @@ pub record IsWrong (word : List ℕ) (IsValue : List ℕ → Type 0) (text : Lis
   pub plain : Lacks 0 (word ++ value)
   pub wrong : IsValue value → ⊥
 
--- why the text begins with no line of the word and a right value
+-- why the text begins with no line of the word and a valid value
 abbrev pub IsNoValue : List ℕ → (List ℕ → Type 0) → HeaderFault → HeaderFault → List ℕ → Type 0
 IsNoValue word IsValue form why text = IsNoWord word why text ⊎ ((why ≡ form) × IsWrong word IsValue text)
 

@@ -1,4 +1,4 @@
--- The value that a lent ident stands for, without where it lies in memory.
+-- The value of a borrowed ident, without where it is in memory.
 use Rattle.git_header.specs.declared.ident.Ident.{Ident}
 use Rattle.git_header.specs.Ident.{IdentValue}
 

@@ -10,7 +10,7 @@ use crate::fault::HeaderFault;
 use crate::line::{after_word, take_line};
 use crate::more::More;
 
-// The continuation lines at the front, and what stands behind them.
+// The continuation lines at the start, and what follows them.
 pub(crate) fn take_more(text: &[u8]) -> Result<(&[u8], &[u8]), HeaderFault>
     ensures found { IfOk result (λ p. IsMore p.0.now) }
     ensures parts { IfOk result (λ p. text.now ≡ p.0.now ++ p.1.now) }
@@ -25,7 +25,7 @@ pub(crate) fn take_more(text: &[u8]) -> Result<(&[u8], &[u8]), HeaderFault>
     Ok((&text[..text.len() - rest.len()], rest))
 }
 
-// The value of the first continuation line, and what stands behind the line.
+// The value of the first continuation line, and what follows the line.
 fn first_value(text: &[u8]) -> Option<(&[u8], &[u8])>
     requires { IsMore text.now }
     ensures some { IfSome result (λ p. more_in text.now ≡ p.0.now ∷ more_in p.1.now) }

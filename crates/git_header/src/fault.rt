@@ -6,13 +6,13 @@ pub enum HeaderFault {
     /// A line that may not stand there, or headers that end too early.
     #[error("a header line stands out of order, or is missing")]
     HeaderOrder,
-    /// No name of an object stands where one is demanded.
+    /// There is no object name where one is required.
     #[error("a header line holds no object name")]
     Name,
-    /// No ident stands where one is demanded.
+    /// There is no ident where one is required.
     #[error("a header line holds no ident")]
     Ident,
-    /// A line with no line feed behind it, or a further header of a wrong form.
+    /// A line without a line feed, or a further header of a wrong form.
     #[error("a header line has a wrong form")]
     HeaderLine,
     /// A zero byte in a header line.

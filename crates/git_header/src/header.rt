@@ -14,7 +14,7 @@ use crate::kind::is_own_word;
 use crate::line::{cut, take_line};
 use memchr::{memchr, memchr2};
 
-/// A further header of a commit or a tag, as the parameter says: its key, its value and the values
+/// A further header of a commit or a tag, depending on the parameter: its key, its value and the values
 /// of its continuation lines. No value of this type has another form.
 #[derive(Clone, Copy, Debug)]
 pub struct Header<'a, const KIND: u8> {
@@ -31,7 +31,7 @@ fn is_plain(bytes: &[u8]) -> bool
     memchr2(b'\n', 0, bytes).is_none()
 }
 
-// Whether each of the values does, one by one.
+// The same for each of the values, one by one.
 fn all_plain(values: &[&[u8]]) -> bool
     ensures { IsTrue result ↔ All (λ value. IsPlain value.now) values.now }
 {
@@ -43,7 +43,7 @@ fn all_plain(values: &[&[u8]]) -> bool
     true
 }
 
-// Whether each of the values does.
+// The same for each of the values.
 fn are_plain(values: &[&[u8]]) -> bool
     ensures { IsTrue result ↔ AllByRecursion IsPlain (map (λ value. value.now) values.now) }
 {
@@ -79,7 +79,7 @@ impl<'a, const KIND: u8> Header<'a, KIND> {
         Ok(Header { key, value, more })
     }
 
-    // The further header at the front, with its continuation lines, and what stands behind it.
+    // The further header at the start, with its continuation lines, and what follows it.
     pub(crate) fn take(text: &'a [u8]) -> Result<(Header<'a, KIND>, &'a [u8]), HeaderFault>
         requires { IsEnding text.now → ⊥ }
         ensures header { IfOk result (λ p. IsHeader (kind_at KIND) (header_of p.0)) }
@@ -109,7 +109,7 @@ impl<'a, const KIND: u8> Header<'a, KIND> {
         self.key
     }
 
-    /// The value behind the key.
+    /// The value after the key.
     pub fn value(&self) -> &'a [u8]
         ensures { result.now ≡ (header_of self.now).value }
     {

@@ -12,7 +12,7 @@ use memchr::{memchr, memchr3};
 // 2^63 - 1.
 const MOST_SECONDS: u64 = 9223372036854775807;
 
-/// Which side of Greenwich a time zone lies on.
+/// Whether a time zone is east or west of Greenwich.
 #[derive(Clone, Copy, Debug, PartialEq, Eq)]
 pub enum Sign {
     /// `+`, to the east.
@@ -22,7 +22,7 @@ pub enum Sign {
 }
 
 impl Sign {
-    /// The byte that stands for the sign.
+    /// The byte for the sign.
     pub fn byte(self) -> u8
         ensures { result ≡ sign_byte self }
     {
@@ -75,7 +75,7 @@ fn sign_of(byte: u8) -> Option<Sign>
     }
 }
 
-// The seconds, the sign and the time zone behind the angle brackets.
+// The seconds, the sign and the time zone after the angle brackets.
 fn read_time(text: &[u8]) -> Option<(u64, Sign, &[u8])>
     ensures found { IfSome result (λ t. text.now ≡ spelled_time t.0 t.1 t.2.now) }
     ensures none { IfNone result ((seconds : ℕ) (sign : Sign) (zone : List ℕ) → seconds < 2 ^ 63 → text.now ≢ spelled_time seconds sign zone) }
@@ -113,8 +113,8 @@ pub struct Ident<'a> {
 impl<'a> Ident<'a> {
     ghost use Rattle.git_header.specs.View.{ident_of};
 
-    /// The ident of these parts. The name is all that stands before `<`, so none and one space are
-    /// two idents.
+    /// The ident of these parts. The name is all that precedes `<`, so an empty name and one space are two
+    /// idents.
     pub fn new(
         name: &'a [u8],
         email: &'a [u8],

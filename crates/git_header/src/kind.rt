@@ -14,8 +14,8 @@ fn is_one_of(key: &[u8], a: &[u8], b: &[u8], c: &[u8], d: &[u8]) -> bool
     key == a || key == b || key == c || key == d
 }
 
-// Whether the word begins a demanded line of an object of this kind, so that no further header of
-// it has that key.
+// Whether the word begins a required line of an object of this kind, so that no further header of it
+// has that key.
 pub(crate) fn is_own_word<const KIND: u8>(key: &[u8]) -> bool
     ensures { IsTrue result ↔ IsOwnWord (kind_at KIND) key.now }
 {

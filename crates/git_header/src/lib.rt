@@ -1,6 +1,6 @@
-//! What the headers of commits and tags share: lines, the names and idents in them, further headers
-//! and the message behind them.
-//! What is read is spelled so, each byte of it, and a fault is that of the first faulty line.
+//! What the headers of commits and tags share: lines, the names and idents in them, further headers and
+//! the message after them. A value is read only from its one spelling, and a fault is that of the first
+//! faulty line.
 #![tactic(auto)]
 
 mod continuation;

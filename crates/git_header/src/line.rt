@@ -6,7 +6,7 @@ ghost use Rattle.git_header.specs.Lent.{message_of};
 use crate::fault::HeaderFault;
 use memchr::memchr;
 
-// The bytes before the first such byte, and those behind it.
+// The bytes before the first such byte, and those after it.
 pub(crate) fn cut(byte: u8, bytes: &[u8]) -> Option<(&[u8], &[u8])>
     ensures whole { IfSome result (λ p. bytes.now ≡ p.0.now ++ byte ∷ p.1.now) }
     ensures first { IfSome result (λ p. Lacks byte p.0.now) }
@@ -16,7 +16,7 @@ pub(crate) fn cut(byte: u8, bytes: &[u8]) -> Option<(&[u8], &[u8])>
     Some((&bytes[..end], &bytes[end + 1..]))
 }
 
-/// What stands behind the word, where the bytes begin with it.
+/// What follows the word, if the bytes begin with it.
 pub fn after_word<'a>(word: &[u8], bytes: &'a [u8]) -> Option<&'a [u8]>
     ensures found { IfSome result (λ rest. bytes.now ≡ word.now ++ rest.now) }
     ensures none { IfNone result ((rest : List ℕ) → bytes.now ≢ word.now ++ rest) }
@@ -34,7 +34,7 @@ pub(crate) fn is_ending(text: &[u8]) -> bool
     }
 }
 
-// The message behind the header, where there is one. No message and an empty one are two values.
+// The message after the header, if there is one. No message and an empty one are two values.
 pub(crate) fn message_in(text: &[u8]) -> Option<&[u8]>
     requires { IsEnding text.now }
     ensures { text.now ≡ ending (message_of result) }
@@ -45,8 +45,8 @@ pub(crate) fn message_in(text: &[u8]) -> Option<&[u8]>
     }
 }
 
-// The first line of a header, without its line feed, and what stands behind it. An empty line ends
-// the header, as the end of the bytes does.
+// The first line of a header, without its line feed, and what follows it. A header ends at an empty
+// line or at the end of the bytes.
 pub(crate) fn take_line(text: &[u8]) -> Result<(&[u8], &[u8]), HeaderFault>
     ensures found { IfOk result (λ p. IsLine p.0.now p.1.now text.now) }
     ensures plain { IfOk result (λ p. Lacks 0 p.0.now) }
@@ -64,8 +64,7 @@ pub(crate) fn take_line(text: &[u8]) -> Result<(&[u8], &[u8]), HeaderFault>
     Ok((line, rest))
 }
 
-/// What stands behind the demanded word in the first line of a header, and what stands behind the
-/// line.
+/// What follows the required word in the first line of a header, and what follows the line.
 pub fn take_value<'a>(word: &[u8], text: &'a [u8]) -> Result<(&'a [u8], &'a [u8]), HeaderFault>
     ensures found { IfOk result (λ p. IsLine (word.now ++ p.0.now) p.1.now text.now) }
     ensures plain { IfOk result (λ p. Lacks 0 (word.now ++ p.0.now)) }

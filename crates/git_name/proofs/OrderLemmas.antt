@@ -1,4 +1,4 @@
--- Bytes are ordered, and are the same, as the numbers are that eight of them at a time write.
+-- Bytes are ordered and equal as the numbers are that eight of them at a time write.
 use Rattle.std.proofs.Common.{◌≡◌, ◌≢◌, ℕ, zero, suc, ◌+◌, ◌*◌, ◌<◌, ◌≤◌, Bool, true, false, List, [], ◌∷◌, refl, sym, ap, ap₂, ◌∙◌, ◌&&◌, ◌==◌, Ordering, Less, Equal, Greater, length, length-drop, drop, ◌-◌, subst, arith, nat_lt}
 use Rattle.std.proofs.lemmas.Bool.Decides.{nat_tests}
 use Rattle.std.proofs.lemmas.List.{drop-drop, get_or-drop, nil_from_length}

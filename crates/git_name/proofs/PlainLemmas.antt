@@ -1,4 +1,4 @@
--- No byte below the digits stands in the digits of a name, in the word of a kind, or in a number.
+-- The digits of a name, the word of a kind and a number contain no byte below the digits.
 use Rattle.std.proofs.Common.{◌≡◌, ◌≢◌, ℕ, suc, ◌<◌, ◌≤◌, ◌/◌, ◌%◌, ◌^◌, All, List, [], ◌∷◌, get_or, arith, rules}
 use Rattle.std.specs.Fmt.{decimal}
 use Rattle.std.specs.List.{AllByRecursion}

@@ -1,4 +1,4 @@
--- What is read of a text is what was written, and nothing else is read.
+-- What is read from a text is what was written, and nothing else is read.
 use Rattle.std.proofs.Common.{◌≡◌, ◌≢◌, ℕ, ◌<◌, ◌^◌, ◌*◌, ◌/◌, ◌%◌, length, eqb, Bool, true, false, cond, List, Option, Some, None, Result, Ok, Err, refl, sym, ap, subst, ◌∙◌, arith, nat_lt, ◌&&◌, decimal, unwrap_or}
 use Rattle.std.specs.Str.{bytes_eq}
 use Rattle.std.specs.Str.Parse.{digits_value}

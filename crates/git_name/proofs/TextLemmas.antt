@@ -1,4 +1,4 @@
--- A text is parted in one way, and its words are what stands between its spaces.
+-- A text is split in one way, and its words are what is between its spaces.
 use Rattle.std.proofs.Common.{◌≡◌, ◌≢◌, ℕ, ◌<◌, ◌≤◌, length, take, get_or, length-take, Bool, true, false, cond, eqb, All, List, [], ◌∷◌, ◌++◌, Option, Some, None, refl, sym, ap, arith, ◌∙◌, option_map, unwrap_or}
 use Rattle.std.proofs.lemmas.Bool.Decides.{nat_tests}
 use Rattle.std.proofs.lemmas.List.{get_or-take}

@@ -1,4 +1,4 @@
--- Counts of 64 bits that stay at the greatest, and the fault of a result (own).
+-- Counts of 64 bits that saturate, and the fault of a result (own).
 use Rattle.std.specs.Prelude.{◌≡◌, ◌⊎◌, ℕ, ◌+◌, Option, None, Some, Result, Ok, Err}
 
 -- the greatest number of 64 bits, 2^64 - 1

@@ -4,14 +4,14 @@ use Rattle.std.specs.Str.{bytes_eq}
 use Rattle.git_name.specs.declared.kind.Kind.{Kind}
 use Rattle.git_name.specs.declared.kind.Kind.TheVariants.{Blob, Tree, Commit, Tag}
 
--- the word that stands for a kind
+-- the word for a kind
 abbrev pub type_word : Kind → List ℕ
 type_word Blob = codes "blob"
 type_word Tree = codes "tree"
 type_word Commit = codes "commit"
 type_word Tag = codes "tag"
 
--- the kind that a word stands for
+-- the kind that a word names
 abbrev pub kind_of_word : List ℕ → Option Kind
 kind_of_word word =
     if bytes_eq word (codes "blob") then Some Blob

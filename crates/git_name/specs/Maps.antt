@@ -11,6 +11,6 @@ mapped f (e ∷ es) = (e.0, f e.1) ∷ mapped f es
 unfoldable pub map_values : {K X Y : Type 0} {R : K → K → Ordering} → (X → Y) → FinMap R X → FinMap R Y
 map_values f m = from_sorted (mapped f (entries m))
 
--- the entries of both; where both have a key, that of the first
+-- the entries of both; if both have a key, that of the first
 unfoldable pub joined : {K X : Type 0} {R : K → K → Ordering} → FinMap R X → FinMap R X → FinMap R X
 joined m n = from_entries (entries m ++ entries n)

@@ -14,17 +14,17 @@ Begins {A} front whole = (rest : List A) × (whole ≡ front ++ rest)
 abbrev pub ended : List ℕ → List ℕ
 ended line = line ++ 10 ∷ []
 
--- what stands before the first such byte, and what stands behind it
+-- what precedes the first such byte, and what follows it
 abbrev pub split_once : ℕ → List ℕ → Option (List ℕ × List ℕ)
 split_once byte [] = None
 split_once byte (b ∷ bs) = if b == byte then Some ([], bs) else option_map (λ p. (b ∷ p.0, p.1)) (split_once byte bs)
 
--- a byte put before the first of these words, or lines
+-- a byte put before the first of these words or lines
 abbrev pub onto_first : ℕ → List (List ℕ) → List (List ℕ)
 onto_first b [] = (b ∷ []) ∷ []
 onto_first b (word ∷ words) = (b ∷ word) ∷ words
 
--- the words of a line, parted by one SP each; so an SP too many makes an empty word
+-- the words of a line, separated by one SP each; a second SP makes an empty word
 abbrev pub words_of : List ℕ → List (List ℕ)
 words_of [] = [] ∷ []
 words_of (b ∷ bs) = if b == 32 then [] ∷ words_of bs else onto_first b (words_of bs)

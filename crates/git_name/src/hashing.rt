@@ -4,15 +4,15 @@ ghost use Rattle.std.specs.Hash.DefaultHasher as sip;
 use std::hash::{BuildHasher, DefaultHasher, Hasher};
 use std::random::RandomSource;
 
-/// How a process hashes names: SipHash-1-3 behind 16 bytes of the process's own, so that who picks
-/// names, but does not know these bytes, can not pick names that fall together in a map.
+/// How a process hashes names: SipHash-1-3 keyed by 16 bytes of the process. Someone who chooses names
+/// without knowing these bytes cannot choose names that collide in a map.
 #[derive(Clone, Copy)]
 pub struct Hashing {
     start: DefaultHasher,
 }
 
 impl Hashing {
-    /// Behind 16 bytes that the system draws. Where it draws none, it is the default.
+    /// With 16 bytes that the system draws, or the default if it draws none.
     pub fn drawn(rt: &impl RandomSource) -> Hashing {
         let mut start = DefaultHasher::new();
         let mut secret = [0; 16];
@@ -23,7 +23,7 @@ impl Hashing {
     }
 }
 
-/// Behind no bytes, and so the same in each process.
+/// Without such bytes, and so the same in every process.
 impl Default for Hashing {
     ghost is_default = { λ hashing. hashing.start ≡ sip.initial };
 

@@ -12,7 +12,7 @@ pub enum Kind {
 }
 
 impl Kind {
-    /// The word that stands for the kind: `blob`, `tree`, `commit` or `tag`.
+    /// The word for the kind: `blob`, `tree`, `commit` or `tag`.
     pub fn word(self) -> &'static [u8]
         ensures { result.now ≡ type_word self }
     {
@@ -24,7 +24,7 @@ impl Kind {
         }
     }
 
-    /// The kind that a word stands for.
+    /// The kind that a word names.
     pub fn from_word(word: &[u8]) -> Option<Kind>
         ensures value { result ≡ kind_of_word word.now }
         ensures found { IfSome result (λ kind. word.now ≡ type_word kind) }

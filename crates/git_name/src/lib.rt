@@ -1,6 +1,6 @@
-//! The names of Git's objects in the SHA-256 format, and the texts that write names and numbers.
-//! A sealed object's name is always the hash of its header and content, and each text is read only
-//! where it is the one spelling of its value.
+//! The names of Git's objects in the SHA-256 format, and the texts of names and numbers. A sealed
+//! object's name is always the hash of its header and content. A text is read only if it is the one
+//! spelling of its value.
 #![tactic(auto)]
 
 mod digits;

@@ -53,7 +53,7 @@ impl Name {
         &self.bytes
     }
 
-    /// The name that these 64 lower case digits write. Capitals write no name.
+    /// The name that these 64 lower case digits write. Upper case digits write no name.
     pub fn parse_hex(text: &[u8]) -> Option<Name>
         ensures value { result ≡ name_in text.now }
         ensures found { IfSome result (λ name. text.now ≡ encode_lower name) }
@@ -89,8 +89,8 @@ impl Eq for Name {
     ghost laws = { nat_list_eq_equiv };
 }
 
-/// Its first eight bytes alone: names are hashes themselves, and whoever looks for many that begin
-/// with the same eight finds none.
+/// Only the first eight bytes are hashed: names are hashes themselves, and it is infeasible to find
+/// many that begin with the same eight.
 impl Hash for Name {
     ghost hash_input = { λ name. take 8 name ∷ [] };
 
@@ -128,8 +128,8 @@ impl Ord for Name {
     }
 }
 
-/// The name of the object of this kind with this content: one pass over the bytes, with no copy
-/// and no memory taken (Git's hash-function-transition; FIPS 180-4).
+/// The name of the object of this kind with this content. One pass over the bytes, without a copy or an
+/// allocation (Git's hash-function-transition; FIPS 180-4).
 pub fn name_of(kind: Kind, bytes: &[u8]) -> Name
     ensures { result ≡ object_name (record { kind = kind; bytes = bytes.now }) }
 {

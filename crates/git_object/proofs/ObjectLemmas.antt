@@ -1,4 +1,4 @@
--- Bytes are one object of a kind at the most, and one with a fault is none.
+-- Bytes are at most one object of a kind, and none if they have a fault.
 use Rattle.std.proofs.Common.{◌≡◌, ℕ, List, sym, ap, ◌∙◌, Result, Ok, Err}
 use Rattle.std.specs.Prelude.{IfOk, IfErr, IsOkAnd}
 use Rattle.git_name.specs.declared.kind.Kind.{Kind}

@@ -1,4 +1,4 @@
--- The lines of a tag are right lines, and where one is lacking.
+-- The lines of a tag are valid lines, and where one is missing.
 use Rattle.std.proofs.Common.{true, false, Bool, cond, ◌≡◌, ◌≢◌, ◌⊎◌, inl, inr, ℕ, ◌<◌, List, [], ◌∷◌, ◌++◌, length, take, drop, refl, sym, ap, subst, ◌∙◌, arith, rules, codes, Option, Some, None}
 use Rattle.std.specs.List.{AllByRecursion, flat_map}
 use Rattle.std.proofs.lemmas.List.{take-append-drop}

@@ -1,4 +1,4 @@
--- Which fault bytes have that are no tag (own): that of the first faulty line.
+-- The fault of bytes that are not a tag (own): that of the first faulty line.
 use Rattle.std.specs.Prelude.{◌≡◌, ◌⊎◌, ℕ, List, codes, take, Bool, if◌then◌else◌}
 use Rattle.std.specs.Str.{bytes_eq}
 use Rattle.git_name.specs.Kind.{type_word}
@@ -14,7 +14,7 @@ use Rattle.git_object.specs.declared.fault.TagFault.{TagFault}
 use Rattle.git_object.specs.declared.fault.TagFault.TheVariants as fault
 use Rattle.git_object.specs.Tag.{IsTagName}
 
--- the faults that a tag's lines have as a commit's
+-- the faults that a tag's lines share with a commit's
 abbrev pub tag_fault : HeaderFault → TagFault
 tag_fault line.HeaderOrder = fault.HeaderOrder
 tag_fault line.Name = fault.Name
@@ -42,7 +42,7 @@ MayStand AtName text = Begins (codes "tag ") text
 MayStand AtTagger text = Begins (codes "tagger ") text ⊎ (header_grammar Tag).Stands NoHeader text
 MayStand (Further place) text = (header_grammar Tag).Stands place text
 
--- the lines of a right form
+-- the lines of a valid form
 abbrev pub IsRightLine : TagPlace → List ℕ → Type 0
 IsRightLine AtObject text = HoldsValue (codes "object ") IsNameText text
 IsRightLine AtType text = HoldsValue (codes "type ") IsTypeWord text
@@ -50,7 +50,7 @@ IsRightLine AtName text = HoldsValue (codes "tag ") IsTagName text
 IsRightLine AtTagger text = HoldsValue (codes "tagger ") IsIdentLine text ⊎ (header_grammar Tag).Right NoHeader text
 IsRightLine (Further place) text = (header_grammar Tag).Right place text
 
--- the header may end behind the tag's name
+-- the header may end after the tag's name
 abbrev pub MayEndAt : TagPlace → Type 0
 MayEndAt AtObject = ⊥
 MayEndAt AtType = ⊥
@@ -62,7 +62,7 @@ MayEndAt (Further place) = Unit {0}
 abbrev pub is_tagger : List ℕ → Bool
 is_tagger text = bytes_eq (take 7 text) (codes "tagger ")
 
--- the place behind a line
+-- the place after a line
 abbrev pub place_after : TagPlace → List ℕ → TagPlace
 place_after AtObject text = AtType
 place_after AtType text = AtName
@@ -91,6 +91,6 @@ tag_grammar = record {
   form = form_fault;
 }
 
--- the fault of bytes that are no tag
+-- the fault of bytes that are not a tag
 abbrev pub IsTagFault : TagFault → List ℕ → Type 0
 IsTagFault why bytes = IsFirstFault tag_grammar AtObject why bytes

@@ -1,4 +1,4 @@
--- What an object that is lent from its bytes stands for, by its form.
+-- The value of an object that is borrowed from its bytes, by its form.
 use Rattle.git_commit.specs.Whole.{commit_of}
 use Rattle.git_object.specs.declared.object.Form.{Form}
 use Rattle.git_object.specs.declared.object.Form.TheVariants as form

@@ -1,4 +1,4 @@
--- What an object that is lent from its bytes stands for.
+-- The value of an object that is borrowed from its bytes.
 use Rattle.git_object.specs.declared.object.Object.{Object}
 use Rattle.git_object.specs.Form.{value_of}
 use Rattle.git_object.specs.Object.{ObjectValue}

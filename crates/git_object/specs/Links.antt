@@ -11,7 +11,7 @@ use Rattle.git_object.specs.Object.{ObjectValue, BlobValue, TreeOf, CommitOf, Ta
 abbrev pub link_to : List ℕ → Kind → Link
 link_to name k = record { name = name; kind = k }
 
--- a link, where a kind is demanded
+-- a link, if a kind is required
 abbrev pub link_if : List ℕ → Option Kind → List Link
 link_if name None = []
 link_if name (Some k) = link_to name k ∷ []
@@ -23,8 +23,8 @@ entry_links entry = link_if entry.name (link_kind entry.mode)
 abbrev pub commit_link : List ℕ → Link
 commit_link name = link_to name kind.Commit
 
--- the links of an object, in order: a tree's are its entries but gitlinks, a commit's its tree and
--- then its parents, a tag's its object
+-- the links of an object, in order: a tree's are its entries except gitlinks, a commit's its tree and then its parents, a tag's its
+-- object
 abbrev pub links_of : ObjectValue → List Link
 links_of (BlobValue bytes) = []
 links_of (TreeOf entries) = flat_map entry_links entries

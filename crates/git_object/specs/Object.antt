@@ -12,7 +12,7 @@ use Rattle.git_object.specs.declared.object.ObjectFault.TheVariants as fault
 use Rattle.git_object.specs.Tag.{TagValue, IsTag}
 use Rattle.git_object.specs.Fault.{IsTagFault}
 
--- an object, without where it lies in memory
+-- an object, without where it is in memory
 pub data ObjectValue : Type 0 where
   BlobValue : List ℕ → ObjectValue
   TreeOf : List Entry → ObjectValue
@@ -26,7 +26,7 @@ IsObject (TreeOf entries) k bytes = (k ≡ kind.Tree) × IsTree entries bytes
 IsObject (CommitOf commit) k bytes = (k ≡ kind.Commit) × IsCommit commit bytes
 IsObject (TagOf tag) k bytes = (k ≡ kind.Tag) × IsTag tag bytes
 
--- the fault of bytes that are no object of this kind
+-- the fault of bytes that are not an object of this kind
 abbrev pub IsObjectFault : ObjectFault → Kind → List ℕ → Type 0
 IsObjectFault (fault.Tree why) k bytes = (k ≡ kind.Tree) × IsTreeFault why bytes
 IsObjectFault (fault.Commit why) k bytes = (k ≡ kind.Commit) × IsCommitFault why bytes

@@ -1,5 +1,5 @@
--- The object of a kind that bytes are, and its links, found by tests, for models that compute (own).
--- It says what `IsObject` says, as the law `tests_find_the_object` states.
+-- The object of a kind that bytes are, and its links, found by tests, for models that compute (own). It agrees with `IsObject`, as
+-- the law `tests_find_the_object` states.
 use Rattle.std.specs.Prelude.{ℕ, List, [], Option, None, Some}
 use Rattle.std.specs.Option.{option_map}
 use Rattle.git_name.specs.declared.kind.Kind.{Kind}
@@ -18,7 +18,7 @@ object_in kind.Tree bytes = option_map (λ entries. TreeOf entries) (tree_in byt
 object_in kind.Commit bytes = option_map (λ commit. CommitOf commit) (commit_in bytes)
 object_in kind.Tag bytes = option_map (λ tag. TagOf tag) (tag_in bytes)
 
--- the links of an object, and none where there is no object
+-- the links of an object; none if there is no object
 abbrev pub links_or_none : Option ObjectValue → List Link
 links_or_none None = []
 links_or_none (Some object) = links_of object

@@ -11,7 +11,7 @@ use Rattle.git_header.specs.Ident.{IdentValue, IsIdentValue}
 use Rattle.git_name.specs.Text.{ended}
 use Rattle.git_header.specs.Line.{ending}
 
--- a tag, without where it lies in memory; no message and an empty one are two values
+-- a tag, without where it is in memory; no message and an empty one are two values
 pub record TagValue : Type 0 where
   pub object : List ℕ
   pub kind : Kind
@@ -20,12 +20,12 @@ pub record TagValue : Type 0 where
   pub headers : List HeaderValue
   pub message : Option (List ℕ)
 
--- the name that a tag gives itself: bytes of one line, and not none
+-- the name that a tag gives itself: at least one byte, on one line
 pub record IsTagName (name : List ℕ) : Type 0 where
   pub some : name ≢ []
   pub plain : IsPlain name
 
--- a right ident, where there is one
+-- a valid ident, if there is one
 abbrev pub IsTagger : Option IdentValue → Type 0
 IsTagger None = Unit {0}
 IsTagger (Some ident) = IsIdentValue ident
@@ -44,7 +44,7 @@ type_line kind = codes "type " ++ type_word kind
 abbrev pub tag_line : List ℕ → List ℕ
 tag_line name = codes "tag " ++ name
 
--- a line for the tagger, where there is one
+-- a line for the tagger, if there is one
 abbrev pub tagger_lines : Option IdentValue → List (List ℕ)
 tagger_lines None = []
 tagger_lines (Some ident) = ident_line (codes "tagger ") ident ∷ []
@@ -53,7 +53,7 @@ tagger_lines (Some ident) = ident_line (codes "tagger ") ident ∷ []
 abbrev pub tag_lines : TagValue → List (List ℕ)
 tag_lines tag = word_and_name (codes "object ") tag.object ∷ type_line tag.kind ∷ tag_line tag.name ∷ (tagger_lines tag.tagger ++ flat_map header_lines tag.headers)
 
--- each line and its line feed, and the message behind an empty line where there is one
+-- each line and its line feed, and the message after an empty line if there is one
 abbrev pub spelled_tag : TagValue → List ℕ
 spelled_tag tag = flat_map ended (tag_lines tag) ++ ending tag.message
 

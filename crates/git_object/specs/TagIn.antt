@@ -1,5 +1,5 @@
--- The tag that bytes are, found by tests, for models that compute (own). It says what `IsTag` says,
--- as the law `tests_find_the_tag` states.
+-- The tag that bytes are, found by tests, for models that compute (own). It agrees with `IsTag`, as the law `tests_find_the_tag`
+-- states.
 use Rattle.std.specs.Prelude.{ℕ, ◌&&◌, not, Bool, true, List, [], drop, codes, Option, None, Some, if◌then◌else◌}
 use Rattle.std.specs.List.{list_all}
 use Rattle.std.specs.Str.{bytes_eq}
@@ -17,7 +17,7 @@ use Rattle.git_object.specs.Tag.{TagValue, spelled_tag}
 abbrev pub is_tag_name : List ℕ → Bool
 is_tag_name name = not (bytes_eq name []) && is_plain name
 
--- the test of a tagger, where there is one
+-- the test of a tagger, if there is one
 abbrev pub is_right_tagger : Option IdentValue → Bool
 is_right_tagger None = true
 is_right_tagger (Some ident) = is_ident ident
@@ -26,23 +26,23 @@ is_right_tagger (Some ident) = is_ident ident
 abbrev pub is_tag : TagValue → Bool
 is_tag tag = is_name tag.object && is_tag_name tag.name && is_right_tagger tag.tagger && list_all (is_header Tag) tag.headers
 
--- the kind of a word, if it is that of one
+-- the kind that a word names, if it names one
 abbrev pub kind_or_tag : List ℕ → Kind
 kind_or_tag word =
     if bytes_eq word (codes "blob") then Blob else
     if bytes_eq word (codes "tree") then Tree else
     if bytes_eq word (codes "commit") then Commit else Tag
 
--- the tagger in a line, if it is that of one
+-- the tagger in a line, if it has one
 abbrev pub tagger_in : List ℕ → Option IdentValue
 tagger_in line = if is_tagger line then Some (ident_in (drop 7 line)) else None
 
--- the lines behind that of a tagger, where there is one
+-- the lines after that of a tagger, if there is one
 abbrev pub behind_tagger : Option IdentValue → List (List ℕ) → List (List ℕ)
 behind_tagger None lines = lines
 behind_tagger (Some ident) lines = drop 1 lines
 
--- the parts that lines and a message are, if they are those of a tag at all
+-- the parts that lines and a message are, if they are those of a tag
 abbrev pub tag_from : List (List ℕ) → Option (List ℕ) → TagValue
 tag_from lines message =
     let tagger = tagger_in (nth_line 3 lines) in

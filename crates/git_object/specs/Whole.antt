@@ -1,4 +1,4 @@
--- What a tag that is lent from its bytes stands for.
+-- The value of a tag that is borrowed from its bytes.
 use Rattle.git_header.specs.Lent.{message_of}
 use Rattle.git_header.specs.Left.{headers_left}
 use Rattle.git_object.specs.declared.tag.Tag.{Tag}

@@ -3,30 +3,30 @@ ghost use Rattle.std.specs.Prelude.{◌≡◌};
 use git_header::HeaderFault;
 use thiserror::Error;
 
-/// Why bytes are no tag: the fault of the first faulty line.
+/// Why bytes are not a tag: the fault of the first faulty line.
 #[derive(Clone, Copy, Debug, PartialEq, Eq, Error)]
 pub enum TagFault {
     /// A line that may not stand there, or headers that end too early.
     #[error("a header line stands out of order, or is missing")]
     HeaderOrder,
-    /// No name of an object stands where one is demanded.
+    /// There is no object name where one is required.
     #[error("a header line holds no object name")]
     Name,
-    /// No ident stands where the tagger is.
+    /// There is no ident on the tagger's line.
     #[error("a header line holds no ident")]
     Ident,
-    /// A line with no line feed behind it, a further header of a wrong form, or an empty tag name.
+    /// A line without a line feed, a further header of a wrong form, or an empty tag name.
     #[error("a header line has a wrong form")]
     HeaderLine,
     /// A zero byte in a header line.
     #[error("a header line holds a zero byte")]
     ZeroByte,
-    /// A type that is none of the four words.
+    /// A type that is not one of the four words.
     #[error("a header line holds no type")]
     TypeWord,
 }
 
-// The fault of a line that a tag has as a commit does.
+// The fault of a line that tags and commits share.
 impl From<HeaderFault> for TagFault {
     ghost use Rattle.git_object.specs.Fault.{tag_fault};
 

@@ -8,30 +8,31 @@ ghost use Rattle.git_object.specs.Object.{ObjectValue, IsObject, IsObjectFault};
 ghost use Rattle.git_object.specs.ObjectIn.{object_in};
 ghost use Rattle.git_object.specs.TagIn.{tag_in};
 
-/// A law, and no work: bytes are one tag at the most.
+/// A law, with no code to run: bytes are at most one tag.
 pub fn one_tag()
     ensures { (bytes : List ℕ) (v w : TagValue) → IsTag v bytes → IsTag w bytes → v ≡ w }
 {}
 
-/// A law, and no work: bytes have one fault at the most, and a tag has none.
+/// A law, with no code to run: bytes have at most one fault, and a tag has none.
 pub fn one_tag_fault()
     ensures one { (bytes : List ℕ) (f g : TagFault) → IsTagFault f bytes → IsTagFault g bytes → f ≡ g }
     ensures none { (bytes : List ℕ) (v : TagValue) (f : TagFault) → IsTag v bytes → IsTagFault f bytes → ⊥ }
 {}
 
-/// A law, and no work: bytes are one object of a kind at the most, and one with a fault is none.
+/// A law, with no code to run: bytes are at most one object of a kind, and none if they have a fault.
 pub fn one_object()
     ensures one { (kind : Kind) (bytes : List ℕ) (v w : ObjectValue) → IsObject v kind bytes → IsObject w kind bytes → v ≡ w }
     ensures none { (kind : Kind) (bytes : List ℕ) (v : ObjectValue) (f : ObjectFault) → IsObject v kind bytes → IsObjectFault f kind bytes → ⊥ }
 {}
 
-/// A law, and no work: the tests that models compute by find exactly the tag that bytes are.
+/// A law, with no code to run: the tests that models compute by find exactly the tag that bytes are.
 pub fn tests_find_the_tag()
     ensures found { (bytes : List ℕ) (tag : TagValue) → tag_in bytes ≡ Some tag → IsTag tag bytes }
     ensures only { (bytes : List ℕ) (tag : TagValue) → IsTag tag bytes → tag_in bytes ≡ Some tag }
 {}
 
-/// A law, and no work: they find exactly the object of a kind that bytes are.
+/// A law, with no code to run: the tests that models compute by find exactly the object of a kind that
+/// bytes are.
 pub fn tests_find_the_object()
     ensures found { (kind : Kind) (bytes : List ℕ) (object : ObjectValue) → object_in kind bytes ≡ Some object → IsObject object kind bytes }
     ensures only { (kind : Kind) (bytes : List ℕ) (object : ObjectValue) → IsObject object kind bytes → object_in kind bytes ≡ Some object }

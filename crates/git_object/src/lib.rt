@@ -1,6 +1,6 @@
-//! Git's objects: tags, objects of each kind, and the links of an object.
-//! What is read is spelled so, each byte of it, a fault is that of the first faulty line, and the
-//! links are those that the definition lists, in its order.
+//! Git's objects: tags, objects of each kind, and the links of an object. An object is read only from
+//! its one spelling, a fault is that of the first faulty line, and the links are those that the
+//! definition lists, in its order.
 #![tactic(auto)]
 
 mod fault;

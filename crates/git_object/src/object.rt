@@ -7,16 +7,16 @@ use git_name::Kind;
 use git_tree::{Entries, TreeFault, entries};
 use thiserror::Error;
 
-/// Why bytes are no object of a kind. Any bytes are a blob.
+/// Why bytes are not an object of a kind. Any bytes are a blob.
 #[derive(Clone, Copy, Debug, PartialEq, Eq, Error)]
 pub enum ObjectFault {
-    /// The bytes are no tree.
+    /// The bytes are not a tree.
     #[error("the bytes are no tree")]
     Tree(TreeFault),
-    /// The bytes are no commit.
+    /// The bytes are not a commit.
     #[error("the bytes are no commit")]
     Commit(CommitFault),
-    /// The bytes are no tag.
+    /// The bytes are not a tag.
     #[error("the bytes are no tag")]
     Tag(TagFault),
 }
@@ -30,7 +30,7 @@ pub(crate) enum Form<'a> {
     Tag(Tag<'a>),
 }
 
-/// An object, lent from its bytes. No value of this type has bytes that its kind refuses.
+/// An object, borrowed from its bytes. No value of this type has bytes that its kind refuses.
 #[derive(Debug, Drop)]
 pub struct Object<'a> {
     pub(crate) form: Form<'a>,
@@ -73,13 +73,13 @@ impl<'a> Object<'a> {
         }
     }
 
-    /// The object of this kind that the bytes are. It takes no memory.
+    /// The object of this kind that the bytes are. It allocates nothing.
     pub fn read(kind: Kind, bytes: &'a [u8]) -> Result<Object<'a>, ObjectFault>
         // What is read is an object of these parts.
         ensures found { IfOk result (λ object. IsObject (object_of object) kind bytes.now) }
         // What is an object of the kind is read.
         ensures only { (value : ObjectValue) → IsObject value kind bytes.now → IsOkAnd result (λ object. object_of object ≡ value) }
-        // And what models compute, with its links.
+        // The value that models compute, with its links.
         ensures value { option_map object_of (result_ok result) ≡ object_in kind bytes.now }
         ensures links { links_or_none (option_map object_of (result_ok result)) ≡ links_in kind bytes.now }
         // Which fault it is.

@@ -13,7 +13,7 @@ use crate::fault::TagFault;
 use git_header::{Ident, after_word, take_ident, take_name, take_value};
 use git_name::{Kind, Name};
 
-// The name of the object in the first line, and what stands behind the line.
+// The name of the object in the first line, and what follows the line.
 pub(crate) fn take_object(text: &[u8]) -> Result<(Name, &[u8]), TagFault>
     ensures name { IfOk result (λ p. IsName p.0) }
     ensures found { IfOk result (λ p. IsLine (word_and_name (codes "object ") p.0) p.1.now text.now) }
@@ -25,7 +25,7 @@ pub(crate) fn take_object(text: &[u8]) -> Result<(Name, &[u8]), TagFault>
     }
 }
 
-// The kind that the object must have, in the first line, and what stands behind the line.
+// The kind that the object must have, in the first line, and what follows the line.
 pub(crate) fn take_type(text: &[u8]) -> Result<(Kind, &[u8]), TagFault>
     ensures found { IfOk result (λ p. IsLine (type_line p.0) p.1.now text.now) }
     ensures exact { IfErr result (λ why. IsFirstFault tag_grammar AtType why text.now) }
@@ -37,7 +37,7 @@ pub(crate) fn take_type(text: &[u8]) -> Result<(Kind, &[u8]), TagFault>
     Ok((kind, rest))
 }
 
-// The name that the tag gives itself, in the first line, and what stands behind the line.
+// The name that the tag gives itself, in the first line, and what follows the line.
 pub(crate) fn take_tag_name(text: &[u8]) -> Result<(&[u8], &[u8]), TagFault>
     ensures name { IfOk result (λ p. IsTagName p.0.now) }
     ensures found { IfOk result (λ p. IsLine (tag_line p.0.now) p.1.now text.now) }
@@ -50,7 +50,7 @@ pub(crate) fn take_tag_name(text: &[u8]) -> Result<(&[u8], &[u8]), TagFault>
     Ok((name, rest))
 }
 
-// The tagger in the first line, where there is one, and what stands behind the line.
+// The tagger in the first line, if there is one, and what follows the line.
 pub(crate) fn take_tagger(text: &[u8]) -> Result<(Option<Ident<'_>>, &[u8]), TagFault>
     ensures ident { IfOk result (λ p. IsTagger (tagger_of p.0)) }
     ensures parts { IfOk result (λ p. text.now ≡ flat_map ended (tagger_lines (tagger_of p.0)) ++ p.1.now) }

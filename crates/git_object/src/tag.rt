@@ -6,7 +6,7 @@ use crate::parts::{take_object, take_tag_name, take_tagger, take_type};
 use git_header::Ident;
 use git_name::{Kind, Name};
 
-/// A tag, lent from its bytes.
+/// A tag, borrowed from its bytes.
 #[derive(Clone, Copy, Debug)]
 pub struct Tag<'a> {
     object: Name,
@@ -51,13 +51,13 @@ impl<'a> Tag<'a> {
         })
     }
 
-    /// The tag that the bytes are. It takes no memory.
+    /// The tag that the bytes are. It allocates nothing.
     pub fn read(bytes: &'a [u8]) -> Result<Tag<'a>, TagFault>
         // What is read is a tag of these parts.
         ensures found { IfOk result (λ tag. IsTag (tag_of tag) bytes.now) }
         // What is a tag is read.
         ensures only { (value : TagValue) → IsTag value bytes.now → IsOkAnd result (λ tag. tag_of tag ≡ value) }
-        // And what models compute.
+        // The value that models compute.
         ensures value { option_map tag_of (result_ok result) ≡ tag_in bytes.now }
         // Which fault it is.
         ensures exact { IfErr result (λ why. IsTagFault why bytes.now) }
@@ -65,7 +65,7 @@ impl<'a> Tag<'a> {
         Tag::parts_of(bytes)
     }
 
-    /// The name of the object that the tag stands for.
+    /// The name of the object that is tagged.
     pub fn object(&self) -> Name
         ensures { result ≡ (tag_of self.now).object }
     {
@@ -86,7 +86,7 @@ impl<'a> Tag<'a> {
         self.name
     }
 
-    /// Who made it, and when. Old tags have none.
+    /// Who made it, and when. Old tags have no tagger.
     pub fn tagger(&self) -> Option<Ident<'a>>
         ensures { tagger_of result ≡ (tag_of self.now).tagger }
     {

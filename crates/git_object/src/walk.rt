@@ -16,7 +16,7 @@ pub struct Links<'a> {
     pub(crate) entries: Option<Entries<'a>>,
 }
 
-// The next link of a tree's entries. Gitlinks are passed over.
+// The next link of a tree's entries. Gitlinks are skipped.
 fn next_of_tree(entries: &mut Entries<'_>) -> Option<Link>
     ensures some { IfSome result (λ link. flat_map entry_links entries.old ≡ link ∷ flat_map entry_links entries.new) }
     ensures none { IfNone result ((flat_map entry_links entries.old ≡ []) × (flat_map entry_links entries.new ≡ [])) }
@@ -30,7 +30,7 @@ fn next_of_tree(entries: &mut Entries<'_>) -> Option<Link>
     None
 }
 
-// The same, where there are entries at all.
+// The same, if there are entries.
 fn next_of_entries(entries: &mut Option<Entries<'_>>) -> Option<Link>
     ensures some { IfSome result (λ link. entries_left entries.old ≡ link ∷ entries_left entries.new) }
     ensures none { IfNone result ((entries_left entries.old ≡ []) × (entries_left entries.new ≡ [])) }

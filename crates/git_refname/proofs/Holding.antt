@@ -1,4 +1,4 @@
--- What a text holds that is longer by a byte.
+-- What a text contains that is longer by a byte.
 use Rattle.std.proofs.Common.{◌≡◌, ℕ, suc, ◌<◌, ◌≤◌, ◌+◌, ◌-◌, Bool, true, false, ◌||◌, List, [], ◌∷◌, ◌++◌, ◌⊎◌, inl, inr, nat_eq, refl, sym, ap, ◌∙◌, length, take, drop, length-take, length-drop, length-append, arith}
 use Rattle.std.specs.Cmp.Lexicographic.{pointwise, unequal}
 use Rattle.std.specs.List.{list_any}

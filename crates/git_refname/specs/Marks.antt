@@ -1,4 +1,4 @@
--- What a text holds of all that breaks a rule wherever it stands.
+-- What a text contains of all that breaks a rule wherever it occurs.
 use Rattle.std.specs.Prelude.{ℕ, List, codes}
 use Rattle.std.specs.List.{list_any}
 use Rattle.git_refname.specs.declared.marks.Marks.{Marks}

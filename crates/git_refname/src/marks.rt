@@ -2,7 +2,7 @@ ghost use Rattle.std.specs.Prelude.{◌≡◌, ◌++◌, ◌∷◌, [], List, �
 ghost use Rattle.git_refname.specs.Marks.{marks_of};
 ghost use Rattle.git_refname.specs.Rule.{is_unprintable, is_pattern};
 
-// What was met in the front of a name, of all that breaks a rule wherever it stands.
+// What the beginning of a name contains of all that breaks a rule wherever it occurs.
 #[derive(Clone, Copy, Debug)]
 pub(crate) struct Marks {
     // `/.`
@@ -26,7 +26,7 @@ pub(crate) struct Marks {
 }
 
 impl Marks {
-    // Nothing is met in an empty front.
+    // The marks of an empty beginning.
     pub(crate) fn new() -> Marks
         ensures { result ≡ marks_of [] }
     {
@@ -43,7 +43,7 @@ impl Marks {
         }
     }
 
-    // What is met in a front that is longer by this last byte.
+    // The marks of a beginning that is longer by this last byte.
     pub(crate) fn with(self, front: &[u8], byte: u8) -> Marks
         ensures { (before : List ℕ) → self ≡ marks_of before → front.now ≡ before ++ byte ∷ [] → result ≡ marks_of front.now }
     {

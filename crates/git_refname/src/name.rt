@@ -14,8 +14,8 @@ use std::marker::Model;
 /// The most bytes of a reference's name (own).
 pub const MAX_REF_NAME: usize = 255;
 
-/// A name of a reference, which breaks none of the rules. It lies in place and takes no memory of its
-/// own. Names are ordered bytewise.
+/// The name of a reference, which breaks no rule. It is stored in place and allocates nothing. Names
+/// are ordered bytewise.
 #[derive(Debug, Drop)]
 pub struct RefName {
     bytes: [u8; MAX_REF_NAME],
@@ -38,7 +38,7 @@ impl Model for RefName {
 }
 
 impl RefName {
-    /// Tells the first rule that the text breaks, if it is no name. It takes no memory, and reads the
+    /// Reports the first rule that the text breaks, if it is not a name. It allocates nothing and reads the
     /// text once.
     pub fn check(text: &[u8]) -> Result<(), Rule>
         ensures ok { OnOk result (IsRefName text.now) }
@@ -47,7 +47,7 @@ impl RefName {
         check(text)
     }
 
-    /// The name of these bytes, where they are one. It takes no memory.
+    /// The name of these bytes, if they are a valid one. It allocates nothing.
     pub fn read(text: &[u8]) -> Result<RefName, Rule>
         ensures found { IfOk result (λ name. (name ≡ text.now) × IsRefName text.now) }
         ensures broken { IfErr result (λ rule. least_broken_rule text.now ≡ Some rule) }
@@ -61,7 +61,7 @@ impl RefName {
         })
     }
 
-    /// The same name once more. It takes no memory.
+    /// A copy of the name. It allocates nothing.
     pub fn copy(&self) -> RefName
         ensures { result ≡ self.now }
     {

@@ -3,7 +3,7 @@ ghost use Rattle.git_refname.specs.Namespace.{expanded, namespace};
 
 use std::alloc::{AllocError, Global};
 
-/// What stands before each reference of the namespace `TENANT/REPOSITORY` (gitnamespaces(7)).
+/// The prefix of every reference of the namespace `TENANT/REPOSITORY` (gitnamespaces(7)).
 pub fn expand(alloc: Global, tenant: &[u8], repository: &[u8]) -> Result<Vec<u8>, AllocError>
     ensures { IfOk result (λ prefix. prefix.items ≡ expanded (tenant.now ∷ repository.now ∷ [])) }
 {
@@ -13,7 +13,7 @@ pub fn expand(alloc: Global, tenant: &[u8], repository: &[u8]) -> Result<Vec<u8>
     Ok(prefix)
 }
 
-// Puts the namespace of this name behind.
+// Appends the namespace of this name.
 fn put(prefix: &mut Vec<u8>, name: &[u8]) -> Result<(), AllocError>
     ensures { OnOk result (prefix.new.items ≡ prefix.old.items ++ namespace name.now) }
 {

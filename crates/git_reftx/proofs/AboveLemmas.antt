@@ -1,4 +1,4 @@
--- A name stands above another where it and a `/` begin the other.
+-- A name is above another if it and a `/` begin the other.
 use Rattle.std.proofs.Common.{◌≡◌, ◌≢◌, ℕ, Bool, true, false, List, [], ◌∷◌, ◌++◌, refl, sym, ap, ◌∙◌, length, drop, append_assoc}
 use Rattle.std.specs.List.{starts_with}
 use Rattle.std.specs.Prelude.{nat_eq}

@@ -1,4 +1,4 @@
--- The fronts of the last name that are names themselves, as the names are met in order.
+-- The prefixes of the last name that are names themselves, as the names are read in order.
 use Rattle.std.proofs.Common.{◌≡◌, ℕ, ◌+◌, ◌<◌, ◌≤◌, Bool, true, false, List, [], ◌∷◌, ◌++◌, ◌⊎◌, inl, inr, ⊎_elim, Option, None, Some, refl, sym, ap, subst, ◌∙◌, length, take, drop, get_or, set, replicate, length-take-le, length-append, take-append-drop, get_or-set_same, get_or-set_other, append-nil, arith}
 use Rattle.std.proofs.lemmas.Bool.{cases_lt, cases_order}
 use Rattle.std.proofs.lemmas.List.{drop_at, drop_more, get_or-take, get_or-replicate, get_or_past, length-replicate, take_at, take_all, take-take}

@@ -1,4 +1,4 @@
--- References after a change: each name is right, and a map is its entries.
+-- References after a change: each name is valid, and a map is its entries.
 use Rattle.std.proofs.Common.{◌≡◌, ℕ, Bool, true, false, cond, List, None, Some, is_some, refl, sym, ap, subst, ◌∙◌, rules}
 use Rattle.std.specs.Prelude.{Result, Ok, Err, OnOk, OnErr}
 use Rattle.std.specs.Cmp.{Equal-is}

@@ -1,4 +1,4 @@
--- The order of names: what begins with a name stands behind it, with nothing else between.
+-- The order of names: what begins with a name follows it, with nothing else in between.
 use Rattle.std.proofs.Common.{◌≡◌, ℕ, ◌<◌, List, [], ◌∷◌, ◌++◌, refl, sym, ap, ◌∙◌, arith}
 use Rattle.std.specs.declared.cmp.Ordering.{Ordering}
 use Rattle.std.specs.declared.cmp.Ordering.TheVariants.{Less, Equal, Greater}

@@ -1,4 +1,4 @@
--- References with one more behind the others.
+-- References with one more appended.
 use Rattle.std.proofs.Common.{◌≡◌, ◌≢◌, ℕ, ◌+◌, ◌<◌, Bool, true, false, All, List, [], ◌∷◌, ◌++◌, ◌⊎◌, inl, inr, ⊎_elim, Option, None, Some, refl, sym, ap, subst, ◌∙◌, length, take, get_or, map as mapped, length-append, take-append-drop, drop, arith}
 use Rattle.std.specs.Prelude.{◌&&◌, ◌==◌, cond}
 use Rattle.std.proofs.lemmas.Bool.{cases_lt}

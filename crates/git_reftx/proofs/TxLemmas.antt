@@ -1,4 +1,4 @@
--- A transaction, from the parts of its judgement.
+-- A transaction, from the parts of its checks.
 use Rattle.std.proofs.Common.{◌≡◌, ℕ, Bool, true, false, cond, List, [], ◌∷◌, Option, None, Some, refl, sym, ap, ◌∙◌, length, map as mapped, arith}
 use Rattle.std.specs.Option.{option_or}
 use Rattle.std.specs.FinMap as map

@@ -1,4 +1,4 @@
--- The judgement of a transaction, part by part.
+-- The checks of a transaction, part by part.
 use Rattle.std.specs.Prelude.{◌≡◌, [], List, Option, Some, Result, Err, ⊤}
 use Rattle.std.specs.Option.{option_or}
 use Rattle.git_reftx.specs.declared.command.Command.{Command}
@@ -8,7 +8,7 @@ use Rattle.git_reftx.specs.declared.fault.TxRefusal.{TxRefusal}
 use Rattle.git_reftx.specs.Known.{Kinds}
 use Rattle.git_reftx.specs.Transaction.{References, first_refusal, repeated_ref, missing_object, not_a_commit, is_branch, stale, ref_conflict, too_many}
 
--- of commands whose references have right names: what is judged on the references before
+-- for commands whose references have valid names: what is checked on the references before
 abbrev pub refused_before : References → List Command → Kinds → Option TxRefusal
 refused_before old commands known =
     option_or (repeated_ref [] commands)
@@ -16,11 +16,11 @@ refused_before old commands known =
     (option_or (first_refusal (λ command. not_a_commit known (is_branch command.reference) command.change) commands)
     (first_refusal (stale old) commands)))
 
--- what is judged on the references afterwards
+-- what is checked on the references afterwards
 abbrev pub refused_after : References → Option TxRefusal
 refused_after new = option_or (ref_conflict new) (too_many new)
 
--- the error tells the refusal; want of memory tells nothing
+-- the error reports the refusal; running out of memory reports nothing
 abbrev pub TellsRefusal : Option TxRefusal → ApplyError → Type 0
 TellsRefusal refusal (Refused told) = refusal ≡ Some told
 TellsRefusal refusal Memory = ⊤

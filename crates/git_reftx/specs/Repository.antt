@@ -1,4 +1,5 @@
--- A repository: the branch that its HEAD names, which need not be there, and its references (gitglossary(7), HEAD; that it names a branch at all times is own).
+-- A repository: the branch that its HEAD names, which need not exist, and its references (gitglossary(7), HEAD; that it always
+-- names a branch is own).
 use Rattle.std.specs.Prelude.{◌≡◌, ℕ, Bool, true, ◌&&◌, List, Option, Some, None, is_none, codes, refl, if◌then◌else◌}
 use Rattle.std.specs.Coded.{Coded, code_by, coded×}
 use Rattle.std.specs.FinMap.{code, empty}
@@ -7,7 +8,7 @@ use Rattle.git_refname.specs.Rule.{IsRefName, least_broken_rule}
 use Rattle.git_reftx.specs.Sound.{AreSound}
 use Rattle.git_reftx.specs.Transaction.{References, is_branch}
 
--- the right name of a branch
+-- the valid name of a branch
 pub record IsBranch (text : List ℕ) : Type 0 where
   pub name : IsRefName text
   pub branch : is_branch text ≡ true
@@ -16,7 +17,7 @@ pub record IsBranch (text : List ℕ) : Type 0 where
 abbrev pub is_branch_name : List ℕ → Bool
 is_branch_name text = is_none (least_broken_rule text) && is_branch text
 
--- the branch that a text names, if it is the right name of one
+-- the branch that a text names, if it is the valid name of one
 abbrev pub branch_in : List ℕ → Option (List ℕ)
 branch_in text = if is_branch_name text then Some text else None
 

@@ -1,4 +1,4 @@
--- What the readers' answers stand for.
+-- The values of the readers' answers.
 use Rattle.std.specs.Prelude.{◌≡◌, ℕ, List, [], ◌∷◌, Option, None, Some, Result, Err, ⊤}
 use Rattle.std.specs.Borrow.{Bor}
 use Rattle.git_reftx.specs.declared.command.Change.{Change}
@@ -19,13 +19,13 @@ line_shown (Whole line behind) = value.Whole line.now behind.now
 line_shown Unfinished = value.Unfinished
 line_shown TooLong = value.TooLong
 
--- the names that are told, of which there are two at most
+-- the names, of which there are at most two
 abbrev pub names_shown : Names → List (List ℕ)
 names_shown Nothing = []
 names_shown (One name) = name ∷ []
 names_shown (Two name other) = name ∷ other ∷ []
 
--- the names, where there are two at most
+-- the names, if there are at most two
 abbrev pub few : Option (List (List ℕ)) → Option Names
 few (Some []) = Some Nothing
 few (Some (name ∷ [])) = Some (One name)
@@ -43,12 +43,12 @@ abbrev pub parts_shown : Option (Bor (List ℕ) × Demand × Change) → Option 
 parts_shown None = None
 parts_shown (Some parts) = Some (command parts.0.now parts.1 parts.2)
 
--- the command of a line's words; REF isn't empty
+-- the command of a line's words; REF is not empty
 abbrev pub command_of_parts : List ℕ → List ℕ → Option (List (List ℕ)) → Option Command
 command_of_parts verb [] names = None
 command_of_parts verb (b ∷ bs) names = command_by verb (b ∷ bs) names
 
--- the error tells what is wrong; want of memory tells nothing
+-- the error reports what is wrong; running out of memory reports nothing
 abbrev pub TellsFault : {A : Type 0} → Result A CommandFault → ReadError → Type 0
 TellsFault found (Fault fault) = found ≡ Err fault
 TellsFault found Memory = ⊤

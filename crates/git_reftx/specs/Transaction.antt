@@ -1,4 +1,4 @@
--- Transactions of references: all commands or none (git-update-ref(1); what is demanded of names above and below is own).
+-- Transactions of references: all commands or none (git-update-ref(1); what is required of names above and below is own).
 use Rattle.std.specs.Prelude.{ℕ, Bool, true, false, ◌&&◌, not, nat_lt, List, [], ◌∷◌, ◌++◌, Option, None, Some, Result, Ok, Err, is_none, is_some, codes, if◌then◌else◌}
 use Rattle.std.specs.List.{find, list_any}
 use Rattle.std.specs.Option.{option_or}
@@ -22,7 +22,7 @@ use Rattle.git_reftx.specs.declared.transact.TheConstants.{MAX_REFERENCES}
 abbrev pub References : Type 0
 References = FinMap name_cmp (List ℕ)
 
--- the first refusal that one of the commands meets, in their order
+-- the first refusal among the commands, in their order
 abbrev pub first_refusal : (Command → Option TxRefusal) → List Command → Option TxRefusal
 first_refusal refused [] = None
 first_refusal refused (command ∷ commands) = option_or (refused command) (first_refusal refused commands)
@@ -31,14 +31,14 @@ first_refusal refused (command ∷ commands) = option_or (refused command) (firs
 abbrev pub bad_ref : Command → Option TxRefusal
 bad_ref command = if is_some (least_broken_rule command.reference) then Some (BadRef command.reference) else None
 
--- repeated-ref: the reference stands in an earlier command
+-- repeated-ref: the reference is in an earlier command
 abbrev pub repeated_ref : List (List ℕ) → List Command → Option TxRefusal
 repeated_ref earlier [] = None
 repeated_ref earlier (command ∷ commands) =
     if list_any (bytes_eq command.reference) earlier then Some (RepeatedRef command.reference)
     else repeated_ref (command.reference ∷ earlier) commands
 
--- missing: the new object isn't known
+-- missing: the new object is not known
 abbrev pub missing_object : Kinds → Change → Option TxRefusal
 missing_object known (Point name) = if is_none (known name) then Some (Missing name) else None
 missing_object known Keep = None
@@ -60,7 +60,7 @@ not_a_commit known branch (Point name) = if branch && not (is_commit (known name
 not_a_commit known branch Keep = None
 not_a_commit known branch Remove = None
 
--- whether the reference is as the command demands
+-- whether the reference is as the command requires
 abbrev pub points_at : List ℕ → Option (List ℕ) → Bool
 points_at name (Some target) = bytes_eq target name
 points_at name None = false
@@ -71,7 +71,7 @@ meets Absent target = is_none target
 meets Present target = is_some target
 meets (At name) target = points_at name target
 
--- stale: it isn't
+-- stale: it is not
 abbrev pub stale : References → Command → Option TxRefusal
 stale old command = if meets command.demand (get old command.reference) then None else Some (Stale command.reference)
 
@@ -85,15 +85,15 @@ abbrev pub changed : List Command → References → References
 changed [] old = old
 changed (command ∷ commands) old = changed commands (changed_by command.reference command.change old)
 
--- a name stands above another where it and a `/` begin the other
+-- a name is above another if it and a `/` begin the other
 abbrev pub stands_above : List ℕ → List ℕ → Bool
 stands_above upper lower = begins (upper ++ codes "/") lower
 
--- the least name that stands above another of them
+-- the least name that is above another of them
 abbrev pub least_upper : List (List ℕ) → Option (List ℕ)
 least_upper names = find (λ upper. list_any (stands_above upper) names) names
 
--- ref-conflict: of the references afterwards one stands above another
+-- ref-conflict: of the references afterwards one is above another
 abbrev pub conflict : Option (List ℕ) → Option TxRefusal
 conflict None = None
 conflict (Some upper) = Some (RefConflict upper)
@@ -105,7 +105,7 @@ ref_conflict new = conflict (least_upper (keys new))
 abbrev pub too_many : References → Option TxRefusal
 too_many new = if nat_lt MAX_REFERENCES (len new) then Some TooMany else None
 
--- what stands against the commands: each demand is judged on the references before, but for the last two
+-- what is wrong with the commands: every check is made on the references before, except the last two
 abbrev pub refusal_of : References → List Command → Kinds → Option TxRefusal
 refusal_of old commands known =
     option_or (first_refusal bad_ref commands)

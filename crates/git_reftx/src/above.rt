@@ -6,8 +6,7 @@ ghost use Rattle.git_reftx.specs.Transaction.{stands_above};
 use crate::ref_map::RefMap;
 use git_refname::RefName;
 
-// Whether one of the references stands above the name: each front of it behind which a `/` stands is
-// looked up.
+// Whether one of the references is above the name: looks up each prefix of it that a `/` follows.
 pub(crate) fn has_above(references: &RefMap, name: &RefName) -> bool
     ensures { result ≡ list_any (λ upper. stands_above upper name.now) (map.keys references.now) }
 {
@@ -20,11 +19,11 @@ pub(crate) fn has_above(references: &RefMap, name: &RefName) -> bool
     false
 }
 
-// Whether this front of a name is a reference, and a `/` stands behind it.
+// Whether this prefix of a name is a reference that a `/` follows.
 fn is_above(references: &RefMap, front: &[u8], next: u8) -> bool
     ensures { result ≡ ((next == 47) && map.contains_key references.now front.now) }
 {
-    // Counting tells that each name is right.
+    // Called for its clause: each name is valid.
     let _count = references.len();
     if next != b'/' {
         return false;

@@ -4,8 +4,8 @@ ghost use Rattle.git_reftx.specs.Repository.{IsBranch, branch_in, main_branch};
 use git_refname::RefName;
 use std::marker::Model;
 
-/// The name of a branch: a reference's name under `refs/heads/`. It lies in place and takes no memory
-/// of its own.
+/// The name of a branch: a reference's name under `refs/heads/`. It is stored in place and allocates
+/// nothing.
 #[derive(Debug, Drop)]
 pub struct Branch {
     name: RefName,
@@ -36,7 +36,7 @@ impl Branch {
         branch
     }
 
-    /// The branch of this name, where the text is the right name of one.
+    /// The branch of this name, if the text is the valid name of one.
     pub fn read(text: &[u8]) -> Option<Branch>
         ensures value { result ≡ branch_in text.now }
         ensures branch { IfSome result (λ branch. IsBranch text.now) }
@@ -50,7 +50,7 @@ impl Branch {
         Some(Branch { name })
     }
 
-    /// The same name once more.
+    /// A copy of the name.
     pub fn copy(&self) -> Branch
         ensures { result ≡ self.now }
     {
@@ -59,7 +59,7 @@ impl Branch {
         }
     }
 
-    /// The name as that of a reference.
+    /// The name as a reference's.
     pub fn name(&self) -> &RefName
         ensures name { result.now ≡ self.now }
         ensures branch { IsBranch self.now }

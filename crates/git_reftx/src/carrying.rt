@@ -6,7 +6,7 @@ use crate::order::Order;
 use crate::ref_map::RefMap;
 use std::alloc::AllocError;
 
-// The references after the commands: a copy, in which they were carried out in turn.
+// The references after the commands: a copy, in which they are carried out in turn.
 pub(crate) fn carried_out(old: &RefMap, orders: &[Order]) -> Result<RefMap, AllocError>
     ensures { IfOk result (λ new. new ≡ changed orders.now old.now) }
 {

@@ -1,14 +1,14 @@
 use crate::ref_word::RefWord;
 use git_name::Name;
 
-/// What a command demands of its reference, as it was before the transaction.
+/// What a command requires of its reference, as it was before the transaction.
 #[derive(Clone, Copy, Debug, PartialEq, Eq)]
 pub enum Demand {
     /// Nothing.
     Any,
-    /// It is not there.
+    /// It does not exist.
     Absent,
-    /// It is there.
+    /// It exists.
     Present,
     /// It points at this object.
     At(Name),
@@ -19,9 +19,9 @@ pub enum Demand {
 pub enum Change {
     /// Nothing.
     Keep,
-    /// It goes.
+    /// It is removed.
     Remove,
-    /// It points at this object.
+    /// It points at this object afterwards.
     Point(Name),
 }
 

@@ -6,7 +6,7 @@ ghost use Rattle.git_reftx.specs.Shown.{asked_of, command_of_parts, few, names_s
 use crate::command::{Change, Demand};
 use git_name::{Name, first_word};
 
-// The names behind a reference.
+// The names after a reference.
 #[derive(Clone, Copy, Debug)]
 pub(crate) enum Names {
     Nothing,
@@ -14,7 +14,7 @@ pub(crate) enum Names {
     Two(Name, Name),
 }
 
-// What a command's line says: the reference, what is demanded of it, and what becomes of it.
+// What a command's line says: the reference, what is required of it, and what becomes of it.
 pub(crate) fn read_line(line: &[u8]) -> Option<(&[u8], Demand, Change)>
     ensures { parts_shown result ≡ command_of (words_of line.now) }
 {
@@ -40,7 +40,7 @@ fn parts_of<'a>(
     Some((reference, demand, change))
 }
 
-// The names that the words of a text write, where there are one or two.
+// The names that the words of a text write, if there are one or two.
 fn read_names(text: &[u8]) -> Option<Names>
     ensures { result ≡ few (names_spelled (words_of text.now)) }
 {

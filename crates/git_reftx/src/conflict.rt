@@ -9,11 +9,11 @@ use crate::ref_map::RefMap;
 use git_refname::RefName;
 use std::cmp::Ordering;
 
-// The least name that stands above another.
+// The least name that is above another.
 pub(crate) fn least_upper(references: &RefMap) -> Option<RefName>
     ensures { result ≡ least_upper (map.keys references.now) }
 {
-    // Counting tells that each name is right.
+    // Called for its clause: each name is valid.
     let _count = references.len();
     let Some(upper) = least_front(references) else {
         return None;
@@ -24,8 +24,8 @@ pub(crate) fn least_upper(references: &RefMap) -> Option<RefName>
     }
 }
 
-// Its bytes, by one pass over the names in their order: a mark stands at each length at which the front
-// of the last name is a name itself, and the names between a name and one that begins with it begin
+// Its bytes, by one pass over the names in their order. A mark is set at each length at which the
+// prefix of the last name is a name itself. The names between a name and one that begins with it begin
 // with it too.
 fn least_front(references: &RefMap) -> Option<&[u8]>
     ensures { option_copied result ≡ least_upper (map.keys references.now) }
@@ -44,7 +44,7 @@ fn least_front(references: &RefMap) -> Option<&[u8]>
     least
 }
 
-// How many bytes two names have in common.
+// How many bytes two names share at the start.
 fn common_len(last: &[u8], name: &[u8]) -> usize
     ensures { IsCommon result last.now name.now }
 {
@@ -59,7 +59,7 @@ fn common_len(last: &[u8], name: &[u8]) -> usize
     name.len()
 }
 
-// Takes away the marks behind the common front.
+// Removes the marks after the common prefix.
 fn forget_behind(fronts: &mut [bool; 256], common: usize)
     requires { common < 256 }
     ensures { AreKept common fronts.old fronts.new }
@@ -69,7 +69,7 @@ fn forget_behind(fronts: &mut [bool; 256], common: usize)
     }
 }
 
-// The least name that stands above another, with those above the next name.
+// The least name that is above another, with those above the next name.
 fn least_with<'a>(fronts: &[bool; 256], name: &'a [u8], least: Option<&'a [u8]>) -> Option<&'a [u8]>
     requires { length name.now ≤ MAX_REF_NAME }
     ensures { LeastWith fronts.now name.now (option_copied least.entry) (option_copied result) }
@@ -80,7 +80,7 @@ fn least_with<'a>(fronts: &[bool; 256], name: &'a [u8], least: Option<&'a [u8]>)
     Some(lesser(least, &name[..len]))
 }
 
-// Where the first `/` of the name stands behind a marked front.
+// The first `/` of the name that follows a marked prefix.
 fn first_front(fronts: &[bool; 256], name: &[u8]) -> Option<usize>
     requires { length name.now ≤ MAX_REF_NAME }
     ensures found { IfSome result (IsFirstSlash fronts.now name.now) }

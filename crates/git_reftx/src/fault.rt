@@ -23,21 +23,21 @@ pub enum ReadError {
     Memory,
 }
 
-/// Why a transaction was refused, in the order in which it is judged. It names the first command, in
-/// their order, that is refused so.
+/// Why a transaction was refused, in the order in which it is checked. It names the first command, in
+/// their order, that is refused for this reason.
 #[derive(Debug, Drop)]
 pub enum TxRefusal {
     /// The word breaks a rule of reference names.
     BadRef(RefWord),
-    /// The reference stands in an earlier command.
+    /// The reference is in an earlier command.
     RepeatedRef(RefName),
     /// The object is not known.
     Missing(Name),
-    /// The object is no commit, and the reference is a branch.
+    /// The object is not a commit, and the reference is a branch.
     NotACommit(Name),
-    /// The reference is not as the command demands.
+    /// The reference is not as the command requires.
     Stale(RefName),
-    /// Of the references afterwards this one stands above another; it is the least that does.
+    /// Of the references afterwards this one is above another; it is the least that is.
     RefConflict(RefName),
     /// There would be more than 4,096 references.
     TooMany,
@@ -48,11 +48,11 @@ pub enum TxRefusal {
 pub enum ApplyError {
     /// It was refused.
     Refused(TxRefusal),
-    /// There is no memory for it.
+    /// Memory ran out.
     Memory,
 }
 
-/// Why a reference was not put behind the others.
+/// Why a reference was not appended.
 #[derive(Clone, Copy, Debug, PartialEq, Eq, Error)]
 pub enum PushRefError {
     #[error("the name does not stand behind the others")]

@@ -13,7 +13,7 @@ use git_name::{Kind, Name};
 use git_refname::RefName;
 use std::alloc::Global;
 
-// The commands, where each reference has a right name.
+// The commands, if each reference has a valid name.
 pub(crate) fn orders_of(alloc: Global, commands: &[Command]) -> Result<Vec<Order>, ApplyError>
     ensures found { IfOk result (λ orders. (orders.items ≡ commands.now) × (first_refusal bad_ref commands.now ≡ None)) }
     ensures exact { IfErr result (TellsRefusal (first_refusal bad_ref commands.now)) }
@@ -64,7 +64,7 @@ fn missing_in<K: Known>(change: Change, known: &K) -> Option<TxRefusal>
     }
 }
 
-// The first new object of a branch that is no commit.
+// The first new object of a branch that is not a commit.
 pub(crate) fn not_a_commit<K: Known>(orders: &[Order], known: &K) -> Option<TxRefusal>
     ensures { result ≡ first_refusal (λ command. not_a_commit (K.kinds known.now) (is_branch command.reference) command.change) orders.now }
 {
@@ -92,7 +92,7 @@ fn no_commit_in<K: Known>(branch: bool, change: Change, known: &K) -> Option<TxR
     }
 }
 
-// The first reference that is not as its command demands.
+// The first reference that is not as its command requires.
 pub(crate) fn stale(orders: &[Order], old: &RefMap) -> Option<TxRefusal>
     ensures { result ≡ first_refusal (stale old.now) orders.now }
 {

@@ -8,7 +8,7 @@ pub trait Known {
     /// The kind of each known name.
     ghost kinds: { Self → Kinds };
 
-    /// The kind of the object of this name, where it is known.
+    /// The kind of the object of this name, if it is known.
     fn kind_of(&self, name: Name) -> Option<Kind>
         ensures { result ≡ kinds self.now name };
 }

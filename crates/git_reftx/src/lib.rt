@@ -1,6 +1,6 @@
-//! Repositories, each with its HEAD and its references, and transactions of these, as git-update-ref(1)
-//! has them: all commands are carried out, or none.
-//! Each demand is judged on the references before; a refusal leaves them as they were.
+//! Repositories, each with its HEAD and its references, and transactions of these, as in
+//! git-update-ref(1): all commands are carried out, or none. Every check is made on the references
+//! before; a refusal leaves them as they were.
 #![tactic(auto)]
 
 mod above;

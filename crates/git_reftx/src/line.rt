@@ -7,19 +7,19 @@ use git_name::split_once;
 /// The most bytes of a line, without its LF.
 const LONGEST: usize = 512;
 
-/// What stands at the front of a text of lines.
+/// What is at the start of a text of lines.
 #[derive(Clone, Copy, Debug)]
 pub enum Line<'a> {
-    /// A line, and what stands behind its LF.
+    /// A line, and what follows its LF.
     Whole(&'a [u8], &'a [u8]),
-    /// The front of a line that may still be right.
+    /// The beginning of a line that may still be right.
     Unfinished,
     /// 513 bytes without LF.
     TooLong,
 }
 
 #[tactic(auto, unfolding(crate::specs::Line::line_at))]
-/// The line at the front of a text: at most 512 bytes and LF (own). It takes no memory.
+/// The line at the start of a text: at most 512 bytes and LF (own). It allocates nothing.
 pub fn first_line(text: &[u8]) -> Line<'_>
     ensures { line_shown result ≡ line_at text.now }
 {

@@ -6,7 +6,7 @@ use crate::command::{Change, Command, Demand};
 use git_refname::RefName;
 use std::marker::Model;
 
-// A command whose reference has a right name.
+// A command whose reference has a valid name.
 #[derive(Debug, Drop)]
 pub(crate) struct Order {
     reference: RefName,

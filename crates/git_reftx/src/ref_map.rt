@@ -14,8 +14,8 @@ use std::collections::BTreeMap;
 use std::collections::btree_map::Iter;
 use std::marker::Model;
 
-// Names of references, and the object at which each points. Of the names no more is known than that
-// each is right.
+// Names of references, and the object at which each points. All that is known of the names is that
+// each is valid.
 #[derive(Drop)]
 pub(crate) struct RefMap {
     references: BTreeMap<RefName, Name>,
@@ -46,7 +46,7 @@ impl RefMap {
         }
     }
 
-    // How many there are.
+    // The number of references.
     pub(crate) fn len(&self) -> usize
         ensures len { result ≡ map.len self.now }
         ensures named { AreRefNames self.now }
@@ -69,11 +69,11 @@ impl RefMap {
         self.references.iter()
     }
 
-    // Whether the name stands behind all others.
+    // Whether the name comes after all others.
     pub(crate) fn is_behind(&self, name: &RefName) -> bool
         ensures { IsTrue result ↔ All (λ other. Before other name.now) (map.keys self.now) }
     {
-        // Counting tells that the names are in order.
+        // Called for its clause: the names are in order.
         let references = &self.references;
         let _count = references.len();
         let Some((last, _)) = references.last_key_value() else {
@@ -94,14 +94,14 @@ impl RefMap {
         put(&mut self.references, name, target)
     }
 
-    // Takes out a reference, if it is there. It takes no memory.
+    // Removes a reference, if it exists. It allocates nothing.
     pub(crate) fn remove(&mut self, name: &RefName)
         ensures { self.new ≡ map.remove self.old name.now }
     {
         take_out(&mut self.references, name);
     }
 
-    // The same references once more.
+    // A copy of the references.
     pub(crate) fn copy(&self) -> Result<RefMap, AllocError>
         ensures { IfOk result (λ copied. copied ≡ self.now) }
     {

@@ -2,8 +2,8 @@ ghost use Rattle.std.specs.Prelude.{◌≡◌};
 
 use std::marker::Model;
 
-/// The word that stands for a reference in a command: any bytes but SP and LF, right or not.
-/// Contracts see it as a list.
+/// The word for a reference in a command: any bytes except SP and LF, valid or not. Contracts see it as
+/// a list.
 #[derive(Debug, Drop)]
 pub struct RefWord {
     bytes: Vec<u8>,
@@ -21,7 +21,7 @@ impl Model for RefWord {
 }
 
 impl RefWord {
-    /// These bytes. It takes no memory.
+    /// These bytes. It allocates nothing.
     pub fn new(bytes: Vec<u8>) -> RefWord
         ensures { result ≡ bytes.items }
     {
@@ -35,7 +35,7 @@ impl RefWord {
         self.bytes.as_slice()
     }
 
-    /// The bytes, given up. It takes no memory.
+    /// The bytes, given up. It allocates nothing.
     pub fn into_bytes(self) -> Vec<u8>
         ensures { result.items ≡ self }
     {

@@ -19,8 +19,8 @@ use std::alloc::{AllocError, Global};
 use std::collections::btree_map::Iter;
 use std::marker::Model;
 
-/// The references of a repository: at most 4,096 (own), of which none stands above another. Contracts
-/// see them as a map from names of references to names of objects.
+/// The references of a repository: at most 4,096 (own), none above another. Contracts see them as a map
+/// from names of references to names of objects.
 #[derive(Drop)]
 pub struct Refs {
     map: RefMap,
@@ -51,7 +51,7 @@ impl Refs {
         }
     }
 
-    /// How many there are.
+    /// The number of references.
     pub fn len(&self) -> usize
         ensures len { result ≡ map.len self.now }
         ensures sound { AreSound self.now }
@@ -66,7 +66,7 @@ impl Refs {
         self.map.len() == 0
     }
 
-    /// The object at which the reference points, where it is there.
+    /// The object at which the reference points, if it exists.
     pub fn get(&self, name: &RefName) -> Option<Name>
         ensures { result ≡ map.get self.now name.now }
     {
@@ -81,7 +81,7 @@ impl Refs {
         self.map.iter()
     }
 
-    /// The same references once more.
+    /// A copy of the references.
     pub fn copy(&self) -> Result<Refs, AllocError>
         ensures { IfOk result (λ copied. copied ≡ self.now) }
     {
@@ -89,8 +89,8 @@ impl Refs {
         Ok(Refs { map })
     }
 
-    /// Puts a reference behind the others: its name stands behind theirs, and none of them above it. An
-    /// `Err` leaves the references as they were. It takes a look at the map for each `/` of the name.
+    /// Appends a reference: its name must come after all others, and none of them may be above it. An `Err`
+    /// leaves the references as they were. It looks up the map once for each `/` of the name.
     pub fn push(&mut self, name: RefName, target: Name) -> Result<(), PushRefError>
         ensures ok { OnOk result (map.entries self.new ≡ map.entries self.old ++ (name, target) ∷ []) }
         ensures err { OnErr result (self.new ≡ self.old) }
@@ -112,8 +112,8 @@ impl Refs {
         Ok(())
     }
 
-    /// Carries out all commands of a transaction, or none: an `Err` leaves the references as they were.
-    /// An error's refusal is the first that meets the commands.
+    /// Carries out all commands of a transaction, or none: an `Err` leaves the references as they were. A
+    /// refusal is the first that applies.
     pub fn apply<K: Known>(
         &mut self,
         alloc: Global,
@@ -133,8 +133,8 @@ impl Refs {
         }
     }
 
-    /// The references after all commands of a transaction, where it is not refused.
-    /// An error's refusal is the first that meets the commands.
+    /// The references after all commands of a transaction, if it is not refused. A refusal is the first
+    /// that applies.
     pub fn transacted<K: Known>(
         &self,
         alloc: Global,

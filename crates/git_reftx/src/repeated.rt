@@ -6,7 +6,7 @@ use crate::order::Order;
 use std::alloc::{AllocError, Global};
 use std::collections::BTreeSet;
 
-// The first reference that stands in an earlier command.
+// The first reference that is in an earlier command.
 pub(crate) fn repeated(alloc: Global, orders: &[Order]) -> Result<Option<TxRefusal>, AllocError>
     ensures { IfOk result (λ refusal. refusal ≡ repeated_ref [] orders.now) }
 {

@@ -15,7 +15,7 @@ use git_refname::RefName;
 use std::alloc::{AllocError, Global};
 use std::marker::Model;
 
-/// A repository: the branch that its HEAD names, which need not be there, and its references.
+/// A repository: the branch that its HEAD names, which need not exist, and its references.
 #[derive(Drop)]
 pub struct Repository {
     head: Branch,
@@ -67,7 +67,7 @@ impl Repository {
         &self.references
     }
 
-    /// The same repository once more.
+    /// A copy of the repository.
     pub fn copy(&self) -> Result<Repository, AllocError>
         ensures { IfOk result (λ copied. copied ≡ self.now) }
     {
@@ -78,21 +78,21 @@ impl Repository {
         })
     }
 
-    /// HEAD names this branch from now on, be it there or not.
+    /// From now on HEAD names this branch, whether it exists or not.
     pub fn set_head(&mut self, head: Branch)
         ensures { self.new ≡ record self.old { head = head } }
     {
         self.head = head;
     }
 
-    /// The repository has these references from now on.
+    /// From now on the repository has these references.
     pub fn set_references(&mut self, references: Refs)
         ensures { self.new ≡ record self.old { references = references } }
     {
         self.references = references;
     }
 
-    /// Puts a reference behind the others, as `Refs::push` does.
+    /// Appends a reference, as `Refs::push` does.
     pub fn push(&mut self, name: RefName, target: Name) -> Result<(), PushRefError>
         ensures head { self.new.head ≡ self.old.head }
         ensures ok { OnOk result (map.entries self.new.references ≡ map.entries self.old.references ++ (name, target) ∷ []) }

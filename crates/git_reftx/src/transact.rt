@@ -43,7 +43,7 @@ pub(crate) fn transact<K: Known>(
     Ok(new)
 }
 
-// What is judged on the references before.
+// What is checked on the references before.
 fn refused_before<K: Known>(
     alloc: Global,
     old: &RefMap,
@@ -64,7 +64,7 @@ fn refused_before<K: Known>(
     Ok(stale(orders, old))
 }
 
-// What is judged on the references afterwards.
+// What is checked on the references afterwards.
 fn refused_after(new: &RefMap) -> Option<TxRefusal>
     ensures { result ≡ refused_after new.now }
 {

@@ -1,4 +1,4 @@
--- A fault of form is one at the most, and what begins with a right entry has none.
+-- Bytes have at most one fault of form, and what begins with a valid entry has none.
 use Rattle.std.proofs.Common.{◌≡◌, ℕ, ◌<◌, List, [], ◌∷◌, ◌++◌, length, refl, sym, ap, subst, ◌∙◌, arith, length-append}
 use Rattle.std.specs.List.{AllByRecursion, flat_map}
 use Rattle.git_tree.specs.declared.mode.Mode.{Mode}

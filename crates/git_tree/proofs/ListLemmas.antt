@@ -1,4 +1,4 @@
--- Facts of each entry, of some entry, and of each entry and each one behind it.
+-- Facts about each entry, some entry, and each entry and every one after it.
 use Rattle.std.proofs.Common.{◌≡◌, ◌≢◌, ℕ, suc, ◌⊎◌, inl, inr, List, [], ◌∷◌, ◌++◌, map, refl, sym, subst, arith}
 use Rattle.std.specs.List.{AllByRecursion, AllPairs, Any}
 use Rattle.std.specs.List.Sorted.{IsStrictlySortedBy}

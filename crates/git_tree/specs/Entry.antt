@@ -16,11 +16,11 @@ pub record Entry : Type 0 where
 abbrev pub entry_with : Mode → List ℕ → List ℕ → Entry
 entry_with mode file_name name = record { mode = mode; file_name = file_name; name = name }
 
--- an entry, without where its file name lies in memory
+-- an entry, without where its file name is in memory
 abbrev pub plain_entry : TreeEntry → Entry
 plain_entry entry = record { mode = entry.mode; file_name = entry.file_name.now; name = entry.name }
 
--- bytes, none of them / or zero, and not the names of the folder, the one above it and the repository
+-- bytes, none of them / or zero, and not `.`, `..` or `.git`
 pub record IsFileName (bytes : List ℕ) : Type 0 where
   pub some : bytes ≢ []
   pub no_slash : Lacks 47 bytes
@@ -38,7 +38,7 @@ pub record IsEntry (entry : Entry) : Type 0 where
 abbrev pub spelled : Entry → List ℕ
 spelled entry = digits entry.mode ++ 32 ∷ (entry.file_name ++ 0 ∷ entry.name)
 
--- the file name, with / behind it where it is that of a tree
+-- the file name, followed by / if it is a tree's
 abbrev pub key : Bool → List ℕ → List ℕ
 key true file_name = file_name ++ codes "/"
 key false file_name = file_name

@@ -1,4 +1,4 @@
--- Which fault bytes have, judged from the left: the first wrong entry decides (own).
+-- The fault of bytes, judged from the left: the first wrong entry decides (own).
 use Rattle.std.specs.Prelude.{◌≡◌, ◌≢◌, ◌<◌, ◌⊎◌, ℕ, List, [], ◌∷◌, ◌++◌, length}
 use Rattle.std.specs.List.{flat_map, Any}
 use Rattle.git_tree.specs.declared.mode.Mode.{Mode}
@@ -9,7 +9,7 @@ use Rattle.git_name.specs.Text.{Lacks}
 use Rattle.git_tree.specs.Entry.{Entry, IsFileName, IsEntry, spelled}
 use Rattle.git_tree.specs.Tree.{IsBelow, AreEntries}
 
--- what stands before the first space is no mode
+-- what precedes the first space is not a mode
 pub record HasBadMode (bytes : List ℕ) : Type 0 where
   pub word : List ℕ
   pub after : List ℕ
@@ -26,7 +26,7 @@ pub record HasBadName (bytes : List ℕ) : Type 0 where
   pub first : Lacks 0 file_name
   pub bad : IsFileName file_name → ⊥
 
--- a mode, and no zero behind it
+-- a mode, and no zero after it
 pub record HasNoZero (bytes : List ℕ) : Type 0 where
   pub mode : Mode
   pub after : List ℕ
@@ -42,7 +42,7 @@ pub record HasShortName (bytes : List ℕ) : Type 0 where
   pub file_name_is : IsFileName file_name
   pub short : length after < 32
 
--- the bytes end where an entry goes on
+-- the bytes end within an entry
 pub data IsCutShort (bytes : List ℕ) : Type 0 where
   NoSpace : Lacks 32 bytes → IsCutShort bytes
   NoZero : HasNoZero bytes → IsCutShort bytes
@@ -64,7 +64,7 @@ IsRepeated front entry = Any (λ a. a.file_name ≡ entry.file_name) front
 abbrev pub IsOutOfOrder : List Entry → Entry → Type 0
 IsOutOfOrder front entry = Any (λ a. IsBelow a entry → ⊥) front
 
--- the fault of a right entry behind others
+-- the fault of a valid entry at its place after others
 abbrev pub IsPlaceFault : TreeFault → List Entry → Entry → Type 0
 IsPlaceFault fault.Mode front entry = ⊥
 IsPlaceFault fault.Name front entry = ⊥
@@ -72,7 +72,7 @@ IsPlaceFault fault.Truncated front entry = ⊥
 IsPlaceFault fault.Repeated front entry = IsRepeated front entry
 IsPlaceFault fault.Order front entry = (IsRepeated front entry → ⊥) × IsOutOfOrder front entry
 
--- the bytes begin with a right entry that may not stand behind those
+-- the bytes begin with a valid entry that may not come after those
 pub record IsMisplaced (fault : TreeFault) (front : List Entry) (bytes : List ℕ) : Type 0 where
   pub entry : Entry
   pub after : List ℕ
@@ -80,7 +80,7 @@ pub record IsMisplaced (fault : TreeFault) (front : List Entry) (bytes : List �
   pub parts : bytes ≡ spelled entry ++ after
   pub wrong : IsPlaceFault fault front entry
 
--- a front of the bytes is right entries, and what stands behind it has this fault
+-- a prefix of the bytes is valid entries, and what follows has this fault
 pub record IsTreeFault (fault : TreeFault) (bytes : List ℕ) : Type 0 where
   pub front : List Entry
   pub rest : List ℕ

@@ -1,4 +1,4 @@
--- Why an entry is not put behind others (own).
+-- Why an entry is not appended (own).
 use Rattle.std.specs.Prelude.{List}
 use Rattle.git_tree.specs.declared.fault.TreeFault.{TreeFault}
 use Rattle.git_tree.specs.declared.fault.TreeFault.TheVariants as fault
@@ -7,7 +7,7 @@ use Rattle.git_tree.specs.declared.builder.PushError.TheVariants as error
 use Rattle.git_tree.specs.Entry.{Entry, IsFileName}
 use Rattle.git_tree.specs.Fault.{IsRepeated, IsOutOfOrder}
 
--- the first point that the entry breaks behind those
+-- the first rule that the entry breaks after those
 abbrev pub IsPushFault : TreeFault → List Entry → Entry → Type 0
 IsPushFault fault.Mode front entry = ⊥
 IsPushFault fault.Name front entry = IsFileName entry.file_name → ⊥
@@ -15,7 +15,7 @@ IsPushFault fault.Truncated front entry = ⊥
 IsPushFault fault.Repeated front entry = IsFileName entry.file_name × IsRepeated front entry
 IsPushFault fault.Order front entry = IsFileName entry.file_name × (IsRepeated front entry → ⊥) × IsOutOfOrder front entry
 
--- such a fault, or want of memory
+-- such a fault, or lack of memory
 abbrev pub IsCause : PushError → List Entry → Entry → Type 0
 IsCause (error.Fault fault) front entry = IsPushFault fault front entry
 IsCause error.Memory front entry = Unit {0}

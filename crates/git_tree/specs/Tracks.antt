@@ -14,21 +14,21 @@ use Rattle.git_tree.specs.Known.{Knows}
 abbrev pub AtMost : List ℕ → List ℕ → Type 0
 AtMost a k = (name_cmp a k ≡ Less) ⊎ (a ≡ k)
 
--- how far a reader came: the last file name, whether it is a tree's, and what is kept of earlier files' names
+-- how far a reader is: the last file name, whether it is a tree's, and what is kept of earlier files' names
 pub record Reached : Type 0 where
   pub file_name : List ℕ
   pub is_tree : Bool
   pub fronts : FrontLengths
 
--- the same, without where the file name lies in memory
+-- the same, without where the file name is in memory
 abbrev pub reached_by : Last → FrontLengths → Reached
 reached_by last fronts = record { file_name = last.file_name.now; is_tree = last.is_tree; fronts = fronts }
 
--- the same, where the file name stands in bytes
+-- the same, if the file name is in bytes
 abbrev pub reached_at : List ℕ → ℕ → ℕ → Bool → FrontLengths → Reached
 reached_at bytes start len is_tree fronts = record { file_name = take len (drop start bytes); is_tree = is_tree; fronts = fronts }
 
--- the entry may stand behind those
+-- the entry may come after those
 pub record MayFollow (front : List Entry) (entry : Entry) : Type 0 where
   pub above : AllByRecursion (λ a. IsBelow a entry) front
   pub new : AllByRecursion (λ a. Differ a entry) front
@@ -43,12 +43,12 @@ last_key last = key last.is_tree last.file_name
 
 -- what a reader keeps is right for the entries so far
 pub record Tracks (front : List Entry) (last : Reached) : Type 0 where
-  -- no key is above the last one, and what is above all is above it
+  -- no key is above the last one, so what is above the last one is above all
   pub low : AllByRecursion (λ a. AtMost (entry_key a) (last_key last)) front
   pub met : (k : List ℕ) → k ≢ [] → AllByRecursion (λ a. name_cmp (entry_key a) k ≡ Less) front → name_cmp (last_key last) k ≡ Less
   pub known : AllByRecursion (IsFrontKnown last) front
 
--- an entry in order behind the last one, and how many bytes their file names have in common
+-- an entry in order after the last one, and how many bytes their file names share at the start
 pub record FollowsLast (old : Reached) (e : Entry) (s : ℕ) : Type 0 where
   pub is : IsEntry e
   pub order : name_cmp (last_key old) (entry_key e) ≡ Less

@@ -1,5 +1,5 @@
--- The entries of the tree that bytes are, found by tests, for models that compute (own). It says
--- what `IsTree` says, as the law `tests_find_the_tree` states.
+-- The entries of the tree that bytes are, found by tests, for models that compute (own). It agrees with `IsTree`, as the law
+-- `tests_find_the_tree` states.
 use Rattle.std.specs.Prelude.{ℕ, ◌==◌, ◌&&◌, nat_lt, not, Bool, true, List, [], ◌∷◌, length, codes, Option, None, Some, if◌then◌else◌}
 use Rattle.std.specs.List.{flat_map, list_all}
 use Rattle.std.specs.Ordering.{is_lt}
@@ -22,7 +22,7 @@ is_entry entry = is_file_name entry.file_name && (length entry.name == 32) && li
 abbrev pub is_followed_by : Entry → Entry → Bool
 is_followed_by a b = is_lt (name_cmp (entry_key a) (entry_key b)) && not (bytes_eq a.file_name b.file_name)
 
--- each entry is followed so by each one behind it
+-- every entry is followed this way by each one after it
 abbrev pub are_in_order : List Entry → Bool
 are_in_order [] = true
 are_in_order (entry ∷ entries) = list_all (is_followed_by entry) entries && are_in_order entries

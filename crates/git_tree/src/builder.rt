@@ -19,11 +19,10 @@ use std::alloc::{AllocError, Global};
 use std::marker::Model;
 use thiserror::Error;
 
-/// Why an entry was not put.
+/// Why an entry was not appended.
 #[derive(Clone, Copy, Debug, PartialEq, Eq, Error)]
 pub enum PushError {
-    /// The entry may not stand behind those that were put: a fault of name, of a repeated file
-    /// name or of order.
+    /// The entry may not come after the others: a fault of name, of a repeated file name or of order.
     #[error(transparent)]
     Fault(TreeFault),
     /// Memory ran out.
@@ -31,8 +30,8 @@ pub enum PushError {
     Memory,
 }
 
-/// A tree that is built entry by entry, in the order of its keys. In a clause this is the list of
-/// the entries that were put.
+/// A tree that is built entry by entry, in the order of its keys. Contracts see the list of the entries
+/// appended.
 #[derive(Debug, Drop)]
 pub struct TreeBuilder {
     bytes: Vec<u8>,
@@ -56,7 +55,7 @@ impl Model for TreeBuilder {
     ghost invariant = { λ b. IsBuilt b.bytes.items b.start b.len b.is_tree b.fronts };
 }
 
-// Puts the bytes of one more entry, or some of them.
+// Appends the bytes of an entry, or some of them.
 fn put_some(bytes: &mut Vec<u8>, mode: Mode, file_name: &[u8], name: Name) -> Result<(), AllocError>
     ensures ok { OnOk result (bytes.new.items ≡ bytes.old.items ++ spelled (entry_with mode file_name.now name)) }
     ensures kept { take (length bytes.old.items) bytes.new.items ≡ bytes.old.items }
@@ -69,7 +68,7 @@ fn put_some(bytes: &mut Vec<u8>, mode: Mode, file_name: &[u8], name: Name) -> Re
     Ok(())
 }
 
-// Puts the bytes of one more entry, or none.
+// Appends the bytes of an entry, or none.
 fn put(bytes: &mut Vec<u8>, mode: Mode, file_name: &[u8], name: Name) -> Result<(), AllocError>
     ensures ok { OnOk result (bytes.new.items ≡ bytes.old.items ++ spelled (entry_with mode file_name.now name)) }
     ensures err { OnErr result (bytes.new.items ≡ bytes.old.items) }
@@ -82,8 +81,8 @@ fn put(bytes: &mut Vec<u8>, mode: Mode, file_name: &[u8], name: Name) -> Result<
     result
 }
 
-// Whether one more entry may stand behind those in `bytes`, where the last file name begins at
-// `start` and has `len` bytes, and how many bytes the two file names have in common.
+// Whether an entry may come after those in `bytes`, of which the last file name begins at `start` and
+// has `len` bytes; and how many bytes the two file names share at the start.
 fn judge(
     bytes: &[u8],
     start: usize,
@@ -119,7 +118,7 @@ fn judge(
 }
 
 impl TreeBuilder {
-    /// A tree with no entry.
+    /// A tree without entries.
     pub fn new(alloc: Global) -> TreeBuilder
         ensures { result ≡ [] }
     {
@@ -132,7 +131,7 @@ impl TreeBuilder {
         }
     }
 
-    /// Puts an entry behind the others. After an `Err` further entries may be put.
+    /// Appends an entry. After an `Err` more entries may be appended.
     pub fn push(&mut self, mode: Mode, file_name: &[u8], name: Name) -> Result<(), PushError>
         ensures ok { OnOk result (self.new ≡ self.old ++ entry_with mode file_name.now name ∷ []) }
         ensures err { OnErr result (self.new ≡ self.old) }
@@ -165,7 +164,7 @@ impl TreeBuilder {
         Ok(())
     }
 
-    /// The bytes of the tree: the one spelling of its entries. It takes no memory.
+    /// The bytes of the tree: the one spelling of its entries. It allocates nothing.
     pub fn finish(self) -> Vec<u8>
         ensures { IsTree self result.items }
     {

@@ -6,8 +6,8 @@ use git_name::Name;
 pub struct TreeEntry<'a> {
     /// What the entry is.
     pub mode: Mode,
-    /// Its file name, lent from the tree's bytes.
+    /// Its file name, borrowed from the tree's bytes.
     pub file_name: &'a [u8],
-    /// The name of the object that it stands for.
+    /// The name of its object.
     pub name: Name,
 }

@@ -1,10 +1,11 @@
 use thiserror::Error;
 
-/// Why bytes are no tree: the fault of the first wrong entry from the left. Within an entry the
-/// faults are judged in this order, but that a part which passes the end is judged where it stands.
+/// Why bytes are not a tree: the fault of the first wrong entry from the left. Within an entry the
+/// faults are checked in this order, except that a part that runs past the end is reported where it
+/// begins.
 #[derive(Clone, Copy, Debug, PartialEq, Eq, Error)]
 pub enum TreeFault {
-    /// The digits are those of no mode.
+    /// The digits are not those of a mode.
     #[error("the mode is none of the five")]
     Mode,
     /// The file name is one that no entry may have.
@@ -13,7 +14,7 @@ pub enum TreeFault {
     /// The bytes end within the entry.
     #[error("the bytes end within an entry")]
     Truncated,
-    /// An earlier entry, next to it or not, has the file name.
+    /// An earlier entry, next to it or not, has the same file name.
     #[error("an earlier entry has the file name")]
     Repeated,
     /// The key is not above that of the entry before.

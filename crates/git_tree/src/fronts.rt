@@ -3,13 +3,12 @@ ghost use Rattle.std.specs.Prelude.{◌≡◌, ◌<◌, ◌≤◌, ℕ, true, fa
 use std::fmt;
 use std::marker::Model;
 
-// How many lengths are kept. So many file names, each of which begins with the one before, take
-// more than 8 MiB in a tree: n of them have n * (n + 1) / 2 bytes, and 40 more each.
+// How many lengths are kept. This many file names, each of which begins with the one before, take more
+// than 8 MiB in a tree: n of them have n * (n + 1) / 2 bytes, and 40 more each.
 pub(crate) const MANY: usize = 4096;
 
-// The lengths of those earlier files' names that the last file name begins with, rising, of which
-// `DEPTH` are kept at the most. No other file name can come back in order, since the keys between
-// begin with it.
+// The lengths, rising, of those earlier files' names that the last file name begins with; at most
+// `DEPTH` are kept. No other file name can come again in order, since the keys between begin with it.
 #[derive(Drop)]
 pub(crate) struct Fronts<const DEPTH: usize> {
     lengths: [u32; DEPTH],
@@ -40,7 +39,7 @@ impl<const DEPTH: usize> fmt::Debug for Fronts<DEPTH> {
 impl<const DEPTH: usize> Fronts<DEPTH> {
     ghost use Rattle.git_tree.specs.Known.{Knows};
 
-    // With none.
+    // No lengths.
     pub(crate) fn new() -> Fronts<DEPTH> {
         Fronts {
             lengths: [0; DEPTH],
@@ -49,8 +48,8 @@ impl<const DEPTH: usize> Fronts<DEPTH> {
         }
     }
 
-    // Whether an entry in order may have the name of an earlier file, where it has `shared` bytes
-    // in common with the last file name, and `len` bytes. Only a tree can.
+    // Whether an entry in order may have the name of an earlier file, if it shares its first `shared`
+    // bytes with the last file name, and has `len` bytes. Only a tree can.
     pub(crate) fn may_hold(&self, shared: usize, len: usize, is_tree: bool) -> bool
         ensures { is_tree ≡ true → shared ≡ len → Knows self.now len → IsTrue result }
     {
@@ -64,7 +63,7 @@ impl<const DEPTH: usize> Fronts<DEPTH> {
         self.is_full || count > 0 && self.lengths[count - 1] as usize == len
     }
 
-    // Goes on to a file name that has `shared` bytes in common with the last one, and `len` bytes.
+    // Advances to a file name that shares its first `shared` bytes with the last one, and has `len` bytes.
     pub(crate) fn advance(&mut self, shared: usize, len: usize, is_tree: bool)
         requires grows { is_tree ≡ false → shared < len }
         ensures kept { (n : ℕ) → n ≤ shared → Knows self.old n → Knows self.new n }

@@ -6,14 +6,13 @@ ghost use Rattle.git_tree.specs.Pushing.{IsPushFault};
 ghost use Rattle.git_tree.specs.Tree.{AreEntries, IsTree};
 ghost use Rattle.git_tree.specs.TreeIn.{tree_in};
 
-/// The same bytes are a tree of one list of entries at the most, and the same entries have one
-/// spelling.
+/// The same bytes are a tree of at most one list of entries, and the same entries have one spelling.
 pub fn one_list_of_entries()
     ensures entries { (bytes : List ℕ) (row other : List Entry) → IsTree row bytes → IsTree other bytes → row ≡ other }
     ensures bytes { (row : List Entry) (bytes other : List ℕ) → IsTree row bytes → IsTree row other → bytes ≡ other }
 {}
 
-/// The same bytes have one fault at the most, and what is a tree has none.
+/// The same bytes have at most one fault, and a tree has none.
 pub fn one_fault_at_most()
     ensures fault { (bytes : List ℕ) (fault other : TreeFault) → IsTreeFault fault bytes → IsTreeFault other bytes → fault ≡ other }
     ensures none { (bytes : List ℕ) (fault : TreeFault) (row : List Entry) → IsTree row bytes → IsTreeFault fault bytes → ⊥ }
@@ -24,7 +23,7 @@ pub fn tests_find_the_tree()
     ensures { (bytes : List ℕ) (row : List Entry) → (tree_in bytes ≡ Some row) ↔ IsTree row bytes }
 {}
 
-/// An entry has one fault behind others at the most, and none where it may stand there.
+/// An entry has at most one fault after others, and none if it may come after them.
 pub fn one_push_fault_at_most()
     ensures fault { (front : List Entry) (entry : Entry) (fault other : TreeFault) → IsPushFault fault front entry → IsPushFault other front entry → fault ≡ other }
     ensures none { (front : List Entry) (entry : Entry) (fault : TreeFault) → AreEntries (front ++ entry ∷ []) → IsPushFault fault front entry → ⊥ }

@@ -1,6 +1,6 @@
-//! Git's trees: rows of entries, each a mode, a file name and the name of an object.
-//! Bytes are read exactly where they are the one spelling of right entries, in linear time and
-//! with no memory taken; a fault is that of the first wrong entry; a builder writes the same bytes.
+//! Git's trees: rows of entries, each a mode, a file name and the name of an object. Bytes are read if
+//! and only if they are the one spelling of valid entries, in linear time and without allocating; a
+//! fault is that of the first wrong entry; a builder writes the same bytes.
 #![tactic(auto)]
 
 mod builder;

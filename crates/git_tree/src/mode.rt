@@ -20,7 +20,7 @@ pub enum Mode {
 }
 
 impl Mode {
-    /// The digits that stand for the mode in a tree's bytes.
+    /// The digits that spell the mode in a tree's bytes.
     pub fn digits(self) -> &'static [u8]
         ensures { result.now ≡ digits self }
     {
@@ -33,7 +33,7 @@ impl Mode {
         }
     }
 
-    /// The mode that these digits stand for; no zero may be put before them.
+    /// The mode that these digits spell; a leading zero is refused.
     pub fn from_digits(text: &[u8]) -> Option<Mode>
         ensures found { IfSome result (λ mode. text.now ≡ digits mode) }
         ensures none { IfNone result ((mode : Mode) → text.now ≢ digits mode) }

@@ -12,7 +12,7 @@ use crate::mode::Mode;
 use git_name::{Name, split_once};
 use memchr::{memchr, memchr2};
 
-// Whether an entry may have the file name, in which no zero stands.
+// Whether an entry may have the file name, which contains no zero.
 pub(crate) fn is_file_name(bytes: &[u8]) -> bool
     requires { Lacks 0 bytes.now }
     ensures { IsTrue result ↔ IsFileName bytes.now }
@@ -23,7 +23,7 @@ pub(crate) fn is_file_name(bytes: &[u8]) -> bool
     }
 }
 
-// The name at the front, and the bytes behind it.
+// The name at the start, and the bytes after it.
 fn take_name(bytes: &[u8]) -> Option<(Name, &[u8])>
     ensures whole { IfSome result (λ p. bytes.now ≡ p.0 ++ p.1.now) }
     ensures name { IfSome result (λ p. IsName p.0) }
@@ -35,7 +35,7 @@ fn take_name(bytes: &[u8]) -> Option<(Name, &[u8])>
     Some((Name::new(*front), rest))
 }
 
-// The mode at the front and what stands behind its space, where one look shows both.
+// The mode at the start and what follows its space, if one look shows both.
 fn plain_mode(bytes: &[u8]) -> Option<(Mode, &[u8])>
     ensures { IfSome result (λ p. bytes.now ≡ digits p.0 ++ 32 ∷ p.1.now) }
 {
@@ -47,7 +47,7 @@ fn plain_mode(bytes: &[u8]) -> Option<(Mode, &[u8])>
     }
 }
 
-// The mode at the front and what stands behind its space.
+// The mode at the start and what follows its space.
 fn take_mode(bytes: &[u8]) -> Result<(Mode, &[u8]), TreeFault>
     ensures whole { IfOk result (λ p. bytes.now ≡ digits p.0 ++ 32 ∷ p.1.now) }
     ensures fault { IfErr result (λ fault. IsFormFault fault bytes.now) }
@@ -64,7 +64,7 @@ fn take_mode(bytes: &[u8]) -> Result<(Mode, &[u8]), TreeFault>
     }
 }
 
-// The file name at the front and what stands behind its zero, where one look shows that it is right.
+// The file name at the start and what follows its zero, if one look shows that it is valid.
 fn plain_file_name(bytes: &[u8]) -> Option<(&[u8], &[u8])>
     ensures whole { IfSome result (λ p. bytes.now ≡ p.0.now ++ 0 ∷ p.1.now) }
     ensures right { IfSome result (λ p. IsFileName p.0.now) }
@@ -81,7 +81,7 @@ fn plain_file_name(bytes: &[u8]) -> Option<(&[u8], &[u8])>
     }
 }
 
-// The file name at the front and what stands behind its zero.
+// The file name at the start and what follows its zero.
 fn take_file_name(bytes: &[u8]) -> Result<(&[u8], &[u8]), TreeFault>
     ensures whole { IfOk result (λ p. bytes.now ≡ p.0.now ++ 0 ∷ p.1.now) }
     ensures right { IfOk result (λ p. IsFileName p.0.now) }
@@ -99,7 +99,7 @@ fn take_file_name(bytes: &[u8]) -> Result<(&[u8], &[u8]), TreeFault>
     Ok((file_name, rest))
 }
 
-// The entry at the front, and the bytes behind it.
+// The entry at the start, and the bytes after it.
 pub(crate) fn take_entry(bytes: &[u8]) -> Result<(TreeEntry<'_>, &[u8]), TreeFault>
     requires { 0 < length bytes.now }
     ensures entry { IfOk result (λ x. IsEntry (plain_entry x.0)) }

@@ -1,4 +1,4 @@
--- A whole round: each name that it leaves is held.
+-- A whole round: every name that it leaves is held.
 use Rattle.std.proofs.Common.{◌≡◌, ℕ, zero, suc, ◌+◌, ◌<◌, ◌≤◌, ◌⊎◌, inl, inr, List, [], ◌∷◌, ◌++◌, length, Bool, true, refl, sym, ap, subst, ◌∙◌, arith, length-append, append_assoc}
 use Rattle.git_name.specs.Same.{is_listed}
 use Rattle.looks.specs.Places.{Places, looked_at, at_start}

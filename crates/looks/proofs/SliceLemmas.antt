@@ -1,4 +1,4 @@
--- Slices one after another: each name that they leave is held.
+-- Slices one after another: every name that they leave is held.
 use Rattle.std.proofs.Common.{◌≡◌, ℕ, zero, suc, ◌<◌, ◌≤◌, ◌+◌, ◌*◌, ◌⊎◌, inl, inr, List, [], ◌∷◌, ◌++◌, length, Bool, true, false, refl, sym, ap, subst, ◌∙◌, arith, length-append}
 use Rattle.std.specs.Prelude.{nat_lt, sum}
 use Rattle.std.proofs.lemmas.Bool.{ltb-true, ltb-false}

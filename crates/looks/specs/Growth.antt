@@ -1,15 +1,15 @@
--- Names that come to a catalogue (own).
+-- Names that are added to a catalogue (own).
 use Rattle.std.specs.Prelude.{◌≡◌, ◌∷◌, ◌++◌, [], ⊤, ℕ, List, Contains, false}
 use Rattle.std.specs.List.{AllByRecursion}
 use Rattle.git_name.specs.Same.{is_listed}
 use Rattle.looks.specs.Places.{Places}
 
--- of the names that come behind these, each is new where it comes
+-- of the names that follow these, each is new at its place
 abbrev pub AreNew : List (List ℕ) → List (List ℕ) → Type 0
 AreNew names [] = ⊤
 AreNew names (name ∷ added) = (is_listed names name ≡ false) × AreNew (names ++ name ∷ []) added
 
--- the place stays, and behind the names that stood new ones came, each one of these
+-- the place stays, and new names were appended, each one of these
 pub record GrowsAmong (names : List (List ℕ)) (old new : Places) : Type 0 where
   pub place : new.place ≡ old.place
   pub added : List (List ℕ)

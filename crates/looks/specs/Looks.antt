@@ -11,12 +11,12 @@ pub data Look (held : List ℕ → Bool) (old new : Places) : Type 0 where
   Leaves : (front back left : List (List ℕ)) (name : List ℕ) → old.names ≡ front ++ name ∷ back → length front ≡ looked_at old → held name ≡ false
       → new.names ≡ front ++ left → IsPermutation back left → new.place ≡ looked_at old → Look held old new
 
--- so many looks, one after another
+-- this many looks, one after another
 abbrev pub Looks : (List ℕ → Bool) → ℕ → Places → Places → Type 0
 Looks held zero old new = new ≡ old
 Looks held (suc n) old new = (mid : Places) × Looks held n old mid × Look held mid new
 
--- so many looks, none of them at the end
+-- this many looks, none of them at the end
 abbrev pub Walks : (List ℕ → Bool) → ℕ → Places → Places → Type 0
 Walks held zero old new = new ≡ old
 Walks held (suc n) old new = (mid : Places) × Walks held n old mid × (mid.place < length mid.names) × Look held mid new

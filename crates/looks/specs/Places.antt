@@ -1,13 +1,13 @@
--- Names in places, and the place of the next look (own). Nothing here knows of code or of a store.
+-- Names in places, and the place of the next look (own). Nothing here depends on code or on a store.
 use Rattle.std.specs.Coded.{Coded, code_by, coded×, coded_list, coded_ℕ}
 use Rattle.std.specs.Prelude.{ℕ, List, length, nat_lt, refl, if◌then◌else◌}
 
--- names, each at a place, and the place where the next look falls
+-- names, each at a place, and the place of the next look
 pub record Places : Type 0 where
   pub names : List (List ℕ)
   pub place : ℕ
 
--- where a look falls: a place at the list's end is first set to the list's beginning
+-- where a look falls: a place at the list's end is first set to its beginning
 abbrev pub looked_at : Places → ℕ
 looked_at places = if nat_lt places.place (length places.names) then places.place else 0
 

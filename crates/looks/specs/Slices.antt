@@ -3,7 +3,7 @@ use Rattle.std.specs.Prelude.{Bool, ◌≡◌, ◌≤◌, ◌<◌, ℕ, List, []
 use Rattle.looks.specs.Places.{Places, at_start}
 use Rattle.looks.specs.Looks.{Looks, Walks}
 
--- a slice: so many looks at the most, and fewer only where nothing is left to look at
+-- a slice: at most this many looks, and fewer only if nothing is left to look at
 pub record Sweeps (held : List ℕ → Bool) (most : ℕ) (old new : Places) : Type 0 where
   pub count : ℕ
   pub few : count ≤ most

@@ -1,6 +1,6 @@
 //! Looks at a catalogue of names, one place after another, and what enough of them leave: definitions
-//! and laws, and no code that runs.
-//! After enough looks each name that is left is held, wherever the first of them fell.
+//! and laws, with no code to run. After enough looks every name that is left is held, wherever the
+//! first look fell.
 #![tactic(auto)]
 
 ghost use Rattle.std.specs.Prelude.{◌≡◌, ◌≤◌, ◌*◌, Bool, true, ℕ, List, length, sum};
@@ -8,13 +8,13 @@ ghost use Rattle.git_name.specs.Same.{is_listed};
 ghost use Rattle.looks.specs.Places.{Places};
 ghost use Rattle.looks.specs.Slices.{Collects, SweepsAll};
 
-/// After slices that add up to at least twice the number of names, each name that is left is held.
+/// After slices that add up to at least twice the number of names, every name that is left is held.
 pub fn sharp_sweeps()
     ensures { (held : List ℕ → Bool) (slices : List ℕ) (old new : Places) → old.place ≤ length old.names → 2 * length old.names ≤ sum slices
         → SweepsAll held slices old new → (name : List ℕ) → is_listed new.names name ≡ true → held name ≡ true }
 {}
 
-/// After a whole round each name that is left is held.
+/// After a whole round every name that is left is held.
 pub fn sharp_collection()
     ensures { (held : List ℕ → Bool) (old new : Places) → Collects held old new → (name : List ℕ) → is_listed new.names name ≡ true → held name ≡ true }
 {}

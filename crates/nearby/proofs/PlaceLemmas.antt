@@ -1,4 +1,4 @@
--- Where a name stands among names of which no two are equal, and what is read and written at its place.
+-- The place of a name among distinct names, and what is read and written at its place.
 use Rattle.std.proofs.Common.{◌≡◌, ℕ, zero, suc, Bool, cond, List, [], ◌∷◌, None, Some, is_some, get_or, map, position, slice_get, refl, sym, ap, subst, ◌∙◌}
 use Rattle.std.specs.List.{IsDistinct, list_any}
 use Rattle.std.specs.Map.{keys_of, lookup, values_of}

@@ -1,4 +1,4 @@
-//! Names found where they stand near those that were found before them, without hashing.
+//! Finds names near those that were found before, without hashing.
 #![tactic(auto)]
 
 mod nearby;

@@ -12,34 +12,34 @@ use indexmap::{IndexMap, IndexSet};
 use std::array;
 use std::cell::Cell;
 
-// So many places before and behind one where a name was found are tried.
+// How many places before and after the last one are tried.
 const REACH: usize = 8;
 
-// Where `far` is above this, only the last place itself is tried.
+// If `far` is above this, only the last place itself is tried.
 const PATIENCE: usize = 4;
 
-// `far` is no more than this, so that a few names that stand near bring it down again.
+// The most that `far` counts, so that a few names found near bring it down again.
 const COUNTED: usize = 8;
 
-// So many places of names that were hashed are remembered.
+// How many places of hashed names are remembered.
 const GUESSES: usize = 1024;
 
-/// The two places of a table of names at which names were found last. Objects that came together lie
-/// together, so whoever follows their links finds most of them near the one place or the other, and
-/// need not hash their names: where a hash leads is at random, and seldom in a processor's cache.
-/// Beside them stand places of names that had to be hashed, as those of what stays from commit to commit,
-/// to which many trees link again.
+/// The two places of a table at which names were found last. Objects that were added together are close
+/// together, so a walk along their links finds most of them near one of the two places and need not
+/// hash their names: a hash leads to a random place, which is seldom in a processor's cache. It also
+/// remembers places of names that had to be hashed, such as those of objects that stay from commit to
+/// commit and that many trees link to.
 #[derive(Debug, Drop)]
 pub struct Nearby {
     last: Cell<usize>,
     other: Cell<usize>,
-    // How much oftener names stood far from these places than near, lately.
+    // How much more often names were lately found far from these places than near.
     far: Cell<usize>,
-    // By how names begin, where the last one stood that began so and was hashed.
+    // By a name's first bytes, the last place at which a hashed name that begins so was found.
     guesses: [Cell<u32>; GUESSES],
 }
 
-// Whether the name stands at this place.
+// Whether the name is at this place.
 fn stands_at(names: &[Name], at: usize, name: Name) -> bool
     ensures { OnTrue result (slice_get names.now at ≡ Some name) }
 {
@@ -49,7 +49,7 @@ fn stands_at(names: &[Name], at: usize, name: Name) -> bool
     }
 }
 
-// The place of the name, where it stands so many places before or behind this one.
+// The place of the name, if it is this many places before or after this one.
 fn place_beside(names: &[Name], place: usize, step: usize, name: Name) -> Option<usize>
     ensures { IfSome result (λ at. slice_get names.now at ≡ Some name) }
 {
@@ -64,8 +64,9 @@ fn place_beside(names: &[Name], place: usize, step: usize, name: Name) -> Option
     None
 }
 
-// The place of the name, where it stands near one of these two. The nearer ones are tried first, those of
-// both by turns, as who goes back and forth between two places would else try all near the one each time.
+// The place of the name, if it is near one of these two. Nearer places are tried first, those of both
+// by turns: a walk that goes back and forth between two places would otherwise try all places near the
+// wrong one each time.
 fn place_near(names: &[Name], last: usize, other: usize, name: Name) -> Option<usize>
     ensures { IfSome result (λ at. slice_get names.now at ≡ Some name) }
 {
@@ -80,19 +81,19 @@ fn place_near(names: &[Name], last: usize, other: usize, name: Name) -> Option<u
     None
 }
 
-// Which of the guesses is of names that begin as this one.
+// The index of the guess for names that begin as this one does.
 fn guess_of(name: Name) -> usize {
     let bytes = name.as_bytes();
     ((bytes[0] as usize) << 2) | ((bytes[1] >> 6) as usize)
 }
 
-// Whether the one place is near the other.
+// Whether one place is near the other.
 fn is_near(place: usize, other: usize) -> bool {
     place.abs_diff(other) <= REACH
 }
 
 impl Nearby {
-    /// At the beginning of a table.
+    /// A finder at the beginning of a table.
     pub fn new() -> Nearby {
         Nearby {
             last: Cell::new(0),
@@ -102,7 +103,7 @@ impl Nearby {
         }
     }
 
-    // Counts a name that stood near one of the last places, or far from both, or nowhere.
+    // Counts a name that was found near one of the last places, or far from both, or not at all.
     fn count(&self, is_near: bool) {
         let far = self.far.get();
         if is_near {
@@ -112,7 +113,7 @@ impl Nearby {
         }
     }
 
-    // Notes a place that was found far from the last ones, or by chance near them.
+    // Notes a place that was found far from the last ones, or near them by chance.
     fn note(&self, place: usize) {
         self.count(is_near(place, self.last.get()) || is_near(place, self.other.get()));
         self.other.set(self.last.replace(place));
@@ -126,7 +127,7 @@ impl Nearby {
         self.note(place);
     }
 
-    // The place of the name, where it stands near one of the last.
+    // The place of the name, if it is near one of the last places.
     fn find_near(&self, names: &[Name], last: usize, name: Name) -> Option<usize>
         ensures { IfSome result (λ at. slice_get names.now at ≡ Some name) }
     {
@@ -142,7 +143,7 @@ impl Nearby {
         Some(place)
     }
 
-    // The place of the name, where it stood as names were hashed that begin as it does.
+    // The place of the name, if it is where the last hashed name with the same beginning was.
     fn find_again(&self, names: &[Name], name: Name) -> Option<usize>
         ensures { IfSome result (λ at. slice_get names.now at ≡ Some name) }
     {
@@ -154,7 +155,7 @@ impl Nearby {
         Some(place)
     }
 
-    // The place of the name, where it is found without its hash.
+    // The place of the name, if it is found without its hash.
     fn find(&self, names: &[Name], name: Name) -> Option<usize>
         ensures { IfSome result (λ at. slice_get names.now at ≡ Some name) }
     {
@@ -168,8 +169,8 @@ impl Nearby {
         self.find_again(names, name)
     }
 
-    /// The place of a name in a set. It is looked for near the last places first, of whatever table
-    /// they are.
+    /// The place of a name in a set. It is searched near the last places first, whatever table they belong
+    /// to.
     pub fn place(&self, names: &IndexSet<Name, Hashing>, name: Name) -> Option<usize>
         ensures { result ≡ index_of same_name names.now name }
     {
@@ -184,16 +185,15 @@ impl Nearby {
         Some(place)
     }
 
-    /// Whether a name is in a set. It is looked for near the last places first, of whatever table they
-    /// are.
+    /// Whether a set has a name. It is searched near the last places first, whatever table they belong to.
     pub fn holds(&self, names: &IndexSet<Name, Hashing>, name: Name) -> bool
         ensures { result ≡ contains same_name names.now name }
     {
         self.place(names, name).is_some()
     }
 
-    /// The place of a name in a map. It is looked for near the last places first, of whatever table they
-    /// are.
+    /// The place of a name in a map. It is searched near the last places first, whatever table they belong
+    /// to.
     pub fn key_place<V>(&self, entries: &IndexMap<Name, V, Hashing>, name: Name) -> Option<usize>
         ensures { result ≡ map.index_of same_name entries.now name }
     {
@@ -208,8 +208,8 @@ impl Nearby {
         Some(place)
     }
 
-    /// The value of a name in a map. It is looked for near the last places first, of whatever table
-    /// they are.
+    /// The value of a name in a map. It is searched near the last places first, whatever table they belong
+    /// to.
     pub fn get<'a, V>(&self, entries: &'a IndexMap<Name, V, Hashing>, name: Name) -> Option<&'a V>
         ensures { option_copied result ≡ get same_name entries.now name }
     {

@@ -1,6 +1,6 @@
-//! Public calls that no session shows, each called with ample memory: what they answer is taken from Git
-//! where Git has it, and what they read is counted. They stand here and not in their crates, as a crate
-//! with tests is proved once more.
+//! Public calls that no session covers, each called with ample memory. Expected results are Git's where
+//! Git has them, and what is read is counted. They are here and not in their crates, because a crate
+//! with tests is proved a second time.
 #![tactic(auto)]
 
 #[cfg(test)]

@@ -1,4 +1,4 @@
--- Commands and records of a text that goes on, as far as they are whole.
+-- The complete commands and records of a text that continues.
 use Rattle.std.proofs.Common.{◌≡◌, ◌≢◌, ℕ, zero, suc, ◌+◌, ◌<◌, ◌≤◌, Bool, true, false, cond, eqb, List, [], ◌∷◌, ◌++◌, Option, Some, None, Ok, Err, refl, sym, ap, ◌∙◌, is_some, take, drop, length, length-append, append-nil, arith}
 use Rattle.std.specs.Prelude.{nat_lt, ⊤}
 use Rattle.std.specs.Str.{bytes_eq}

@@ -1,4 +1,4 @@
--- What a draft stands for as a piece is looked at, and what of it is kept.
+-- The value of a draft while a piece is looked at, and what of it is kept.
 use Rattle.std.proofs.Common.{◌≡◌, ℕ, ◌+◌, ◌<◌, ◌≤◌, Bool, true, false, List, [], ◌++◌, Option, None, Some, Result, Ok, Err, OnOk, refl, sym, ap, ap₂, subst, ◌∙◌, is_some, option_map, length, length-append, take, append_assoc, append-nil, arith}
 use Rattle.std.proofs.Math.Seq.{take-length}
 use Rattle.std.proofs.lemmas.List.{length-take-le, take-append-le}

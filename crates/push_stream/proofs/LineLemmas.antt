@@ -1,4 +1,4 @@
--- Lines and commands that are written are read, whatever stands behind them, and what is read was written so.
+-- Lines and commands that are written are read, whatever follows them, and what is read was written this way.
 use Rattle.std.proofs.Common.{◌≡◌, ◌≢◌, ℕ, ◌≤◌, Bool, true, false, cond, eqb, All, List, [], ◌∷◌, ◌++◌, Option, None, Some, Result, Ok, Err, refl, ap, ◌∙◌, length, option_map, arith}
 use Rattle.std.specs.Prelude.{nat_le, ⊤}
 use Rattle.std.proofs.lemmas.Bool.Decides.{nat_tests}

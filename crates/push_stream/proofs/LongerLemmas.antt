@@ -1,4 +1,4 @@
--- What a longer text has at its front is what its own front has, where that is decided.
+-- What a longer text has at its start is what its own prefix has, if that is decided.
 use Rattle.std.proofs.Common.{◌≡◌, ℕ, zero, suc, ◌+◌, Bool, true, false, cond, eqb, List, [], ◌∷◌, ◌++◌, Option, Some, None, refl, sym, ap, ap₂, ◌∙◌, is_some, option_map, length, length-append, drop, take, arith}
 use Rattle.std.specs.Str.{bytes_eq}
 use Rattle.std.specs.Prelude.{nat_le, nat_lt}

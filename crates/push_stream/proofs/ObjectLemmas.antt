@@ -1,4 +1,4 @@
--- What a stream holds are objects, each of its kind's grammar, and pieces add no others.
+-- The objects that a stream holds are valid in the grammars of their kinds, and pieces add no others.
 use Rattle.std.proofs.Common.{◌≡◌, ◌≢◌, ℕ, zero, suc, ◌-◌, Bool, true, false, cond, eqb, List, [], ◌∷◌, ◌++◌, Option, None, Some, Result, Ok, Err, refl, is_some, length}
 use Rattle.std.specs.Prelude.{⊤}
 use Rattle.std.specs.Str.{bytes_eq}

@@ -1,4 +1,4 @@
--- What a header, records and a tail open again, as pieces come.
+-- What a header, records and a tail open again, as pieces are received.
 use Rattle.std.proofs.Common.{◌≡◌, ℕ, suc, ◌+◌, ◌<◌, ◌≤◌, Bool, true, false, List, [], ◌∷◌, ◌++◌, Option, None, Some, refl, sym, ap, ap₂, ◌∙◌, is_some, length, length-append, map, append_assoc, append-nil, arith}
 use Rattle.std.specs.Prelude.{replicate}
 use Rattle.std.proofs.lemmas.List.{append_cancel_left, length-replicate}

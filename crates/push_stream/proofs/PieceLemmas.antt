@@ -1,4 +1,4 @@
--- What a stream stands for after one more piece is what all its bytes stand for.
+-- The value of a stream after one more piece is that of all its bytes.
 use Rattle.std.proofs.Common.{◌≡◌, ℕ, zero, suc, ◌-◌, ◌<◌, ◌≤◌, Bool, true, false, cond, eqb, List, [], ◌∷◌, ◌++◌, Option, Some, None, Result, Ok, Err, is_ok, OnOk, refl, sym, ap, ap₂, ◌∙◌, length, length-append, append_assoc, append-nil, arith}
 use Rattle.std.specs.List.{concat}
 use Rattle.git_name.specs.Object.{Object}

@@ -1,4 +1,4 @@
--- How long what is not finished may be, and until when a record stays so.
+-- How long an unfinished rest may be, and until when a record stays unfinished.
 use Rattle.std.proofs.Common.{◌≡◌, ℕ, zero, suc, ◌+◌, ◌-◌, ◌*◌, ◌<◌, ◌≤◌, ◌/◌, ◌%◌, Bool, true, false, cond, eqb, List, [], ◌∷◌, ◌++◌, Option, None, Some, Result, Ok, Err, refl, sym, ap, subst, ◌∙◌, is_some, decimal, length, length-append, length-drop, take, drop, arith, nat_lt}
 use Rattle.std.specs.Prelude.{nat_le, ⊤}
 use Rattle.std.specs.Str.{bytes_eq}

@@ -8,7 +8,8 @@ use Rattle.push_stream.specs.Reading.{added_in}
 use Rattle.push_stream.specs.Spelling.{records_of}
 use Rattle.push_stream.specs.Stream.{Flows}
 
--- what a text adds behind so many commands, and behind the empty line or before it: its header's text, its records and its rest are the text
+-- what a text adds after this many commands, before or after the empty line: its header's text, its records and its rest are the
+-- text
 pub record IsAdded (headed : Bool) (had : ℕ) (text : List ℕ) (added : Added) : Type 0 where
   pub found : added_in headed had text ≡ Flows added.commands.items added.objects.items added.headed added.rest.items
   pub few : had + length added.commands.items ≤ MAX_COMMANDS

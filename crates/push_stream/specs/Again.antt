@@ -9,7 +9,7 @@ use Rattle.push_stream.specs.declared.sent.Sent.{Sent}
 use Rattle.push_stream.specs.Reading.{Flow, Going, Broken, Reading, added_in}
 use Rattle.push_stream.specs.Stream.{Flows, Breaks, stream_of}
 
--- what was sent so far; nothing where the stream is broken
+-- what was sent so far; nothing if the stream is broken
 abbrev pub told_in : Flow → List Sent
 told_in (Going commands sent headed rest) = sent
 told_in (Broken fault) = []
@@ -26,34 +26,34 @@ record_size one = length (line_of_sent one) + one.length + 2
 abbrev pub records_size : List Sent → ℕ
 records_size sent = sum_by record_size sent
 
--- the text of a header, what stands behind the records, and what is known of the stream
+-- the text of a header, what follows the records, and what is known of the stream
 pub record Opening : Type 0 where
   pub header : List ℕ
   pub tail : List ℕ
   pub reading : Reading
 
--- a header and a tail with which a stream of so many bytes goes on so
+-- a header and a tail that lead a stream of this many bytes to this state
 pub record OpensGoing (header tail : List ℕ) (count : ℕ) (commands : List Command) (sent : List Sent) (headed : Bool) (rest : List ℕ) : Type 0 where
-  -- the header holds the commands, and the empty line where it was met
+  -- the header holds the commands, and the empty line if it was read
   pub asks : stream_of header ≡ Flows commands [] headed []
-  -- nothing in the rest is whole
+  -- nothing in the rest is complete
   pub waits : added_in headed (length commands) rest ≡ Flows [] [] headed rest
   -- before the empty line nothing was sent
   pub bare : headed ≡ false → sent ≡ []
   pub left : tail ≡ rest
   pub counted : length header + (records_size sent + length rest) ≡ count
 
--- a header and a tail, of no more than so many bytes, with which a stream breaks so
+-- a header and a tail, together of at most this many bytes, with which a stream breaks this way
 pub record OpensBroken (header tail : List ℕ) (count : ℕ) (fault : StreamFault) : Type 0 where
   pub breaks : stream_of (header ++ tail) ≡ Breaks fault
   pub short : length header ≤ MAX_HEADER
   pub within : length header + length tail ≤ count
 
--- a header and a tail with which a stream of so many bytes stands so
+-- a header and a tail that lead a stream of this many bytes to this state
 abbrev pub OpensAs : List ℕ → List ℕ → ℕ → Flow → Type 0
 OpensAs header tail count (Going commands sent headed rest) = OpensGoing header tail count commands sent headed rest
 OpensAs header tail count (Broken fault) = OpensBroken header tail count fault
 
--- what is known of the stream can be had again of the header, the records and the tail
+-- what is known of the stream can be recovered from the header, the records and the tail
 abbrev pub Opens : Opening → Type 0
 Opens opening = OpensAs opening.header opening.tail opening.reading.count opening.reading.flow

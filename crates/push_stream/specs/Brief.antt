@@ -1,4 +1,4 @@
--- Briefs: streams with the names of their objects in the objects' place (own).
+-- Briefs: streams with the names of their objects in place of the objects (own).
 use Rattle.std.specs.Prelude.{ℕ, List, map, Result, Ok, Err}
 use Rattle.git_name.specs.Object.{Object, object_name}
 use Rattle.git_reftx.specs.declared.command.Command.{Command}
@@ -9,7 +9,7 @@ use Rattle.push_stream.specs.declared.fault.StreamFault.{StreamFault}
 abbrev pub BriefValue : Type 0
 BriefValue = List Command × List (List ℕ)
 
--- of what a whole stream holds, if it is right
+-- the brief of what a whole stream holds, if it is valid
 abbrev pub brief_of : Result (List Command × List Object) StreamFault → Result BriefValue StreamFault
 brief_of (Ok held) = Ok (held.0, map object_name held.1)
 brief_of (Err fault) = Err fault

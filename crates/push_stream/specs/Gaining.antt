@@ -1,4 +1,4 @@
--- What stands at the front of a text that goes on, and why nothing right does.
+-- What is at the start of a text that continues, and why nothing valid is.
 use Rattle.std.specs.Prelude.{◌≡◌, ◌++◌, ◌<◌, ℕ, Bool, true, false, List, [], length, ⊤}
 use Rattle.git_reftx.specs.declared.command.Command.{Command}
 use Rattle.push_stream.specs.declared.fault.BodyError.{BodyError}
@@ -8,7 +8,7 @@ use Rattle.push_stream.specs.declared.fault.StreamFault.TheVariants.{Syntax, Too
 use Rattle.push_stream.specs.Record.{RecordAt, Open, Wrong, record_at}
 use Rattle.push_stream.specs.Stream.{Stream, Flows, Breaks, header_in, records_in}
 
--- the text only ends too early
+-- the only fault is that the text ends too early
 abbrev pub is_truncated : StreamFault → Bool
 is_truncated Syntax = false
 is_truncated TooMany = false
@@ -21,29 +21,29 @@ abbrev pub is_cut : BodyError → Bool
 is_cut (Fault fault) = is_truncated fault
 is_cut Memory = false
 
--- the error tells what is wrong with a record; want of memory tells nothing
+-- the error reports what is wrong with a record; running out of memory reports nothing
 abbrev pub TellsWrong : RecordAt → BodyError → Type 0
 TellsWrong found (Fault fault) = found ≡ Wrong fault
 TellsWrong found Memory = ⊤
 
--- the error tells where a stream breaks; want of memory tells nothing
+-- the error reports where a stream breaks; running out of memory reports nothing
 abbrev pub TellsBreak : Stream → BodyError → Type 0
 TellsBreak stream (Fault fault) = stream ≡ Breaks fault
 TellsBreak stream Memory = ⊤
 
--- records where the empty line was met, and else an unfinished line
+-- records if the empty line was read, otherwise an unfinished line
 abbrev pub headed_by : Bool → List ℕ → Stream
 headed_by true left = records_in (length left) left
 headed_by false left = Flows [] [] false left
 
--- a text begins an unfinished record, whatever comes, until there are so many bytes
+-- a text begins an unfinished record, whatever follows, until there are this many bytes
 abbrev pub Awaits : List ℕ → ℕ → Type 0
 Awaits text wanted = (more : List ℕ) → length (text ++ more) < wanted → record_at (text ++ more) ≡ Open
 
--- the end stands at the end of the text
+-- the end is at the end of the text
 abbrev pub EndsIn : List ℕ → List ℕ → Type 0
 EndsIn end text = (front : List ℕ) × (text ≡ front ++ end)
 
--- what stands in a text before what is left reads, in this room, as these commands, and the empty line where it was met
+-- what precedes the rest of a text reads, within this limit, as these commands, and the empty line if it was read
 abbrev pub HasFront : ℕ → List ℕ → List Command → Bool → List ℕ → Type 0
 HasFront room text commands headed left = (front : List ℕ) × (text ≡ front ++ left) × (header_in room front ≡ Flows commands [] headed [])

@@ -1,4 +1,5 @@
--- Uploads that are read as they come (own): what they stand for, and what they would with the piece that was looked at last.
+-- Uploads that are read as they are received (own): their value, and the value that they would have with the piece that was looked
+-- at last.
 use Rattle.std.specs.Prelude.{ℕ, ◌≡◌, ◌≤◌, ◌⊎◌, Bool, true, false, List, [], ◌++◌, Option, None, Some, option_map, length, map, take, refl, Err, ⊤}
 use Rattle.std.proofs.Common.{inl, inr}
 use Rattle.std.specs.Coded.{Coded, code_by, coded×, coded⊎, coded_ℕ, coded_bool, coded_list}
@@ -22,7 +23,7 @@ use Rattle.push_stream.specs.Again.{Opening, Opens}
 use Rattle.push_stream.specs.Gaining.{Awaits}
 use Rattle.push_stream.specs.Reading.{Flow, Going, Broken, Reading, finished_flow, rest_in, sent_of}
 
--- what it stands for, and what it would stand for with the piece that was looked at last
+-- its value, and the value that it would have with the piece that was looked at last
 pub record IncomingValue : Type 0 where
   pub brief : Reading
   pub looked : Reading
@@ -32,7 +33,7 @@ abbrev pub is_broken : Flow → Bool
 is_broken (Going commands sent headed rest) = false
 is_broken (Broken fault) = true
 
--- the error tells why a stream that ends here is not whole; want of memory tells nothing
+-- the error reports why a stream that ends here is not whole; running out of memory reports nothing
 abbrev pub TellsEnd : Flow → BodyError → Type 0
 TellsEnd flow (Fault fault) = finished_flow flow ≡ Err fault
 TellsEnd flow Memory = ⊤
@@ -42,7 +43,7 @@ abbrev pub flow_commands : Flow → List Command
 flow_commands (Going commands sent headed rest) = commands
 flow_commands (Broken fault) = []
 
--- where a stream stands, unless it is broken
+-- the state of a stream, unless it is broken
 abbrev pub flow_from : List Command → List Sent → Bool → List ℕ → Option StreamFault → Flow
 flow_from commands sent headed rest None = Going commands sent headed rest
 flow_from commands sent headed rest (Some fault) = Broken fault
@@ -50,7 +51,7 @@ flow_from commands sent headed rest (Some fault) = Broken fault
 abbrev pub reading_from : Mark → List Command → List Sent → List ℕ → Reading
 reading_from mark commands sent rest = record { count = mark.count; flow = flow_from commands sent mark.headed rest mark.fault }
 
--- the unfinished rest of a draft: one of its own, or else all bytes
+-- the unfinished rest of a draft: one of its own, otherwise all bytes
 abbrev pub rest_of : List ℕ → Option (List ℕ) → List ℕ
 rest_of bytes None = bytes
 rest_of bytes (Some rest) = rest
@@ -63,11 +64,11 @@ reading_at draft = reading_from draft.mark draft.commands.items draft.sent.items
 abbrev pub opening_at : Draft → Opening
 opening_at draft = record { header = draft.header.items; tail = rest_of draft.bytes.items (option_map (λ rest. rest.items) draft.rest); reading = reading_at draft }
 
--- these commands and sent objects with what was added behind
+-- these commands and sent objects, with what was added appended
 abbrev pub reading_with : ℕ → List Command → List Sent → Added → Reading
 reading_with count commands sent added = record { count = count; flow = Going (commands ++ added.commands.items) (sent ++ map sent_of added.objects.items) added.headed added.rest.items }
 
--- the header with what was added behind, and the new rest
+-- the header with what was added appended, and the new rest
 abbrev pub opening_with : ℕ → List ℕ → List Command → List Sent → Added → Opening
 opening_with count header commands sent added = record { header = header ++ added.header.items; tail = added.rest.items; reading = reading_with count commands sent added }
 
@@ -79,7 +80,7 @@ reading_kept kept draft = reading_from kept.mark (take kept.commands draft.comma
 abbrev pub opening_kept : Kept → Draft → Opening
 opening_kept kept draft = record { header = take kept.header draft.header.items; tail = take kept.bytes draft.bytes.items; reading = reading_kept kept draft }
 
--- a reading within its limits; and until there are so many bytes its record stays unfinished
+-- a reading within its limits; until there are this many bytes its record stays unfinished
 pub record IsStanding (reading : Reading) (wanted : ℕ) : Type 0 where
   pub few : reading.count ≤ MAX_UPLOAD
   pub short : length (rest_in reading.flow) ≤ MAX_REST
@@ -109,7 +110,7 @@ pub record RollsBack (kept : Kept) (old new : Draft) : Type 0 where
   pub rest : new.rest ≡ None
   pub mark : new.mark ≡ kept.mark
 
--- what is kept of a draft is there, within the limits, and can be had again, and so is what was looked at
+-- what is kept of a draft exists, within the limits, and can be recovered, and so can what was looked at
 pub record IsHeld (kept : Kept) (draft : Draft) : Type 0 where
   pub header : kept.header ≤ length draft.header.items
   pub commands : kept.commands ≤ length draft.commands.items

@@ -34,11 +34,11 @@ abbrev pub head_of_words : List (List ℕ) → Option Head
 head_of_words (digits ∷ word ∷ number ∷ []) = head_of_parts (name_in digits) (kind_of_word word) (number_in number)
 head_of_words words = None
 
--- the parts of the record at the front of a text
+-- the parts of the record at the start of a text
 pub data PartsAt : Type 0 where
-  -- what its line says, the content, and what stands behind its last LF
+  -- what its line says, the content, and what follows its last LF
   Parts : (head : Head) (content behind : List ℕ) → PartsAt
-  -- the front of a record that may still be right, or nothing
+  -- the beginning of a record that may still be valid, or nothing
   Short : PartsAt
   -- what is wrong with it
   Faulty : (fault : StreamFault) → PartsAt
@@ -65,11 +65,11 @@ parts_of_line TooLong = Faulty Syntax
 unfoldable pub parts_at : List ℕ → PartsAt
 parts_at text = parts_of_line (line_at text)
 
--- what stands at the front of a text of records
+-- what is at the start of a text of records
 pub data RecordAt : Type 0 where
-  -- a right record's object, and what stands behind the record
+  -- a valid record's object, and what follows the record
   Taken : (object : Object) (behind : List ℕ) → RecordAt
-  -- the front of a record that may still be right, or nothing
+  -- the beginning of a record that may still be valid, or nothing
   Open : RecordAt
   -- what is wrong with the record
   Wrong : (fault : StreamFault) → RecordAt
@@ -78,7 +78,7 @@ pub data RecordAt : Type 0 where
 abbrev pub right : List ℕ → Object → List ℕ → RecordAt
 right name object behind = if is_some (object_in object.kind object.bytes) then Taken object behind else Wrong (BadObject name)
 
--- the content has the name that the line tells
+-- the content has the name that the line gives
 abbrev pub named : List ℕ → Object → List ℕ → RecordAt
 named name object behind = if bytes_eq (object_name object) name then right name object behind else Wrong (WrongName name)
 
@@ -87,6 +87,6 @@ record_of_parts (Parts head content behind) = named head.name (record { kind = h
 record_of_parts Short = Open
 record_of_parts (Faulty fault) = Wrong fault
 
--- the record at the front of a text
+-- the record at the start of a text
 unfoldable pub record_at : List ℕ → RecordAt
 record_at text = record_of_parts (parts_at text)

@@ -1,4 +1,4 @@
--- What the readers' answers stand for.
+-- The values of the readers' answers.
 use Rattle.std.specs.Prelude.{◌≡◌, Option, None, Some, Err, ⊤}
 use Rattle.push_stream.specs.declared.record.Parts.{Parts}
 use Rattle.push_stream.specs.declared.record.Parts.TheVariants.{Whole as Whole_parts, Open, Wrong}
@@ -20,12 +20,12 @@ fault_at (record_value.Taken object behind) = None
 fault_at record_value.Open = Some Truncated
 fault_at (record_value.Wrong fault) = Some fault
 
--- the error tells why there is no record; want of memory tells nothing
+-- the error reports why there is no record; running out of memory reports nothing
 abbrev pub TellsRecord : record_value.RecordAt → BodyError → Type 0
 TellsRecord found (Fault fault) = fault_at found ≡ Some fault
 TellsRecord found Memory = ⊤
 
--- the error tells why a stream gives no commands and objects
+-- the error reports why a stream yields no commands and objects
 abbrev pub TellsStreamFault : Stream → BodyError → Type 0
 TellsStreamFault stream (Fault fault) = finished stream ≡ Err fault
 TellsStreamFault stream Memory = ⊤

@@ -8,11 +8,11 @@ use Rattle.push_stream.specs.declared.record.TheConstants.{MAX_CONTENT}
 use Rattle.push_stream.specs.Record.{record_of}
 use Rattle.push_stream.specs.Stream.{AreObjects}
 
--- the records of objects, one behind the other
+-- the records of objects, one after another
 abbrev pub records_of : List Object → List ℕ
 records_of objects = flat_map record_of objects
 
--- the content of each is no longer than a host takes
+-- no content is longer than a host takes
 abbrev pub AreWithin : List Object → Type 0
 AreWithin objects = AllByRecursion (λ object. length object.bytes ≤ MAX_CONTENT) objects
 

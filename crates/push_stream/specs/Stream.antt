@@ -12,9 +12,9 @@ use Rattle.push_stream.specs.declared.fault.StreamFault.{StreamFault}
 use Rattle.push_stream.specs.declared.fault.StreamFault.TheVariants.{Syntax, TooMany, Truncated}
 use Rattle.push_stream.specs.Record.{RecordAt, Taken, Open, Wrong, record_at}
 
--- what a list of bytes stands for, so far as it goes
+-- the value of a list of bytes, as far as it goes
 pub data Stream : Type 0 where
-  -- the commands and objects of its whole lines and records, whether the empty line was met, and the unfinished rest
+  -- the commands and objects of its whole lines and records, whether the empty line was read, and the unfinished rest
   Flows : (commands : List Command) (objects : List Object) (headed : Bool) (rest : List ℕ) → Stream
   -- the fault of its first wrong item
   Breaks : (fault : StreamFault) → Stream
@@ -24,46 +24,46 @@ abbrev pub behind : List Command → List Object → Stream → Stream
 behind commands objects (Flows others more headed rest) = Flows (commands ++ others) (objects ++ more) headed rest
 behind commands objects (Breaks fault) = Breaks fault
 
--- a record, and then what the rest stands for
+-- a record, and then the value of the rest
 abbrev pub after_record : List ℕ → (List ℕ → Stream) → RecordAt → Stream
 after_record text others (Taken object rest) = behind [] (object ∷ []) (others rest)
 after_record text others Open = Flows [] [] true text
 after_record text others (Wrong fault) = Breaks fault
 
--- the records at the front of a text, of which there are no more than `most`
+-- the records at the start of a text, at most `most`
 abbrev pub records_in : ℕ → List ℕ → Stream
 records_in zero text = Flows [] [] true text
 records_in (suc most) text = after_record text (records_in most) (record_at text)
 
--- where no command stands at the front of a text: its line is unfinished, or wrong
+-- if there is no command at the start of a text: its line is unfinished, or wrong
 abbrev pub no_command : List ℕ → CommandFault → Stream
 no_command text command.Syntax = Breaks Syntax
 no_command text command.TooMany = Breaks TooMany
 no_command text command.Truncated = Flows [] [] false text
 
--- a command, and then what the rest stands for
+-- a command, and then the value of the rest
 abbrev pub after_command : List ℕ → (List ℕ → Stream) → Result (Command × List ℕ) CommandFault → Stream
 after_command text others (Ok found) = behind (found.0 ∷ []) [] (others found.1)
 after_command text others (Err fault) = no_command text fault
 
--- a stream where so many commands have room; behind the empty line each record has a byte at the least
+-- a stream with room for this many commands; after the empty line each record has at least one byte
 abbrev pub header_in : ℕ → List ℕ → Stream
 header_in room [] = Flows [] [] false []
 header_in zero (b ∷ bs) = if b == 10 then records_in (length bs) bs else after_command (b ∷ bs) (λ rest. Breaks TooMany) (command_at (b ∷ bs))
 header_in (suc room) (b ∷ bs) = if b == 10 then records_in (length bs) bs else after_command (b ∷ bs) (header_in room) (command_at (b ∷ bs))
 
--- what a list of bytes stands for: a stream has MAX_COMMANDS commands at the most
+-- the value of a list of bytes: a stream has at most MAX_COMMANDS commands
 unfoldable pub stream_of : List ℕ → Stream
 stream_of bytes = header_in MAX_COMMANDS bytes
 
--- a stream that ends here: its commands and objects, where the empty line was met and nothing is left unfinished
+-- a stream that ends here: its commands and objects, if the empty line was read and nothing is left unfinished
 abbrev pub finished : Stream → Result (List Command × List Object) StreamFault
 finished (Flows commands objects true []) = Ok (commands, objects)
 finished (Flows commands objects true (b ∷ rest)) = Err Truncated
 finished (Flows commands objects false rest) = Err Truncated
 finished (Breaks fault) = Err fault
 
--- the objects that were sent, none where there is a fault
+-- the objects that were sent, none if there is a fault
 abbrev pub sent_in : Stream → List Object
 sent_in (Flows commands objects headed rest) = objects
 sent_in (Breaks fault) = []

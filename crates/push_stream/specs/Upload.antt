@@ -1,4 +1,4 @@
--- Uploads (own): streams that come in pieces, as what the bytes that came stand for.
+-- Uploads (own): streams that are received in pieces, as the value of the bytes received.
 use Rattle.std.specs.Prelude.{ℕ, ◌+◌, ◌-◌, Bool, true, false, List, [], ◌∷◌, ◌++◌, length, ◌⊎◌, ◌≡◌, refl}
 use Rattle.std.proofs.Common.{inl, inr}
 use Rattle.std.specs.Coded.{Coded, code_by, coded×, coded⊎, coded_ℕ, coded_bool, coded_list}
@@ -12,16 +12,16 @@ use Rattle.push_stream.specs.declared.fault.StreamFault.{StreamFault}
 use Rattle.push_stream.specs.contracts.fault.StreamFault as fault
 use Rattle.push_stream.specs.Stream.{Stream, Flows, Breaks, behind, header_in, records_in, stream_of}
 
--- how many bytes came, and what they stand for
+-- how many bytes were received, and their value
 pub record UploadValue : Type 0 where
   pub count : ℕ
   pub stream : Stream
 
--- what bytes that came stand for
+-- the value of the bytes received
 abbrev pub upload_of : List ℕ → UploadValue
 upload_of bytes = record { count = length bytes; stream = stream_of bytes }
 
--- what a stream stands for after one more piece; a fault is kept
+-- the value of a stream after one more piece; a fault is kept
 abbrev pub stream_with : Stream → List ℕ → Stream
 stream_with (Flows commands objects true rest) piece = behind commands objects (records_in (length (rest ++ piece)) (rest ++ piece))
 stream_with (Flows commands objects false rest) piece = behind commands objects (header_in (MAX_COMMANDS - length commands) (rest ++ piece))

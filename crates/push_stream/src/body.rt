@@ -9,8 +9,8 @@ use git_name::Sealed;
 use git_reftx::{Command, CommandFault, MAX_COMMANDS, ReadError, first_command};
 use std::alloc::Global;
 
-/// What a whole stream holds: its commands, and its objects. Both are in the stream's order, and an
-/// object that is sent twice stands there twice.
+/// What a whole stream holds: its commands and its objects. Both are in the stream's order, and an
+/// object that is sent twice is listed twice.
 #[derive(Debug, Drop)]
 pub struct Body {
     pub commands: Vec<Command>,
@@ -29,7 +29,7 @@ pub fn read_body(alloc: Global, bytes: &[u8]) -> Result<Body, BodyError>
     }
 }
 
-// The commands, and what stands behind the empty line.
+// The commands, and what follows the empty line.
 fn read_header(alloc: Global, bytes: &[u8]) -> Result<(Vec<Command>, &[u8]), BodyError>
     ensures found { IfOk result (λ p. stream_of bytes.now ≡ behind p.0.items [] (records_in (length p.1.now) p.1.now)) }
     ensures exact { IfErr result (TellsStreamFault (stream_of bytes.now)) }
@@ -52,7 +52,7 @@ fn read_header(alloc: Global, bytes: &[u8]) -> Result<(Vec<Command>, &[u8]), Bod
     Err(BodyError::Fault(StreamFault::Truncated))
 }
 
-// What stands behind an empty line.
+// What follows an empty line.
 pub(crate) fn behind_empty_line(text: &[u8]) -> Option<&[u8]>
     ensures found { IfSome result (λ behind. text.now ≡ 10 ∷ behind.now) }
     ensures none { IfNone result ((behind : List ℕ) → text.now ≢ 10 ∷ behind) }
@@ -63,7 +63,7 @@ pub(crate) fn behind_empty_line(text: &[u8]) -> Option<&[u8]>
     }
 }
 
-// Takes the command at the front of a text, and gives what stands behind its line.
+// Takes the command at the start of a text, and returns what follows its line.
 fn take_command(alloc: Global, text: &[u8]) -> Result<(Command, &[u8]), BodyError>
     ensures taken { IfOk result (λ p. command_at text.now ≡ Ok (p.0, p.1.now)) }
     ensures exact { IfErr result (λ error. (others : List ℕ → Stream) → TellsStreamFault (after_command text.now others (command_at text.now)) error) }
@@ -75,7 +75,7 @@ fn take_command(alloc: Global, text: &[u8]) -> Result<(Command, &[u8]), BodyErro
     }
 }
 
-// What is wrong with the stream where there is no command.
+// What is wrong with the stream if there is no command.
 fn fault_of(fault: CommandFault) -> StreamFault
     ensures { (text : List ℕ) → finished (no_command text fault) ≡ Err result }
 {
@@ -86,7 +86,7 @@ fn fault_of(fault: CommandFault) -> StreamFault
     }
 }
 
-// The objects of records to the end of a text.
+// The objects of the records up to the end of a text.
 fn read_records(alloc: Global, text: &[u8]) -> Result<Vec<Sealed>, BodyError>
     ensures found { IfOk result (λ sent. finished (records_in (length text.now) text.now) ≡ Ok ([], sent.items)) }
     ensures exact { IfErr result (TellsStreamFault (records_in (length text.now) text.now)) }

@@ -14,18 +14,18 @@ use git_name::Sealed;
 use git_reftx::Command;
 use std::alloc::{AllocError, Global};
 
-// Where a stream stands, beside its lists.
+// The state of a stream, besides its lists.
 #[derive(Clone, Copy, Debug)]
 pub(crate) struct Mark {
     pub(crate) count: u64,
     pub(crate) headed: bool,
-    // Until the rest is so many bytes, its record stays unfinished.
+    // Until the rest has this many bytes, its record stays unfinished.
     pub(crate) wanted: usize,
     pub(crate) fault: Option<StreamFault>,
 }
 
 impl Mark {
-    // Nothing came yet.
+    // Nothing was received yet.
     pub(crate) fn new() -> Mark
         ensures count { result.count ≡ 0 }
         ensures headed { result.headed ≡ false }
@@ -41,21 +41,21 @@ impl Mark {
     }
 }
 
-// What came of a stream. Lists only grow, so that what they were can be had again.
+// What was received of a stream. Lists only grow, so that what they were can be recovered.
 #[derive(Debug, Drop)]
 pub(crate) struct Draft {
     // The whole command lines, and the empty line.
     pub(crate) header: Vec<u8>,
     pub(crate) commands: Vec<Command>,
     pub(crate) sent: Vec<Sent>,
-    // What was not finished and what was copied behind it; where the stream broke, what broke it.
+    // What was not finished and what was copied after it; if the stream broke, what broke it.
     pub(crate) bytes: Vec<u8>,
-    // The unfinished rest, where it is not all bytes.
+    // The unfinished rest, if it is not all bytes.
     pub(crate) rest: Option<Vec<u8>>,
     pub(crate) mark: Mark,
 }
 
-// Reads on by one piece. An `Err`, which tells want of memory, only lets the lists grow.
+// Reads on by one piece. An `Err`, which means lack of memory, only lets the lists grow.
 pub(crate) fn read_piece(alloc: Global, draft: &mut Draft, piece: &[u8]) -> Result<Step, AllocError>
     requires whole { draft.old.rest ≡ None }
     requires standing { IsStanding (reading_at draft.old) draft.old.mark.wanted }
@@ -103,8 +103,8 @@ pub(crate) fn read_piece(alloc: Global, draft: &mut Draft, piece: &[u8]) -> Resu
     }
 }
 
-// Copies of a piece, behind the unfinished rest, what the rest's record wants, and gives what is left
-// of the piece.
+// Copies, after the unfinished rest, what its record needs of a piece, and returns what is left of the
+// piece.
 fn complete<'x>(bytes: &mut Vec<u8>, wanted: usize, piece: &'x [u8]) -> Result<&'x [u8], AllocError>
     ensures begins { Begins bytes.old.items bytes.new.items }
     ensures parted { IfOk result (λ left. bytes.old.items ++ piece.now ≡ bytes.new.items ++ left.now) }
@@ -116,8 +116,8 @@ fn complete<'x>(bytes: &mut Vec<u8>, wanted: usize, piece: &'x [u8]) -> Result<&
     Ok(left)
 }
 
-// How many of the bytes that come complete the record of a rest of so many bytes, of which so many are
-// wanted: none where there is no rest, and all where its record's length is not known.
+// How many of the next bytes complete the record of a rest of this many bytes, out of `wanted`: none if
+// there is no rest, and all if its record's length is not known.
 fn lacking(wanted: usize, rest: usize, come: usize) -> usize
     ensures { result ≤ come }
 {
@@ -141,7 +141,7 @@ fn no_objects(alloc: Global, is_fault: bool) -> Step
     }
 }
 
-// Whether so many bytes leave a record unfinished.
+// Whether this many bytes leave a record unfinished.
 fn is_short(mark: Mark, len: usize) -> bool
     ensures headed { IsTrue result → mark.headed ≡ true }
     ensures short { IsTrue result → len < mark.wanted }
@@ -197,7 +197,7 @@ fn note(alloc: Global, draft: &mut Draft, added: Added, count: u64) -> Result<St
     })
 }
 
-// What is told of objects.
+// What is known of objects.
 fn told_of(alloc: Global, objects: &[Sealed]) -> Result<Vec<Sent>, AllocError>
     ensures { IfOk result (λ told. told.items ≡ map sent_of objects.now) }
 {

@@ -1,8 +1,8 @@
 use git_name::Name;
 use thiserror::Error;
 
-/// What is wrong with a stream: the fault of its first wrong item. A name is the one that the
-/// record's line tells.
+/// What is wrong with a stream: the fault of its first wrong item. A name is the one that the record's
+/// line gives.
 #[derive(Clone, Copy, Debug, PartialEq, Eq, Error)]
 pub enum StreamFault {
     #[error("no right item")]
@@ -19,7 +19,7 @@ pub enum StreamFault {
     Truncated,
 }
 
-/// Why a stream gives no commands and objects.
+/// Why a stream yields no commands and objects.
 #[derive(Clone, Copy, Debug, PartialEq, Eq, Error)]
 pub enum BodyError {
     #[error(transparent)]

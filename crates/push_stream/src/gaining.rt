@@ -1,4 +1,4 @@
-// What a text adds to a stream: commands and objects, as far as they are whole.
+// What a text adds to a stream: its complete commands and objects.
 ghost use Rattle.std.specs.Prelude.{◌≡◌, ◌-◌, ◌+◌, ◌≤◌, ◌++◌, ℕ, true, false, List, [], Ok, Err, IfOk, IfErr, IfSome, IfNone, length};
 ghost use Rattle.git_reftx.specs.declared.fault.CommandFault.TheVariants.{Truncated};
 ghost use Rattle.git_reftx.specs.declared.reading.TheConstants.{MAX_COMMANDS};
@@ -18,7 +18,7 @@ use git_name::Sealed;
 use git_reftx::{Command, CommandFault, MAX_COMMANDS, ReadError, first_command};
 use std::alloc::Global;
 
-// What a text adds, whether the empty line was met, and what of the text is not finished.
+// What a text adds, whether the empty line was read, and what of the text is not finished.
 #[derive(Debug, Drop)]
 pub(crate) struct Added {
     // The text's whole command lines, and the empty line.
@@ -27,11 +27,11 @@ pub(crate) struct Added {
     pub(crate) objects: Vec<Sealed>,
     pub(crate) headed: bool,
     pub(crate) rest: Vec<u8>,
-    // Until the rest and what comes are so many bytes, it stays unfinished.
+    // Until the rest and what follows have this many bytes, it stays unfinished.
     pub(crate) wanted: usize,
 }
 
-// What a text adds behind so many commands, and behind the empty line or before it.
+// What a text adds after this many commands, before or after the empty line.
 pub(crate) fn add(alloc: Global, headed: bool, had: usize, text: &[u8]) -> Result<Added, BodyError>
     requires { had ≤ MAX_COMMANDS }
     ensures found { IfOk result (λ added. added_in headed had text.now ≡ Flows added.commands.items added.objects.items added.headed added.rest.items) }
@@ -66,9 +66,9 @@ pub(crate) fn add(alloc: Global, headed: bool, had: usize, text: &[u8]) -> Resul
     })
 }
 
-// What two texts add behind the empty line, of which the first ends where a record ends. Each is read
-// where it stands. It gives nothing where the second is empty, and where the two do not read so, or
-// memory is wanting: read as one text they tell why.
+// What two texts add after the empty line, if the first ends where a record ends. Each is read in
+// place. It returns nothing if the second is empty, if the two do not read this way, or if memory runs
+// out: then the caller reads them as one text, which reports why.
 pub(crate) fn add_in_turn(
     alloc: Global,
     headed: bool,
@@ -111,7 +111,7 @@ pub(crate) fn add_in_turn(
 }
 
 #[tactic(auto, using(crate::proofs::RestLemmas::open_short))]
-// The same of a text of records, with this header and these commands before it.
+// The same for a text of records, with this header and these commands before it.
 fn add_objects(
     alloc: Global,
     header: Vec<u8>,
@@ -141,7 +141,7 @@ fn add_objects(
     })
 }
 
-// What of a text stands before its end.
+// The part of a text before its end.
 fn before<'x>(text: &'x [u8], end: &[u8]) -> &'x [u8]
     requires { EndsIn end.now text.now }
     ensures { text.now ≡ result.now ++ end.now }
@@ -149,8 +149,8 @@ fn before<'x>(text: &'x [u8], end: &[u8]) -> &'x [u8]
     &text[..text.len() - end.len()]
 }
 
-// The whole commands at the front of a text, where so many were before; whether an empty line stands
-// behind them; and what stands behind that.
+// The complete commands at the start of a text, after this many; whether an empty line follows them;
+// and what follows that.
 fn whole_commands(
     alloc: Global,
     had: usize,
@@ -183,7 +183,7 @@ fn whole_commands(
     Ok((commands, false, left))
 }
 
-// The objects of the whole records at the front of a text, and what stands behind them.
+// The objects of the complete records at the start of a text, and what follows them.
 fn whole_records(alloc: Global, text: &[u8]) -> Result<(Vec<Sealed>, &[u8]), BodyError>
     ensures found { IfOk result (λ p. records_in (length text.now) text.now ≡ Flows [] p.0.items true p.1.now) }
     ensures unfinished { IfOk result (λ p. record_at p.1.now ≡ Open) }
@@ -204,8 +204,7 @@ fn whole_records(alloc: Global, text: &[u8]) -> Result<(Vec<Sealed>, &[u8]), Bod
     Ok((objects, left))
 }
 
-// The command at the front of a text and what stands behind its line, or nothing where that is
-// unfinished.
+// The command at the start of a text and what follows its line, or nothing if it is unfinished.
 fn next_command(alloc: Global, text: &[u8]) -> Result<Option<(Command, &[u8])>, BodyError>
     ensures taken { IfOk result (λ found. IfSome found (λ p. command_at text.now ≡ Ok (p.0, p.1.now))) }
     ensures unfinished { IfOk result (λ found. IfNone found (command_at text.now ≡ Err Truncated)) }
@@ -220,7 +219,7 @@ fn next_command(alloc: Global, text: &[u8]) -> Result<Option<(Command, &[u8])>, 
     }
 }
 
-// The record at the front of a text and what stands behind it, or nothing where it is unfinished.
+// The record at the start of a text and what follows it, or nothing if it is unfinished.
 fn next_record(alloc: Global, text: &[u8]) -> Result<Option<(Sealed, &[u8])>, BodyError>
     ensures taken { IfOk result (λ found. IfSome found (λ p. record_at text.now ≡ Taken p.0 p.1.now)) }
     ensures unfinished { IfOk result (λ found. IfNone found (record_at text.now ≡ Open)) }
@@ -237,7 +236,7 @@ fn next_record(alloc: Global, text: &[u8]) -> Result<Option<(Sealed, &[u8])>, Bo
     }
 }
 
-// Whether a text only ends too early.
+// Whether the only fault is that a text ends too early.
 fn is_cut(error: &BodyError) -> bool
     ensures { result ≡ is_cut error.now }
 {

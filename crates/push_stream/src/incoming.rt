@@ -20,7 +20,7 @@ use git_reftx::{Command, RefWord};
 use std::alloc::{AllocError, Global};
 use std::marker::Model;
 
-// What an upload stands for of a draft: what it is without the piece that is looked at.
+// The part of a draft that is the upload without the piece that is looked at.
 #[derive(Clone, Copy, Debug)]
 pub(crate) struct Kept {
     pub(crate) mark: Mark,
@@ -30,10 +30,10 @@ pub(crate) struct Kept {
     pub(crate) bytes: usize,
 }
 
-/// A stream that is read as it comes, in pieces, of 33,554,432 bytes at the most. Its objects are
-/// handed out as soon as they are whole; of its bytes the unfinished rest alone is kept, of its objects
-/// the names, kinds and lengths. Contracts see what is known of the bytes that came, and what would be
-/// with the piece that was looked at last.
+/// A stream that is read as it is received, in pieces, of at most 33,554,432 bytes. Its objects are
+/// handed out as soon as they are complete. Of its bytes only the unfinished rest is kept, and of its
+/// objects the names, kinds and lengths. Contracts see what is known of the bytes received, and what
+/// would be with the piece that was looked at last.
 #[derive(Debug, Drop)]
 pub struct Incoming {
     draft: Draft,
@@ -54,7 +54,7 @@ impl Model for Incoming {
 
 impl Incoming {
     #[tactic(auto, unfolding(crate::specs::Stream::stream_of))]
-    /// An upload of which nothing came yet.
+    /// An upload of which nothing was received yet.
     pub fn new(alloc: Global) -> Incoming
         ensures brief { result.brief ≡ reading_of [] }
     {
@@ -76,7 +76,7 @@ impl Incoming {
         Incoming { draft, kept }
     }
 
-    /// How many bytes came.
+    /// How many bytes were received.
     pub fn count(&self) -> u64
         ensures value { result ≡ self.now.brief.count }
         ensures within { result ≤ MAX_UPLOAD }
@@ -91,7 +91,7 @@ impl Incoming {
         self.kept.mark.fault.is_some()
     }
 
-    /// The unfinished rest. Where the stream is wrong it is empty.
+    /// The unfinished rest; empty if the stream is wrong.
     pub fn rest(&self) -> &[u8]
         ensures value { result.now ≡ rest_in self.now.brief.flow }
         ensures within { length result.now ≤ MAX_REST }
@@ -102,7 +102,7 @@ impl Incoming {
         &self.draft.bytes[..self.kept.bytes]
     }
 
-    /// What was sent so far, in the stream's order; nothing where the stream is wrong.
+    /// What was sent so far, in the stream's order; nothing if the stream is wrong.
     pub fn sent(&self) -> &[Sent]
         ensures { result.now ≡ told_in self.now.brief.flow }
     {
@@ -113,10 +113,9 @@ impl Incoming {
         sent
     }
 
-    /// The parts of the bytes that open this upload again, and of objects that are told as what was
-    /// sent: whichever they are, the bytes have the reading that this upload has, and hold just these
-    /// objects. Zero bytes stand for those that came after the stream broke, of which only the number is
-    /// kept.
+    /// The parts of bytes that open this upload again, for any objects with the names, kinds and lengths
+    /// that were sent: the bytes have the reading that this upload has, and hold exactly these objects.
+    /// Zero bytes stand for those received after the stream broke, of which only the number is kept.
     pub fn again(&self) -> Again<'_>
         ensures read { (objects : List Object) → AreObjects objects → AreWithin objects → map sent_of objects ≡ told_in self.now.brief.flow → reading_of (result.header.now ++ (records_of objects ++ (result.tail.now ++ replicate result.zeros 0))) ≡ self.now.brief }
         ensures sent { (objects : List Object) → AreObjects objects → AreWithin objects → map sent_of objects ≡ told_in self.now.brief.flow → sent_in (stream_of (result.header.now ++ (records_of objects ++ (result.tail.now ++ replicate result.zeros 0)))) ≡ objects }
@@ -135,8 +134,8 @@ impl Incoming {
         }
     }
 
-    /// What one more piece would add. The upload stands for what it stood for, and an `Err`, which
-    /// tells want of memory, leaves it so too. What was looked at before is forgotten.
+    /// What one more piece would add. The upload keeps its value, even after an `Err`, which means lack of
+    /// memory. What was looked at before is forgotten.
     pub fn look(&mut self, alloc: Global, piece: &[u8]) -> Result<Step, AllocError>
         requires { self.old.brief.count + length piece.now ≤ MAX_UPLOAD }
         ensures brief { self.new.brief ≡ self.old.brief }
@@ -147,7 +146,7 @@ impl Incoming {
         look_at(alloc, &mut self.draft, &self.kept, piece)
     }
 
-    /// The piece that was looked at last came. It takes no memory.
+    /// Takes the piece that was looked at last. It allocates nothing.
     pub fn take(&mut self)
         ensures brief { self.new.brief ≡ self.old.looked }
         ensures looked { self.new.looked ≡ self.old.looked }
@@ -164,7 +163,7 @@ impl Incoming {
         };
     }
 
-    /// What was looked at is forgotten. It takes no memory.
+    /// Forgets what was looked at. It allocates nothing.
     pub fn leave(&mut self)
         ensures brief { self.new.brief ≡ self.old.brief }
         ensures looked { self.new.looked ≡ self.old.brief }
@@ -172,8 +171,8 @@ impl Incoming {
         roll_back(&mut self.draft, &self.kept);
     }
 
-    /// One more piece came: what it adds. An `Err`, which tells want of memory, leaves the upload as it
-    /// was.
+    /// Takes one more piece, and returns what it adds. An `Err`, which means lack of memory, leaves the
+    /// upload as it was.
     pub fn feed(&mut self, alloc: Global, piece: &[u8]) -> Result<Step, AllocError>
         requires { self.old.brief.count + length piece.now ≤ MAX_UPLOAD }
         ensures ok { OnOk result (self.new.brief ≡ read_on self.old.brief piece.now) }
@@ -188,7 +187,7 @@ impl Incoming {
         Ok(step)
     }
 
-    /// What the stream holds, where it ends here: its commands, and the names of what was sent.
+    /// What the stream holds, if it ends here: its commands, and the names of what was sent.
     pub fn finish(&self, alloc: Global) -> Result<Brief, BodyError>
         ensures found { IfOk result (λ brief. finished_flow self.now.brief.flow ≡ Ok (brief.commands.items, brief.names.items)) }
         ensures exact { IfErr result (TellsEnd self.now.brief.flow) }
@@ -203,7 +202,7 @@ impl Incoming {
     }
 }
 
-// How many of the bytes that came are missing, where so many are there and the stream is broken.
+// How many of the bytes received are missing, if this many are there and the stream is broken.
 fn missing(mark: &Mark, there: usize) -> u64
     requires { there ≤ mark.now.count }
     ensures going { is_some mark.now.fault ≡ false → result ≡ 0 }
@@ -215,7 +214,7 @@ fn missing(mark: &Mark, there: usize) -> u64
     mark.count - there as u64
 }
 
-// What a stream holds that ends here.
+// What a stream that ends here holds.
 fn finish_in(
     alloc: Global,
     mark: &Mark,
@@ -244,7 +243,7 @@ fn finish_in(
     Ok(Brief { commands, names })
 }
 
-// The same commands.
+// A copy of the commands.
 fn copied_commands(alloc: Global, commands: &[Command]) -> Result<Vec<Command>, AllocError>
     ensures { IfOk result (λ copied. copied.items ≡ commands.now) }
 {
@@ -271,7 +270,7 @@ fn names_of(alloc: Global, sent: &[Sent]) -> Result<Vec<Name>, AllocError>
     Ok(names)
 }
 
-// A draft is what was kept of it. It takes no memory.
+// Restores a draft to what was kept of it. It allocates nothing.
 fn roll_back(draft: &mut Draft, kept: &Kept)
     ensures { RollsBack kept.now draft.old draft.new }
 {
@@ -283,7 +282,7 @@ fn roll_back(draft: &mut Draft, kept: &Kept)
     draft.mark = kept.mark;
 }
 
-// Reads on by one piece from what was kept of a draft. An `Err` rolls back.
+// Reads on by one piece from what was kept of a draft. An `Err` restores the draft.
 fn look_at(alloc: Global, draft: &mut Draft, kept: &Kept, piece: &[u8]) -> Result<Step, AllocError>
     requires held { IsHeld kept.now draft.old }
     requires fits { kept.now.mark.count + length piece.now ≤ MAX_UPLOAD }

@@ -1,7 +1,6 @@
-//! Streams of pushes: commands of a transaction, then objects, each a record as `git cat-file
-//! --batch` prints it.
-//! A stream is read exactly, in one body or in pieces: its commands and objects where it is whole and
-//! right, and otherwise the fault of its first wrong item.
+//! Streams of pushes: commands of a transaction, then objects, each a record as `git cat-file --batch`
+//! prints it. A stream is read exactly, in one body or in pieces: it yields its commands and objects if
+//! it is whole and valid, and otherwise the fault of its first wrong item.
 #![tactic(auto)]
 
 mod again;

@@ -16,8 +16,8 @@ use std::alloc::Global;
 /// The most bytes of an object's content that a host takes (own).
 pub const MAX_CONTENT: usize = 8_388_608;
 
-/// The most bytes of a stream that are left unfinished (own): a record's line of 79 bytes, its LF, and
-/// a content.
+/// The most bytes of a stream that stay unfinished (own): a record's line of 79 bytes, its LF, and a
+/// content.
 pub const MAX_REST: usize = MAX_CONTENT + 80;
 
 // What a record's line says.
@@ -28,19 +28,19 @@ pub(crate) struct Head {
     size: u64,
 }
 
-// The parts of the record at the front of a text.
+// The parts of the record at the start of a text.
 #[derive(Clone, Copy, Debug)]
 pub(crate) enum Parts<'a> {
-    // What its line says, the content, and what stands behind its last LF.
+    // What its line says, the content, and what follows its last LF.
     Whole(Head, &'a [u8], &'a [u8]),
-    // The front of a record that may still be right, or nothing.
+    // The beginning of a record that may still be valid, or nothing.
     Open,
     // What is wrong with it.
     Wrong(StreamFault),
 }
 
 #[tactic(auto, unfolding(crate::specs::Record::record_at))]
-// Takes the record at the front of a text, and gives what stands behind it.
+// Takes the record at the start of a text, and returns what follows it.
 pub(crate) fn take_record(alloc: Global, text: &[u8]) -> Result<(Sealed, &[u8]), BodyError>
     ensures taken { IfOk result (λ p. record_at text.now ≡ Taken p.0 p.1.now) }
     ensures exact { IfErr result (TellsRecord (record_at text.now)) }
@@ -65,7 +65,7 @@ pub(crate) fn take_record(alloc: Global, text: &[u8]) -> Result<(Sealed, &[u8]),
 }
 
 #[tactic(auto, unfolding(crate::specs::Record::parts_at))]
-// The parts of the record at the front of a text.
+// The parts of the record at the start of a text.
 fn first_parts(text: &[u8]) -> Parts<'_>
     ensures { record_parts_shown result ≡ parts_at text.now }
 {
@@ -100,7 +100,7 @@ fn head_of(digits: &[u8], word: &[u8], number: &[u8]) -> Option<Head>
     Some(Head { name, kind, size })
 }
 
-// The content behind a record's line, which ends in LF.
+// The content after a record's line, which ends in LF.
 fn take_content(head: Head, text: &[u8]) -> Parts<'_>
     ensures { record_parts_shown result ≡ content_at head text.now }
 {
@@ -118,8 +118,8 @@ fn take_content(head: Head, text: &[u8]) -> Parts<'_>
     }
 }
 
-// Until a text and what comes are so many bytes, the record at its front stays unfinished. It is
-// nothing where its line is not whole.
+// The record at the start of a text stays unfinished until the text has this many bytes; 0 if its line
+// is incomplete.
 pub(crate) fn awaited(text: &[u8]) -> usize
     ensures { Awaits text.now result }
 {
@@ -133,7 +133,7 @@ pub(crate) fn awaited(text: &[u8]) -> usize
     }
 }
 
-// The bytes of a record behind a line of so many, with its two LF.
+// The bytes of a record whose line has this many, with its two LF.
 fn awaited_behind(line: usize, head: Head) -> usize
     requires { line ≤ 512 }
     ensures whole { head.size ≤ MAX_CONTENT → result ≡ line + 2 + head.size }

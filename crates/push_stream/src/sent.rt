@@ -3,7 +3,7 @@ ghost use Rattle.push_stream.specs.Reading.{sent_of};
 
 use git_name::{Kind, Name, Sealed};
 
-/// What is told of an object that was sent: its name, its kind, and the bytes of its content.
+/// What is known of an object that was sent: its name, its kind, and the length of its content.
 #[derive(Clone, Copy, Debug, PartialEq, Eq)]
 pub struct Sent {
     pub name: Name,
@@ -11,7 +11,7 @@ pub struct Sent {
     pub length: u64,
 }
 
-// What is told of an object.
+// What is known of an object.
 pub(crate) fn sent_of(sealed: &Sealed) -> Sent
     ensures { result ≡ sent_of sealed.now }
 {

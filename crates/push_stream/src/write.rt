@@ -8,13 +8,14 @@ use git_name::{Kind, Name, Sealed};
 use itoa::Buffer;
 use std::alloc::{AllocError, Global};
 
-/// A record has at most so many bytes beside its content: a name, a word of six letters, twenty digits, two
+/// The most bytes of a record besides its content: a name, a word of six letters, twenty digits, two
 /// spaces and two ends of lines.
 pub const BESIDE: usize = 94;
 
 #[tactic(auto, unfolding(crate::specs::Record::record_of))]
-/// A text with the record of an object behind it, as `git cat-file --batch` prints it (git-cat-file(1)). The
-/// object is of this kind and these bytes, and the name is its own. For want of memory there is neither.
+/// Appends the record of an object to a text, as `git cat-file --batch` prints it (git-cat-file(1)).
+/// The object has this kind and these bytes, and the name is its own. Returns nothing if memory runs
+/// out.
 pub fn add_record(
     text: Vec<u8>,
     name: Name,

@@ -1,4 +1,4 @@
--- A line more, and the lines of what was read with it.
+-- One more line, and the lines of what was read with it.
 use Rattle.std.proofs.Common.{◌≡◌, ℕ, ◌+◌, true, false, cond, List, [], ◌∷◌, ◌++◌, codes, refl, sym, ap, ◌∙◌, length, length-append, map, append_assoc, arith}
 use Rattle.std.specs.FinMap as finite
 use Rattle.std.specs.FinMap.{entries}

@@ -1,4 +1,4 @@
--- A tenant, and what stands last of it: a repository, or an offer.
+-- A tenant and its last item: a repository, or an offer.
 use Rattle.std.proofs.Common.{◌≡◌, ℕ, ◌<◌, List, [], ◌∷◌, ◌++◌, refl, sym, ap, subst, ◌∙◌, length, map, arith}
 use Rattle.git_reftx.specs.Repository as git
 use Rattle.fork_request.specs.Names.{IsRepositoryName}

@@ -1,4 +1,4 @@
--- The lines of states hold no LF.
+-- The lines of states contain no LF.
 use Rattle.std.proofs.Common.{◌≡◌, ◌≢◌, ℕ, ◌<◌, ◌^◌, Bool, true, false, cond, ◌||◌, List, [], ◌∷◌, ◌++◌, codes, decimal, Option, None, Some, refl, sym, ap, subst, ◌∙◌, rules, arith}
 use Rattle.std.specs.List.{AllByRecursion, find, list_any}
 use Rattle.std.proofs.lemmas.List.Elements.{All-append, All-from_recursion, All-same}

@@ -1,4 +1,4 @@
--- States with one thing more behind the others, or less.
+-- States with one thing appended, or removed.
 use Rattle.std.proofs.Common.{◌≡◌, ℕ, ◌<◌, ◌≤◌, List, [], ◌∷◌, ◌++◌, sym, ap, subst, ◌∙◌, length, map, arith}
 use Rattle.std.specs.List.{AllByRecursion}
 use Rattle.git_name.specs.Name.{IsName}

@@ -1,4 +1,4 @@
--- What stands last of the last tenant, taken out and put back with more in it.
+-- The last item of the last tenant, taken out and put back with more in it.
 use Rattle.std.proofs.Common.{◌≡◌, ℕ, List, [], ◌∷◌, ◌++◌, sym, subst, ◌∙◌}
 use Rattle.git_name.specs.Name.{IsName}
 use Rattle.git_reftx.specs.Repository as git

@@ -1,4 +1,4 @@
--- What a version tells of states with one thing more, or less.
+-- What a version expresses of states with one thing more, or less.
 use Rattle.std.proofs.Common.{◌≡◌, ℕ, true, false, List, [], ◌∷◌, ◌++◌, refl, sym, subst, ◌∙◌}
 use Rattle.std.specs.Prelude.{⊤}
 use Rattle.git_reftx.specs.Repository as git

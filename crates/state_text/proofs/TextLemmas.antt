@@ -1,4 +1,4 @@
--- Texts of lines: the same bytes are the same lines, and a text goes wrong at one line at most.
+-- Texts of lines: the same bytes are the same lines, and a text goes wrong at no more than one line.
 use Rattle.std.proofs.Common.{◌≡◌, ◌≢◌, ℕ, List, [], ◌∷◌, ◌++◌, refl, sym, ap, subst, ◌∙◌, length, append_assoc, arith}
 use Rattle.std.specs.List.{AllByRecursion, flat_map}
 use Rattle.std.proofs.lemmas.List.Elements.{All-nil}

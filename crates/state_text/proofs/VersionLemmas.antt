@@ -1,4 +1,4 @@
--- A state text is of one version, which its first line tells.
+-- A state text is of one version, which its first line gives.
 use Rattle.std.proofs.Common.{◌≡◌, ℕ, List, [], ◌∷◌, ◌++◌, inl, inr, codes, refl, sym, ap, subst, ◌∙◌, slice_index, arith}
 use Rattle.std.specs.List.{flat_map}
 use Rattle.std.proofs.lemmas.List.{append-nil}

@@ -1,4 +1,4 @@
--- What is not put behind the others makes a line that no right states go on with.
+-- What cannot be appended makes a line with which no valid states continue.
 use Rattle.std.proofs.Common.{◌≡◌, ◌≢◌, ℕ, ◌+◌, ◌<◌, ◌≤◌, List, [], ◌∷◌, ◌++◌, codes, decimal, refl, sym, ap, subst, ◌∙◌, length, map, append_assoc, arith}
 use Rattle.std.specs.FinMap as finite
 use Rattle.hex.specs.Hex.{encode_lower}

@@ -1,4 +1,4 @@
--- The first wrong line of a text that is no state text (own).
+-- The first wrong line of a text that is not a state text (own).
 use Rattle.std.specs.Prelude.{◌≡◌, ◌≢◌, ℕ, ◌+◌, All, List, [], ◌∷◌, ◌++◌, ◌⊎◌, length, ⊤}
 use Rattle.std.specs.List.{AllByRecursion, flat_map}
 use Rattle.state_text.specs.declared.fault.StateFault.{StateFault}
@@ -19,7 +19,7 @@ pub record BeginsStateText (text : List ℕ) : Type 0 where
 abbrev pub IsOneLine : List ℕ → Type 0
 IsOneLine line = All (λ byte. byte ≢ 10) line
 
--- a whole line stands next, and with it the text begins no state text
+-- a complete line comes next, and with it the text begins no state text
 pub record HasWrongNext (front rest : List ℕ) : Type 0 where
   pub line : List ℕ
   pub behind : List ℕ
@@ -27,7 +27,7 @@ pub record HasWrongNext (front rest : List ℕ) : Type 0 where
   pub parts : rest ≡ line ++ 10 ∷ behind
   pub begins : ¬ BeginsStateText (front ++ ended line)
 
--- no whole line stands next, and the text isn't at its end
+-- no complete line comes next, and the text is not at its end
 pub record IsCut (front rest : List ℕ) : Type 0 where
   pub is_line : IsOneLine rest
   pub more : (states : States) → IsStateText states front → rest ≢ []
@@ -42,7 +42,7 @@ pub record IsWrongLine (text : List ℕ) (number : ℕ) : Type 0 where
   pub begins : BeginsStateText (flat_map ended before)
   pub wrong : HasWrongNext (flat_map ended before) rest ⊎ IsCut (flat_map ended before) rest
 
--- a text has one first wrong line at most
+-- a text has at most one first wrong line
 abbrev pub OneWrongLine : Type 0
 OneWrongLine = (text : List ℕ) (m n : ℕ) → IsWrongLine text m → IsWrongLine text n → m ≡ n
 
@@ -50,7 +50,7 @@ OneWrongLine = (text : List ℕ) (m n : ℕ) → IsWrongLine text m → IsWrongL
 abbrev pub NoneInStateText : Type 0
 NoneInStateText = (states : States) (text : List ℕ) (number : ℕ) → IsStateText states text → IsWrongLine text number → ⊥
 
--- the fault tells the first wrong line; want of memory tells nothing
+-- the fault reports the first wrong line; running out of memory reports nothing
 abbrev pub TellsLine : List ℕ → StateFault → Type 0
 TellsLine text (Line number) = IsWrongLine text number
 TellsLine text Memory = ⊤

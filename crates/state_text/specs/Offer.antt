@@ -10,7 +10,7 @@ pub record Offer : Type 0 where
   pub name : List ℕ
   pub repository : Repository
 
--- the words by which a tenant's offers are ordered: by receiver, then by repository, as SP stands before each byte of a name
+-- the words that order a tenant's offers: by receiver, then by repository, as SP comes before every byte of a name
 abbrev pub offer_words : List ℕ → List ℕ → List ℕ
 offer_words receiver name = receiver ++ codes " " ++ name
 

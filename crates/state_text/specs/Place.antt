@@ -1,4 +1,4 @@
--- Where in a tenant's lines a text stands (own): within a repository, or within an offer.
+-- Where in a tenant's lines a text is (own): within a repository, or within an offer.
 use Rattle.std.specs.Prelude.{◌≡◌, ℕ, List, [], ⊤}
 use Rattle.git_reftx.specs.Repository.{Repository}
 use Rattle.state_text.specs.declared.place.Place.{Place}
@@ -17,12 +17,12 @@ abbrev pub first_line : Place → List ℕ
 first_line (Own name) = repository_line name
 first_line (Offered receiver name) = offer_line receiver name
 
--- the tenant with this there, behind all that it has
+-- the tenant with this added after all that it has
 abbrev pub with_at : TenantState → Place → Repository → TenantState
 with_at tenant (Own name) repository = with_repository tenant name repository
 with_at tenant (Offered receiver name) repository = with_offer tenant (record { receiver = receiver; name = name; repository = repository })
 
--- no line of the tenant stands behind it: repositories come before what is seen, and that before offers
+-- no line of the tenant comes after it: repositories come before what is seen, and that before offers
 abbrev pub IsLast : TenantState → Place → Type 0
 IsLast tenant (Own name) = (tenant.seen ≡ []) × (tenant.offers ≡ [])
 IsLast tenant (Offered receiver name) = ⊤

@@ -1,5 +1,5 @@
--- What of a host outlives its process (own): for each tenant its limit, its repositories, the names of the objects that it sees, and
--- the offers that it has made.
+-- What outlives a host's process (own): for each tenant its limit, its repositories, the names of the objects that it sees, and the
+-- offers that it has made.
 use Rattle.std.specs.Prelude.{◌≢◌, ℕ, ◌≤◌, List, length, map, refl}
 use Rattle.std.specs.Coded.{Coded, code_by, coded×, coded_ℕ, coded_list}
 use Rattle.std.specs.FinMap.{values}
@@ -15,7 +15,7 @@ use Rattle.fork_model.specs.declared.limits.TheConstants.{MAX_REPOSITORIES, MAX_
 use Rattle.fork_model.specs.declared.limits.TheConstants.{MAX_OFFERS}
 use Rattle.state_text.specs.Offer.{Offer, offer_code, words_of_offer}
 
--- of one tenant; a repository stands behind its name
+-- for one tenant; a repository follows its name
 pub record TenantState : Type 0 where
   pub name : List ℕ
   pub limit : ℕ
@@ -23,7 +23,7 @@ pub record TenantState : Type 0 where
   pub seen : List (List ℕ)
   pub offers : List Offer
 
--- of each tenant
+-- for each tenant
 abbrev pub States : Type 0
 States = List TenantState
 
@@ -31,25 +31,25 @@ States = List TenantState
 abbrev pub Ascend : List (List ℕ) → Type 0
 Ascend = IsStrictlySortedBy name_cmp
 
--- HEAD names a branch; references of right names, none above another, 4,096 at the most, each at a name of an object
+-- HEAD names a branch; references with valid names, none above another, at most 4,096, each at a name of an object
 pub record MayBeTold (repository : Repository) : Type 0 where
   pub branch : IsBranch repository.head
   pub references : AreSound repository.references
   pub targets : AllByRecursion IsName (values repository.references)
 
--- a right name, and what may be told of it
+-- a valid name, and what a state may say about it
 pub record IsNamedRepository (repository : List ℕ × Repository) : Type 0 where
   pub named : IsRepositoryName repository.0
   pub told : MayBeTold repository.1
 
--- to another tenant than the giver, of a right name, and what may be told of it
+-- to another tenant than the giver, with a valid name, and what a state may say about it
 pub record IsOffer (giver : List ℕ) (offer : Offer) : Type 0 where
   pub receiver_named : IsTenantName offer.receiver
   pub to_another : offer.receiver ≢ giver
   pub named : IsRepositoryName offer.name
   pub told : MayBeTold offer.repository
 
--- a right name and limit; repositories, the names of objects and offers in their order
+-- a valid name and limit; repositories, the names of objects and offers in their order
 pub record IsTenantState (tenant : TenantState) : Type 0 where
   pub named : IsTenantName tenant.name
   pub limit : tenant.limit ≤ MAX_LIMIT

@@ -1,4 +1,4 @@
--- The reader's bookkeeping, which nobody has to believe: what one more line makes of what was read so far.
+-- The reader's bookkeeping, which no clause of a public function mentions: what one more line does to what was read so far.
 use Rattle.std.specs.Prelude.{◌≡◌, ℕ, ◌+◌, ◌≤◌, Bool, true, false, cond, List, [], ◌∷◌, ◌++◌, codes, decimal, length, ⊤}
 use Rattle.std.specs.List.{flat_map}
 use Rattle.std.specs.FinMap.{empty, entries}
@@ -25,7 +25,7 @@ use Rattle.state_text.specs.Place.{IsLast, place_name, with_at}
 use Rattle.state_text.specs.States.{IsStates, States, TenantState}
 use Rattle.state_text.specs.Text.{VersionTells, tenant_lines, version_line}
 
--- what was read: states, of which the HEAD that was told of last may be awaited still
+-- what was read: states, of which the HEAD of the last item may still be awaited
 pub record Taken : Type 0 where
   pub states : States
   pub awaits : Bool
@@ -41,7 +41,7 @@ but_last [] = []
 but_last (line ∷ []) = []
 but_last (line ∷ next ∷ lines) = line ∷ but_last (next ∷ lines)
 
--- the lines of states but the last, which is `end`
+-- the lines of states except the last, which is `end`
 abbrev pub told_lines : Version → States → List (List ℕ)
 told_lines version states = version_line version ∷ flat_map (tenant_lines version) states
 
@@ -49,7 +49,7 @@ told_lines version states = version_line version ∷ flat_map (tenant_lines vers
 abbrev pub open_lines : Version → Taken → List (List ℕ)
 open_lines version taken = cond taken.awaits (but_last (told_lines version taken.states)) (told_lines version taken.states)
 
--- a repository or an offer has just begun, and stands as a new repository so far
+-- a repository or an offer has just begun, and is a new repository so far
 pub record HasJustBegun (states : States) : Type 0 where
   pub before : States
   pub tenant : TenantState
@@ -57,11 +57,11 @@ pub record HasJustBegun (states : States) : Type 0 where
   pub last : IsLast tenant place
   pub is : states ≡ before ++ with_at tenant place new_repository ∷ []
 
--- where a HEAD is awaited, something has just begun, in version 2
+-- if a HEAD is awaited, something has just begun, in version 2
 abbrev pub AwaitsHead : Version → Taken → Type 0
 AwaitsHead version taken = (taken.awaits ≡ true) → (awaits_head version ≡ true) × HasJustBegun taken.states
 
--- right states that the version can tell
+-- valid states that the version can express
 pub record IsRightSoFar (version : Version) (taken : Taken) : Type 0 where
   pub right : IsStates taken.states
   pub tells : VersionTells version taken.states
@@ -82,11 +82,11 @@ pub record AddsPlace (old : States) (place : Place) (new : States) : Type 0 wher
   pub was : old ≡ before ++ tenant ∷ []
   pub added : new ≡ before ++ with_at tenant place new_repository ∷ []
 
--- a repository, which is told of by its name
+-- a repository, given by its name
 abbrev pub AddsRepository : States → List ℕ → States → Type 0
 AddsRepository old rest new = AddsPlace old (Own rest) new
 
--- an offer, which is told of by its receiver and the repository's name, from version 2 on
+-- an offer, given by its receiver and the repository's name, from version 2 on
 pub record AddsOffer (version : Version) (old : States) (rest : List ℕ) (new : States) : Type 0 where
   pub receiver : List ℕ
   pub name : List ℕ
@@ -110,12 +110,12 @@ pub record SaysHead (old : States) (line : List ℕ) (new : States) : Type 0 whe
   pub is : line ≡ codes "head " ++ rest
   pub adds : AddsHead old rest new
 
--- a repository has a reference more
+-- a repository has one more reference
 pub record HasReferenceMore (old : git.Repository) (name target : List ℕ) (new : git.Repository) : Type 0 where
   pub head : new.head ≡ old.head
   pub pushed : entries new.references ≡ entries old.references ++ (name, target) ∷ []
 
--- what the lines before stand in has a reference more
+-- the item that the lines before are in has one more reference
 pub record AddsReference (old : States) (rest : List ℕ) (new : States) : Type 0 where
   pub before : States
   pub tenant : TenantState
@@ -130,7 +130,7 @@ pub record AddsReference (old : States) (rest : List ℕ) (new : States) : Type 
   pub spelled : rest ≡ encode_lower target ++ codes " " ++ expanded (tenant.name ∷ place_name place ∷ []) ++ name
   pub added : new ≡ before ++ with_at tenant place next ∷ []
 
--- the last tenant sees an object more
+-- the last tenant sees one more object
 pub record AddsSeen (old : States) (rest : List ℕ) (new : States) : Type 0 where
   pub before : States
   pub tenant : TenantState
@@ -140,7 +140,7 @@ pub record AddsSeen (old : States) (rest : List ℕ) (new : States) : Type 0 whe
   pub was : old ≡ before ++ tenant ∷ []
   pub added : new ≡ before ++ with_seen tenant name ∷ []
 
--- a HEAD is awaited before this line, and behind it
+-- whether a HEAD is awaited before this line, and after it
 pub record Goes (before : Bool) (old : Taken) (behind : Bool) (new : Taken) : Type 0 where
   pub was : old.awaits ≡ before
   pub is : new.awaits ≡ behind
@@ -154,20 +154,20 @@ pub data Adds (version : Version) (old : Taken) (line : List ℕ) (new : Taken) 
   Seen : (rest : List ℕ) → line ≡ codes "see " ++ rest → Goes false old false new → AddsSeen old.states rest new.states → Adds version old line new
   Offer : (rest : List ℕ) → line ≡ codes "offer " ++ rest → Goes false old true new → AddsOffer version old.states rest new.states → Adds version old line new
 
--- what holds where the line is wrong; want of memory tells nothing
+-- what holds if the line is wrong; running out of memory reports nothing
 abbrev pub WhenWrong : LineFault → Type 0 → Type 0
 WhenWrong Wrong said = said
 WhenWrong Memory said = ⊤
 
--- no right states are the old ones with this line
+-- no valid states are the old ones with this line
 abbrev pub Refuses : (States → List ℕ → States → Type 0) → States → List ℕ → LineFault → Type 0
 Refuses Says old line fault = WhenWrong fault ((new : States) → IsStates new → Says old line new → ⊥)
 
--- nothing right that was taken is the old with this line
+-- nothing valid that was taken is the old with this line
 abbrev pub RefusesLine : Version → Taken → List ℕ → LineFault → Type 0
 RefusesLine version old line fault = WhenWrong fault ((new : Taken) → IsRightSoFar version new → Adds version old line new → ⊥)
 
--- what is not put behind the others makes a wrong line
+-- what cannot be appended makes a wrong line
 abbrev pub fault_of : AddError → LineFault
 fault_of add.OutOfOrder = Wrong
 fault_of add.TooMany = Wrong
@@ -185,7 +185,7 @@ fault_of_offer offering.OutOfOrder = Wrong
 fault_of_offer offering.TooMany = Wrong
 fault_of_offer offering.Memory = Memory
 
--- what was read are these lines, so many, and the rest of the text is left
+-- what was read is this many lines, which are these, and the rest of the text is left
 pub record IsReadSoFar (version : Version) (text : List ℕ) (taken : Taken) (lines : ℕ) (rest : List ℕ) : Type 0 where
   pub parts : text ≡ flat_map ended (open_lines version taken) ++ rest
   pub count : lines ≡ length (open_lines version taken)

@@ -34,7 +34,7 @@ reference_line tenant repository (name, target) = codes "ref " ++ encode_lower t
 abbrev pub seen_line : List ℕ → List ℕ
 seen_line name = codes "see " ++ encode_lower name
 
--- HEAD is told from version 2 on
+-- HEAD is written from version 2 on
 abbrev pub head_lines : Version → List ℕ → List ℕ → List ℕ → List (List ℕ)
 head_lines One tenant repository head = []
 head_lines Two tenant repository head = line_of_head tenant repository head ∷ []
@@ -47,7 +47,7 @@ inner_lines version tenant name repository = head_lines version tenant name repo
 abbrev pub repository_lines : Version → List ℕ → List ℕ × Repository → List (List ℕ)
 repository_lines version tenant (name, repository) = repository_line name ∷ inner_lines version tenant name repository
 
--- an offer, and what is in it, as the giver's repository is told
+-- an offer and its content, written as the giver's repository is
 abbrev pub offer_lines : Version → List ℕ → Offer → List (List ℕ)
 offer_lines version giver offer = offer_line offer.receiver offer.name ∷ inner_lines version giver offer.name offer.repository
 
@@ -71,7 +71,7 @@ pub record FitsVersionOne (tenant : TenantState) : Type 0 where
   pub heads : AllByRecursion (λ repository. repository.1.head ≡ main_branch) tenant.repositories
   pub no_offers : tenant.offers ≡ []
 
--- what a version can tell: the first one no other HEAD and no offers, the second one all
+-- what a version can express: the first one no other HEAD and no offers, the second one all
 abbrev pub VersionTells : Version → States → Type 0
 VersionTells One states = AllByRecursion FitsVersionOne states
 VersionTells Two states = ⊤
@@ -94,6 +94,6 @@ IsStateText2 = IsTextIn Two
 abbrev pub IsStateText : States → List ℕ → Type 0
 IsStateText states text = IsStateText1 states text ⊎ IsStateText2 states text
 
--- a text is of one value, whatever its version
+-- a text has one value, whatever its version
 abbrev pub OneValue : Type 0
 OneValue = (states others : States) (text : List ℕ) → IsStateText states text → IsStateText others text → states ≡ others

@@ -1,6 +1,6 @@
 use thiserror::Error;
 
-/// Why something was not put behind the others.
+/// Why something was not appended.
 #[derive(Clone, Copy, Debug, PartialEq, Eq, Error)]
 pub enum AddError {
     #[error("the name does not stand behind the others")]
@@ -11,7 +11,7 @@ pub enum AddError {
     Memory,
 }
 
-/// Why an offer was not put behind the others.
+/// Why an offer was not appended.
 #[derive(Clone, Copy, Debug, PartialEq, Eq, Error)]
 pub enum OfferError {
     #[error("the receiver is the giver")]
@@ -27,7 +27,7 @@ pub enum OfferError {
 /// Why no states were read.
 #[derive(Clone, Copy, Debug, PartialEq, Eq, Error)]
 pub enum StateFault {
-    /// The text is no state text; this is its first wrong line. The first line has the number 1.
+    /// The text is not a state text; this is its first wrong line, counted from 1.
     #[error("line {0} is wrong")]
     Line(u64),
     #[error("no memory")]

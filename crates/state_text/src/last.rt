@@ -1,4 +1,4 @@
-// The last tenant of states, and what stands last of it, taken out and put back with more in it.
+// The last tenant of states, and its last item, taken out and put back with more in it.
 ghost use Rattle.std.specs.Prelude.{◌≡◌, ◌≢◌, ◌∷◌, ◌++◌, [], false, IfOk, IfErr, IfSome, IfNone};
 ghost use Rattle.git_reftx.specs.Repository as git;
 ghost use Rattle.state_text.specs.Place.{IsLast, with_at};
@@ -12,7 +12,7 @@ use crate::states::States;
 use crate::tenant_state::TenantState;
 use git_reftx::Repository;
 
-// Takes out the last tenant, and what stands last of it.
+// Takes out the last tenant, and its last item.
 pub(crate) fn open_last(states: &mut States) -> Option<(TenantState, Place, Repository)>
     ensures found { IfSome result (λ found. states.old ≡ states.new ++ with_at found.0 found.1 found.2 ∷ []) }
     ensures last { IfSome result (λ found. IsLast found.0 found.1) }
@@ -47,7 +47,8 @@ pub(crate) fn close_last(
     put_back(states, tenant, false)
 }
 
-// Puts back the tenant that was taken out last, with more in it, and tells what is awaited.
+// Puts back the tenant that was taken out last, with more in it, and returns whether a HEAD is
+// awaited.
 pub(crate) fn put_back(
     states: &mut States,
     tenant: TenantState,

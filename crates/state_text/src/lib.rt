@@ -1,7 +1,7 @@
-//! What of a host outlives its process, as a value and as a text: the tenants with their limits, their
-//! repositories, the names of the objects that they see, and the offers that they have made.
-//! Each value has one text that is written, of version 2; what is read is spelled so or in version 1, and
-//! a text that is neither is refused by the number of its first wrong line.
+//! What outlives a host's process, as a value and as a text: the tenants with their limits, their
+//! repositories, the names of the objects that they see, and the offers that they have made. Each value
+//! is written as one text, of version 2. What is read has this spelling or that of version 1; any other
+//! text is refused with the number of its first wrong line.
 #![tactic(auto)]
 
 mod fault;

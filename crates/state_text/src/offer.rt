@@ -10,7 +10,7 @@ use std::cmp::Ordering;
 use std::marker::Model;
 
 /// An offer that a tenant has made: to whom, of which of its repositories, and that repository as it
-/// was when the offer was made. The giver is the tenant in whose state it stands.
+/// was when the offer was made. The giver is the tenant whose state contains it.
 #[derive(Drop)]
 pub struct Offer {
     receiver: TenantName,
@@ -29,7 +29,7 @@ impl Model for Offer {
 }
 
 impl Offer {
-    /// The offer to this tenant of the repository of this name, which is as it is given.
+    /// The offer to this tenant of this repository, under this name.
     pub fn new(receiver: TenantName, name: RepositoryName, repository: Repository) -> Offer
         ensures { result ≡ record { receiver = receiver; name = name; repository = repository } }
     {
@@ -40,7 +40,7 @@ impl Offer {
         }
     }
 
-    /// The tenant to which it was made; that there is one is not said.
+    /// The tenant to which it was made, which need not exist.
     pub fn receiver(&self) -> &TenantName
         ensures receiver { result.now ≡ self.now.receiver }
         ensures named { IsTenantName self.now.receiver }
@@ -74,7 +74,7 @@ impl Offer {
         (self.receiver, self.name, self.repository)
     }
 
-    // Whether the offer stands before another one of its giver.
+    // Whether the offer comes before another one of its giver.
     pub(crate) fn is_before(&self, other: &Offer) -> bool
         ensures { IsTrue result ↔ name_cmp (words_of_offer self.now) (words_of_offer other.now) ≡ Less }
     {
@@ -86,7 +86,7 @@ impl Offer {
     }
 }
 
-// Whether the name stands before the other one.
+// Whether the name comes before the other one.
 fn is_less(name: &RepositoryName, other: &RepositoryName) -> bool
     ensures { IsTrue result ↔ name_cmp name.now other.now ≡ Less }
 {

@@ -1,4 +1,4 @@
-// Whether something stands behind others, which are in their order: the last one decides.
+// Whether something comes after others that are in order: comparing with the last one suffices.
 ghost use Rattle.std.specs.Prelude.{◌↔◌, IsTrue, map};
 ghost use Rattle.state_text.specs.Adding.{AreBefore};
 ghost use Rattle.state_text.specs.Offer.{words_of_offer};
@@ -10,7 +10,7 @@ use git_name::Name;
 use git_reftx::Repository;
 use std::cmp::Ordering;
 
-// Whether the name stands behind those of the repositories.
+// Whether the name comes after those of the repositories.
 pub(crate) fn repository_follows(
     repositories: &[(RepositoryName, Repository)],
     name: &RepositoryName,
@@ -27,7 +27,7 @@ pub(crate) fn repository_follows(
     true
 }
 
-// Whether the name stands behind the others.
+// Whether the name comes after the others.
 pub(crate) fn name_follows(names: &[Name], name: &Name) -> bool
     requires { Ascend names.now }
     ensures { IsTrue result ↔ AreBefore names.now name.now }
@@ -41,7 +41,7 @@ pub(crate) fn name_follows(names: &[Name], name: &Name) -> bool
     true
 }
 
-// Whether the offer stands behind the others.
+// Whether the offer comes after the others.
 pub(crate) fn offer_follows(offers: &[Offer], offer: &Offer) -> bool
     requires { Ascend (map words_of_offer offers.now) }
     ensures { IsTrue result ↔ AreBefore (map words_of_offer offers.now) (words_of_offer offer.now) }

@@ -16,7 +16,7 @@ use git_refname::RefName;
 use git_reftx::Branch;
 use std::alloc::Global;
 
-// What stands behind this front of a text.
+// What follows this prefix of a text.
 pub(crate) fn behind<'a>(text: &'a [u8], front: &[u8]) -> Option<&'a [u8]>
     ensures found { IfSome result (λ rest. text.entry.now ≡ front.now ++ rest.now) }
     ensures none { IfNone result ((rest : List ℕ) → text.entry.now ≢ front.now ++ rest) }
@@ -47,7 +47,7 @@ pub(crate) fn tenant_of(alloc: Global, rest: &[u8]) -> Option<TenantState>
     Some(tenant)
 }
 
-// The reference of a reference's line, where this prefix stands before its name.
+// The reference of a reference's line, if this prefix precedes its name.
 pub(crate) fn reference_of(rest: &[u8], prefix: &[u8]) -> Option<(RefName, Name)>
     ensures found { IfSome result (λ found. rest.now ≡ encode_lower found.1 ++ codes " " ++ prefix.now ++ found.0) }
     ensures none { IfNone result ((name target : List ℕ) → IsRefName name → IsName target → rest.now ≢ encode_lower target ++ codes " " ++ prefix.now ++ name) }
@@ -67,7 +67,7 @@ pub(crate) fn reference_of(rest: &[u8], prefix: &[u8]) -> Option<(RefName, Name)
     }
 }
 
-// The branch of the line of a HEAD, where this prefix stands before its name.
+// The branch of a HEAD's line, if this prefix precedes its name.
 pub(crate) fn head_of(rest: &[u8], prefix: &[u8]) -> Option<Branch>
     ensures found { IfSome result (λ head. (rest.now ≡ prefix.now ++ head) × IsBranch head) }
     ensures none { IfNone result ((head : List ℕ) → IsBranch head → rest.now ≢ prefix.now ++ head) }

@@ -3,7 +3,7 @@ ghost use Rattle.state_text.specs.Place.{place_name};
 
 use fork_request::{RepositoryName, TenantName};
 
-// Where in a tenant's lines a text stands: within one of its repositories, or within an offer to this
+// Where in a tenant's lines a text is: within one of its repositories, or within an offer to this
 // receiver.
 #[derive(Drop)]
 pub(crate) enum Place {

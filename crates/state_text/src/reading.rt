@@ -11,12 +11,12 @@ use crate::version::Version;
 use git_name::split_once;
 use std::alloc::Global;
 
-/// The states whose text this is, all of the text, in either version. The time is that of its length
-/// and, for each reference, a few looks at a map.
+/// The states with this text, in either version. It reads all of the text. Its time is that of the
+/// text's length and, for each reference, a few lookups in a map.
 pub fn read(alloc: Global, text: &[u8]) -> Result<States, StateFault>
-    // What is read is spelled so.
+    // What is read has this spelling.
     ensures found { IfOk result (λ states. IsStateText states text.now) }
-    // What is a state text is read, but for want of memory.
+    // A state text is read, unless memory runs out.
     ensures only { (states : value.States) → IsStateText states text.now → IfOk result (λ found. found ≡ states) × IfErr result (λ fault. fault ≡ StateFault.Memory) }
     // Which line is wrong.
     ensures exact { IfErr result (TellsLine text.now) }
@@ -36,7 +36,7 @@ fn read_lines(alloc: Global, text: &[u8]) -> Result<States, StateFault>
         return Err(StateFault::Line(1));
     };
     let mut states = States::new(alloc);
-    // Whether the next line has to tell a HEAD.
+    // Whether the next line must give a HEAD.
     let mut awaits = false;
     // How many lines were read.
     let mut lines = 1;
@@ -58,7 +58,7 @@ fn read_lines(alloc: Global, text: &[u8]) -> Result<States, StateFault>
     Err(StateFault::Line(lines + 1))
 }
 
-// Whether the line is the last one, which cannot come where a HEAD is awaited.
+// Whether the line is the last one, which cannot come while a HEAD is awaited.
 fn is_end(line: &[u8], awaits: bool) -> bool
     ensures { IsTrue result ↔ (line.now ≡ codes "end") × (awaits ≡ false) }
 {

@@ -11,7 +11,7 @@ use std::alloc::{AllocError, Global};
 use std::cmp::Ordering;
 use std::marker::Model;
 
-/// What of a host outlives its process: the states of its tenants, by name in bytewise order.
+/// What outlives a host's process: the states of its tenants, by name in bytewise order.
 #[derive(Drop)]
 pub struct States {
     tenants: Vec<TenantState>,
@@ -56,7 +56,7 @@ impl States {
         tenants
     }
 
-    /// Puts a tenant's state behind the others. An `Err` leaves the states as they were.
+    /// Appends a tenant's state. An `Err` leaves the states as they were.
     pub fn push(&mut self, tenant: TenantState) -> Result<(), AddError>
         ensures ok { OnOk result (self.new ≡ self.old ++ tenant ∷ []) }
         ensures err { OnErr result (self.new ≡ self.old) }
@@ -75,7 +75,7 @@ impl States {
         Ok(())
     }
 
-    // Takes the last tenant's state out.
+    // Removes the last tenant's state and returns it.
     pub(crate) fn pop(&mut self) -> Option<TenantState>
         ensures some { IfSome result (λ last. self.old ≡ self.new ++ last ∷ []) }
         ensures none { IfNone result (self.old ≡ []) }
@@ -94,7 +94,7 @@ impl States {
     }
 }
 
-// Whether the name stands behind those of the tenants.
+// Whether the name comes after those of the tenants.
 fn tenant_follows(tenants: &[TenantState], name: &TenantName) -> bool
     requires { Ascend (map (λ tenant. tenant.name) tenants.now) }
     ensures { IsTrue result ↔ AreBefore (map (λ tenant. tenant.name) tenants.now) name.now }

@@ -14,7 +14,7 @@ use git_refname::expand;
 use git_reftx::Repository;
 use std::alloc::Global;
 
-// Takes a line, given without its LF, and tells whether the next line has to tell a HEAD.
+// Takes a line, given without its LF, and returns whether the next line must give a HEAD.
 pub(crate) fn take_line(
     alloc: Global,
     version: Version,
@@ -48,7 +48,7 @@ pub(crate) fn take_line(
     Err(LineFault::Wrong)
 }
 
-// Takes the line that has to tell a HEAD.
+// Takes the line that must give a HEAD.
 fn take_awaited(alloc: Global, states: &mut States, line: &[u8]) -> Result<bool, LineFault>
     requires { HasJustBegun states.old }
     ensures ok { IfOk result (λ more. (more ≡ false) × SaysHead states.old line.now states.new) }
@@ -70,7 +70,7 @@ fn take_tenant(alloc: Global, states: &mut States, rest: &[u8]) -> Result<bool, 
     let Some(tenant) = tenant_of(alloc, rest) else {
         return Err(LineFault::Wrong);
     };
-    // The name tells that the tenant is right.
+    // Called for its clause: the tenant is valid.
     let _name = tenant.name();
     states.push(tenant)?;
     Ok(false)
@@ -138,10 +138,10 @@ fn take_reference(alloc: Global, states: &mut States, rest: &[u8]) -> Result<boo
     let Some((name, target)) = reference_of(rest, prefix.as_slice()) else {
         return Err(LineFault::Wrong);
     };
-    // The bytes tell that the target is a name.
+    // Called for its clause: the target is a name.
     let _target = target.as_bytes();
     repository.push(name, target)?;
-    // The references are right with this one, too.
+    // Called for its clause: the references are valid with this one.
     let _references = repository.references();
     close_last(states, tenant, place, repository)
 }
@@ -161,7 +161,7 @@ fn take_seen(states: &mut States, rest: &[u8]) -> Result<bool, LineFault>
     let Some(name) = Name::parse_hex(rest) else {
         return Err(LineFault::Wrong);
     };
-    // The bytes tell that it is a name.
+    // Called for its clause: it is a name.
     let _name = name.as_bytes();
     tenant.add_seen(name)?;
     put_back(states, tenant, false)
@@ -187,7 +187,7 @@ fn take_offer(
     let Some((receiver, name)) = offer_of(rest) else {
         return Err(LineFault::Wrong);
     };
-    // The bytes tell that they are names.
+    // Called for its clause: they are names.
     let _receiver = receiver.as_bytes();
     let _name = name.as_bytes();
     tenant.add_offer(Offer::new(receiver, name, Repository::new(alloc)))?;

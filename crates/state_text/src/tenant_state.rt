@@ -19,8 +19,8 @@ use git_reftx::Repository;
 use std::alloc::{AllocError, Global};
 use std::marker::Model;
 
-/// What of a tenant outlives a host's process: its limit in bytes of use, its repositories, the names of
-/// the objects that it sees, and the offers that it has made. All names are in bytewise order, and
+/// What outlives a host's process of a tenant: its limit in bytes of use, its repositories, the names
+/// of the objects that it sees, and the offers that it has made. All names are in bytewise order, and
 /// offers are by receiver, then by repository.
 #[derive(Drop)]
 pub struct TenantState {
@@ -44,7 +44,7 @@ impl Model for TenantState {
 }
 
 impl TenantState {
-    /// A tenant that has nothing yet, where the limit is one that a tenant may have.
+    /// A tenant that has nothing yet, if a tenant may have this limit.
     pub fn new(alloc: Global, name: TenantName, limit: u64) -> Option<TenantState>
         ensures found { IfSome result (λ tenant. tenant ≡ fresh name limit) }
         ensures none { IfNone result (MAX_LIMIT < limit) }
@@ -98,7 +98,7 @@ impl TenantState {
         self.offers.as_slice()
     }
 
-    /// The name, the limit, the repositories, the names of the objects that are seen, and the offers.
+    /// The name, the limit, the repositories, the names of the visible objects, and the offers.
     pub fn into_parts(
         self,
     ) -> (
@@ -124,7 +124,7 @@ impl TenantState {
         (name, limit, repositories, seen, offers)
     }
 
-    /// Puts a repository behind the others. An `Err` leaves the state as it was.
+    /// Appends a repository. An `Err` leaves the state as it was.
     pub fn add_repository(
         &mut self,
         name: RepositoryName,
@@ -149,7 +149,7 @@ impl TenantState {
         Ok(())
     }
 
-    /// Puts the name of an object that is seen behind the others. An `Err` leaves the state as it was.
+    /// Appends the name of a visible object. An `Err` leaves the state as it was.
     pub fn add_seen(&mut self, name: Name) -> Result<(), AddError>
         ensures ok { OnOk result (self.new ≡ with_seen self.old name) }
         ensures err { OnErr result (self.new ≡ self.old) }
@@ -166,7 +166,7 @@ impl TenantState {
         Ok(())
     }
 
-    /// Puts an offer behind the others. An `Err` leaves the state as it was.
+    /// Appends an offer. An `Err` leaves the state as it was.
     pub fn add_offer(&mut self, offer: Offer) -> Result<(), OfferError>
         ensures ok { OnOk result (self.new ≡ with_offer self.old offer) }
         ensures err { OnErr result (self.new ≡ self.old) }
@@ -190,7 +190,7 @@ impl TenantState {
         Ok(())
     }
 
-    // Takes out what stands last: an offer, or a repository behind which nothing stands.
+    // Takes out the last item: an offer, or a repository after which nothing follows.
     pub(crate) fn open(&mut self) -> Option<(Place, Repository)>
         ensures found { IfSome result (λ found. self.old ≡ with_at self.new found.0 found.1) }
         ensures last { IfSome result (λ found. IsLast self.new found.0) }

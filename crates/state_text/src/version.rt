@@ -12,7 +12,7 @@ pub enum Version {
 }
 
 impl Version {
-    // The version that this first line tells.
+    // The version that this first line gives.
     pub(crate) fn of_line(line: &[u8]) -> Option<Version>
         ensures found { IfSome result (λ version. line.now ≡ version_line version) }
         ensures none { IfNone result ((version : Version) → line.now ≢ version_line version) }

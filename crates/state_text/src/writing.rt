@@ -40,7 +40,7 @@ fn put_tenant_line(out: &mut Vec<u8>, name: &TenantName, limit: u64) -> Result<(
     Ok(())
 }
 
-// Writes the line of a reference, of which the expanded namespace is given.
+// Writes the line of a reference, given its expanded namespace.
 fn put_reference(
     out: &mut Vec<u8>,
     prefix: &[u8],
@@ -86,7 +86,7 @@ fn put_inner(
     put_references(out, prefix.as_slice(), repository.references())
 }
 
-// Writes the line by which a repository begins.
+// Writes the first line of a repository.
 fn put_repository_line(out: &mut Vec<u8>, name: &RepositoryName) -> Result<(), AllocError>
     ensures { OnOk result (out.new.items ≡ out.old.items ++ ended (repository_line name.now)) }
 {
@@ -137,7 +137,7 @@ fn put_seen(out: &mut Vec<u8>, names: &[Name]) -> Result<(), AllocError>
     Ok(())
 }
 
-// Writes the line by which an offer begins.
+// Writes the first line of an offer.
 fn put_offer_line(
     out: &mut Vec<u8>,
     receiver: &TenantName,

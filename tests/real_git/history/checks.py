@@ -1,26 +1,20 @@
 """What is shown: the program's replies beside those that are wanted, and how many were as they should."""
 import random
 
-from host import Host
-from repository import Repository
+from lib.checks import Checks
+from real_git.history.host import Host
+from real_git.history.repository import Repository
 
 
-class Checks:
+class Shown(Checks):
     """What is shown, and by what: the host, in which `alice` has all of the repository's objects."""
 
     def __init__(self, program, work):
+        super().__init__()
         self.repository = Repository(work)
         self.host = Host(program, ["alice", "stranger", *(f"heir{number}" for number in range(40))])
         self.chance = random.Random(7)
         self.work, self.reaches = work, {}
-        self.passed = self.failed = 0
-
-    def same(self, label, wanted, got):
-        if wanted == got:
-            self.passed += 1
-        else:
-            self.failed += 1
-            print(f"failed: {label}: {str(got)[:200]}, and not {str(wanted)[:200]}")
 
     def told(self, wanted, *words, who="alice"):
         """The reply to this query is this one, which is bytes behind `ok` LF or the words of a refusal."""

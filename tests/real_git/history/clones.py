@@ -1,9 +1,9 @@
 """What is fetched makes an empty repository of Git's a whole one."""
 import os
 
-from git import Git
-from host import data_of
-from records import read_records
+from real_git.history.git import Git
+from real_git.history.host import data_of
+from real_git.history.records import read_records
 
 
 def into_git(checks, git, records):

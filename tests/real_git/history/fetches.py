@@ -1,6 +1,6 @@
 """`fetch` beside `git rev-list --objects`, before and behind a prune."""
-from checks import with_signs
-from walks import show_list
+from real_git.history.checks import with_signs
+from real_git.history.walks import show_list
 
 
 def reached(checks, items):

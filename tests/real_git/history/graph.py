@@ -1,6 +1,6 @@
 """What is to be told of commits, by definitions alone: ancestors, their order, and best common ancestors.
 Sets of commits are whole numbers with a bit for each, as there are hundreds of them and each has its ancestors."""
-from records import headers
+from real_git.history.records import headers
 
 
 class Graph:

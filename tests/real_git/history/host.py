@@ -1,21 +1,17 @@
 """A session with the program over pipes: one frame at a time, and its reply."""
-import subprocess
-
-from forkhost_client.frames import frame
+from lib.live import Live
+from lib.program import Program
 
 LIMIT = 1_000_000_000
 
 
 class Host:
     def __init__(self, program, tenants):
-        words = [f"{tenant}={LIMIT}" for tenant in tenants]
-        self.child = subprocess.Popen([program, "run", *words], stdin=subprocess.PIPE, stdout=subprocess.PIPE)
+        self.live = Live(Program(program), *(f"{tenant}={LIMIT}" for tenant in tenants))
 
     def asked(self, who, payload):
         """The reply to a request of this tenant's."""
-        self.child.stdin.write(frame(who.encode(), payload))
-        self.child.stdin.flush()
-        return self.child.stdout.read(int(self.child.stdout.readline()))
+        return self.live.asked(who.encode(), payload)
 
     def query(self, who, *words):
         return self.asked(who, " ".join(words).encode() + b"\n")
@@ -29,10 +25,8 @@ class Host:
         return self.query(who, "part-end", repository)
 
     def ended(self):
-        """The status of the session once its input ends, and what stands behind the last reply."""
-        self.child.stdin.close()
-        rest = self.child.stdout.read()
-        return self.child.wait(), rest
+        """How the session ends after its input, and what stands after the last reply."""
+        return self.live.ended()
 
 
 def data_of(reply):

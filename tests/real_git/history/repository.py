@@ -1,10 +1,10 @@
 """The repository of all histories: objects by git-fast-import(1), references, and tags of every kind."""
 import os
 
-from git import Git
-from graph import Graph
-from records import read_records
-import shapes
+from real_git.history import shapes
+from real_git.history.git import Git
+from real_git.history.graph import Graph
+from real_git.history.records import read_records
 
 TAGS = (
     ("v1", "refs/heads/line"),

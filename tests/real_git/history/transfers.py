@@ -1,7 +1,7 @@
 """What is fetched from one tenant and pushed by another, who holds what the excluded items reach."""
-from checks import with_signs
-from fetches import reached
-from host import data_of
+from real_git.history.checks import with_signs
+from real_git.history.fetches import reached
+from real_git.history.host import data_of
 
 PART = 100_000
 

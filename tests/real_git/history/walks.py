@@ -1,5 +1,5 @@
 """`ls-tree`, `rev-list` and `merge-base`, beside Git and by definition."""
-from checks import lines_of, with_signs
+from real_git.history.checks import lines_of, with_signs
 
 
 def ascend(checks, items):

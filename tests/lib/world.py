@@ -8,11 +8,10 @@ import subprocess
 
 from forkhost_client.connection import Connection
 from forkhost_client.faults import Fatal, Refused
-from live import Serving
-from program import PATIENCE, Ran, done, ended, sound
+from lib.places import CLIENTS
+from lib.live import Serving
+from lib.program import PATIENCE, Ran, done, ended, sound
 
-HERE = os.path.dirname(os.path.abspath(__file__))
-CLIENTS = os.path.realpath(os.path.join(HERE, "../../clients"))
 CONNECTIONS = 2000
 WHO = {"NAME": "Ada", "EMAIL": "ada@example.org", "DATE": "1700000000 +0100"}
 SETTINGS = {"gc.auto": "0", "maintenance.auto": "false", "advice.detachedHead": "false", "init.defaultBranch": "main"}

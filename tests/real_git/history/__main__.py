@@ -1,4 +1,3 @@
-#!/usr/bin/env -S python3 -B
 """Compares the program's queries of history with Git's, in one session over its frames. Real Git makes octopus and
 criss-cross merges, unrelated roots, skewed dates, tags of every kind, and a few hundred commits by a fixed seed, in
 a repository of the SHA-256 format, which is pushed.
@@ -10,18 +9,18 @@ a repository of the SHA-256 format, which is pushed.
 - `fetch` sends what `git rev-list --objects` lists of the wanted items, less what it lists of the excluded ones.
 - Fetched records make an empty Git repository a whole one; and by `push` they make another tenant's whole.
 
-Run: check PROGRAM. The last line is `N passed, M failed`."""
+Run in tests: python3 -B -m real_git.history PROGRAM. The last line is `N passed, M failed`."""
 import os
 import sys
 import tempfile
 
-sys.path.append(os.path.join(os.path.dirname(os.path.abspath(__file__)), "../../../clients"))
-from checks import Checks
-from clones import show_clone
-from fetches import show_fetches, show_prune
-from refusals import show_refusals
-from transfers import show_transfers
-from walks import show_bases, show_heads, show_lists, show_shapes, show_trees
+from lib.program import done
+from real_git.history.checks import Shown
+from real_git.history.clones import show_clone
+from real_git.history.fetches import show_fetches, show_prune
+from real_git.history.refusals import show_refusals
+from real_git.history.transfers import show_transfers
+from real_git.history.walks import show_bases, show_heads, show_lists, show_shapes, show_trees
 
 PART = 100_000
 WALKS = (show_shapes, show_trees, show_lists, show_bases, show_heads)
@@ -31,7 +30,7 @@ SHOWN = (*WALKS, show_fetches, show_refusals, show_clone, show_transfers, show_p
 def main():
     program = os.path.realpath(sys.argv[1])
     with tempfile.TemporaryDirectory() as work:
-        checks = Checks(program, work)
+        checks = Shown(program, work)
         repository, host = checks.repository, checks.host
         for who in ("alice", "stranger"):
             checks.same(f"a repository of {who}'s is made", b"ok\n", host.query(who, "init", "r"))
@@ -39,9 +38,8 @@ def main():
         checks.same("all is pushed", b"ok\n", host.pushed("alice", "r", body, PART))
         for show in SHOWN:
             show(checks)
-        checks.same("the session ends clean", (0, b""), host.ended())
-    print(f"{checks.passed} passed, {checks.failed} failed")
-    sys.exit(checks.failed != 0)
+        checks.same("the session ends clean", done(), host.ended())
+    checks.end()
 
 
 main()

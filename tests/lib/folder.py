@@ -3,7 +3,7 @@ import hashlib
 import os
 import re
 
-from objects import name_of, stored
+from lib.objects import name_of, stored
 
 LINE = re.compile(rb"([a-z0-9][a-z0-9_-]{0,31}|@host) (0|[1-9][0-9]{0,6})\n")
 

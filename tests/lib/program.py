@@ -4,9 +4,11 @@ import subprocess
 import sys
 from typing import NamedTuple
 
-HERE = os.path.dirname(os.path.abspath(__file__))
-BUILT = os.path.join(HERE, "../../crates/forkhost/out/forkhost")
-PATIENCE = 60
+from lib.places import BUILT
+from lib.waiting import PATIENCE
+
+# What a session of some thousands of requests may take, in seconds.
+LONG = 1800
 
 
 class Ran(NamedTuple):
@@ -15,10 +17,10 @@ class Ran(NamedTuple):
     fault: bytes
 
 
-def ended(child, given=b""):
-    """How a process ends behind these last bytes of its input; one that does not end is killed."""
+def ended(child, given=b"", patience=PATIENCE):
+    """How a process ends after these last bytes of its input; one that does not end is killed."""
     try:
-        output, fault = child.communicate(given, timeout=PATIENCE)
+        output, fault = child.communicate(given, timeout=patience)
     except subprocess.TimeoutExpired:
         child.kill()
         output, fault = child.communicate()
@@ -39,8 +41,8 @@ class Program:
     def __init__(self, path):
         self.path, self.running = os.path.abspath(path), []
 
-    def ran(self, *words, given=b""):
-        return ended(self.begun(*words), given)
+    def ran(self, *words, given=b"", patience=PATIENCE):
+        return ended(self.begun(*words), given, patience)
 
     def begun(self, *words, stdin=subprocess.PIPE, stdout=subprocess.PIPE):
         """The program with pipes, or with what is given in their place, still running."""

@@ -1,10 +1,15 @@
-"""A program that is running: one frame at a time over pipes, or connections to its socket."""
+"""A host that is running: a session over pipes, one frame at a time, or connections to its socket."""
 import os
+import select
 import socket
 import time
 
-from forkhost_client.frames import frame
-from program import PATIENCE, ended
+from lib.frames import frame, replies
+from lib.program import ended
+from lib.waiting import PATIENCE, until
+
+# What is told in place of a reply that does not come.
+NO_REPLY = b"no reply comes"
 
 
 class Live:
@@ -20,8 +25,38 @@ class Live:
         return self.child.stdout.read(int(line)) if line[:-1].isdigit() else line
 
     def ended(self, rest=b""):
-        """How it ends behind these last bytes of its input."""
+        """How it ends after these last bytes of its input."""
         return ended(self.child, rest)
+
+
+class Doubted(Live):
+    """A session that may hang: it is over where a reply does not come in time."""
+
+    def __init__(self, program, patience, *words):
+        super().__init__(program, *words)
+        self.patience, self.rest = patience, b""
+
+    def asked(self, who, payload):
+        """The reply, or that none came."""
+        try:
+            self.child.stdin.write(frame(who, payload))
+            self.child.stdin.flush()
+        except OSError:
+            return NO_REPLY
+        end = time.monotonic() + self.patience
+        while True:
+            found, self.rest = replies(self.rest)
+            if found:
+                return found[0]
+            left = end - time.monotonic()
+            if left <= 0 or not select.select([self.child.stdout], [], [], left)[0]:
+                self.child.kill()
+                self.child.communicate()
+                return NO_REPLY
+            piece = os.read(self.child.stdout.fileno(), 1 << 20)
+            if not piece:
+                return NO_REPLY
+            self.rest += piece
 
 
 def to_end(stream):
@@ -42,9 +77,7 @@ class Serving:
         self.path = path
         before = self.inode()
         self.child = program.begun("serve", "--socket", path, "--connections", str(connections), *words)
-        end = time.monotonic() + PATIENCE
-        while self.inode() in (None, before) and self.child.poll() is None and time.monotonic() < end:
-            time.sleep(0.002)
+        until(lambda: self.inode() not in (None, before) or self.child.poll() is not None)
 
     def inode(self):
         return os.lstat(self.path).st_ino if os.path.lexists(self.path) else None

@@ -1,0 +1,1 @@
+"""Git over a host by the remote helper."""

@@ -1,0 +1,1 @@
+"""What Git makes, sent to the program and compared with what Git says."""

@@ -1,0 +1,1 @@
+"""Queries of history beside Git."""

@@ -7,7 +7,7 @@ import time
 
 from before import LEFT, NEW, OLD, copy, show_all
 from kills import CALLS, some_of
-from program import PATIENCE, Ran, failed, sound
+from program import PATIENCE, Ran, failed, sound, without_cause
 from upgrades import STATE_2, upgraded
 
 KILLS = 60
@@ -53,7 +53,7 @@ class Upgrades:
         words += [self.program.path, "upgrade", "--dir", folder.path]
         ran = subprocess.run(words, capture_output=True, timeout=PATIENCE)
         with open(path, encoding="utf-8", errors="replace") as file:
-            return Ran(ran.returncode, ran.stdout, ran.stderr), sum("(" in line for line in file)
+            return Ran(ran.returncode, ran.stdout, without_cause(ran.stderr)), sum("(" in line for line in file)
 
     def count(self, calls):
         folder = self.copy()

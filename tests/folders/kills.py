@@ -9,7 +9,7 @@ from asking import History
 from folder import Folder, requests_in
 from forkhost_client.frames import framed, frames, replies
 from objects import whole
-from program import PATIENCE, Ran, done, sound
+from program import PATIENCE, Ran, done, sound, without_cause
 from sweeps import HOST, of_tenants, plain
 
 KILLS = 150
@@ -130,7 +130,7 @@ class Killed:
         words = ["strace", "-f", "-qq", "-o", os.devnull, "-e", f"trace={calls}", "-e", f"inject={calls}:{how}"]
         words += [self.program.path, "run", "--dir", folder.path]
         ran = subprocess.run(words, input=frames(self.asked), capture_output=True, timeout=PATIENCE)
-        return Ran(ran.returncode, ran.stdout, ran.stderr)
+        return Ran(ran.returncode, ran.stdout, without_cause(ran.stderr))
 
 
 def show_kills(checks, program, work):

@@ -1,5 +1,6 @@
 """The built program, run with words and an input."""
 import os
+import re
 import subprocess
 import sys
 from typing import NamedTuple
@@ -7,6 +8,8 @@ from typing import NamedTuple
 HERE = os.path.dirname(os.path.abspath(__file__))
 BUILT = os.path.join(HERE, "../../crates/forkhost/out/forkhost")
 PATIENCE = 60
+# What may follow these faults on standard error. `causes.py` looks at it.
+CAUSE = re.compile(rb"\A(forkhost: (?:store|state unreadable)\n)forkhost: [^\n]+: [^\n]*\n\Z")
 
 
 class Ran(NamedTuple):
@@ -15,14 +18,19 @@ class Ran(NamedTuple):
     fault: bytes
 
 
+def without_cause(fault):
+    """The fault alone, where its cause is told behind it."""
+    return CAUSE.sub(rb"\1", fault)
+
+
 def ended(child, given=b""):
-    """How a process ends behind these last bytes of its input; one that does not end is killed."""
+    """How a process ends behind these last bytes of its input, causes aside; one that does not end is killed."""
     try:
         output, fault = child.communicate(given, timeout=PATIENCE)
     except subprocess.TimeoutExpired:
         child.kill()
         output, fault = child.communicate()
-    return Ran(child.returncode, output, fault)
+    return Ran(child.returncode, output, without_cause(fault))
 
 
 def done(output=b""):

@@ -20,7 +20,7 @@ fn open_mode(rt: &impl Files, dir: &str) -> Option<u32>
         return None;
     };
     let mode = there.permissions().mode() & MODE;
-    if mode & OTHERS == 0 {
+    if !there.is_dir() || mode & OTHERS == 0 {
         return None;
     }
     Some(mode)

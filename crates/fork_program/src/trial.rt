@@ -21,9 +21,21 @@ pub(crate) enum Trial {
     Read,
 }
 
-// Makes a folder as a start does. One that is there stays as it is.
+// Makes a folder as a start does. One that is there stays as it is, and so does what else is there.
 fn make(rt: &impl Files, path: &str) -> io::Result<()> {
-    DirBuilder::new().recursive(true).mode(0o700).create(rt, path)
+    if path.is_empty() {
+        return Err(io::Error::from(ErrorKind::NotFound));
+    }
+    match DirBuilder::new()
+        .recursive(true)
+        .mode(0o700)
+        .create(rt, path)
+    {
+        Err(error) if error.kind() == ErrorKind::AlreadyExists => {
+            Err(io::Error::from(ErrorKind::NotADirectory))
+        }
+        made => made,
+    }
 }
 
 // What is there is a regular file; so nothing waits for it.

@@ -17,6 +17,7 @@ COMPLETIONS = $(PREFIX)/share/bash-completion/completions
 CLIENTS = forkhost-ask forkhost-door forkhost-http forkhost-metrics forkhost-shell git-remote-forkhost
 MODULES = forkhost_client forkhost_front
 HOOKS = forkhost_front/hooks
+UNITS = forkhost.service forkhost-sweep.service forkhost-sweep.timer
 
 # The tests that end soon: what Git makes, tables of turns, plain programs of definitions, names, and what is kept of reads.
 CHECKS = real_git.sh sessions plain_programs check_ref_format cache
@@ -45,7 +46,7 @@ install:
 	$(PYTHON) -m compileall -q -s "$(DESTDIR)" "$(DESTDIR)$(LIBDIR)"
 	$(PYTHON) install/manual "$(DESTDIR)$(MANDIR)"
 	install -d "$(DESTDIR)$(UNITDIR)" "$(DESTDIR)$(USERDIR)" "$(DESTDIR)$(COMPLETIONS)"
-	sed 's|@BINDIR@|$(BINDIR)|' install/forkhost.service > "$(DESTDIR)$(UNITDIR)/forkhost.service"
+	for unit in $(UNITS); do sed 's|@BINDIR@|$(BINDIR)|' install/$$unit > "$(DESTDIR)$(UNITDIR)/$$unit" || exit 1; done
 	install -m 644 install/forkhost.sysusers "$(DESTDIR)$(USERDIR)/forkhost.conf"
 	install -m 644 install/completion "$(DESTDIR)$(COMPLETIONS)/forkhost"
 	for client in forkhost-ask forkhost-metrics; do ln -sf forkhost "$(DESTDIR)$(COMPLETIONS)/$$client" || exit 1; done
@@ -62,6 +63,6 @@ deb:
 uninstall:
 	rm -rf "$(DESTDIR)$(LIBDIR)"
 	rm -f "$(DESTDIR)$(BINDIR)/forkhost" $(CLIENTS:%="$(DESTDIR)$(BINDIR)/%")
-	rm -f "$(DESTDIR)$(UNITDIR)/forkhost.service" "$(DESTDIR)$(USERDIR)/forkhost.conf"
+	rm -f $(UNITS:%="$(DESTDIR)$(UNITDIR)/%") "$(DESTDIR)$(USERDIR)/forkhost.conf"
 	rm -f "$(DESTDIR)$(COMPLETIONS)/forkhost" "$(DESTDIR)$(COMPLETIONS)/forkhost-ask" "$(DESTDIR)$(COMPLETIONS)/forkhost-metrics"
 	rm -f "$(DESTDIR)$(MANDIR)"/man1/forkhost*.1 "$(DESTDIR)$(MANDIR)/man1/git-remote-forkhost.1" "$(DESTDIR)$(MANDIR)"/man7/forkhost*.7

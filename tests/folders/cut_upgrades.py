@@ -8,7 +8,7 @@ import time
 from folders.before import LEFT, NEW, OLD, copy, show_all
 from folders.kills import CALLS, some_of
 from folders.upgrades import STATE_2, upgraded
-from lib.program import PATIENCE, Ran, failed, sound
+from lib.program import PATIENCE, Ran, failed, sound, without_cause
 
 KILLS = 60
 # Those of the fixture's journal.
@@ -53,7 +53,7 @@ class Upgrades:
         words += [self.program.path, "upgrade", "--dir", folder.path]
         ran = subprocess.run(words, capture_output=True, timeout=PATIENCE)
         with open(path, encoding="utf-8", errors="replace") as file:
-            return Ran(ran.returncode, ran.stdout, ran.stderr), sum("(" in line for line in file)
+            return Ran(ran.returncode, ran.stdout, without_cause(ran.stderr)), sum("(" in line for line in file)
 
     def count(self, calls):
         folder = self.copy()

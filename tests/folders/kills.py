@@ -10,7 +10,7 @@ from folders.sweeps import HOST, of_tenants, plain
 from lib.folder import Folder, requests_in
 from lib.frames import framed, frames, replies
 from lib.objects import whole
-from lib.program import PATIENCE, Ran, done, sound
+from lib.program import PATIENCE, Ran, done, sound, without_cause
 
 KILLS = 150
 SAVES = 150
@@ -130,7 +130,7 @@ class Killed:
         words = ["strace", "-f", "-qq", "-o", os.devnull, "-e", f"trace={calls}", "-e", f"inject={calls}:{how}"]
         words += [self.program.path, "run", "--dir", folder.path]
         ran = subprocess.run(words, input=frames(self.asked), capture_output=True, timeout=PATIENCE)
-        return Ran(ran.returncode, ran.stdout, ran.stderr)
+        return Ran(ran.returncode, ran.stdout, without_cause(ran.stderr))
 
 
 def show_kills(checks, program, work):

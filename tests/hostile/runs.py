@@ -3,7 +3,7 @@ import os
 import shutil
 import subprocess
 
-from lib.program import Program, Ran
+from lib.program import Program, Ran, without_cause
 
 NOBODY = 65534
 PATIENCE = 10
@@ -47,7 +47,7 @@ class Hostile(Program):
             child.communicate()
             self.hung.add(label)
             return HANGS
-        return Ran(child.returncode, output, fault)
+        return Ran(child.returncode, output, without_cause(fault))
 
 
 def settled(show):

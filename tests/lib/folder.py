@@ -31,6 +31,7 @@ class Folder:
     def __init__(self, path):
         self.path = str(path)
         os.makedirs(self.inside("objects"), exist_ok=True)
+        os.chmod(self.path, 0o700)
 
     def inside(self, *names):
         return os.path.join(self.path, *names)

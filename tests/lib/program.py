@@ -1,5 +1,6 @@
 """The built program, run with words and an input."""
 import os
+import re
 import subprocess
 import sys
 from typing import NamedTuple
@@ -9,6 +10,8 @@ from lib.waiting import PATIENCE
 
 # What a session of some thousands of requests may take, in seconds.
 LONG = 1800
+# What may follow these faults on standard error. `causes.py` looks at it.
+CAUSE = re.compile(rb"\A(forkhost: (?:store|state unreadable)\n)forkhost: [^\n]+: [^\n]*\n\Z")
 
 
 class Ran(NamedTuple):
@@ -17,14 +20,19 @@ class Ran(NamedTuple):
     fault: bytes
 
 
+def without_cause(fault):
+    """The fault alone, if its cause follows it."""
+    return CAUSE.sub(rb"\1", fault)
+
+
 def ended(child, given=b"", patience=PATIENCE):
-    """How a process ends after these last bytes of its input; one that does not end is killed."""
+    """How a process ends after these last bytes of its input, causes aside; one that does not end is killed."""
     try:
         output, fault = child.communicate(given, timeout=patience)
     except subprocess.TimeoutExpired:
         child.kill()
         output, fault = child.communicate()
-    return Ran(child.returncode, output, fault)
+    return Ran(child.returncode, output, without_cause(fault))
 
 
 def done(output=b""):

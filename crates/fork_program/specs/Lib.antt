@@ -6,3 +6,5 @@ pub mod Keeping
 pub mod Running
 pub mod Serving
 pub mod Program
+pub mod Asked
+pub mod Causes

@@ -10,23 +10,41 @@ use Rattle.fork_program.specs.Running.{IsHostOf, IsUnhosted}
 use Rattle.fork_program.specs.declared.fault.Fault.{Fault}
 use Rattle.fork_program.specs.declared.fault.Fault.TheVariants.{Memory, NotKept, NotSaved, Socket}
 
--- what a connection, however it ended, did to the host
+-- what frames that came one after another, up to a pause or however the connection ended, did to the host
 pub data IsVisit (old new : HostState) : Type 0 where
   -- nothing was asked
   Idle : new ≡ old → IsVisit old new
   -- each of these frames was answered
   Asked : (frames : List Frame) (replies : List Reply) → IsAnswered old new frames replies → IsVisit old new
 
--- a connection, and behind it the host's state may have been saved
+-- a visit, and behind it the host's state may have been saved
 pub record IsVisitThenSaved (old new : HostState) : Type 0 where
   pub left : HostState
   pub visit : IsVisit old left
   pub saved : IsSaved left new
 
+-- the host came from the one state to the other by way of these, one behind each visit after which a connection went on
+abbrev pub Pauses : HostState → List HostState → HostState → Type 0
+Pauses old [] new = old ≡ new
+Pauses old (next ∷ states) new = IsVisitThenSaved old next × Pauses next states new
+
+-- what a connection did to the host
+pub record IsConnection (old new : HostState) : Type 0 where
+  pub states : List HostState
+  pub left : HostState
+  pub pauses : Pauses old states left
+  pub last : IsVisit left new
+
+-- a connection, and behind it the host's state may have been saved
+pub record IsConnectionThenSaved (old new : HostState) : Type 0 where
+  pub left : HostState
+  pub connection : IsConnection old left
+  pub saved : IsSaved left new
+
 -- the host came from the one state to the other by way of these, one behind each connection
 abbrev pub Visits : HostState → List HostState → HostState → Type 0
 Visits old [] new = old ≡ new
-Visits old (next ∷ states) new = IsVisitThenSaved old next × Visits next states new
+Visits old (next ∷ states) new = IsConnectionThenSaved old next × Visits next states new
 
 -- so many connections were served
 pub record AreVisits (old new : HostState) (n : ℕ) : Type 0 where

@@ -1,10 +1,11 @@
 ghost use Rattle.std.specs.Prelude.{◌≡◌, ◌⊎◌, OnErr, OnOk, IfErr, true};
-ghost use Rattle.fork_program.specs.Serving.{AreSomeVisits, AreVisits, IsLost, IsUnbound, IsVisit};
+ghost use Rattle.fork_program.specs.Serving.{AreSomeVisits, AreVisits, IsConnection, IsLost, IsUnbound, IsVisit};
 
 use crate::fault::Fault;
 use crate::keep::Keep;
 use crate::listening::of_socket;
 use crate::patience::{Frames, Peer, Replies};
+use fork_frame::Ended;
 use fork_host::Host;
 use fork_wire::{Journal, NoJournal, SessionFault, serve_kept};
 use loose_store::LooseFiles;
@@ -15,33 +16,95 @@ use std::net::Shutdown;
 use std::os::unix::net::{UnixListener, UnixStream};
 use std::time::Clock;
 
-// Serves one session, and then ends the connection. A session that could not be kept is told; any
-// other end is the peer's own.
+// A connection to a host that a folder keeps pauses before a frame if more than these bytes have come, so that its state
+// can be saved: so much may stand in a journal before that, and a frame.
+const LONG: u64 = 67_108_864;
+
+// Serves the frames of a peer up to its end, or to where it pauses, and says whether it is to go on. A session that
+// could not be kept is told; any other end is the peer's own.
 fn visit<H: Clock, S: LooseFiles, J: Journal>(
-    rt: &H,
     host: &mut Host<S>,
     alloc: Global,
     journal: &mut J,
-    stream: &UnixStream,
-) -> Result<(), Fault>
+    peer: &Peer<'_, H>,
+    reader: &mut Frames<'_, H>,
+    writer: &mut BufWriter<Replies<'_, H>>,
+) -> Result<bool, Fault>
     ensures visited { IsVisit host.old host.new }
     ensures cause { IfErr result (λ fault. J.can_fail × (fault ≡ Fault.NotKept)) }
     ensures whole { OnOk result (J.is_cut journal.new ≡ J.is_cut journal.old) }
     ensures cut { OnErr result (J.is_cut journal.new ≡ true) }
 {
-    let peer = Peer::new(rt, stream);
+    match serve_kept(host, alloc, journal, reader, writer) {
+        Ok(Ended::Clean) => Ok(peer.goes_on()),
+        Err(SessionFault::Journal) => Err(Fault::NotKept),
+        _ => Ok(false),
+    }
+}
+
+// Serves one connection, and then ends it.
+fn connection<H: Clock, S: LooseFiles>(
+    rt: &H,
+    host: &mut Host<S>,
+    alloc: Global,
+    stream: &UnixStream,
+)
+    ensures { IsVisit host.old host.new }
+{
+    let peer = Peer::new(rt, stream, u64::MAX);
+    let Ok(mut reader) = Frames::new(alloc, &peer) else {
+        return;
+    };
+    let Ok(mut writer) = BufWriter::new(alloc, Replies::new(&peer)) else {
+        return;
+    };
+    let _visited = visit(host, alloc, &mut NoJournal, &peer, &mut reader, &mut writer);
+    let _shut = stream.shutdown(Shutdown::Write);
+}
+
+// Serves the frames of a peer, and saves the state where it pauses.
+fn visits<H: Files<File = File> + AllocGlobal + Clock, S: LooseFiles>(
+    host: &mut Host<S>,
+    alloc: Global,
+    keep: &mut Keep<'_, H>,
+    peer: &Peer<'_, H>,
+    reader: &mut Frames<'_, H>,
+    writer: &mut BufWriter<Replies<'_, H>>,
+) -> Result<(), Fault>
+    ensures served { IsConnection host.old host.new }
+    ensures cause { IfErr result IsLost }
+{
+    for _ in 0..u64::MAX {
+        let goes_on = visit(host, alloc, &mut keep.journal, peer, reader, writer)?;
+        if !goes_on {
+            return Ok(());
+        }
+        keep.settle(alloc, host)?;
+    }
+    Ok(())
+}
+
+// The same of a connection, which is then ended.
+fn kept_connection<H: Files<File = File> + AllocGlobal + Clock, S: LooseFiles>(
+    rt: &H,
+    host: &mut Host<S>,
+    alloc: Global,
+    keep: &mut Keep<'_, H>,
+    stream: &UnixStream,
+) -> Result<(), Fault>
+    ensures served { IsConnection host.old host.new }
+    ensures cause { IfErr result IsLost }
+{
+    let peer = Peer::new(rt, stream, LONG);
     let Ok(mut reader) = Frames::new(alloc, &peer) else {
         return Ok(());
     };
     let Ok(mut writer) = BufWriter::new(alloc, Replies::new(&peer)) else {
         return Ok(());
     };
-    let ended = serve_kept(host, alloc, journal, &mut reader, &mut writer);
+    let served = visits(host, alloc, keep, &peer, &mut reader, &mut writer);
     let _shut = stream.shutdown(Shutdown::Write);
-    match ended {
-        Err(SessionFault::Journal) => Err(Fault::NotKept),
-        _ => Ok(()),
-    }
+    served
 }
 
 /// Serves so many connections, one after another. Whatever ends a connection ends it alone.
@@ -59,7 +122,7 @@ pub fn serve_connections<H: Clock, S: LooseFiles>(
     for _ in 0..connections {
         match listener.accept() {
             Ok((stream, _)) => {
-                let _visited = visit(rt, host, alloc, &mut NoJournal, &stream);
+                connection(rt, host, alloc, &stream);
             }
             Err(error) => return Err(of_socket(error)),
         }
@@ -67,8 +130,8 @@ pub fn serve_connections<H: Clock, S: LooseFiles>(
     Ok(())
 }
 
-/// Serves so many connections, and keeps what they do: the state is saved behind one where the journal
-/// has grown too long. Where anything could not be kept, nothing more is served.
+/// Serves so many connections, and keeps what they do: the state is saved behind one, and behind each long part of
+/// one, where the journal has grown too long. Where anything could not be kept, nothing more is served.
 pub fn serve_kept_connections<H: Files<File = File> + AllocGlobal + Clock, S: LooseFiles>(
     rt: &H,
     host: &mut Host<S>,
@@ -86,7 +149,7 @@ pub fn serve_kept_connections<H: Files<File = File> + AllocGlobal + Clock, S: Lo
             Ok((stream, _)) => stream,
             Err(error) => return Err(of_socket(error)),
         };
-        visit(rt, host, alloc, &mut keep.journal, &stream)?;
+        kept_connection(rt, host, alloc, keep, &stream)?;
         keep.settle(alloc, host)?;
     }
     Ok(())

@@ -4,6 +4,8 @@
 //! How each command ends, and what it wrote till then, is said of `program`.
 #![tactic(auto)]
 
+mod asked;
+mod cause;
 mod changing;
 mod check;
 mod connections;
@@ -18,11 +20,15 @@ mod keeping;
 mod listening;
 mod patience;
 mod replaying;
+mod rights;
 mod run;
 mod send;
 mod serve;
 mod telling;
 mod tenants;
+mod trial;
 mod upgrade;
 
+pub use crate::cause::tell_cause;
 pub use crate::entry::{Untold, program};
+pub use crate::rights::tell_rights;

@@ -53,16 +53,39 @@ pub struct Peer<'a, H> {
     clock: &'a H,
     stream: &'a UnixStream,
     awaited: Cell<Awaited>,
+    // More bytes than these come only after a pause before a frame.
+    most: u64,
+    // How many have come since the last one.
+    came: Cell<u64>,
 }
 
 impl<'a, H: Clock> Peer<'a, H> {
-    /// Of this one nothing has come yet.
-    pub fn new(clock: &'a H, stream: &'a UnixStream) -> Peer<'a, H> {
+    /// Of this one nothing has come yet. It pauses before a frame if more than these bytes have come.
+    pub fn new(clock: &'a H, stream: &'a UnixStream, most: u64) -> Peer<'a, H> {
         Peer {
             clock,
             stream,
             awaited: Cell::new(Awaited::Beginning),
+            most,
+            came: Cell::new(0),
         }
+    }
+
+    // A frame is to begin, and what came before it is enough for a pause.
+    fn is_due(&self) -> bool {
+        match self.awaited.get() {
+            Awaited::Beginning => self.came.get() > self.most,
+            _ => false,
+        }
+    }
+
+    /// Whether it paused, and is to go on.
+    pub fn goes_on(&self) -> bool {
+        let due = self.is_due();
+        if due {
+            self.came.set(0);
+        }
+        due
     }
 
     fn end(&self) -> io::Result<Instant> {
@@ -120,12 +143,15 @@ impl<H: Clock> Read for Coming<'_, H> {
         let n = stream.read(buf)?;
         if n > 0 {
             self.peer.begin()?;
+            self.peer
+                .came
+                .set(self.peer.came.get().saturating_add(n as u64));
         }
         Ok(n)
     }
 }
 
-/// The frames of a peer.
+/// The frames of a peer. Where it pauses, no more come.
 #[derive(Drop)]
 pub struct Frames<'a, H: Clock> {
     peer: &'a Peer<'a, H>,
@@ -142,6 +168,9 @@ impl<'a, H: Clock> Frames<'a, H> {
 
 impl<H: Clock> Read for Frames<'_, H> {
     fn read(&mut self, buf: &mut [u8]) -> io::Result<usize> {
+        if self.peer.is_due() {
+            return Ok(0);
+        }
         if !self.coming.buffer().is_empty() {
             self.peer.begin()?;
         }

@@ -3,7 +3,7 @@
 //! a host.
 #![tactic(auto)]
 
-use fork_program::{Untold, program};
+use fork_program::{Untold, program, tell_cause, tell_rights};
 use std::alloc::Global;
 use std::fs::{File, Files};
 use std::io::{BufReader, BufWriter, Write};
@@ -53,6 +53,15 @@ fn hold_streams<R: Files<File = File>>(
     (first, second, File::open(rt, "/dev/null"))
 }
 
+// Reports on standard error that the folder of a host that is about to start is open to others. What cannot be
+// reported stays unreported.
+fn tell_open<R: AllocGlobal + Eprint + Files>(rt: &R, words: &[&str]) -> io::Result<()> {
+    let alloc = rt.alloc();
+    let mut told = Vec::new(alloc);
+    let _told = tell_rights(rt, alloc, words, &mut told);
+    rt.eprint(String::from_utf8_lossy(alloc, told.as_slice())?)
+}
+
 // Runs the program on these words and returns its exit status, even if nothing can be reported.
 fn ended<R: AllocGlobal + Input + Print + Eprint + Files<File = File> + Net + RandomSource + Clock>(
     rt: &R,
@@ -61,6 +70,7 @@ fn ended<R: AllocGlobal + Input + Print + Eprint + Files<File = File> + Net + Ra
     let alloc = rt.alloc();
     let _streams = hold_streams(rt);
     keep_memory(alloc);
+    let _told = tell_open(rt, words);
     let mut reader = BufReader::new(alloc, rt.reader())?;
     let mut writer = BufWriter::new(alloc, io::writer(rt))?;
     let mut faults = Vec::new(alloc);
@@ -68,6 +78,7 @@ fn ended<R: AllocGlobal + Input + Print + Eprint + Files<File = File> + Net + Ra
         Ok(status) => status,
         Err(Untold { status }) => status,
     };
+    let _caused = tell_cause(rt, alloc, words, &mut faults);
     let _told = rt.eprint(String::from_utf8_lossy(alloc, faults.as_slice())?);
     Ok(status)
 }

@@ -1,15 +1,18 @@
-ghost use Rattle.std.specs.Prelude.{◌≡◌, IfOk, ◌∷◌, ◌++◌, codes, string_bytes};
+ghost use Rattle.std.specs.Prelude.{◌≡◌, IfOk, ◌++◌, codes, string_bytes};
 ghost use Rattle.hex.specs.Hex.{encode_lower};
 ghost use Rattle.sha2.specs.Sha256.{sha256};
+ghost use Rattle.loose_store.specs.Journal.{journal_called};
 
 use crate::device::{PART, found, readable, regular, settle, told};
 use crate::files::FileFault;
+use crate::journal_line::{line_of, name_called, read_line};
 use crate::making::{create_file, create_folders};
 use crate::place::inside;
 use git_name::Name;
 use sha2::{Digest, Sha256};
 use std::alloc::{AllocError, Global};
 use std::fs::OpenFile;
+use std::io::Write;
 use std::rt::Files;
 use std::{fs, io};
 
@@ -23,8 +26,8 @@ pub fn journal_name(state: &[u8]) -> Name
     Name::new(Sha256::digest(state))
 }
 
-// The path of the journal of this name.
-fn path_of_journal(alloc: Global, folder: &str, name: Name) -> Result<String, AllocError>
+// The path of the journal of this name in the form before, which had frames alone.
+fn path_of_old(alloc: Global, folder: &str, name: Name) -> Result<String, AllocError>
     ensures { IfOk result (λ path. string_bytes path ≡ folder.now ++ codes "/journal/" ++ encode_lower name) }
 {
     let digits = hex::encode(alloc, name.as_bytes().as_slice())?;
@@ -34,26 +37,64 @@ fn path_of_journal(alloc: Global, folder: &str, name: Name) -> Result<String, Al
     Ok(path)
 }
 
+// The path of the journal of this name.
+fn path_of_journal(alloc: Global, folder: &str, name: Name) -> Result<String, AllocError>
+    ensures { IfOk result (λ path. string_bytes path ≡ (folder.now ++ codes "/journal/" ++ encode_lower name) ++ codes ".2") }
+{
+    let mut path = path_of_old(alloc, folder, name)?;
+    path.push_str(".2")?;
+    Ok(path)
+}
+
 fn open_regular<R: Files>(rt: &R, path: &str) -> io::Result<R::File> {
     regular(rt, path)?;
     fs::open(rt, path)
 }
 
-fn open_in<R: Files>(
+// The journal of this name, and the name in its first line.
+pub(crate) fn open_in<R: Files>(
+    rt: &R,
+    alloc: Global,
+    folder: &str,
+    name: Name,
+) -> io::Result<Option<(R::File, Name)>> {
+    let path = path_of_journal(alloc, folder, name)?;
+    let Some(mut file) = found(open_regular(rt, path.as_str()))? else {
+        return Ok(None);
+    };
+    let before = read_line(&mut file)?;
+    Ok(Some((file, before)))
+}
+
+fn open_after_line<R: Files>(
     rt: &R,
     alloc: Global,
     folder: &str,
     name: Name,
 ) -> io::Result<Option<R::File>> {
-    let path = path_of_journal(alloc, folder, name)?;
+    match open_in(rt, alloc, folder, name)? {
+        Some((file, _)) => Ok(Some(file)),
+        None => Ok(None),
+    }
+}
+
+pub(crate) fn open_old_in<R: Files>(
+    rt: &R,
+    alloc: Global,
+    folder: &str,
+    name: Name,
+) -> io::Result<Option<R::File>> {
+    let path = path_of_old(alloc, folder, name)?;
     found(open_regular(rt, path.as_str()))
 }
 
-fn begin_in<R: Files>(rt: &R, alloc: Global, folder: &str) -> io::Result<R::File> {
+fn begin_in<R: Files>(rt: &R, alloc: Global, folder: &str, standing: Name) -> io::Result<R::File> {
     let home = inside(alloc, folder, JOURNALS)?;
     let part = inside(alloc, home.as_str(), PART)?;
     create_folders(rt, home.as_str())?;
-    create_file(rt, part.as_str())
+    let mut file = create_file(rt, part.as_str())?;
+    file.write_all(line_of(standing).as_slice())?;
+    Ok(file)
 }
 
 fn settle_in<R: Files>(
@@ -70,6 +111,16 @@ fn settle_in<R: Files>(
     fs::open(rt, home.as_str())?.sync_all()
 }
 
+// Whether what is called so is the journal of this name, in the form before only where there is no other.
+fn is_journal(called: &str, name: Name, is_there: bool) -> bool {
+    let called = called.as_bytes();
+    if is_there {
+        name_called(called) == Some(name)
+    } else {
+        Name::parse_hex(called) == Some(name)
+    }
+}
+
 fn clear_in<R: Files + AllocGlobal + Clone + Drop>(
     rt: &R,
     alloc: Global,
@@ -77,10 +128,14 @@ fn clear_in<R: Files + AllocGlobal + Clone + Drop>(
     name: Name,
 ) -> io::Result<()> {
     let home = inside(alloc, folder, JOURNALS)?;
-    let digits = hex::encode(alloc, name.as_bytes().as_slice())?;
-    for entry in fs::read_dir(rt, home.as_str())? {
+    let path = path_of_journal(alloc, folder, name)?;
+    let is_there = fs::exists(rt, path.as_str())?;
+    let Some(entries) = found(fs::read_dir(rt, home.as_str()))? else {
+        return Ok(());
+    };
+    for entry in entries {
         if let Some(entry) = readable(entry)? {
-            if entry.file_name() != digits.as_str() {
+            if !is_journal(entry.file_name(), name, is_there) {
                 let other = inside(alloc, home.as_str(), entry.file_name())?;
                 fs::remove_file(rt, other.as_str())?;
             }
@@ -89,7 +144,7 @@ fn clear_in<R: Files + AllocGlobal + Clone + Drop>(
     Ok(())
 }
 
-/// The journal of this name in the folder of this path, opened at its beginning, and none where it is
+/// The journal of this name in the folder of this path, opened after its first line, and none where it is
 /// not there.
 pub fn open_journal<R: Files>(
     rt: &R,
@@ -97,17 +152,32 @@ pub fn open_journal<R: Files>(
     path: &str,
     name: Name,
 ) -> Result<Option<R::File>, FileFault> {
-    told(open_in(rt, alloc, path, name))
+    told(open_after_line(rt, alloc, path, name))
 }
 
-/// A new journal without a name, to be written. The folder must be there, and open in this process
-/// alone (`Folder::open`).
-pub fn begin_journal<R: Files>(rt: &R, alloc: Global, path: &str) -> Result<R::File, FileFault> {
-    told(begin_in(rt, alloc, path))
+/// The same in the form before, which has frames alone, opened at its beginning.
+pub fn open_old_journal<R: Files>(
+    rt: &R,
+    alloc: Global,
+    path: &str,
+    name: Name,
+) -> Result<Option<R::File>, FileFault> {
+    told(open_old_in(rt, alloc, path, name))
+}
+
+/// A new journal without a name, with its first line, to be written on: the state's text that stands there
+/// has this name. The folder must be there, and open in this process alone (`Folder::open`).
+pub fn begin_journal<R: Files>(
+    rt: &R,
+    alloc: Global,
+    path: &str,
+    standing: Name,
+) -> Result<R::File, FileFault> {
+    told(begin_in(rt, alloc, path, standing))
 }
 
 /// Gives the new journal, as it was written so far, its name, in the place of one that is there. It is
-/// synced, and is still to be written behind. After an `Err` it may have its name or not.
+/// synced, and is still to be written on. After an `Err` it may have its name or not.
 pub fn settle_journal<R: Files>(
     rt: &R,
     alloc: Global,
@@ -119,7 +189,7 @@ pub fn settle_journal<R: Files>(
 }
 
 /// Removes what lies beside the journal of this name: journals of other states, and what a killed
-/// process was writing.
+/// process was writing. Whether that may go is asked by `has_other_journal`.
 pub fn clear_journals<R: Files + AllocGlobal + Clone + Drop>(
     rt: &R,
     alloc: Global,

@@ -10,11 +10,13 @@ mod files;
 mod folder;
 mod fused;
 mod journal_file;
+mod journal_line;
 mod laws;
 mod listing;
 mod making;
 mod memory;
 mod memory_file;
+mod other_journals;
 mod place;
 mod state_file;
 mod stored;
@@ -25,10 +27,11 @@ pub use crate::files::{FileFault, LooseFiles};
 pub use crate::folder::Folder;
 pub use crate::fused::{Call, Fuse, Fused};
 pub use crate::journal_file::{
-    begin_journal, clear_journals, journal_name, open_journal, settle_journal,
+    begin_journal, clear_journals, journal_name, open_journal, open_old_journal, settle_journal,
 };
 pub use crate::laws::one_object;
 pub use crate::memory::Memory;
+pub use crate::other_journals::has_other_journal;
 pub use crate::state_file::{read_state, write_state};
 pub use crate::stored::{content_of, file_of};
 pub use crate::swept::{empty_swept, has_swept};

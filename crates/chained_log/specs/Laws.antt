@@ -1,0 +1,27 @@
+-- What was written is found again.
+use Rattle.std.specs.Prelude.{◌≡◌, ◌≢◌, ℕ, All, List, ◌++◌}
+use Rattle.chained_log.specs.declared.fault.Ended.{Ended}
+use Rattle.chained_log.specs.declared.fault.Ended.TheVariants.{Whole, Altered}
+use Rattle.chained_log.specs.Log.{Fits, log_bytes}
+use Rattle.chained_log.specs.Next.{IsReadAs}
+
+-- bytes are read as one list of pieces, and end in one way
+abbrev pub OneReading : Type 0
+OneReading = (before left : List ℕ) (ps qs : List (List ℕ)) (a b : Ended) → IsReadAs before left ps a → IsReadAs before left qs b → (ps ≡ qs) × (a ≡ b)
+
+-- what was written is read as what was written, to its end
+abbrev pub LogIsRead : Type 0
+LogIsRead = (before : List ℕ) (pieces : List (List ℕ)) → All Fits pieces → IsReadAs before (log_bytes before pieces) pieces Whole
+
+-- a front of what was written is read as the first pieces, and as nothing altered
+pub record IsReadAsFront (before front : List ℕ) (pieces : List (List ℕ)) : Type 0 where
+  pub found : List (List ℕ)
+  pub lost : List (List ℕ)
+  pub ended : Ended
+  pub parts : pieces ≡ found ++ lost
+  pub right : ended ≢ Altered
+  pub read : IsReadAs before front found ended
+
+-- any front of what was written
+abbrev pub FrontIsRead : Type 0
+FrontIsRead = (before : List ℕ) (pieces : List (List ℕ)) (front rest : List ℕ) → All Fits pieces → log_bytes before pieces ≡ front ++ rest → IsReadAsFront before front pieces

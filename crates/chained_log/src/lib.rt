@@ -1,0 +1,17 @@
+//! A log of pieces, each between two sums that depend on all bytes before them.
+//! What was written is found again piece by piece: bytes that differ are told from an end that is cut.
+#![tactic(auto)]
+
+mod fault;
+mod law;
+mod next;
+mod piece;
+mod reader;
+mod sums;
+mod writer;
+
+pub use crate::fault::Ended;
+pub use crate::law::what_is_written_is_found;
+pub use crate::next::{Found, next_piece};
+pub use crate::reader::LogReader;
+pub use crate::writer::LogWriter;

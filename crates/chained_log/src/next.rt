@@ -1,0 +1,47 @@
+ghost use Rattle.std.specs.Prelude.{◌≡◌};
+ghost use Rattle.chained_log.specs.Next.{IsNextOf};
+
+use crate::sums::{LENGTH, SUM, agrees, head_of, length_at, sum_of};
+
+/// What stands next in a log.
+#[derive(Clone, Copy, Debug, PartialEq, Eq)]
+pub enum Found {
+    /// A piece of so many bytes, whole and right. Its contents begin at the 36th byte.
+    Piece(usize),
+    /// The front of a piece, right as far as it goes, or nothing.
+    Cut,
+    /// Neither.
+    Altered,
+}
+
+/// What stands at the front of what is left, after this sum. It takes no memory.
+pub fn next_piece(before: &[u8; 32], left: &[u8]) -> Found
+    ensures { IsNextOf before.now left.now result }
+{
+    let len = length_at(left);
+    if left.len() < LENGTH {
+        return Found::Cut;
+    }
+    let head = head_of(before, len);
+    let (_, rest) = left.split_at(LENGTH);
+    if !agrees(rest, &head) {
+        return Found::Altered;
+    }
+    if rest.len() < SUM {
+        return Found::Cut;
+    }
+    let (_, rest) = rest.split_at(SUM);
+    let len = len as usize;
+    if rest.len() < len {
+        return Found::Cut;
+    }
+    let (piece, rest) = rest.split_at(len);
+    let sum = sum_of(&head, piece);
+    if !agrees(rest, &sum) {
+        return Found::Altered;
+    }
+    if rest.len() < SUM {
+        return Found::Cut;
+    }
+    Found::Piece(len)
+}

@@ -1,0 +1,30 @@
+ghost use Rattle.std.specs.Prelude.{◌≡◌, ◌<◌, ◌^◌, ◌++◌, IfOk, OnOk, length};
+ghost use Rattle.std.specs.Io.KnownBytes.{Appends};
+ghost use Rattle.chained_log.specs.Log.{Fits, piece_bytes, sum_after};
+
+use crate::sums::{head_of, sum_of};
+use std::io;
+use std::io::Write;
+
+/// Writes a piece after this sum, in one write where the writer takes it so, and returns the sum after it.
+pub(crate) fn put_piece<W: Write>(
+    writer: &mut W,
+    room: &mut Vec<u8>,
+    before: &[u8; 32],
+    piece: &[u8],
+) -> io::Result<[u8; 32]>
+    requires { Fits piece.now }
+    ensures bytes { OnOk result (Appends (W.contents writer.old) (W.contents writer.new) (piece_bytes before.now piece.now)) }
+    ensures sum { IfOk result (λ sum. sum ≡ sum_after before.now piece.now) }
+{
+    let len = piece.len() as u32;
+    let head = head_of(before, len);
+    let sum = sum_of(&head, piece);
+    room.clear();
+    room.extend_from_slice(len.to_be_bytes().as_slice())?;
+    room.extend_from_slice(head.as_slice())?;
+    room.extend_from_slice(piece)?;
+    room.extend_from_slice(sum.as_slice())?;
+    writer.write_all(room.as_slice())?;
+    Ok(sum)
+}

@@ -1,0 +1,169 @@
+ghost use Rattle.std.specs.Prelude.{◌≡◌, ◌≤◌, ◌<◌, ◌⊎◌, ◌++◌, ℕ, List, IfOk, IfErr, IfSome, OnOk, length, vec_len};
+ghost use Rattle.std.specs.Io.KnownBytes.{Consumes, IsAtEnd};
+ghost use Rattle.std.specs.Io.{ReadsAtMost};
+ghost use Rattle.chained_log.specs.Log.{Fits, piece_bytes, sum_after};
+ghost use Rattle.chained_log.specs.Next.{IsNextOf};
+
+use crate::fault::Ended;
+use crate::next::{Found, next_piece};
+use crate::sums::{LENGTH, SUM, length_at};
+use std::alloc::Global;
+use std::io;
+use std::io::{ErrorKind, Read};
+
+// What stands before a piece's contents: its length, and the sum of that.
+const HEAD: usize = LENGTH + SUM;
+
+// A read asks for so many bytes at the most, so that memory is taken for what comes.
+const CHUNK: usize = 65_536;
+
+// Adds up to so many bytes, and says how many; none only at the end.
+fn read_onto<R: Read>(reader: &mut R, most: usize, came: &mut Vec<u8>) -> io::Result<usize>
+    requires { (0 < most) × (most ≤ CHUNK) }
+    ensures some { IfOk result (λ n. (more : List ℕ) × (length more ≡ n) × (n ≤ most)
+        × Consumes (R.remaining reader.old) (R.remaining reader.new) more
+        × (came.new.items ≡ came.old.items ++ more)) }
+    ensures end { IfOk result (λ n. n ≡ 0 → IsAtEnd (R.remaining reader.new)) }
+{
+    let at = came.len();
+    came.resize(at + most, 0)?;
+    match reader.read(&mut came[at..]) {
+        Ok(n) => {
+            came.truncate(at + n);
+            Ok(n)
+        }
+        Err(error) => {
+            came.truncate(at);
+            Err(error)
+        }
+    }
+}
+
+// Reads until so many bytes came, or to the end.
+fn fill<R: Read>(reader: &mut R, most: usize, came: &mut Vec<u8>) -> io::Result<()>
+    ensures bytes { OnOk result ((more : List ℕ) × Consumes (R.remaining reader.old) (R.remaining reader.new) more
+        × (came.new.items ≡ came.old.items ++ more)) }
+    ensures end { OnOk result ((most ≤ length came.new.items) ⊎ IsAtEnd (R.remaining reader.new)) }
+{
+    while came.len() < most {
+        let wanted = (most - came.len()).min(CHUNK);
+        if read_onto(reader, wanted, came)? == 0 {
+            return Ok(());
+        }
+    }
+    Ok(())
+}
+
+// How many bytes the piece of this front has, with all that stands around it.
+fn whole_length(front: &[u8]) -> usize
+    ensures { (before piece lost : List ℕ) → Fits piece → LENGTH ≤ length front.now → front.now ++ lost ≡ piece_bytes before piece → result ≡ length (piece_bytes before piece) }
+{
+    HEAD + length_at(front) as usize + SUM
+}
+
+// Reads the next piece with all that stands around it, or what there is of it, and says what it is.
+fn next_in<R: Read>(reader: &mut R, before: &[u8; 32], came: &mut Vec<u8>) -> io::Result<Found>
+    ensures bytes { OnOk result ((more : List ℕ) × Consumes (R.remaining reader.old) (R.remaining reader.new) more
+        × (came.new.items ≡ came.old.items ++ more)) }
+    ensures found { IfOk result (λ found. IfSome (R.remaining reader.old) (λ left. IsNextOf before.now (came.old.items ++ left) found)) }
+{
+    fill(reader, HEAD, came)?;
+    let found = next_piece(before, came.as_slice());
+    let Found::Cut = found else {
+        return Ok(found);
+    };
+    let whole = whole_length(came.as_slice());
+    fill(reader, whole, came)?;
+    Ok(next_piece(before, came.as_slice()))
+}
+
+/// Reads the contents of a log, piece by piece: no byte is given before its piece was found right. What
+/// was altered is an error of the kind `InvalidData`.
+#[derive(Drop)]
+pub struct LogReader<R> {
+    reader: R,
+    // The sum before the piece that is read.
+    sum: [u8; 32],
+    // The piece with what stands around it, as far as it came.
+    came: Vec<u8>,
+    // Where its contents are that were not given yet. Where it is not whole, nowhere.
+    at: usize,
+    end: usize,
+    ended: Option<Ended>,
+    ghost within: { (at ≤ end) × (end ≤ vec_len came) },
+}
+
+impl<R: Read + Drop> LogReader<R> {
+    /// A log after this sum. Memory is taken for each piece as it comes.
+    pub fn new(alloc: Global, reader: R, first: [u8; 32]) -> LogReader<R> {
+        LogReader {
+            reader,
+            sum: first,
+            came: Vec::new(alloc),
+            at: 0,
+            end: 0,
+            ended: None,
+        }
+    }
+
+    /// How the log ended, where it was read to its end.
+    pub fn ended(&self) -> Option<Ended> {
+        self.ended
+    }
+}
+
+impl<R: Read> LogReader<R> {
+    // Reads the next piece, behind one that was given, or finds how the log ends.
+    fn advance(&mut self) -> io::Result<()> {
+        if self.end > 0 {
+            self.at = 0;
+            self.end = 0;
+            self.came.clear();
+        }
+        match next_in(&mut self.reader, &self.sum, &mut self.came)? {
+            Found::Piece(len) => self.open(len),
+            Found::Cut if self.came.is_empty() => self.ended = Some(Ended::Whole),
+            Found::Cut => self.ended = Some(Ended::Cut),
+            Found::Altered => self.ended = Some(Ended::Altered),
+        }
+        Ok(())
+    }
+
+    // Has a piece of this length that came whole given next.
+    fn open(&mut self, len: usize) {
+        if self.came.len() < HEAD + SUM || self.came.len() - (HEAD + SUM) < len {
+            return;
+        }
+        let end = HEAD + len;
+        self.end = end;
+        self.at = HEAD;
+        self.sum.copy_from_slice(&self.came[end..end + SUM]);
+    }
+
+    // Gives what there is of the piece and fits.
+    fn give(&mut self, buf: &mut [u8]) -> usize
+        ensures { result ≤ length buf.new }
+    {
+        let ready = &self.came[self.at..self.end];
+        let n = buf.len().min(ready.len());
+        buf[..n].copy_from_slice(&ready[..n]);
+        self.at += n;
+        n
+    }
+}
+
+impl<R: Read> Read for LogReader<R> {
+    fn read(&mut self, buf: &mut [u8]) -> io::Result<usize> {
+        for _ in 0..u64::MAX {
+            if self.at < self.end {
+                return Ok(self.give(buf));
+            }
+            match self.ended {
+                Some(Ended::Altered) => return Err(io::Error::from(ErrorKind::InvalidData)),
+                Some(_) => return Ok(0),
+                None => self.advance()?,
+            }
+        }
+        Err(io::Error::from(ErrorKind::InvalidData))
+    }
+}

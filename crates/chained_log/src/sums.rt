@@ -1,0 +1,61 @@
+// The sums of a log: SHA-256 (FIPS 180-4, 6.2).
+ghost use Rattle.std.specs.Prelude.{◌≡◌, ◌++◌, ◌↔◌, IsTrue, length, take};
+ghost use Rattle.sha2.specs.Sha256.{sha256};
+ghost use Rattle.chained_log.specs.Log.{head_sum, length_bytes};
+
+use sha2::{Digest, Sha256};
+
+/// How many bytes a piece's length has.
+pub(crate) const LENGTH: usize = 4;
+
+/// How many bytes a sum has.
+pub(crate) const SUM: usize = 32;
+
+/// The sum of these bytes after the sum before them.
+pub(crate) fn sum_of(before: &[u8; SUM], bytes: &[u8]) -> [u8; SUM]
+    ensures { result ≡ sha256 (before.now ++ bytes.now) }
+{
+    let mut hasher = Sha256::new();
+    hasher.update(before);
+    hasher.update(bytes);
+    hasher.finalize()
+}
+
+/// These bytes agree with the sum, as far as both go.
+pub(crate) fn agrees(bytes: &[u8], sum: &[u8; SUM]) -> bool
+    ensures { IsTrue result ↔ (take 32 bytes.now ≡ take (length bytes.now) sum.now) }
+{
+    let n = bytes.len().min(SUM);
+    same(&bytes[..n], &sum[..n])
+}
+
+// The bytes are the same.
+fn same(left: &[u8], right: &[u8]) -> bool
+    ensures { IsTrue result ↔ (left.now ≡ right.now) }
+{
+    left == right
+}
+
+/// The sum of this length after the sum before it.
+pub(crate) fn head_of(before: &[u8; SUM], len: u32) -> [u8; SUM]
+    ensures { result ≡ head_sum before.now len }
+{
+    sum_of(before, len.to_be_bytes().as_slice())
+}
+
+/// The length whose four bytes agree with these, as far as both go.
+pub(crate) fn length_at(bytes: &[u8]) -> u32
+    ensures { take 4 bytes.now ≡ take (length bytes.now) (length_bytes result) }
+{
+    let mut word = [0; LENGTH];
+    let n = bytes.len().min(LENGTH);
+    word[..n].copy_from_slice(&bytes[..n]);
+    number_of(word)
+}
+
+// The length with these four bytes.
+fn number_of(word: [u8; LENGTH]) -> u32
+    ensures { length_bytes result ≡ word }
+{
+    u32::from_be_bytes(word)
+}

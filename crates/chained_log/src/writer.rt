@@ -1,0 +1,65 @@
+ghost use Rattle.std.specs.Prelude.{◌≡◌, ◌≤◌, ℕ, List, IfOk, OnOk, take, length};
+ghost use Rattle.std.specs.Io.{WritesAtMost};
+ghost use Rattle.std.specs.Io.KnownBytes.{Appends, Keeps, WriteAppends};
+ghost use Rattle.chained_log.specs.Log.{piece_bytes, sum_after};
+
+use crate::piece::put_piece;
+use crate::sums::{LENGTH, SUM};
+use std::alloc::{AllocError, Global};
+use std::io;
+use std::io::Write;
+
+// The most bytes of a piece.
+const LONGEST: usize = 65_536;
+
+/// Writes a log: each write is a piece, or one for each 65,536 bytes of it.
+#[derive(Drop)]
+pub struct LogWriter<W> {
+    writer: W,
+    // The sum before the next piece.
+    sum: [u8; 32],
+    // Room for a piece and what stands around it.
+    room: Vec<u8>,
+}
+
+impl<W: Write + Drop> LogWriter<W> {
+    /// A log after this sum, of no pieces so far. It takes all its memory here.
+    pub fn new(alloc: Global, writer: W, first: [u8; 32]) -> Result<LogWriter<W>, AllocError>
+        ensures { IfOk result (λ log. (log.writer ≡ writer) × (log.sum ≡ first)) }
+    {
+        let room = Vec::with_capacity(alloc, LENGTH + SUM + LONGEST + SUM)?;
+        Ok(LogWriter {
+            writer,
+            sum: first,
+            room,
+        })
+    }
+
+    /// What the log is written to.
+    pub fn writer(&self) -> &W
+        ensures { result.now ≡ self.now.writer }
+    {
+        &self.writer
+    }
+}
+
+impl<W: Write> Write for LogWriter<W> {
+    /// Writes one piece. After an `Err` a part of it may be written, and nothing more is to be.
+    fn write(&mut self, buf: &[u8]) -> io::Result<usize>
+        ensures bound { WritesAtMost result buf.now }
+        ensures bytes { WriteAppends None None result buf.now }
+        ensures log { IfOk result (λ n. 1 ≤ n → Appends (W.contents self.old.writer) (W.contents self.new.writer) (piece_bytes self.old.sum (take n buf.now))) }
+        ensures sum { IfOk result (λ n. 1 ≤ n → self.new.sum ≡ sum_after self.old.sum (take n buf.now)) }
+    {
+        let n = buf.len().min(LONGEST);
+        if n == 0 {
+            return Ok(0);
+        }
+        self.sum = put_piece(&mut self.writer, &mut self.room, &self.sum, &buf[..n])?;
+        Ok(n)
+    }
+
+    fn flush(&mut self) -> io::Result<()> {
+        self.writer.flush()
+    }
+}

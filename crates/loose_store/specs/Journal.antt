@@ -1,0 +1,11 @@
+-- The file of a journal (own): what it is called, and its first line.
+use Rattle.std.specs.Prelude.{ℕ, List, ◌++◌, codes}
+use Rattle.hex.specs.Hex.{encode_lower}
+
+-- the digits of its name, and the version of its form
+abbrev pub journal_called : List ℕ → List ℕ
+journal_called name = encode_lower name ++ codes ".2"
+
+-- the name of the state's text that stood there when it was begun
+abbrev pub first_line : List ℕ → List ℕ
+first_line standing = codes "journal 2 " ++ (encode_lower standing ++ codes "\n")

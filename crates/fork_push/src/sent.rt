@@ -49,7 +49,8 @@ fn is_blob<S: Source>(source: &S, name: Name) -> bool
 }
 
 // The first link of the object of this name whose object does not exist. If there is none, the first
-// link to another kind is noted, unless one was noted before.
+// link to another kind is noted, unless one was noted before. The source comes to know the links of what is
+// lent.
 fn judge_object<S: Source>(
     alloc: Global,
     source: &mut S,
@@ -61,7 +62,9 @@ fn judge_object<S: Source>(
     ensures asked { IsAsked (S.state source.old) (S.state source.new) (fault_in result) }
 {
     if let Some((kind, bytes)) = source.lend(name) {
-        return Ok(judge_links(source, kind, bytes, wrong));
+        let missing = judge_links(source, kind, bytes, wrong);
+        source.learn_links(alloc, name);
+        return Ok(missing);
     }
     if is_blob(source, name) {
         return Ok(None);

@@ -61,6 +61,10 @@ impl<S: LooseFiles> Source for Both<'_, S> {
         }
         told(self.vault.get_staged(alloc, self.tenant, name))
     }
+
+    fn learn_links(&mut self, alloc: Global, name: Name) {
+        self.vault.learn_links(alloc, self.tenant, name);
+    }
 }
 
 impl<S: LooseFiles> Sides for Both<'_, S> {

@@ -8,7 +8,7 @@ ghost use Rattle.git_reftx.specs.Transaction.{References};
 ghost use Rattle.looks.specs.Growth.{GrowsAmong};
 ghost use Rattle.push_stream.specs.Brief.{brief_shown};
 ghost use Rattle.fork_reach.specs.Objects.{use_of};
-ghost use Rattle.fork_reach.specs.Reach.{is_reached, linked_names};
+ghost use Rattle.fork_reach.specs.Reach.{is_between, is_reached, linked_names};
 ghost use Rattle.fork_reach.specs.Source.{kind_in};
 ghost use Rattle.fork_ledger.specs.AllStaged.{MeetsAmong, StoresAmong, with_all_staged};
 ghost use Rattle.fork_ledger.specs.Private.{with_discarded, with_kept, with_published};
@@ -19,7 +19,7 @@ ghost use Rattle.fork_push.specs.Push.{judged};
 ghost use Rattle.fork_push.specs.Verdict.{IfAccepted, IsAcceptable, TellsJudged, fault_of_verdict};
 ghost use Rattle.fork_host.specs.Bounds.{ReadsStore};
 ghost use Rattle.fork_host.specs.Sent.{sent_names};
-ghost use Rattle.std.specs.Prelude.{ℕ, List, Contains, Some, true};
+ghost use Rattle.std.specs.Prelude.{[], ℕ, List, Contains, Some, true};
 ghost use Rattle.std.specs.List.{AllByRecursion};
 
 use crate::both::Both;
@@ -95,6 +95,31 @@ impl<'a, S: LooseFiles> Own<'a, S> {
         ensures named { IfSome result (λ lent. object_name (record { kind = lent.0; bytes = lent.1.now }) ≡ name) }
     {
         self.vault.lend(self.tenant, name)
+    }
+
+    // The names of what the tenant sees that links lead to from the wanted ones, and from none of the excluded
+    // ones, if the vault knows the links of all that is on the way.
+    pub(crate) fn known_seen(
+        &self,
+        alloc: Global,
+        wanted: &[Name],
+        excluded: &[Name],
+    ) -> Result<Option<IndexSet<Name, Hashing>>, AllocError>
+        ensures found { IsTrue self.now.vault.now.honest → IfOk result (λ known. IfSome known (λ found. (name : List ℕ) → contains same_name found name ≡ is_between (linked_names (visible_by self.now)) (visible_by self.now) wanted.now excluded.now name)) }
+
+        // Over any store.
+        ensures there { IfOk result (λ known. IfSome known (λ found. (name : List ℕ) → contains same_name found name ≡ true → map.contains_key (visible_by self.now) name ≡ true)) }
+        ensures rooted { excluded.now ≡ [] → IfOk result (λ known. IfSome known (λ found. (name : List ℕ) → Contains wanted.now name → map.contains_key (visible_by self.now) name ≡ true → contains same_name found name ≡ true)) }
+    {
+        self.vault.known_between(alloc, self.tenant, wanted, excluded)
+    }
+
+    // The vault comes to know the links of an object, if the tenant sees it and it is lent.
+    pub(crate) fn learn_seen(&mut self, alloc: Global, name: Name)
+        ensures vault { self.new.vault.now ≡ self.old.vault.now }
+        ensures same { IsSame self.old self.new }
+    {
+        self.vault.learn_links(alloc, self.tenant, name);
     }
 
     // The object that the tenant has staged under this name.

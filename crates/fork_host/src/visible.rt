@@ -3,8 +3,9 @@ use crate::vault_fault::told;
 use fork_reach::{Source, SourceFault};
 use git_name::{Hashing, Kind, Name, Sealed};
 use git_reftx::Known;
+use indexmap::IndexSet;
 use loose_store::LooseFiles;
-use std::alloc::Global;
+use std::alloc::{AllocError, Global};
 
 // A tenant's own part of the vault, as what the tenant sees.
 impl<S: LooseFiles> Known for Own<'_, S> {
@@ -41,5 +42,18 @@ impl<S: LooseFiles> Source for Own<'_, S> {
 
     fn read(&mut self, alloc: Global, name: Name) -> Result<Option<Sealed>, SourceFault> {
         told(self.get(alloc, name))
+    }
+
+    fn known_between(
+        &self,
+        alloc: Global,
+        wanted: &[Name],
+        excluded: &[Name],
+    ) -> Result<Option<IndexSet<Name, Hashing>>, AllocError> {
+        self.known_seen(alloc, wanted, excluded)
+    }
+
+    fn learn_links(&mut self, alloc: Global, name: Name) {
+        self.learn_seen(alloc, name);
     }
 }

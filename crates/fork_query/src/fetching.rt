@@ -1,27 +1,47 @@
-ghost use Rattle.std.specs.Prelude.{◌≡◌, ◌++◌, IsTrue, IfOk, OnOk};
-ghost use Rattle.std.specs.HashSet.{contains};
+ghost use Rattle.std.specs.Prelude.{◌≡◌, ◌++◌, IsTrue, IfOk, IfErr};
 ghost use Rattle.std.specs.List.{flat_map};
-ghost use Rattle.git_name.specs.Same.{same_name};
+ghost use Rattle.git_name.specs.Object.{object_name};
 ghost use Rattle.git_name.specs.Text.{words_of};
 ghost use Rattle.git_name.specs.Count.{fault_in};
+ghost use Rattle.push_stream.specs.Record.{record_of};
 ghost use Rattle.fork_reach.specs.Faults.{IsAsked};
 ghost use Rattle.fork_query.specs.Fetch.{fetch_told, fetched, record_named};
 ghost use Rattle.fork_query.specs.Objects.{AreRecords};
-ghost use Rattle.fork_query.specs.Sent.{IsSentPast};
 ghost use Rattle.fork_query.specs.Told.{Tells, query_fault};
 
-use crate::lent::lent_records;
 use crate::query_error::QueryError;
 use crate::sides::{Sides, select};
 use crate::want::Want;
-use fork_reach::{Source, SourceFault, ascending, reach, reach_past};
-use git_name::{Hashing, Name};
+use fork_reach::{Source, SourceFault, ascending, reach_between};
+use git_name::{Kind, Name};
 use git_reftx::Repository;
-use indexmap::IndexSet;
-use push_stream::add_record;
+use push_stream::{BESIDE, add_record};
 use std::alloc::Global;
 
-// Appends the record of the object of this name to the text. The object is read once.
+// An upper bound of the length of the records of what is lent.
+fn room_for<S: Source>(source: &S, names: &[Name]) -> usize {
+    let mut room = 0usize;
+    for name in names {
+        if let Some((_, bytes)) = source.lend(*name) {
+            room = room.saturating_add(bytes.len()).saturating_add(BESIDE);
+        }
+    }
+    room
+}
+
+// Appends the record of an object to the text.
+fn put(text: Vec<u8>, name: Name, kind: Kind, bytes: &[u8]) -> Result<Vec<u8>, SourceFault>
+    ensures record { object_name (record { kind = kind; bytes = bytes.now }) ≡ name → IfOk result (λ longer. longer.items ≡ text.items ++ record_of (record { kind = kind; bytes = bytes.now })) }
+    ensures named { object_name (record { kind = kind; bytes = bytes.now }) ≡ name → IfOk result (λ longer. AreRecords text.items → AreRecords longer.items) }
+    ensures cause { IfErr result (λ fault. fault ≡ SourceFault.Memory) }
+{
+    let Ok(longer) = add_record(text, name, kind, bytes) else {
+        return Err(SourceFault::Memory);
+    };
+    Ok(longer)
+}
+
+// Appends the record of the object of this name to the text. The object is lent, or read once.
 fn send<S: Source>(
     alloc: Global,
     source: &mut S,
@@ -32,13 +52,13 @@ fn send<S: Source>(
     ensures named { IfOk result (λ longer. AreRecords text.items → AreRecords longer.items) }
     ensures asked { IsAsked (S.state source.old) (S.state source.new) (fault_in result) }
 {
+    if let Some((kind, bytes)) = source.lend(name) {
+        return put(text, name, kind, bytes);
+    }
     let Some(sealed) = source.read(alloc, name)? else {
         return Ok(text);
     };
-    match add_record(text, sealed.name(), sealed.kind(), sealed.bytes()) {
-        Ok(text) => Ok(text),
-        Err(_) => Err(SourceFault::Memory),
-    }
+    put(text, sealed.name(), sealed.kind(), sealed.bytes())
 }
 
 // The records of the objects of these names.
@@ -51,67 +71,40 @@ fn send_all<S: Source>(
     ensures named { IfOk result (λ text. AreRecords text.items) }
     ensures asked { IsAsked (S.state source.old) (S.state source.new) (fault_in result) }
 {
-    let mut text = Vec::new(alloc);
+    let room = room_for(source, names.as_slice());
+    let Ok(mut text) = Vec::with_capacity(alloc, room) else {
+        return Err(SourceFault::Memory);
+    };
     for name in names {
         text = send(alloc, source, name, text)?;
     }
     Ok(text)
 }
 
-// The records of what is reached from these roots and not past the hidden names, ascending by name.
-// Each is read at most once for the walk, and once to be sent.
-fn read_records<S: Source>(
-    alloc: Global,
-    source: &mut S,
-    roots: &[Name],
-    hidden: &IndexSet<Name, Hashing>,
-) -> Result<Vec<u8>, SourceFault>
-    ensures sent { IsTrue (S.state source.old).honest → IfOk result (λ text. IsSentPast (S.state source.old).objects (contains same_name hidden.now) roots.now text.items) }
+#[tactic(auto, unfolding(crate::specs::Fetch::fetched))]
+// The records of what is reached from the wanted names and not from the excluded ones.
+fn records<S: Source>(alloc: Global, source: &mut S, sides: &Sides) -> Result<Vec<u8>, SourceFault>
+    ensures sent { IsTrue (S.state source.old).honest → IfOk result (λ text. text.items ≡ fetched (S.state source.old).objects sides.now.wanted.items sides.now.excluded.items) }
     ensures named { IfOk result (λ text. AreRecords text.items) }
     ensures asked { IsAsked (S.state source.old) (S.state source.new) (fault_in result) }
 {
-    let names = reach_past(alloc, source, roots, hidden)?;
+    let names = reach_between(
+        alloc,
+        source,
+        sides.wanted.as_slice(),
+        sides.excluded.as_slice(),
+    )?;
     let Ok(names) = ascending(alloc, &names) else {
         return Err(SourceFault::Memory);
     };
     send_all(alloc, source, names)
 }
 
-// The same; nothing is read if all is borrowed.
-fn records_past<S: Source>(
-    alloc: Global,
-    source: &mut S,
-    roots: &[Name],
-    hidden: &IndexSet<Name, Hashing>,
-) -> Result<Vec<u8>, SourceFault>
-    ensures sent { IsTrue (S.state source.old).honest → IfOk result (λ text. IsSentPast (S.state source.old).objects (contains same_name hidden.now) roots.now text.items) }
-    ensures named { IfOk result (λ text. AreRecords text.items) }
-    ensures asked { IsAsked (S.state source.old) (S.state source.new) (fault_in result) }
-{
-    match lent_records(alloc, source, roots, hidden) {
-        Ok(Some(text)) => return Ok(text),
-        Ok(None) => {}
-        Err(_) => return Err(SourceFault::Memory),
-    }
-    read_records(alloc, source, roots, hidden)
-}
-
-#[tactic(auto, unfolding(crate::specs::Fetch::fetched))]
-// The records of what is reached from the wanted names and not from the excluded ones. What the excluded
-// ones reach is walked first, and the walk from the wanted ones stops there.
-fn records<S: Source>(alloc: Global, source: &mut S, sides: &Sides) -> Result<Vec<u8>, SourceFault>
-    ensures sent { IsTrue (S.state source.old).honest → IfOk result (λ text. text.items ≡ fetched (S.state source.old).objects sides.now.wanted.items sides.now.excluded.items) }
-    ensures named { IfOk result (λ text. AreRecords text.items) }
-    ensures asked { IsAsked (S.state source.old) (S.state source.new) (fault_in result) }
-{
-    let hidden = reach(alloc, source, sides.excluded.as_slice())?;
-    records_past(alloc, source, sides.wanted.as_slice(), &hidden)
-}
-
 #[tactic(auto, unfolding(crate::specs::Fetch::fetch_told))]
 /// The records of the objects that the items reach, except those that the items with `^` reach;
-/// ascending by name. Each tree, commit and tag is read once for the walk and once to be sent, a blob
-/// only to be sent; what is borrowed is not read. The items are words, separated by one SP each.
+/// ascending by name. What is lent is not read, and the walk reads nothing if the source knows the links.
+/// Otherwise each tree, commit and tag is read once for the walk and once to be sent, a blob only to be
+/// sent. The items are words, separated by one SP each.
 pub fn fetch<S: Source>(
     alloc: Global,
     source: &mut S,

@@ -9,7 +9,6 @@ mod followed;
 mod heads;
 mod items;
 mod laws;
-mod lent;
 mod name_lines;
 mod objects;
 mod peeling;

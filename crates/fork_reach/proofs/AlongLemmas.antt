@@ -54,14 +54,6 @@ rests_by_kind along objects name kind is = ap (λ found. option_map_or (λ m. re
     by None is = absurd (cc)
     by (Some object) is = (let same : object.kind ≡ kind = cc in ap (rests_in along) same)
 
--- where it is not said along what a walk goes, each name goes on
-pub none_rests : (measures : Measures) (name : List ℕ) → rests_at None measures name ≡ true → ⊥
-none_rests measures name is = by (get measures name) is
-  where
-    by : (found : Option (Kind × ℕ)) → option_map_or (λ m. rests_in None m.0) found false ≡ true → ⊥
-    by None is = (let no : ⊥ = cc in no)
-    by (Some measure) is = (let no : ⊥ = cc in no)
-
 -- an object that has a kind is there
 pub there_by_kind : (objects : Objects) (name : List ℕ) → is_some (kind_in objects name) ≡ true → contains_key objects name ≡ true
 there_by_kind objects name some = by (get objects name) some
@@ -69,11 +61,3 @@ there_by_kind objects name some = by (get objects name) some
     by : (found : Option Object) → is_some (option_map (λ object. object.kind) found) ≡ true → is_some found ≡ true
     by None some = (let no : ⊥ = cc in absurd no)
     by (Some object) some = refl
-
--- and one that has none is not
-pub absent_by_kind : (objects : Objects) (name : List ℕ) → is_some (kind_in objects name) ≡ false → contains_key objects name ≡ false
-absent_by_kind objects name none = by (get objects name) none
-  where
-    by : (found : Option Object) → is_some (option_map (λ object. object.kind) found) ≡ false → is_some found ≡ false
-    by None none = refl
-    by (Some object) none = (let no : ⊥ = cc in absurd no)

@@ -58,17 +58,6 @@ latest_under below last at from_a from_b outdone within_a within_b within among 
   ])
 ]
 
--- its commit is seen
-pub latest_seen : (seen : ℕ → Bool) (last at : ℕ) (from_a from_b outdone : ℕ → Bool) → ((place : ℕ) → from_a place ≡ true → seen place ≡ true) → ((place : ℕ) → from_b place ≡ true → seen place ≡ true) → ((place : ℕ) → outdone place ≡ true → seen place ≡ true)
-    → (from_a last ≡ true) ⊎ (from_b last ≡ true) → (at ≡ last) ⊎ (outdone at ≡ true) → seen at ≡ true
-latest_seen seen last at from_a from_b outdone seen_a seen_b seen_gone among latest = elim latest [
-  | inr gone ↦ seen_gone at gone
-  | inl same ↦ subst (λ p. seen p ≡ true) (sym same) (elim among [
-    | inl a ↦ seen_a last a
-    | inr b ↦ seen_b last b
-  ])
-]
-
 -- no later one waits
 pub no_later : (last at : ℕ) (waits : ℕ → Bool) → last ≤ at → ((place : ℕ) → waits place ≡ true → place ≤ last) → (place : ℕ) → waits place ≡ true → place ≤ at
 no_later last at waits least most place there = (let bound = most place there in omega arith)

@@ -95,14 +95,6 @@ stayed at place old mid took apart there = by (is_at (nat_cmp at) place) refl to
     by true same is = absurd (apart (sym (same_place at place same)))
     by false other is = is ∙ there
 
--- a place was taken out, and nothing was put in
-pub settles_taken : (parent : ℕ → ℕ → Type 0) (at : ℕ) (old new : ℕ → Bool) → ((place : ℕ) → new place ≡ cond (is_at (nat_cmp at) place) false (old place)) → SettlesPlace parent at false old new
-settles_taken parent at old new removed_at = record {
-  keeps = λ place apart there. stayed at place (old place) (new place) (removed_at place) apart there;
-  only = λ place there. inl (removed at place (old place) (new place) (removed_at place) there);
-  adds = λ gives place link. absurd (cc gives);
-}
-
 module _ (graph : Commits) (is : IsGraph graph) (objects : Objects) where
   -- the places of the parents are those of the commits that are its parents
   parent_placed : (at : ℕ) (places : List ℕ) (place : ℕ) → at < length graph → AllByRecursion (λ p. p < at) places → map (name_at graph) places ≡ parents_at graph at → Contains places place → is_seen_at graph objects place ≡ true → IsParent graph objects at place

@@ -1,12 +1,12 @@
 use super::kept::Kept;
 use super::objects::{Names, all_named, filled, named};
-use fork_reach::{SourceFault, ancestors, reach, reach_past};
+use fork_reach::{SourceFault, ancestors, reach, reach_between};
 use git_name::{Hashing, Name};
 use indexmap::IndexSet;
 use std::alloc::{AllocError, Global};
 use std::test::Fail;
 
-// Where walks begin, what is hidden from the third one, what is found, and how many objects are read.
+// Where walks begin, what is excluded, what is found, and how many objects are read.
 type Row = (&'static [u8], &'static [u8], &'static [u8], u64);
 
 const BY_LINKS: &[Row] = &[
@@ -20,10 +20,10 @@ const BY_LINKS: &[Row] = &[
     (b"0t0", b"", b"tbe", 2),
     (b"ttbt", b"", b"tbe", 2),
     (b"agf", b"", b"agltbef", 6),
-    (b"g", b"l", b"g", 1),
-    (b"l", b"f", b"ltbe", 3),
-    (b"l", b"fb", b"lte", 3),
-    (b"lb", b"l", b"b", 0),
+    (b"g", b"l", b"g", 5),
+    (b"l", b"f", b"ltb", 4),
+    (b"l", b"fb", b"lt", 4),
+    (b"lb", b"l", b"", 4),
 ];
 
 const BY_PARENTS: &[Row] = &[
@@ -51,24 +51,21 @@ fn is_found(found: &IndexSet<Name, Hashing>, names: &Names, letters: &[u8]) -> b
     true
 }
 
-// Whether a walk along links, past these objects, finds these, and nothing else.
+// Whether links lead to these objects from the one side and not from the other, and to nothing else.
 fn reaches(
     alloc: Global,
     kept: &mut Kept,
     letters: &[u8],
-    hidden: &[u8],
+    excluded: &[u8],
     wanted: &[u8],
 ) -> Result<bool, Fail> {
     let names = filled(alloc, kept)?;
     let from = all_named(alloc, &names, letters)?;
-    let mut away = IndexSet::with_hasher(alloc, Hashing::default());
-    for letter in hidden {
-        away.insert(named(&names, *letter))?;
-    }
-    let found = if away.is_empty() {
+    let past = all_named(alloc, &names, excluded)?;
+    let found = if past.is_empty() {
         reach(alloc, kept, from.as_slice())
     } else {
-        reach_past(alloc, kept, from.as_slice(), &away)
+        reach_between(alloc, kept, from.as_slice(), past.as_slice())
     };
     let found = found.or(Err("reach"))?;
     Ok(is_found(&found, &names, wanted))
@@ -90,13 +87,13 @@ fn descends_to(
 #[test]
 fn links_lead_to_all_that_is_below_and_no_blob_is_read(rt: HostRuntime) -> Result<(), Fail> {
     let alloc = rt.alloc();
-    for (letters, hidden, wanted, reads) in BY_LINKS {
+    for (letters, excluded, wanted, reads) in BY_LINKS {
         let mut kept = Kept::new(alloc);
-        let is_right = reaches(alloc, &mut kept, letters, hidden, wanted);
+        let is_right = reaches(alloc, &mut kept, letters, excluded, wanted);
         let count = kept.reads;
         drop(kept);
-        assert!(rt; is_right?, "{letters:?} {hidden:?}");
-        assert_eq!(rt; count, *reads, "{letters:?} {hidden:?}");
+        assert!(rt; is_right?, "{letters:?} {excluded:?}");
+        assert_eq!(rt; count, *reads, "{letters:?} {excluded:?}");
     }
     Ok(())
 }

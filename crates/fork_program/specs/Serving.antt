@@ -17,13 +17,13 @@ pub data IsVisit (old new : HostState) : Type 0 where
   -- each of these frames was answered
   Asked : (frames : List Frame) (replies : List Reply) → IsAnswered old new frames replies → IsVisit old new
 
--- a visit, and behind it the host's state may have been saved
+-- a visit, after which the host's state may have been saved
 pub record IsVisitThenSaved (old new : HostState) : Type 0 where
   pub left : HostState
   pub visit : IsVisit old left
   pub saved : IsSaved left new
 
--- the host came from the one state to the other by way of these, one behind each visit after which a connection went on
+-- the host came from the one state to the other by way of these, one after each visit at which a connection paused
 abbrev pub Pauses : HostState → List HostState → HostState → Type 0
 Pauses old [] new = old ≡ new
 Pauses old (next ∷ states) new = IsVisitThenSaved old next × Pauses next states new
@@ -35,13 +35,13 @@ pub record IsConnection (old new : HostState) : Type 0 where
   pub pauses : Pauses old states left
   pub last : IsVisit left new
 
--- a connection, and behind it the host's state may have been saved
+-- a connection, after which the host's state may have been saved
 pub record IsConnectionThenSaved (old new : HostState) : Type 0 where
   pub left : HostState
   pub connection : IsConnection old left
   pub saved : IsSaved left new
 
--- the host came from the one state to the other by way of these, one behind each connection
+-- the host came from the one state to the other by way of these, one after each connection
 abbrev pub Visits : HostState → List HostState → HostState → Type 0
 Visits old [] new = old ≡ new
 Visits old (next ∷ states) new = IsConnectionThenSaved old next × Visits next states new

@@ -17,7 +17,7 @@ use std::os::unix::net::{UnixListener, UnixStream};
 use std::time::Clock;
 
 // A connection to a host that a folder keeps pauses before a frame if more than these bytes have come, so that its state
-// can be saved: so much may stand in a journal before that, and a frame.
+// can be saved. A journal grows by this much and one frame at most before that.
 const LONG: u64 = 67_108_864;
 
 // Serves the frames of a peer up to its end, or to where it pauses, and says whether it is to go on. A session that
@@ -107,7 +107,7 @@ fn kept_connection<H: Files<File = File> + AllocGlobal + Clock, S: LooseFiles>(
     served
 }
 
-/// Serves so many connections, one after another. Whatever ends a connection ends it alone.
+/// Serves this many connections, one after another. Whatever ends a connection ends it alone.
 pub fn serve_connections<H: Clock, S: LooseFiles>(
     rt: &H,
     host: &mut Host<S>,
@@ -130,8 +130,8 @@ pub fn serve_connections<H: Clock, S: LooseFiles>(
     Ok(())
 }
 
-/// Serves so many connections, and keeps what they do: the state is saved behind one, and behind each long part of
-/// one, where the journal has grown too long. Where anything could not be kept, nothing more is served.
+/// Serves this many connections, and keeps what they do: the state is saved after one, and after each long part of
+/// one, if the journal has grown too long. If anything could not be kept, nothing more is served.
 pub fn serve_kept_connections<H: Files<File = File> + AllocGlobal + Clock, S: LooseFiles>(
     rt: &H,
     host: &mut Host<S>,

@@ -111,7 +111,8 @@ impl<'a, S: LooseFiles> Own<'a, S> {
         ensures there { IfOk result (λ known. IfSome known (λ found. (name : List ℕ) → contains same_name found name ≡ true → map.contains_key (visible_by self.now) name ≡ true)) }
         ensures rooted { excluded.now ≡ [] → IfOk result (λ known. IfSome known (λ found. (name : List ℕ) → Contains wanted.now name → map.contains_key (visible_by self.now) name ≡ true → contains same_name found name ≡ true)) }
     {
-        self.vault.known_between(alloc, self.tenant, wanted, excluded)
+        self.vault
+            .known_between(alloc, self.tenant, wanted, excluded)
     }
 
     // The vault comes to know the links of an object, if the tenant sees it and it is lent.

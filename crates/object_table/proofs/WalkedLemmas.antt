@@ -150,7 +150,7 @@ module _ (rows : Rows) (own : Sets) (links : Known) (are : AreRows rows) (is_own
         let used = is_own.within from (held seen) in
         let earlier = goes_named from before used.name used.row used.here used.same in
         let led : Contains (next used.name) (numbered_name rows n) =
-            subst (λ ns. Contains ns (numbered_name rows n)) (ap (λ k. map (numbered_name rows) (nextn k)) (sym used.same) ∙ sym (next_row used.name used.row used.here)) (mapped_there (numbered_name rows) (nextn from) n leads) in
+        subst (λ ns. Contains ns (numbered_name rows n)) (ap (λ k. map (numbered_name rows) (nextn k)) (sym used.same) ∙ sym (next_row used.name used.row used.here)) (mapped_there (numbered_name rows) (nextn from) n leads) in
         Next used.name q earlier (subst (Contains (next used.name)) (ap (numbered_name rows) (sym number) ∙ named_is rows q row are is) led) (row_seen q row is (ap (has own.visible) number ∙ there)))
       where
         held : has own.visible from ≡ true → holds own from ≡ true

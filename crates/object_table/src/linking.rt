@@ -139,7 +139,8 @@ pub(crate) fn names_between(
         table,
         from.as_slice(),
         past.as_slice(),
-    )? else {
+    )?
+    else {
         return Ok(None);
     };
     let names = names_of(alloc, table, &numbers)?;

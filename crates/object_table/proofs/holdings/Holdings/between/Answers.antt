@@ -37,4 +37,4 @@ returns-clause-known c =
     let words = ap (words_under rows) c.in-Some.ensures ∙ ledger_is rows c.self.inside.ledgers c.args.tenant.now ∙ ap (λ (s : HoldingsState). ledger_at s.ledgers c.args.tenant.now) c.self.view_is in
     let links = ap (λ (s : HoldingsState). s.links) c.self.view_is in
     subst (λ (p : Words × NamedLinks). IfOk c.names_between.result (λ found. IfSome found (λ names. (name : List ℕ) → IsMet (words_that is_visible p.0) p.1 c.args.wanted.now c.args.excluded.now name
-        → (option_map_or (λ (word : Word). leads_nowhere word.kind) (get (words_that is_visible p.0) name) false ≡ true) ⊎ (contains_key p.1 name ≡ true)))) (λ i. (words i, links i)) c.names_between.ensures.known
+    → (option_map_or (λ (word : Word). leads_nowhere word.kind) (get (words_that is_visible p.0) name) false ≡ true) ⊎ (contains_key p.1 name ≡ true)))) (λ i. (words i, links i)) c.names_between.ensures.known

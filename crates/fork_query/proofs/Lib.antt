@@ -4,6 +4,7 @@ pub mod DateLemmas
 pub mod Examples
 pub mod FollowedLemmas
 pub mod KeyLemmas
+pub mod LentLemmas
 pub mod PeelLemmas
 pub mod SideLemmas
 pub mod SortLemmas

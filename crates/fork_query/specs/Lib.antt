@@ -3,12 +3,14 @@ pub mod Fetch
 pub mod Followed
 pub mod Head
 pub mod Items
+pub mod Lent
 pub mod MergeBase
 pub mod Objects
 pub mod Peel
 pub mod Reached
 pub mod References
 pub mod RevList
+pub mod Sent
 pub mod Sides
 pub mod Told
 pub mod Trees

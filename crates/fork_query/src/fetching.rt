@@ -1,47 +1,27 @@
-ghost use Rattle.std.specs.Prelude.{◌≡◌, ◌++◌, IsTrue, IfOk, IfErr};
+ghost use Rattle.std.specs.Prelude.{◌≡◌, ◌++◌, IsTrue, IfOk};
+ghost use Rattle.std.specs.HashSet.{contains};
 ghost use Rattle.std.specs.List.{flat_map};
-ghost use Rattle.git_name.specs.Object.{object_name};
+ghost use Rattle.git_name.specs.Same.{same_name};
 ghost use Rattle.git_name.specs.Text.{words_of};
 ghost use Rattle.git_name.specs.Count.{fault_in};
-ghost use Rattle.push_stream.specs.Record.{record_of};
 ghost use Rattle.fork_reach.specs.Faults.{IsAsked};
 ghost use Rattle.fork_query.specs.Fetch.{fetch_told, fetched, record_named};
 ghost use Rattle.fork_query.specs.Objects.{AreRecords};
+ghost use Rattle.fork_query.specs.Sent.{IsSent};
 ghost use Rattle.fork_query.specs.Told.{Tells, query_fault};
 
+use crate::lent::lent_records;
 use crate::query_error::QueryError;
 use crate::sides::{Sides, select};
 use crate::want::Want;
 use fork_reach::{Source, SourceFault, ascending, reach_between};
-use git_name::{Kind, Name};
+use git_name::{Hashing, Name};
 use git_reftx::Repository;
-use push_stream::{BESIDE, add_record};
+use indexmap::IndexSet;
+use push_stream::add_record;
 use std::alloc::Global;
 
-// An upper bound of the length of the records of what is lent.
-fn room_for<S: Source>(source: &S, names: &[Name]) -> usize {
-    let mut room = 0usize;
-    for name in names {
-        if let Some((_, bytes)) = source.lend(*name) {
-            room = room.saturating_add(bytes.len()).saturating_add(BESIDE);
-        }
-    }
-    room
-}
-
-// Appends the record of an object to the text.
-fn put(text: Vec<u8>, name: Name, kind: Kind, bytes: &[u8]) -> Result<Vec<u8>, SourceFault>
-    ensures record { object_name (record { kind = kind; bytes = bytes.now }) ≡ name → IfOk result (λ longer. longer.items ≡ text.items ++ record_of (record { kind = kind; bytes = bytes.now })) }
-    ensures named { object_name (record { kind = kind; bytes = bytes.now }) ≡ name → IfOk result (λ longer. AreRecords text.items → AreRecords longer.items) }
-    ensures cause { IfErr result (λ fault. fault ≡ SourceFault.Memory) }
-{
-    let Ok(longer) = add_record(text, name, kind, bytes) else {
-        return Err(SourceFault::Memory);
-    };
-    Ok(longer)
-}
-
-// Appends the record of the object of this name to the text. The object is lent, or read once.
+// Appends the record of the object of this name to the text. The object is read once.
 fn send<S: Source>(
     alloc: Global,
     source: &mut S,
@@ -52,13 +32,13 @@ fn send<S: Source>(
     ensures named { IfOk result (λ longer. AreRecords text.items → AreRecords longer.items) }
     ensures asked { IsAsked (S.state source.old) (S.state source.new) (fault_in result) }
 {
-    if let Some((kind, bytes)) = source.lend(name) {
-        return put(text, name, kind, bytes);
-    }
     let Some(sealed) = source.read(alloc, name)? else {
         return Ok(text);
     };
-    put(text, sealed.name(), sealed.kind(), sealed.bytes())
+    match add_record(text, sealed.name(), sealed.kind(), sealed.bytes()) {
+        Ok(text) => Ok(text),
+        Err(_) => Err(SourceFault::Memory),
+    }
 }
 
 // The records of the objects of these names.
@@ -71,14 +51,33 @@ fn send_all<S: Source>(
     ensures named { IfOk result (λ text. AreRecords text.items) }
     ensures asked { IsAsked (S.state source.old) (S.state source.new) (fault_in result) }
 {
-    let room = room_for(source, names.as_slice());
-    let Ok(mut text) = Vec::with_capacity(alloc, room) else {
-        return Err(SourceFault::Memory);
-    };
+    let mut text = Vec::new(alloc);
     for name in names {
         text = send(alloc, source, name, text)?;
     }
     Ok(text)
+}
+
+// The records of the objects of the names of a set, ascending by name. They are read only if one of them is
+// not lent.
+fn records_of<S: Source>(
+    alloc: Global,
+    source: &mut S,
+    names: &IndexSet<Name, Hashing>,
+) -> Result<Vec<u8>, SourceFault>
+    ensures sent { IsTrue (S.state source.old).honest → IfOk result (λ text. IsSent (S.state source.old).objects (contains same_name names.now) text.items) }
+    ensures named { IfOk result (λ text. AreRecords text.items) }
+    ensures asked { IsAsked (S.state source.old) (S.state source.new) (fault_in result) }
+{
+    match lent_records(alloc, source, names) {
+        Ok(Some(text)) => return Ok(text),
+        Ok(None) => {}
+        Err(_) => return Err(SourceFault::Memory),
+    }
+    let Ok(names) = ascending(alloc, names) else {
+        return Err(SourceFault::Memory);
+    };
+    send_all(alloc, source, names)
 }
 
 #[tactic(auto, unfolding(crate::specs::Fetch::fetched))]
@@ -94,10 +93,7 @@ fn records<S: Source>(alloc: Global, source: &mut S, sides: &Sides) -> Result<Ve
         sides.wanted.as_slice(),
         sides.excluded.as_slice(),
     )?;
-    let Ok(names) = ascending(alloc, &names) else {
-        return Err(SourceFault::Memory);
-    };
-    send_all(alloc, source, names)
+    records_of(alloc, source, &names)
 }
 
 #[tactic(auto, unfolding(crate::specs::Fetch::fetch_told))]

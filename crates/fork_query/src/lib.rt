@@ -9,6 +9,7 @@ mod followed;
 mod heads;
 mod items;
 mod laws;
+mod lent;
 mod name_lines;
 mod objects;
 mod peeling;

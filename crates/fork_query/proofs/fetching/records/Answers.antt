@@ -13,12 +13,10 @@ unfolding fetched
 returns-clause-sent g c = λ honest.
     let objects = (g.S.Source.state c.args.source.now).objects in
     let asked = c.in_ok-names.ensures.asked in
-    let listed = c.in-Ok.ensures in
-    let names = c.in-Ok.names.items in
     let wants = c.args.sides.now.wanted.items in
     let haves = c.args.sides.now.excluded.items in
     let found = subst (λ roots. (name : List ℕ) → contains same_name c.in_ok-names.names name ≡ is_between (linked_names objects) objects roots haves name) c.as_slice.ensures.value
     (subst (λ roots. (name : List ℕ) → contains same_name c.in_ok-names.names name ≡ is_between (linked_names objects) objects c.as_slice.result.now roots name) c.as_slice-2.ensures.value (c.in_ok-names.ensures.found honest)) in
-    IfOk-weaker c.send_all.result _ _ (λ text sent.
-    sent ∙ ap (λ all. flat_map (record_named all) names) (asked.objects honest) ∙ ap (flat_map (record_named objects)) (names_beyond (linked_names objects) objects wants haves names listed.order (λ name. listed.same name ∙ found name)))
-    (c.send_all.ensures.sent (subst IsTrue (sym asked.honest) honest))
+    IfOk-weaker c.records_of.result _ _ (λ text sent.
+    sent.3 ∙ ap (λ all. flat_map (record_named all) sent.0) (asked.objects honest) ∙ ap (flat_map (record_named objects)) (names_beyond (linked_names objects) objects wants haves sent.0 sent.1 (λ name. sent.2 name ∙ found name)))
+    (c.records_of.ensures.sent (subst IsTrue (sym asked.honest) honest))

@@ -56,7 +56,7 @@ def of_host(path: str) -> list:
 def of_folder(folder: str) -> list:
     """Of the folder of a host, whose files are not opened."""
     age = time.time() - os.stat(os.path.join(folder, "state")).st_mtime
-    journals = [entry.path for entry in os.scandir(os.path.join(folder, "journal")) if is_name(entry.name)]
+    journals = [entry.path for entry in os.scandir(os.path.join(folder, "journal")) if is_name(entry.name.removesuffix(".2"))]
     length = sum(map(length_of, journals))
     return [
         Gauge("forkhost_state_age_seconds", "Seconds since the state was last written.", {"": max(0, round(age, 3))}),

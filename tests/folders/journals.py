@@ -5,6 +5,7 @@ import shutil
 
 from folders.asking import History, Requests
 from folders.cases import C, D, OBJECTS, USED
+from lib.chained import bounds
 from folders.clients import ALICE, BOB, PUSH
 from folders.devices import homes
 from folders.killing import changes
@@ -51,35 +52,56 @@ def show_journal(checks, program, work):
     checks.same("there is one journal behind it", [os.path.basename(folder.journal_path())], folder.journals())
 
 
-def show_cuts(checks, program, work):
-    """A journal that is cut at any byte, or that goes on with what is no frame, is done again up to there."""
-    base = Folder(os.path.join(work, "base"))
-    live = Live(program, "--dir", base.path, "alice=60000", "bob=60000")
-    turns = [INIT, (ALICE, PUSH), (BOB, b"init s\n"), (ALICE, b"fork r s\n"), (BOB, b"part\nabc")]
-    for turn in turns:
+TURNS = [INIT, (ALICE, PUSH), (BOB, b"init s\n"), (ALICE, b"fork r s\n"), (BOB, b"part\nabc")]
+
+
+def journaled(checks, program, path):
+    """A folder with a journal of some requests, and where these end in it."""
+    folder = Folder(path)
+    live = Live(program, "--dir", folder.path, "alice=60000", "bob=60000")
+    for turn in TURNS:
         checks.same(f"{turn[1][:10]!r}", b"ok\n", live.asked(*turn))
     killed(live)
-    whole, ends = base.journal(), [0]
-    for turn in turns:
+    checks.same("the journal", frames(TURNS), folder.journal())
+    ends = [0]
+    for turn in TURNS:
         ends.append(ends[-1] + len(frame(*turn)))
-    checks.same("the journal", frames(turns), whole)
+    return folder, ends
+
+
+def show_done_again(checks, program, folder, label, count):
+    """A check counts the first requests, and a start does them again; one journal is left of all that lies there."""
+    write(folder.inside("journal", "0" * 64), b"")
+    write(folder.inside("journal", "part"), b"torn")
+    checks.same(f"check of {label}", sound(count), program.checked(folder.path))
+    asks = [(who, b"for-each-ref %s\n" % place) for who in (ALICE, BOB) for place in (b"r", b"s", b"stale")]
+    asks += [(BOB, b"part-drop\n"), (ALICE, b"cat-file %s\n" % C), (ALICE, b"quota\n")]
+    ran = program.ran("run", "--dir", folder.path, given=frames(asks))
+    memory = program.ran("run", "alice=60000", "bob=60000", given=frames(TURNS[:count] + asks))
+    wanted = b"".join(map(framed, replies(memory.output)[0][count:]))
+    checks.same(f"what is there behind {label}", done(wanted), ran)
+    checks.same("one journal is left", [os.path.basename(folder.journal_path())], folder.journals())
+
+
+def show_cuts(checks, program, work):
+    """A journal that is cut at any byte is done again up to there. One of the form before also where it goes on with what is
+    no frame."""
+    base, ends = journaled(checks, program, os.path.join(work, "base"))
+    whole, log, places = base.journal(), base.log(), bounds(base.log())
+    for cut in sorted({*range(0, len(log), 37), *places, *(end - 1 for end in places[1:])}):
+        folder = Folder(shutil.copytree(base.path, os.path.join(work, f"cut{cut}")))
+        folder.set_log(log[:cut])
+        show_done_again(checks, program, folder, f"{cut} bytes", max(at for at, end in enumerate(places) if end <= cut))
+        shutil.rmtree(folder.path)
     tails = [b"", b"x", b"alice 5\nabc", b"\0" * 50, b"alice 9\n"]
     rows = [whole[:cut] for cut in sorted({*range(0, len(whole), 37), *ends, *(end - 1 for end in ends[1:])})]
     rows += [whole[:end] + tail for end in ends for tail in tails]
     for number, row in enumerate(rows):
-        folder = Folder(shutil.copytree(base.path, os.path.join(work, f"cut{number}")))
-        write(folder.journal_path(), row)
-        write(folder.inside("journal", "0" * 64), frame(ALICE, b"init stale\n"))
-        write(folder.inside("journal", "part"), b"torn")
+        folder = Folder(shutil.copytree(base.path, os.path.join(work, f"old{number}")))
+        os.remove(folder.journal_path())
+        write(folder.old_journal_path(), row)
         count = max(at for at, end in enumerate(ends) if row.startswith(whole[:end]))
-        checks.same(f"check of {row[-10:]!r}", sound(count), program.checked(folder.path))
-        asks = [(who, b"for-each-ref %s\n" % place) for who in (ALICE, BOB) for place in (b"r", b"s", b"stale")]
-        asks += [(BOB, b"part-drop\n"), (ALICE, b"cat-file %s\n" % C), (ALICE, b"quota\n")]
-        ran = program.ran("run", "--dir", folder.path, given=frames(asks))
-        memory = program.ran("run", "alice=60000", "bob=60000", given=frames(turns[:count] + asks))
-        wanted = b"".join(map(framed, replies(memory.output)[0][count:]))
-        checks.same(f"what is there behind {row[-10:]!r}", done(wanted), ran)
-        checks.same("one journal is left", [os.path.basename(folder.journal_path())], folder.journals())
+        show_done_again(checks, program, folder, f"{row[-10:]!r}", count)
         shutil.rmtree(folder.path)
     path = base.journal_path()
     os.remove(path)
@@ -95,16 +117,16 @@ def show_altered(checks, program, work):
     for turn in (INIT, (ALICE, PUSH), (BOB, b"init s\n"), (ALICE, b"init last\n")):
         checks.same(f"{turn[1][:10]!r}", b"ok\n", live.asked(*turn))
     killed(live)
-    path, whole = folder.journal_path(), folder.journal()
+    whole = folder.journal()
     at = whole.index(record(*OBJECTS[C])) + 90
     flipped = whole[:at] + bytes([whole[at] ^ 1]) + whole[at + 1 :]
     rows = {"a content": flipped, "a name": whole.replace(b"init s", b"init S"), "a tenant": whole.replace(b"bob", b"rob")}
     for label, row in rows.items():
-        write(path, row)
+        folder.set_journal(row)
         checks.same(f"check of {label}", failed("journal unreadable"), program.checked(folder.path))
         checks.same(f"a start over {label}", failed("journal unreadable"), program.ran("run", "--dir", folder.path))
         checks.same("the journal stays", row, folder.journal())
-    write(path, whole.replace(b"init last", b"init lasT"))
+    folder.set_journal(whole.replace(b"init last", b"init lasT"))
     asks = [(ALICE, b"for-each-ref last\n"), (BOB, b"for-each-ref s\n")]
     told = done(b"".join(map(framed, (b"no no-repository last\n", b"ok\n"))))
     checks.same("the last request", told, program.ran("run", "--dir", folder.path, given=frames(asks)))

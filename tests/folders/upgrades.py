@@ -98,11 +98,11 @@ def with_a_small_limit(folder):
 
 
 def with_another_journal(folder):
-    write(folder.journal_path(), folder.journal().replace(b"init z", b"init Z"))
+    write(folder.old_journal_path(), folder.journal().replace(b"init z", b"init Z"))
 
 
 def with_no_journal_to_read(folder):
-    path = folder.journal_path()
+    path = folder.old_journal_path()
     os.remove(path)
     os.mkdir(path)
 

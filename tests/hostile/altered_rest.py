@@ -3,13 +3,14 @@ import os
 import random
 import stat
 
+from lib.chained import LINE, pieces_in
 from folders.loading import verdict
 from hostile.alterations import THINGS, alter, clear, put_back, write
 from hostile.altered_objects import one_of
 from hostile.runs import PATIENCE, give
 from hostile.stores import ALICE, BOB, Store
-from lib.folder import requests_in
-from lib.frames import frame, frames
+from lib.folder import content
+from lib.frames import frame, framed, frames
 from lib.live import Doubted
 from lib.objects import record
 from lib.program import done, failed, of_verdict, sound
@@ -82,24 +83,25 @@ def journaled(program, store, path):
 
 
 def show_journals(checks, program, work):
-    """The journal is altered: its front that is whole frames is done again, or it can not be read; and the state stays."""
+    """The journal is altered: it is done again up to where it is cut, or what differs is told; and the state stays."""
     store, chance = Store(work), random.Random(29)
     folder, turns, told = journaled(program, store, os.path.join(work, "folder"))
     checks.same("the journal is made", [b"ok\n"] * len(turns), told)
-    path, whole = folder.journal_path(), folder.journal()
-    checks.same("the journal", frames(turns), whole)
+    checks.same("the journal", frames(turns), folder.journal())
+    path, whole = folder.journal_path(), content(folder.journal_path())
+    unreadable = failed("journal unreadable")
     for number in range(150):
         at = chance.randrange(len(whole))
         texts = [whole[:at], whole[:at] + bytes([whole[at] ^ (1 << chance.randrange(8))]) + whole[at + 1 :]]
         texts += [whole[:at] + chance.randbytes(5) + whole[at:], whole[at:], chance.randbytes(at)]
         text = texts[number % len(texts)]
         write(path, text)
-        count = len(requests_in(text))
-        ends = [sound(count)]
-        ends += [failed("journal unreadable")] if number % len(texts) else []
+        pieces, _ = pieces_in(folder.name(), text[LINE:])
+        wanted = sound(len(pieces)) if whole.startswith(text) and len(text) >= LINE else unreadable
+        ends = [wanted, sound(len(turns))] if 10 <= at < 74 and len(text) == len(whole) else [wanted]
         one_of(checks, f"journal {number}", ends, program.tried("journal", "check", "--dir", folder.path))
         checks.same(f"journal {number}: the state", store.text, folder.state())
-        checks.same(f"journal {number}: it stays", text, folder.journal())
+        checks.same(f"journal {number}: it stays", text, content(path))
     write(path, whole)
     checks.same("the journal as it was", sound(6), program.tried("journal", "check", "--dir", folder.path))
 
@@ -115,7 +117,7 @@ def show_journal_things(checks, program, work):
     for number, (kind, wanted) in enumerate(ends.items()):
         folder, _, _ = journaled(program, store, os.path.join(work, str(number)))
         path = folder.journal_path()
-        alter(kind, path, folder.journal(), chance)
+        alter(kind, path, content(path), chance)
         label = f"{kind} in the journal's place"
         one_of(checks, f"check, {label}", wanted, program.tried(f"check {label}", "check", "--dir", folder.path))
         checks.same(f"the state, {label}", store.text, folder.state())

@@ -3,6 +3,7 @@ import hashlib
 import os
 import re
 
+from lib.chained import LINE as FIRST, first_line, log, pieces_in
 from lib.objects import name_of, stored
 
 LINE = re.compile(rb"([a-z0-9][a-z0-9_-]{0,31}|@host) (0|[1-9][0-9]{0,6})\n")
@@ -58,13 +59,38 @@ class Folder:
     def set_state(self, text):
         write(self.inside("state"), text)
 
+    def name(self):
+        """The name of the state, in digits."""
+        return hashlib.sha256(self.state() or b"").hexdigest()
+
     def journal_path(self):
         """Where the journal lies that continues the state."""
-        return self.inside("journal", hashlib.sha256(self.state() or b"").hexdigest())
+        return self.inside("journal", self.name() + ".2")
+
+    def old_journal_path(self):
+        """Where it lies in the form before, which is frames alone."""
+        return self.inside("journal", self.name())
+
+    def log(self):
+        """The journal after its first line."""
+        return content(self.journal_path())[FIRST:]
+
+    def set_log(self, written):
+        """Writes a journal that was begun over the state that stands there."""
+        write(self.journal_path(), first_line(self.name()) + written)
 
     def journal(self):
-        path = self.journal_path()
-        return content(path) if os.path.exists(path) else b""
+        """The frames that the journal has, which must be right to its end."""
+        if not os.path.exists(self.journal_path()):
+            return content(self.old_journal_path()) if os.path.exists(self.old_journal_path()) else b""
+        pieces, end = pieces_in(self.name(), self.log())
+        if end == "altered":
+            raise ValueError(f"{self.journal_path()} is altered")
+        return b"".join(pieces)
+
+    def set_journal(self, stream):
+        """Writes a journal of these bytes, with right sums."""
+        self.set_log(log(self.name(), [stream] if stream else []))
 
     def journals(self):
         """What lies beside one another as journals."""

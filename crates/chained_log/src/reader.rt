@@ -6,13 +6,10 @@ ghost use Rattle.chained_log.specs.Next.{IsNextOf};
 
 use crate::fault::Ended;
 use crate::next::{Found, next_piece};
-use crate::sums::{LENGTH, SUM, length_at};
-use std::alloc::Global;
+use crate::sums::{HEAD, LENGTH, ROOM, SUM, length_at};
+use std::alloc::{AllocError, Global};
 use std::io;
 use std::io::{ErrorKind, Read};
-
-// What stands before a piece's contents: its length, and the sum of that.
-const HEAD: usize = LENGTH + SUM;
 
 // A read asks for so many bytes at the most, so that memory is taken for what comes.
 const CHUNK: usize = 65_536;
@@ -94,16 +91,18 @@ pub struct LogReader<R> {
 }
 
 impl<R: Read + Drop> LogReader<R> {
-    /// A log after this sum. Memory is taken for each piece as it comes.
-    pub fn new(alloc: Global, reader: R, first: [u8; 32]) -> LogReader<R> {
-        LogReader {
+    /// A log after this sum. It takes its memory here, unless a piece is longer than `LogWriter` writes
+    /// one: for such a piece it is taken as it comes.
+    pub fn new(alloc: Global, reader: R, first: [u8; 32]) -> Result<LogReader<R>, AllocError> {
+        let came = Vec::with_capacity(alloc, ROOM)?;
+        Ok(LogReader {
             reader,
             sum: first,
-            came: Vec::new(alloc),
+            came,
             at: 0,
             end: 0,
             ended: None,
-        }
+        })
     }
 
     /// How the log ended, where it was read to its end.
@@ -113,7 +112,7 @@ impl<R: Read + Drop> LogReader<R> {
 }
 
 impl<R: Read> LogReader<R> {
-    // Reads the next piece, behind one that was given, or finds how the log ends.
+    // Reads the next piece, after one that was given, or finds how the log ends.
     fn advance(&mut self) -> io::Result<()> {
         if self.end > 0 {
             self.at = 0;

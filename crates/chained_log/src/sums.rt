@@ -11,6 +11,15 @@ pub(crate) const LENGTH: usize = 4;
 /// How many bytes a sum has.
 pub(crate) const SUM: usize = 32;
 
+/// What stands before a piece's contents: its length, and the sum of that.
+pub(crate) const HEAD: usize = LENGTH + SUM;
+
+/// The most bytes of the contents of a piece that is written.
+pub(crate) const LONGEST: usize = 65_536;
+
+/// How many bytes such a piece has with all that stands around it.
+pub(crate) const ROOM: usize = HEAD + LONGEST + SUM;
+
 /// The sum of these bytes after the sum before them.
 pub(crate) fn sum_of(before: &[u8; SUM], bytes: &[u8]) -> [u8; SUM]
     ensures { result ≡ sha256 (before.now ++ bytes.now) }

@@ -4,13 +4,10 @@ ghost use Rattle.std.specs.Io.KnownBytes.{Appends, Keeps, WriteAppends};
 ghost use Rattle.chained_log.specs.Log.{piece_bytes, sum_after};
 
 use crate::piece::put_piece;
-use crate::sums::{LENGTH, SUM};
+use crate::sums::{LONGEST, ROOM};
 use std::alloc::{AllocError, Global};
 use std::io;
 use std::io::Write;
-
-// The most bytes of a piece.
-const LONGEST: usize = 65_536;
 
 /// Writes a log: each write is a piece, or one for each 65,536 bytes of it.
 #[derive(Drop)]
@@ -27,7 +24,7 @@ impl<W: Write + Drop> LogWriter<W> {
     pub fn new(alloc: Global, writer: W, first: [u8; 32]) -> Result<LogWriter<W>, AllocError>
         ensures { IfOk result (λ log. (log.writer ≡ writer) × (log.sum ≡ first)) }
     {
-        let room = Vec::with_capacity(alloc, LENGTH + SUM + LONGEST + SUM)?;
+        let room = Vec::with_capacity(alloc, ROOM)?;
         Ok(LogWriter {
             writer,
             sum: first,

@@ -18,7 +18,7 @@ use Rattle.fork_model.specs.World.{Steps, World}
 use Rattle.fork_program.specs.Changing.{number_told}
 use Rattle.fork_program.specs.Keeping.{IsUnkept, IsUnopened, IsUnrenewed}
 use Rattle.fork_program.specs.declared.fault.Fault.{Fault}
-use Rattle.fork_program.specs.declared.fault.Fault.TheVariants.{TooLarge, BadObject, BadFrame, Read, Write, Memory, Store, Socket, NoState, Unreadable, Journal, NotKept, NotSaved, Line, Lost, Damaged, Unsound, OverLimit, There, TooManyTenants, NotThere, BelowUse}
+use Rattle.fork_program.specs.declared.fault.Fault.TheVariants.{TooLarge, BadObject, BadFrame, Read, Write, Memory, Store, Socket, NoState, Unreadable, Journal, OtherJournal, NotKept, NotSaved, Line, Lost, Damaged, Unsound, OverLimit, There, TooManyTenants, NotThere, BelowUse}
 
 -- what stands against opening a folder stands against saving it anew
 pub unrenewed : (fault : Fault) → IsUnopened fault → IsUnrenewed fault
@@ -33,6 +33,7 @@ unrenewed Socket why = why
 unrenewed NoState why = why
 unrenewed Unreadable why = why
 unrenewed Journal why = why
+unrenewed OtherJournal why = why
 unrenewed NotKept why = why
 unrenewed NotSaved why = tt
 unrenewed (Line line) why = why
@@ -58,6 +59,7 @@ unkept Socket why = why
 unkept NoState why = tt
 unkept Unreadable why = why
 unkept Journal why = why
+unkept OtherJournal why = why
 unkept NotKept why = why
 unkept NotSaved why = tt
 unkept (Line line) why = why

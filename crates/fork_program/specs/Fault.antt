@@ -11,7 +11,7 @@ use Rattle.fork_wire.specs.declared.fault.SessionFault.TheVariants as session
 use Rattle.loose_store.specs.declared.files.FileFault.{FileFault}
 use Rattle.loose_store.specs.declared.files.FileFault.TheVariants as file
 use Rattle.fork_program.specs.declared.fault.Fault.{Fault}
-use Rattle.fork_program.specs.declared.fault.Fault.TheVariants.{TooLarge, BadObject, BadFrame, Read, Write, Memory, Store, Socket, NoState, Unreadable, Journal, NotKept, NotSaved, Line, Lost, Damaged, Unsound, OverLimit, There, TooManyTenants, NotThere, BelowUse}
+use Rattle.fork_program.specs.declared.fault.Fault.TheVariants.{TooLarge, BadObject, BadFrame, Read, Write, Memory, Store, Socket, NoState, Unreadable, Journal, OtherJournal, NotKept, NotSaved, Line, Lost, Damaged, Unsound, OverLimit, There, TooManyTenants, NotThere, BelowUse}
 
 -- what is said of a fault
 abbrev pub said_of : Fault → List ℕ
@@ -26,6 +26,7 @@ said_of Socket = codes "socket"
 said_of NoState = codes "no state"
 said_of Unreadable = codes "state unreadable"
 said_of Journal = codes "journal unreadable"
+said_of OtherJournal = codes "journal of another state"
 said_of NotKept = codes "journal not written"
 said_of NotSaved = codes "state not saved"
 said_of (Line line) = codes "state line " ++ decimal line

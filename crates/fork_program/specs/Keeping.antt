@@ -6,7 +6,7 @@ use Rattle.fork_host.specs.Shown.{HostState, Trusted, world_of}
 use Rattle.state_text.specs.Kept.{states_of}
 use Rattle.state_text.specs.Text.{IsStateText2}
 use Rattle.fork_program.specs.declared.fault.Fault.{Fault}
-use Rattle.fork_program.specs.declared.fault.Fault.TheVariants.{Write, Memory, Store, NoState, Unreadable, Journal, NotSaved, Line, Lost, Damaged, Unsound, OverLimit}
+use Rattle.fork_program.specs.declared.fault.Fault.TheVariants.{Write, Memory, Store, NoState, Unreadable, Journal, OtherJournal, NotSaved, Line, Lost, Damaged, Unsound, OverLimit}
 
 -- nothing was read or written
 pub record IsUntouched (input left before after : Option (List ℕ)) : Type 0 where
@@ -19,6 +19,7 @@ IsUnkept Memory = ⊤
 IsUnkept Store = ⊤
 IsUnkept Unreadable = ⊤
 IsUnkept Journal = ⊤
+IsUnkept OtherJournal = ⊤
 IsUnkept (Line line) = ⊤
 IsUnkept (Lost name) = ⊤
 IsUnkept (Damaged name) = ⊤

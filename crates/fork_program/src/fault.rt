@@ -35,6 +35,8 @@ pub enum Fault {
     Unreadable,
     /// The folder's journal could not be read, or what it has could not be done again.
     Journal,
+    /// There is a journal of another state than the folder's.
+    OtherJournal,
     /// A request could not be written to the journal.
     NotKept,
     /// What was served could not be saved.
@@ -86,6 +88,7 @@ impl Fault {
             Fault::NoState => writer.write_all(b"no state"),
             Fault::Unreadable => writer.write_all(b"state unreadable"),
             Fault::Journal => writer.write_all(b"journal unreadable"),
+            Fault::OtherJournal => writer.write_all(b"journal of another state"),
             Fault::NotKept => writer.write_all(b"journal not written"),
             Fault::NotSaved => writer.write_all(b"state not saved"),
             Fault::Line(line) => write!(writer, "state line {line}"),

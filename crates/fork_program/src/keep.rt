@@ -2,11 +2,12 @@ ghost use Rattle.std.specs.Prelude.{◌≡◌, ℕ, List, IfErr, IfOk, IsTrue, O
 ghost use Rattle.fork_program.specs.Keeping.{IsSaved, IsTextOf};
 
 use crate::fault::Fault;
+use chained_log::LogWriter;
 use fork_host::Host;
 use fork_wire::{Written, write_uploads};
 use git_name::Name;
 use loose_store::{
-    LooseFiles, begin_journal, clear_journals, empty_swept, has_swept, journal_name,
+    LooseFiles, begin_journal, clear_journals, empty_swept, has_swept, journal_name, read_state,
     settle_journal, write_state,
 };
 use std::alloc::Global;
@@ -21,19 +22,54 @@ const SPARE: u64 = 1_048_576;
 pub struct Keep<'a, H> {
     rt: &'a H,
     dir: &'a str,
-    pub(crate) journal: Written<File>,
+    pub(crate) journal: Written<LogWriter<File>>,
     // The journal's name, which is that of the state that stands there.
     name: Name,
     // How many bytes that state has, and the uploads at the journal's beginning.
     saved: u64,
 }
 
-// A state that is to come, and the journal behind it, which may begin with the open uploads.
+// A state that is to come, its name, and the journal after it, which may begin with the open uploads.
 #[derive(Drop)]
 struct Draft {
     state: Vec<u8>,
-    file: File,
+    name: Name,
+    journal: LogWriter<File>,
     uploads: u64,
+}
+
+// The name of the state that stands in a folder.
+fn standing_name<H: Files<File = File>>(rt: &H, alloc: Global, dir: &str) -> Result<Name, Fault>
+    ensures { IfErr result (λ fault. fault ≡ Fault.NotSaved) }
+{
+    match read_state(rt, alloc, dir) {
+        Ok(Some(state)) => Ok(journal_name(state.as_slice())),
+        Ok(None) => Ok(journal_name(b"")),
+        Err(_) => Err(Fault::NotSaved),
+    }
+}
+
+// A new journal of nothing after the state of this name, which is begun over the standing one. What lies
+// beside the standing journal goes first, so that a kill leaves this one alone there.
+fn unnamed<H: Files<File = File> + AllocGlobal>(
+    rt: &H,
+    alloc: Global,
+    dir: &str,
+    standing: Name,
+    name: Name,
+) -> Result<LogWriter<File>, Fault>
+    ensures { IfErr result (λ fault. fault ≡ Fault.NotSaved) }
+{
+    let Ok(()) = clear_journals(&rt, alloc, dir, standing) else {
+        return Err(Fault::NotSaved);
+    };
+    let Ok(file) = begin_journal(rt, alloc, dir, standing) else {
+        return Err(Fault::NotSaved);
+    };
+    match LogWriter::new(alloc, file, *name.as_bytes()) {
+        Ok(journal) => Ok(journal),
+        Err(_) => Err(Fault::NotSaved),
+    }
 }
 
 // Drafts the host's state, and behind it a journal of nothing. The folder has its old state still, and its
@@ -42,6 +78,7 @@ fn closed<H: Files<File = File> + AllocGlobal, S: LooseFiles>(
     rt: &H,
     alloc: Global,
     dir: &str,
+    standing: Name,
     host: &Host<S>,
 ) -> Result<Draft, Fault>
     ensures cause { IfErr result (λ fault. fault ≡ Fault.NotSaved) }
@@ -50,12 +87,12 @@ fn closed<H: Files<File = File> + AllocGlobal, S: LooseFiles>(
     let Ok(state) = fork_state::save(alloc, host) else {
         return Err(Fault::NotSaved);
     };
-    let Ok(file) = begin_journal(rt, alloc, dir) else {
-        return Err(Fault::NotSaved);
-    };
+    let name = journal_name(state.as_slice());
+    let journal = unnamed(rt, alloc, dir, standing, name)?;
     Ok(Draft {
         state,
-        file,
+        name,
+        journal,
         uploads: 0,
     })
 }
@@ -65,6 +102,7 @@ fn drafted<H: Files<File = File> + AllocGlobal, S: LooseFiles>(
     rt: &H,
     alloc: Global,
     dir: &str,
+    standing: Name,
     host: &mut Host<S>,
 ) -> Result<Draft, Fault>
     ensures cause { IfErr result (λ fault. fault ≡ Fault.NotSaved) }
@@ -74,7 +112,7 @@ fn drafted<H: Files<File = File> + AllocGlobal, S: LooseFiles>(
     let Ok(text) = fork_state::save(alloc, host) else {
         return Err(Fault::NotSaved);
     };
-    drafted_as(rt, alloc, dir, host, text)
+    drafted_as(rt, alloc, dir, standing, host, text)
 }
 
 // Drafts a state of this text, and behind it a journal that begins with the host's open uploads.
@@ -82,6 +120,7 @@ fn drafted_as<H: Files<File = File> + AllocGlobal, S: LooseFiles>(
     rt: &H,
     alloc: Global,
     dir: &str,
+    standing: Name,
     host: &mut Host<S>,
     text: Vec<u8>,
 ) -> Result<Draft, Fault>
@@ -89,15 +128,15 @@ fn drafted_as<H: Files<File = File> + AllocGlobal, S: LooseFiles>(
     ensures saved { IsSaved host.old host.new }
     ensures text { IfOk result (λ draft. draft.state.items ≡ text.items) }
 {
-    let Ok(mut file) = begin_journal(rt, alloc, dir) else {
-        return Err(Fault::NotSaved);
-    };
-    let Ok(uploads) = write_uploads(host, alloc, &mut file) else {
+    let name = journal_name(text.as_slice());
+    let mut journal = unnamed(rt, alloc, dir, standing, name)?;
+    let Ok(uploads) = write_uploads(host, alloc, &mut journal) else {
         return Err(Fault::NotSaved);
     };
     Ok(Draft {
         state: text,
-        file,
+        name,
+        journal,
         uploads,
     })
 }
@@ -105,7 +144,7 @@ fn drafted_as<H: Files<File = File> + AllocGlobal, S: LooseFiles>(
 // A drafted state that has its place.
 #[derive(Drop)]
 struct Settled {
-    file: File,
+    journal: LogWriter<File>,
     name: Name,
     saved: u64,
 }
@@ -124,11 +163,11 @@ fn put<H: Files<File = File> + AllocGlobal>(
 {
     let Draft {
         state,
-        file,
+        name,
+        journal,
         uploads,
     } = draft;
-    let name = journal_name(state.as_slice());
-    let Ok(()) = settle_journal(rt, alloc, dir, name, &file) else {
+    let Ok(()) = settle_journal(rt, alloc, dir, name, journal.writer()) else {
         return Err(Fault::NotSaved);
     };
     if standing != Some(name) {
@@ -140,7 +179,7 @@ fn put<H: Files<File = File> + AllocGlobal>(
     let _cleared = clear_journals(&rt, alloc, dir, name);
     let _emptied = empty_swept(&rt, alloc, dir);
     Ok(Settled {
-        file,
+        journal,
         name,
         saved: uploads.saturating_add(state.len() as u64),
     })
@@ -157,7 +196,8 @@ pub fn save<H: Files<File = File> + AllocGlobal, S: LooseFiles>(
     ensures cause { IfErr result (λ fault. fault ≡ Fault.NotSaved) }
     ensures text { OnOk result ((text : List ℕ) × IsTextOf host.old text) }
 {
-    let draft = drafted(rt, alloc, dir, host)?;
+    let standing = standing_name(rt, alloc, dir)?;
+    let draft = drafted(rt, alloc, dir, standing, host)?;
     match put(rt, alloc, dir, None, draft) {
         Ok(_settled) => Ok(()),
         Err(fault) => Err(fault),
@@ -175,7 +215,8 @@ pub fn save_as<H: Files<File = File> + AllocGlobal, S: LooseFiles>(
 ) -> Result<(), Fault>
     ensures cause { IfErr result (λ fault. fault ≡ Fault.NotSaved) }
 {
-    let draft = drafted_as(rt, alloc, dir, host, text)?;
+    let standing = standing_name(rt, alloc, dir)?;
+    let draft = drafted_as(rt, alloc, dir, standing, host, text)?;
     match put(rt, alloc, dir, None, draft) {
         Ok(_settled) => Ok(()),
         Err(fault) => Err(fault),
@@ -202,7 +243,8 @@ impl<'a, H: Files<File = File> + AllocGlobal> Keep<'a, H> {
         ensures cause { IfErr result (λ fault. fault ≡ Fault.NotSaved) }
         ensures saved { IsSaved host.old host.new }
     {
-        match drafted(rt, alloc, dir, host) {
+        let standing = standing_name(rt, alloc, dir)?;
+        match drafted(rt, alloc, dir, standing, host) {
             Ok(draft) => Keep::over(rt, alloc, dir, None, draft),
             Err(fault) => Err(fault),
         }
@@ -218,8 +260,8 @@ impl<'a, H: Files<File = File> + AllocGlobal> Keep<'a, H> {
     ) -> Result<Keep<'a, H>, Fault>
         ensures { IfErr result (λ fault. fault ≡ Fault.NotSaved) }
     {
-        let Settled { file, name, saved } = put(rt, alloc, dir, standing, draft)?;
-        let Ok(journal) = Written::new(alloc, file) else {
+        let Settled { journal, name, saved } = put(rt, alloc, dir, standing, draft)?;
+        let Ok(journal) = Written::new(alloc, journal) else {
             return Err(Fault::NotSaved);
         };
         Ok(Keep {
@@ -249,7 +291,7 @@ impl<'a, H: Files<File = File> + AllocGlobal> Keep<'a, H> {
             let _emptied = empty_swept(&self.rt, alloc, self.dir);
             return Ok(());
         }
-        let draft = closed(self.rt, alloc, self.dir, host)?;
+        let draft = closed(self.rt, alloc, self.dir, self.name, host)?;
         match put(self.rt, alloc, self.dir, Some(self.name), draft) {
             Ok(_settled) => Ok(()),
             Err(fault) => Err(fault),
@@ -271,7 +313,7 @@ impl<'a, H: Files<File = File> + AllocGlobal> Keep<'a, H> {
             let _emptied = empty_swept(&self.rt, alloc, self.dir);
             return Ok(());
         }
-        let Ok(draft) = drafted(self.rt, alloc, self.dir, host) else {
+        let Ok(draft) = drafted(self.rt, alloc, self.dir, self.name, host) else {
             return Ok(());
         };
         match Keep::over(self.rt, alloc, self.dir, Some(self.name), draft) {

@@ -3,10 +3,10 @@ ghost use Rattle.fork_program.specs.Keeping.{IsUnkept, IsUnopened};
 
 use crate::fault::Fault;
 use crate::replaying::replay;
-use crate::telling::{of_load, of_state, of_store};
+use crate::telling::{of_journal, of_load, of_state, of_store};
 use fork_host::{Host, OpenError};
 use git_name::Name;
-use loose_store::{Folder, LooseFiles, journal_name, read_state};
+use loose_store::{Folder, LooseFiles, has_other_journal, journal_name, read_state};
 use std::alloc::Global;
 use std::fs::{File, Files};
 use std::random::RandomSource;
@@ -42,6 +42,22 @@ fn saved_host<S: LooseFiles + Drop>(
     }
 }
 
+// No journal of another state lies beside that of the state of this name, but what a kill leaves.
+fn has_no_other<H: Files<File = File> + AllocGlobal>(
+    rt: &H,
+    alloc: Global,
+    dir: &str,
+    name: Name,
+) -> Result<(), Fault>
+    ensures { IfErr result IsUnkept }
+{
+    match has_other_journal(&rt, alloc, dir, name) {
+        Ok(false) => Ok(()),
+        Ok(true) => Err(Fault::OtherJournal),
+        Err(fault) => Err(of_journal(fault)),
+    }
+}
+
 // The host that a folder keeps, over this store of its objects, and one without tenants where the
 // folder keeps none; and how many requests of its journal were done again.
 fn restored_host<H: Files<File = File> + AllocGlobal, S: LooseFiles + Drop>(
@@ -57,6 +73,7 @@ fn restored_host<H: Files<File = File> + AllocGlobal, S: LooseFiles + Drop>(
         Err(fault) => return Err(of_state(fault)),
     };
     let (mut host, name) = saved_host(alloc, state, files)?;
+    has_no_other(rt, alloc, dir, name)?;
     match replay(rt, alloc, dir, name, &mut host) {
         Ok(count) => Ok((host, count)),
         Err(fault) => Err(fault),

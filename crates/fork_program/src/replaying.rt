@@ -3,17 +3,18 @@ ghost use Rattle.fork_program.specs.Keeping.{IsUnkept};
 
 use crate::fault::Fault;
 use crate::telling::{of_again, of_journal};
+use chained_log::LogReader;
 use fork_host::Host;
 use fork_wire::serve_again;
 use git_name::Name;
-use loose_store::{LooseFiles, open_journal};
+use loose_store::{LooseFiles, open_journal, open_old_journal};
 use std::alloc::Global;
-use std::fs::Files;
+use std::fs::{File, Files};
 use std::io::BufReader;
 
-/// Does again what the journal of this name has, up to its end or to a frame that was cut, and says how
-/// many requests that were.
-pub fn replay<H: Files, S: LooseFiles>(
+/// Does again what the journal of this name has, up to its end or to where it was cut, and says how many
+/// requests that were. What was altered is told.
+pub fn replay<H: Files<File = File>, S: LooseFiles>(
     rt: &H,
     alloc: Global,
     dir: &str,
@@ -22,7 +23,47 @@ pub fn replay<H: Files, S: LooseFiles>(
 ) -> Result<u64, Fault>
     ensures { IfErr result IsUnkept }
 {
-    let file = match open_journal(rt, alloc, dir, name) {
+    match open_journal(rt, alloc, dir, name) {
+        Ok(Some(file)) => repeat(alloc, file, name, host),
+        Ok(None) => replay_old(rt, alloc, dir, name, host),
+        Err(fault) => Err(of_journal(fault)),
+    }
+}
+
+// Does again what the log in this file has.
+fn repeat<S: LooseFiles>(
+    alloc: Global,
+    file: File,
+    name: Name,
+    host: &mut Host<S>,
+) -> Result<u64, Fault>
+    ensures { IfErr result IsUnkept }
+{
+    let Ok(reader) = BufReader::new(alloc, file) else {
+        return Err(Fault::Memory);
+    };
+    let Ok(mut log) = LogReader::new(alloc, reader, *name.as_bytes()) else {
+        return Err(Fault::Memory);
+    };
+    match serve_again(host, alloc, &mut log) {
+        // What is no frame, and has more after it, was not cut.
+        Ok(_) if log.ended().is_none() => Err(Fault::Journal),
+        Ok(count) => Ok(count),
+        Err(fault) => Err(of_again(fault)),
+    }
+}
+
+// Does again what the journal of this name has in the form before, which is frames alone.
+fn replay_old<H: Files<File = File>, S: LooseFiles>(
+    rt: &H,
+    alloc: Global,
+    dir: &str,
+    name: Name,
+    host: &mut Host<S>,
+) -> Result<u64, Fault>
+    ensures { IfErr result IsUnkept }
+{
+    let file = match open_old_journal(rt, alloc, dir, name) {
         Ok(Some(file)) => file,
         Ok(None) => return Ok(0),
         Err(fault) => return Err(of_journal(fault)),

@@ -260,7 +260,11 @@ impl<'a, H: Files<File = File> + AllocGlobal> Keep<'a, H> {
     ) -> Result<Keep<'a, H>, Fault>
         ensures { IfErr result (λ fault. fault ≡ Fault.NotSaved) }
     {
-        let Settled { journal, name, saved } = put(rt, alloc, dir, standing, draft)?;
+        let Settled {
+            journal,
+            name,
+            saved,
+        } = put(rt, alloc, dir, standing, draft)?;
         let Ok(journal) = Written::new(alloc, journal) else {
             return Err(Fault::NotSaved);
         };

@@ -115,6 +115,7 @@ def show_patience(checks, program, folder):
         one.threads[1].join(MOST + 20)
         checks.same(f"{label}: the next one is served", TOLD, one.told)
         if one.way is waits:
+            one.threads[0].join(MOST)
             checks.same(f"{label}: it was served before", TOLD, one.said)
         else:
             checks.same(f"{label}: within {LEAST} to {MOST} seconds, {one.took:.1f}", True, LEAST < one.took < MOST)

@@ -17,7 +17,7 @@ COMPLETIONS = $(PREFIX)/share/bash-completion/completions
 CLIENTS = forkhost-ask forkhost-door forkhost-http forkhost-metrics forkhost-shell git-remote-forkhost
 MODULES = forkhost_client forkhost_front
 HOOKS = forkhost_front/hooks
-UNITS = forkhost.service forkhost-sweep.service forkhost-sweep.timer
+UNITS = forkhost.service forkhost-metrics.service forkhost-metrics.timer forkhost-sweep.service forkhost-sweep.timer
 
 # The tests that end soon: what Git makes, tables of turns, plain programs of definitions, names, and what is kept of reads.
 CHECKS = real_git.sh sessions plain_programs check_ref_format cache

@@ -8,6 +8,7 @@ import threading
 from lib.frames import BAD_FRAME, frame, framed
 from lib.live import to_end
 from lib.making import line, name_of
+from lib.pages import block
 from lib.program import Ran, done
 from lib.waiting import until, until_it_waits
 from lib.world import CLIENTS, World
@@ -159,9 +160,7 @@ def forced_command(authorized):
 
 def authorized_line(socket_path, tenant, key):
     """A line as docs/CLIENTS.md has it."""
-    page = os.path.join(CLIENTS, "../docs/CLIENTS.md")
-    with open(page, encoding="utf-8") as file:
-        (form,) = {row for row in file.read().splitlines() if row.startswith('command="')}
+    form = block("docs/CLIENTS.md", "Users with keys", 'command="').rstrip("\n")
     replaced = form.replace("/srv/forkhost/clients", CLIENTS).replace("/srv/forkhost/socket", socket_path)
     return replaced.replace(" alice", f" {tenant}").replace("AAAA", key)
 

@@ -1,20 +1,11 @@
 """A fork between two people, from an offer to what comes back, as docs/CLIENTS.md has it."""
-import os
-
 from client.by_hand import refused
 from lib.making import commit, line
+from lib.pages import block
 from lib.program import done
-from lib.world import CLIENTS, World
+from lib.world import World
 
-PAGE = os.path.join(CLIENTS, "../docs/CLIENTS.md")
-HEADING = "## A fork between two people\n"
 PLACE = "/run/forkhost/socket"
-
-
-def block():
-    """The commands of the page."""
-    with open(PAGE, encoding="utf-8") as file:
-        return file.read().split(HEADING, 1)[1].split("```\n")[1]
 
 
 def begun(checks, program, folder):
@@ -30,7 +21,7 @@ def begun(checks, program, folder):
 def show_pull_request(checks, program, folder):
     """The page's lines as they stand: alice has bob's commit, and he has what she offered."""
     world = begun(checks, program, folder)
-    lines = block()
+    lines = block("docs/CLIENTS.md", "A fork between two people", "fork-offer")
     checks.same("ten lines", 10, lines.count("\n"))
     old, url = world.name("source", "main"), world.url("r", "bob")
     told = f"repository 'r' of tenant 'bob' not found; 'forkhost-ask {world.host.socket} bob init r' makes it"

@@ -26,7 +26,7 @@ def is_who(text: str) -> bool:
 
 
 def repository_of(text: str) -> "str | None":
-    """The repository's name, which may have `.git` behind it."""
+    """The repository's name, which may end with `.git`."""
     name = text.removesuffix(".git")
     return name if is_called(name, LONGEST_REPOSITORY) else None
 

@@ -35,7 +35,7 @@ class Fetch:
             self.follow_tags()
 
     def ends(self, wanted: list) -> list:
-        """What stands behind the wanted names; tags between are here already, and need not be asked for.
+        """What the wanted names lead to; tags between are here already, and need not be asked for.
 
         HEAD is the first, since most other tips stand in its history; then come commits, then all else."""
         first, found = self.listing.default(), []

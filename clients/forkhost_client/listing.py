@@ -9,7 +9,7 @@ class Listing:
         self.refs, self.kinds = refs, kinds
         # The branch that HEAD names, be it there or not; none where it was not asked for.
         self.head = None
-        # All tag objects behind references as records, by their names.
+        # All tag objects that references lead to as records, by their names.
         self.tags = {}
 
     def default(self) -> "str | None":
@@ -17,7 +17,7 @@ class Listing:
         return self.refs.get(self.head) if self.head else None
 
     def chain(self, name: str) -> list:
-        """The tag of this name, and the tags behind it."""
+        """The tag of this name, and the tags that it leads to."""
         found = []
         while name in self.tags:
             found.append(self.tags[name])
@@ -25,7 +25,7 @@ class Listing:
         return found
 
     def peeled(self, name: str) -> Linked:
-        """What stands behind a tag and all tags between; for a name that is no tag of these, itself."""
+        """What a tag and all tags between lead to; for a name that is no tag of these, itself."""
         chain = self.chain(name)
         return linked(chain[-1].content) if chain else Linked(name, self.kind(name))
 
@@ -44,7 +44,7 @@ class Listing:
 
 
 def read_tags(remote: Remote, names: list) -> dict:
-    """The tags of these names, and those behind them."""
+    """The tags of these names, and those that they lead to."""
     tags = {}
     for name in names:
         target = Linked(name, "tag")

@@ -138,9 +138,9 @@ def show_slow(checks, program, folder):
         "reads nothing of a reply that fits between": ([small], [b""], doors.at_socket(small)),
         "sends half a frame": ([QUOTA[:-3]], [QUOTA[-3:]], doors.quota),
         "sends half a line": ([QUOTA[:4]], [QUOTA[4:]], doors.quota),
-        "sends half a frame behind one": ([QUOTA, QUOTA[:-3]], [QUOTA[-3:]], doors.quota * 2),
-        "sends a byte a second behind one": ([QUOTA, *(QUOTA[at : at + 1] for at in range(3))], [QUOTA[3:]], doors.quota * 2),
-        "sends nothing behind one": ([QUOTA], [QUOTA], doors.quota * 2),
+        "sends half a frame after one": ([QUOTA, QUOTA[:-3]], [QUOTA[-3:]], doors.quota * 2),
+        "sends a byte a second after one": ([QUOTA, *(QUOTA[at : at + 1] for at in range(3))], [QUOTA[3:]], doors.quota * 2),
+        "sends nothing after one": ([QUOTA], [QUOTA], doors.quota * 2),
     }
     for label, (before, after, wanted) in kinds.items():
         user = User(doors.alice)

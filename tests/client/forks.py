@@ -43,7 +43,7 @@ def show_pull_request(checks, program, folder):
 
 
 def same_clone(world, tenant, new):
-    """A mirror of the tenant's repository has bob's commit and all behind it, and nothing else."""
+    """A mirror of the tenant's repository has bob's commit and all that it leads to, and nothing else."""
     copy = world.cloned(f"{tenant} clones", "r", "--mirror", tenant=tenant, name="mirror")
     world.checks.same(f"{tenant}'s references", [f"{new} refs/heads/main"], world.references(copy))
     world.checks.same(f"{tenant}'s objects", world.reached("his"), world.objects(copy))

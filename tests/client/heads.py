@@ -77,7 +77,7 @@ def show_heads(checks, program, folder):
     checks.same("HEAD is as before", told, world.ask("alice", "head", "r"))
     world.host.ends_well(checks, "after heads")
     world.host.begin()
-    heads.alike("behind a start")
+    heads.alike("after a start")
     world.host.ends_well(checks, "after heads again")
 
 
@@ -124,8 +124,8 @@ def show_renamed(checks, program, folder):
     checks.same("a clone meanwhile", "main", branch_of(world, world.cloned("meanwhile", "r")))
     checks.same("HEAD is set", done(), ask("set-head", "r", "refs/heads/trunk"))
     world.succeeds("main is deleted", world.git("source", "push", "-q", "origin", "--delete", "main"))
-    checks.same("HEAD behind it", done(f"refs/heads/trunk {first}\n".encode()), ask("head", "r"))
-    copy = world.cloned("behind it", "r")
+    checks.same("HEAD after it", done(f"refs/heads/trunk {first}\n".encode()), ask("head", "r"))
+    copy = world.cloned("after it", "r")
     checks.same("a fresh clone", "trunk", branch_of(world, copy))
     checks.same("it has one branch", [f"{first} refs/heads/trunk"], world.kept("r"))
     second = commit(world, copy, "two", first, branch="trunk")

@@ -57,7 +57,7 @@ def goes_on(world, label):
     return ran.fault
 
 
-# The request behind whose answer by the host a push is killed, which of that kind it is, and whether an upload is open.
+# The request after whose answer by the host a push is killed, which of that kind it is, and whether an upload is open.
 MOMENTS = [("for-each-ref", 1, False), ("part-drop", 1, False), ("part", 1, True), ("part", 7, True)]
 MOMENTS += [("part-end", 1, False)]
 
@@ -77,7 +77,7 @@ def show_kills_at(world):
         watcher = Watcher(world.path(f"{word}{count}"), world.host.socket, meddle)
         url = f"forkhost::{watcher.path}/alice/r"
         running.append(world.begun("git", "push", "-q", url, "main", at="source"))
-        label = f"killed behind {word} {count}"
+        label = f"killed after {word} {count}"
         world.checks.same(f"{label}: it is killed", -signal.SIGKILL, finished(running[0]).status)
         said = goes_on(world, label)
         dropped = b"forkhost: dropped an upload that was left open\n" in said

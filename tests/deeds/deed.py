@@ -42,23 +42,23 @@ def swaps_in(text):
 
 
 def edited(swaps, folder):
-    """The texts of the files that an edit changes, before and behind it."""
-    before, behind = {}, {}
+    """The texts of the files that an edit changes, before and after it."""
+    before, after = {}, {}
     for path, old, new in swaps:
         if not path.startswith("src/") or not (folder / path).is_file():
             raise Unfit(f"{path} is no file of code")
         before.setdefault(path, (folder / path).read_text())
-        text = behind.get(path, before[path])
+        text = after.get(path, before[path])
         count = text.count(old) if old else 0
         if count != 1:
             raise Unfit(f"its old text stands in {path} {count} times, and not once")
-        behind[path] = text.replace(old, new)
-    return before, behind
+        after[path] = text.replace(old, new)
+    return before, after
 
 
-def rows_of(before, behind):
+def rows_of(before, after):
     """The rows that an edit writes: a line comes for a line."""
-    pairs = zip(before.split("\n"), behind.split("\n"))
+    pairs = zip(before.split("\n"), after.split("\n"))
     return {row: new for row, (old, new) in enumerate(pairs) if old != new}
 
 
@@ -81,8 +81,8 @@ def read_deed(file, folder):
     """The deed of an edit, in the crate of this folder."""
     deed = Deed(file.stem)
     try:
-        before, behind = edited(swaps_in(file.read_text()), folder)
-        deed.rows = {path: rows_of(before[path], behind[path]) for path in before}
+        before, after = edited(swaps_in(file.read_text()), folder)
+        deed.rows = {path: rows_of(before[path], after[path]) for path in before}
         deed.functions = functions_at(deed.rows, folder)
     except Unfit as why:
         deed.fault = str(why)

@@ -1,4 +1,4 @@
-"""The folder that the version before left, with a journal behind its state, and what it showed (`fixtures/make`)."""
+"""The folder that the version before left, with a journal after its state, and what it showed (`fixtures/make`)."""
 import os
 import shutil
 
@@ -23,7 +23,7 @@ HEADS = {
     (BOB, b"head r\n"): b"ok\nrefs/heads/main\n",
     (BOB, b"head z\n"): b"ok\nrefs/heads/main\n",
 }
-# How many requests stand behind the state of an upgrade: the parts of an open upload.
+# How many requests stand after the state of an upgrade: the parts of an open upload.
 LEFT = 1
 # The upload that is open, what is left of it, and what comes of that.
 THREE = (b"blob", b"three\n")
@@ -52,8 +52,8 @@ def show_all(checks, program, label, folder):
     wanted = done(TOLD + b"".join(map(framed, told)))
     ran = program.ran("run", "--dir", folder.path, given=ASKED + frames([*HEADS, *REST]))
     checks.same(f"{label}: what it shows", wanted, ran)
-    checks.same(f"{label}: the state behind it", ENDED, folder.state())
-    checks.same(f"{label}: check behind it", sound(), program.checked(folder.path))
+    checks.same(f"{label}: the state after it", ENDED, folder.state())
+    checks.same(f"{label}: check after it", sound(), program.checked(folder.path))
     checks.same(f"{label}: files that are torn", [], torn(folder))
 
 

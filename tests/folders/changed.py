@@ -31,7 +31,7 @@ def told(*replies):
 
 
 def pushed(program, path):
-    """A folder whose journal has a push of alice's, and parts of uploads that are open, behind a kill."""
+    """A folder whose journal has a push of alice's, and parts of uploads that are open, after a kill."""
     folder = Folder(path)
     live = Live(program, "--dir", folder.path, "alice=10000", "bob=1000")
     turns = [INIT, (ALICE, PUSH), (ALICE, b"part\nabc"), (BOB, b"part\nde"), (BOB, b"part\nf")]

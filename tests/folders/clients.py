@@ -56,7 +56,7 @@ def show_many(checks, program, folder):
         stream.close()
     still = frames([(BOB, b"drop r%d\n" % number) for number in range(10)])
     checks.same("what all of them did", framed(b"ok\n") * 10, serving.told(still))
-    checks.same("the end behind the last of 15", done(), serving.ended())
+    checks.same("the end after the last of 15", done(), serving.ended())
     checks.same("the socket is gone", False, os.path.exists(serving.path))
 
 
@@ -101,10 +101,10 @@ def show_gone_clients(checks, program, folder):
         with serving.client() as stream:
             send_all(stream, text)
             checks.same(f"the reply to {text[:40]!r}", BAD, to_end(stream))
-        still_serves(checks, f"behind {text[:40]!r}", serving)
+        still_serves(checks, f"after {text[:40]!r}", serving)
     for way, text in gone:
         way(serving.client(), text)
-        still_serves(checks, f"{way.__name__} behind {text[:40]!r}", serving)
+        still_serves(checks, f"{way.__name__} after {text[:40]!r}", serving)
     checks.same("replies before garbage", TOLD * 2 + BAD, serving.told(QUOTA * 2 + b"x"))
     checks.same("a long reply is whole", GREAT_TOLD, serving.told(GREAT_ASK))
     checks.same("the end", done(), serving.ended())
@@ -147,4 +147,4 @@ def show_slow_clients(checks, program, folder):
     slow.shutdown(socket.SHUT_RDWR)
     slow.close()
     sender.join()
-    checks.same("the end behind one that never reads", done(), serving.ended())
+    checks.same("the end after one that never reads", done(), serving.ended())

@@ -37,7 +37,7 @@ class Upgrades:
         shutil.rmtree(folder.path)
 
     def kill_within(self, label, wait):
-        """An upgrade that is killed some time behind its start, and another one."""
+        """An upgrade that is killed some time after its start, and another one."""
         folder = self.copy()
         for _ in range(2):
             child = self.program.begun("upgrade", "--dir", folder.path)

@@ -47,7 +47,7 @@ def about(name):
     yield from (b"quota\n", b"for-each-ref q\n", b"for-each-ref r\n", b"head r\n", b"fork r s\n", b"drop r\n")
 
 
-# What bob has of his own, and what he asks before an offer stands, while it does, and behind it.
+# What bob has of his own, and what he asks before an offer stands, while it does, and after it.
 HIS = [
     b"init q\n",
     b"push q\ncreate refs/heads/a %s\n\n" % name_of(b"commit", commit(name_of(b"tree", b"")))
@@ -62,7 +62,7 @@ HERS[1] += b"".join(record(*thing) for thing in OBJECTS.values())
 
 
 def show_offered_objects(checks, program, work):
-    """Before he forks an offer, and behind its withdrawal, bob is told what a host without it tells of all its objects."""
+    """Before he forks an offer, and after its withdrawal, bob is told what a host without it tells of all its objects."""
     rounds = [[*GONE, *ROUND], [*NOT_THERE, *ROUND], [*GONE, *NOT_THERE, *ROUND]]
     changes = [(ALICE, b"offer r bob\n"), (ALICE, b"withdraw r bob\n")]
     beside = [*((ALICE, payload) for payload in HERS), *((BOB, payload) for payload in HIS)]
@@ -200,7 +200,7 @@ GIVES = [
 
 
 def taking(number):
-    """Bob forks what is offered to him behind each of its giver's requests, and offers it to others."""
+    """Bob forks what is offered to him after each of its giver's requests, and offers it to others."""
     return [(BOB, b"fork-offer alice r b%d\n" % number), (BOB, b"offer b%d carol\n" % number)]
 
 

@@ -102,13 +102,13 @@ class Run:
             if told != b"host store\n":
                 break
             self.faults += 1
-            self.checks.same(f"{label}: what is seen behind a failure", before, self.aside())
+            self.checks.same(f"{label}: what is seen after a failure", before, self.aside())
             told = self.live.asked(who, asked)
         right = told == wanted or (is_count(who, told) and is_count(who, wanted))
         self.checks.same(f"{label}: its reply", wanted, wanted if right else told)
 
     def census(self):
-        """How many objects are left behind a whole round."""
+        """How many objects are left after a whole round."""
         self.live.asked(*COLLECT)
         return self.live.asked(*CENSUS)
 
@@ -123,7 +123,7 @@ def told_without_failure(program, folder, turns):
 
 
 def show_one(checks, program, folder, label, turns, wanted, fuse):
-    """One run with a fuse that is set behind the start. How many calls failed, and how many faults were told."""
+    """One run with a fuse that is set after the start. How many calls failed, and how many faults were told."""
     told, seen, census, _ = wanted
     run = Run(checks, program, folder, label)
     run.live.asked(*CENSUS)
@@ -137,7 +137,7 @@ def show_one(checks, program, folder, label, turns, wanted, fuse):
     checks.same(f"{label}: its end", done(), run.live.ended())
     checks.same(f"{label}: check", sound(), program.checked(folder.path))
     again = Live(program, "--dir", folder.path)
-    checks.same(f"{label}: behind a start", seen, shown(again))
+    checks.same(f"{label}: after a start", seen, shown(again))
     checks.same(f"{label}: the last end", done(), again.ended())
     return failed, run.faults
 

@@ -196,7 +196,7 @@ def show_upload(checks, program, work):
     checks.same("its end", NOTHING, live.asked(BOB, b"part-end r\n"))
     remove(folder, name)
     harms = sorted([blob(SMALL), name])
-    checks.same("behind it", told(*((b"lost", harm) for harm in harms)), live.asked(HOST, FSCK))
+    checks.same("after it", told(*((b"lost", harm) for harm in harms)), live.asked(HOST, FSCK))
     checks.same("its end", done(), live.ended())
 
 
@@ -255,7 +255,7 @@ def show_mended(checks, program, work):
 
 
 def show_failing(checks, program, work):
-    """Where a file can't be read that is told, and nothing else; and behind it all is as before."""
+    """Where a file can't be read that is told, and nothing else; and after it all is as before."""
     folder = Folder(os.path.join(work, "failing"))
     live = begun(checks, program, folder, ALICE, texts=[LARGE, SMALL])
     name = blob(LARGE)

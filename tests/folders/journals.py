@@ -37,7 +37,7 @@ def show_journal(checks, program, work):
     for who, payload in requests.turns(300):
         reply = live.asked(who, payload)
         kept += frame(who, payload) if changes(payload, reply) else b""
-        checks.same(f"the journal behind {payload[:20]!r}", kept, folder.journal())
+        checks.same(f"the journal after {payload[:20]!r}", kept, folder.journal())
     checks.same("bad requests are not in it", b"no bad-request\n", live.asked(ALICE, b"x" * 1000))
     checks.same("nor are the host's", b"no bad-request\n", live.asked(HOST, b"x"))
     for payload in (b"sweep 5\n", b"collect\n", b"census\n"):
@@ -49,7 +49,7 @@ def show_journal(checks, program, work):
     checks.same("check counts it", sound(count), program.checked(folder.path))
     checks.same("check leaves it", kept, folder.journal())
     checks.same("a start that serves nothing", done(), program.ran("run", "--dir", folder.path))
-    checks.same("there is one journal behind it", [os.path.basename(folder.journal_path())], folder.journals())
+    checks.same("there is one journal after it", [os.path.basename(folder.journal_path())], folder.journals())
 
 
 TURNS = [INIT, (ALICE, PUSH), (BOB, b"init s\n"), (ALICE, b"fork r s\n"), (BOB, b"part\nabc")]
@@ -79,7 +79,7 @@ def show_done_again(checks, program, folder, label, count):
     ran = program.ran("run", "--dir", folder.path, given=frames(asks))
     memory = program.ran("run", "alice=60000", "bob=60000", given=frames(TURNS[:count] + asks))
     wanted = b"".join(map(framed, replies(memory.output)[0][count:]))
-    checks.same(f"what is there behind {label}", done(wanted), ran)
+    checks.same(f"what is there after {label}", done(wanted), ran)
     checks.same("one journal is left", [os.path.basename(folder.journal_path())], folder.journals())
 
 
@@ -162,7 +162,7 @@ CHANGE = (BOB, b"init s\n")
 
 
 def opened(checks, program, folder):
-    """A host with open uploads, and nothing else behind its state."""
+    """A host with open uploads, and nothing else after its state."""
     told = program.ran("run", "--dir", folder.path, *TENANTS, given=frame(*INIT))
     checks.same("init", done(framed(b"ok\n")), told)
     live = Live(program, "--dir", folder.path)
@@ -179,7 +179,7 @@ def by_a_bad_frame(program, live, folder):
     return failed("bad frame", b"! bad-frame\n"), live.ended(b"alice")
 
 
-def behind_a_change(program, live, folder):
+def after_a_change(program, live, folder):
     return done(framed(b"ok\n")), live.ended(frame(*CHANGE))
 
 
@@ -188,7 +188,7 @@ def over_an_altered_upload(program, live, folder):
     return done(), live.ended()
 
 
-def behind_a_kill(program, live, folder):
+def after_a_kill(program, live, folder):
     killed(live)
     return done(), program.ran("run", "--dir", folder.path)
 
@@ -200,7 +200,7 @@ def by_its_last_connection(program, live, folder):
     return done(framed(b"no upload-open\n") + framed(b"ok\n")), serving.ended()._replace(output=b"".join(told))
 
 
-ENDS = (by_its_input, by_a_bad_frame, behind_a_change, over_an_altered_upload, behind_a_kill, by_its_last_connection)
+ENDS = (by_its_input, by_a_bad_frame, after_a_change, over_an_altered_upload, after_a_kill, by_its_last_connection)
 
 
 def shown(program, folder):

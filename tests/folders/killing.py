@@ -198,7 +198,7 @@ class Life:
             return came + told(stream)
 
     def at_once(self, host, turns, wait):
-        """Asks all at once, and where there is a time, the host is killed behind it. What came of it."""
+        """Asks all at once, and where there is a time, the host is killed after it. What came of it."""
         with host.client() as stream:
             tell(stream, turns)
             if wait is not None:
@@ -297,7 +297,7 @@ def show_killed(checks, program, work):
 
 
 def show_full(checks, program, work):
-    """Files may only grow so long: what is answered is right, the fault is named, and behind it nothing is half."""
+    """Files may only grow so long: what is answered is right, the fault is named, and after it nothing is half."""
     for seed in range(100, 100 + FULL):
         life, label = Life(checks, program, work, seed), f"full disk {seed}"
         host = life.started(*GRANTS)

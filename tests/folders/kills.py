@@ -78,7 +78,7 @@ class Killed:
 
     def judge(self, label, folder, came=None):
         """What is left is the old state or the new one, a journal of the requests that were done, and whole files; and
-        a next start goes on behind these. Where replies came, their requests were done, and one more at the most."""
+        a next start goes on after these. Where replies came, their requests were done, and one more at the most."""
         state = folder.state()
         if state not in (self.old, self.new):
             self.checks.same(f"{label}: the state", self.old, state)
@@ -86,7 +86,7 @@ class Killed:
         went = len(requests_in(folder.journal())) if state == self.old else len(self.turns)
         if came is not None:
             came = of_tenants(self.asked, came)
-            self.checks.same(f"{label}: {went} done behind {len(came)} replies", True, went - len(came) in (0, 1))
+            self.checks.same(f"{label}: {went} done after {len(came)} replies", True, went - len(came) in (0, 1))
             self.checks.same(f"{label}: the replies", self.wanted[: len(came)], came)
         torn = [name for name, file in folder.files().items() if not whole(name, file)]
         self.checks.same(f"{label}: files that are torn", [], torn)
@@ -100,7 +100,7 @@ class Killed:
         shutil.rmtree(folder.path)
 
     def kill_within(self, label, wait):
-        """A run that is killed some time behind its start."""
+        """A run that is killed some time after its start."""
         folder = self.copy()
         child = self.program.begun("run", "--dir", folder.path)
         try:
@@ -111,7 +111,7 @@ class Killed:
         self.judge(label, folder, replies(output)[0])
 
     def kill_saving(self, label, wait):
-        """A run that is killed some time behind its last reply and the end of its input."""
+        """A run that is killed some time after its last reply and the end of its input."""
         folder = self.copy()
         child = self.program.begun("run", "--dir", folder.path)
         child.stdin.write(frames(self.asked))

@@ -34,7 +34,7 @@ def show_long_connection(checks, program, work):
             checks.same(f"upload {number}", framed(b"ok\n") * 2, told)
             longest = max(longest, lengths())
         checks.same("the journal has what came before the pause", True, LONG - PART < longest < LONG + 2 * PART)
-        checks.same("and then only what came behind it", True, 0 < lengths() < COUNT * PART - LONG + 2 * PART)
+        checks.same("and then only what came after it", True, 0 < lengths() < COUNT * PART - LONG + 2 * PART)
         checks.same("the state is there", True, folder.state().startswith(b"forkhost state 2\n"))
         stream.sendall(frame(ALICE, b"init r\n"))
         checks.same("the same connection goes on", framed(b"ok\n"), reader.read(len(framed(b"ok\n"))))

@@ -1,4 +1,4 @@
-"""Offers between tenants over a folder: what stands behind each request is there again behind a start or a kill."""
+"""Offers between tenants over a folder: what stands after each request is there again after a start or a kill."""
 import os
 
 from folders.cases import commit
@@ -49,7 +49,7 @@ REFUSED = [
     (BOB, b"offers\n", b"ok\nfrom alice r\n"),
 ]
 ROWS = {"1000": MADE + TAKEN, "255": MADE + REFUSED}
-# What alice has offered behind a request.
+# What alice has offered after a request.
 STANDS = {
     OFFER[1]: [Offer(BOB, b"r", {MAIN: C}, MAIN)],
     b"withdraw r bob\n": [],
@@ -87,7 +87,7 @@ def show_later(checks, program, label, folder):
     """A tenant that is added later finds the offer to its name."""
     ran = program.ran("run", "--dir", folder.path, "nobody=0", given=asked(LATER))
     checks.same(f"{label}: a tenant that is added", told(LATER), ran)
-    checks.same(f"{label}: check behind it", sound(), program.checked(folder.path))
+    checks.same(f"{label}: check after it", sound(), program.checked(folder.path))
 
 
 def show_restarted_offers(checks, program, work):
@@ -107,7 +107,7 @@ def show_restarted_offers(checks, program, work):
 
 
 def show_killed_offers(checks, program, work):
-    """The host is killed behind each request, and what it acknowledged is done again by the next start."""
+    """The host is killed after each request, and what it acknowledged is done again by the next start."""
     for limit, turns in ROWS.items():
         folder, words = Folder(os.path.join(work, limit)), ["alice=1000", f"bob={limit}"]
         for number, turn in enumerate(turns):
@@ -137,7 +137,7 @@ def show_one_journal(checks, program, folder):
     checks.same("check of it", sound(len(kept)), program.checked(folder.path))
     looks = [turn for turn in TAKEN[-3:] if turn[1] != b"offer r nobody\n"]
     looks += [(ALICE, b"offers\n", b"ok\nto nobody r\n"), (BOB, b"part-drop\n", OK), (BOB, b"quota\n", b"ok\n256 1000\n")]
-    checks.same("a start behind it", told(looks), program.ran("run", "--dir", folder.path, given=asked(looks)))
+    checks.same("a start after it", told(looks), program.ran("run", "--dir", folder.path, given=asked(looks)))
     checks.same("offers of the state", {ALICE: STANDS[b"offer r nobody\n"]}, offered(folder))
 
 
@@ -155,6 +155,6 @@ def show_upgraded_offers(checks, program, work):
     checks.same("an upgrade", done(b"state 2\n"), program.ran("upgrade", "--dir", folder.path))
     wanted = {ALICE: [*STANDS[OFFER[1]], Offer(b"zoe", b"q", {}, MAIN)]}
     checks.same("offers of the state", wanted, offered(folder))
-    checks.same("check behind it", sound(), program.checked(folder.path))
+    checks.same("check after it", sound(), program.checked(folder.path))
     ran = program.ran("run", "--dir", folder.path, given=asked(TAKEN[:3]))
-    checks.same("a start behind it", told(TAKEN[:3]), ran)
+    checks.same("a start after it", told(TAKEN[:3]), ran)

@@ -66,7 +66,7 @@ def show_rooms(checks, program, folder):
 
     os.symlink(os.path.join(folder, "nowhere"), room)
     refused("a link to nothing")
-    checks.same("nothing is made behind it", False, os.path.lexists(os.path.join(folder, "nowhere")))
+    checks.same("nothing is made after it", False, os.path.lexists(os.path.join(folder, "nowhere")))
     os.remove(room)
 
     write(room, b"kept")

@@ -1,4 +1,4 @@
-"""The file of a socket, what stands at its path, and the state that is saved behind the last connection."""
+"""The file of a socket, what stands at its path, and the state that is saved after the last connection."""
 import os
 import socket
 import stat
@@ -101,7 +101,7 @@ def show_faults(checks, program, folder):
         checks.same(f"a socket at {name[:20]}", failed("socket"), one_refused(program, inside(name)))
     checks.same("the file stays", b"kept", content(inside("file")))
     checks.same("the link stays", inside("nowhere"), os.readlink(inside("link")))
-    checks.same("nothing is made behind it", False, os.path.lexists(inside("nowhere")))
+    checks.same("nothing is made after it", False, os.path.lexists(inside("nowhere")))
     kept = Folder(inside("kept"))
     checks.same("a start", done(), program.ran("run", "--dir", kept.path, "alice=7"))
     state = kept.state()
@@ -122,7 +122,7 @@ def show_faults(checks, program, folder):
 
 
 def show_saved(checks, program, folder):
-    """The state is saved before the first connection and behind the last; between them a journal has what they did."""
+    """The state is saved before the first connection and after the last; between them a journal has what they did."""
     kept, path = Folder(os.path.join(folder, "kept")), os.path.join(folder, "socket")
     serving = Serving(program, path, 4, "--dir", kept.path, "alice=10000")
     checks.same("a push", framed(b"ok\n") * 2, serving.told(frames([(ALICE, b"init r\n"), (ALICE, PUSH)])))
@@ -130,7 +130,7 @@ def show_saved(checks, program, folder):
     told = serving.told(frame(ALICE, b"part\n") + b"alice 9\n")
     checks.same("one that goes in a frame", framed(b"ok\n") + b"! bad-frame\n", told)
     checks.same("the state before the end", spelled([Tenant(ALICE, 10000, [], [])]), kept.state())
-    checks.same("the journal behind it", 4, len(requests_in(kept.journal())))
+    checks.same("the journal after it", 4, len(requests_in(kept.journal())))
     checks.same("the folder is held", failed("store"), program.ran("run", "--dir", kept.path))
     checks.same("the upload is the tenant's", framed(b"no upload-open\n"), serving.told(frame(ALICE, b"push r\n\n")))
     checks.same("the end", done(), serving.ended())

@@ -89,7 +89,7 @@ def show_altered(checks, program, work):
 
 
 def show_kept(checks, program, work):
-    """An upload outlives a kill with what is staged: behind a start it goes on, and holds what it held."""
+    """An upload outlives a kill with what is staged: after a start it goes on, and holds what it held."""
     folder = Folder(os.path.join(work, "kept"))
     live = begun(checks, program, folder)
     for at, end in zip((0, *ENDS), ENDS):

@@ -163,7 +163,7 @@ def read(text):
 
 
 def inner(tenant, repository):
-    """The lines of a repository or an offer behind that by which it begins."""
+    """The lines of a repository or an offer after that by which it begins."""
     space = space_of(tenant, repository)
     yield b"head " + space + repository.head
     yield from (b"ref %s %s%s" % (target, space, name) for name, target in repository.references.items())

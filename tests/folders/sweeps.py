@@ -26,7 +26,7 @@ def with_sweeps(chance, turns):
 
 def plain(turns, answers):
     """The answers, each count for the host's own side without its number: what stands in the store that nobody has is
-    not the same behind a start."""
+    not the same after a start."""
     askers = itertools.chain((who for who, _ in turns), itertools.repeat(None))
     return [b"a count" if who == HOST and COUNT.fullmatch(reply or b"") else reply for who, reply in zip(askers, answers)]
 
@@ -49,11 +49,11 @@ def collected(program, folder):
 
 
 def show_collected(checks, program, folder, label):
-    """A collection leaves the files of what tenants see and no others, and behind it there is nothing to collect."""
+    """A collection leaves the files of what tenants see and no others, and after it there is nothing to collect."""
     told, ended = collected(program, folder)
     checks.same(f"{label}: a collection ends", done(), ended)
     checks.same(f"{label}: a collection counts, {told!r}", True, COUNT.fullmatch(told) is not None)
     checks.same(f"{label}: what is left is what tenants see", seen(folder), sorted(folder.files()))
     checks.same(f"{label}: what was swept is let go", [], folder.swept())
     checks.same(f"{label}: another one", (b"ok\n0\n", done()), collected(program, folder))
-    checks.same(f"{label}: check behind it", sound(folder.again()), program.checked(folder.path))
+    checks.same(f"{label}: check after it", sound(folder.again()), program.checked(folder.path))

@@ -46,7 +46,7 @@ def show_put_back(checks, program, folder):
     asked = frames([(ALICE, b"cat-file %s\n" % C)])
     ran = program.ran("run", "--dir", folder.path, given=asked)
     checks.same("a start", done(framed(b"ok\n" + record(*OBJECTS[C]))), ran)
-    is_back(checks, "behind a start", program, folder)
+    is_back(checks, "after a start", program, folder)
 
 
 def show_newer(checks, program, folder):
@@ -92,7 +92,7 @@ def show_let_go(checks, program, folder):
         (name,) = set(folder.files()) - set(FILES)
         folder.sweep(name)
         checks.same("its end", done(), live.ended())
-        is_back(checks, "behind the end", program, folder)
+        is_back(checks, "after the end", program, folder)
     checks.same("its state", SAVED, folder.state())
 
 
@@ -108,9 +108,9 @@ def show_connections(checks, program, folder, work):
             stream.sendall(frames([(ALICE, payload)]))
             checks.same(repr(payload), True, one_told(stream).startswith(b"ok\n"))
         serving.told(QUOTA)
-        checks.same(f"behind {payload!r}: none is swept", [], folder.swept())
-        checks.same(f"behind {payload!r}: the journal", b"", folder.journal())
-        checks.same(f"behind {payload!r}: it is saved", there, os.lstat(folder.inside("state")).st_ino != state)
+        checks.same(f"after {payload!r}: none is swept", [], folder.swept())
+        checks.same(f"after {payload!r}: the journal", b"", folder.journal())
+        checks.same(f"after {payload!r}: it is saved", there, os.lstat(folder.inside("state")).st_ino != state)
     checks.same("a change", framed(b"ok\n"), serving.told(frames([(ALICE, b"drop s\n")])))
     serving.told(QUOTA)
     checks.same("where nothing is swept the state waits", False, folder.journal() == b"")
@@ -119,7 +119,7 @@ def show_connections(checks, program, folder, work):
 
 
 def show_unsaved(checks, program, folder):
-    """Where the state can't be saved, what was swept stays swept; and it is back behind a kill."""
+    """Where the state can't be saved, what was swept stays swept; and it is back after a kill."""
     live = Live(program, "--dir", folder.path)
     checks.same("a change", b"ok\n", live.asked(ALICE, b"init s\n"))
     folder.sweep(B)
@@ -127,11 +127,11 @@ def show_unsaved(checks, program, folder):
     checks.same("its end", failed("state not saved"), live.ended())
     checks.same("it stays swept", [B.decode()], folder.swept())
     os.rmdir(folder.inside("part"))
-    is_back(checks, "behind a failed saving", program, folder)
+    is_back(checks, "after a failed saving", program, folder)
     live = Live(program, "--dir", folder.path)
     checks.same("it is read", b"ok\n" + record(*OBJECTS[B]), live.asked(ALICE, b"cat-file %s\n" % B))
     folder.sweep(B)
     live.child.kill()
     live.child.communicate()
-    is_back(checks, "behind a kill", program, folder)
+    is_back(checks, "after a kill", program, folder)
     shutil.rmtree(folder.path)

@@ -187,7 +187,7 @@ COUNTS = [
     (None, text(ALICE, b"repo r", *many(ref(b"refs/heads/b%04d"), 4096), b"repo s", BOB)),
 ]
 
-# What stands behind a line that begins a repository or an offer.
+# What stands after a line that begins a repository or an offer.
 BAD_HEADS = [
     *map(head, (b"", b"refs/tags/v", b"refs/heads", b"refs/heads/", b"HEAD", b"refs/heads/a..b", b"refs/heads/a ")),
     *(head(space=space) for space in BAD_SPACES),

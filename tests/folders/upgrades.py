@@ -44,7 +44,7 @@ def show_upgrades(checks, program, work):
         checks.same(f"{label}: its journal", [os.path.basename(folder.journal_path())], folder.journals())
         checks.same(f"{label}: check", sound(LEFT), program.checked(folder.path))
         checks.same(f"{label}: what was being written", [], folder.parts())
-    show_all(checks, program, "behind upgrades", folder)
+    show_all(checks, program, "after upgrades", folder)
     bare = copy(work, "bare")
     shutil.rmtree(bare.inside("journal"))
     checks.same("an upgrade of the state alone", STATE_2, upgraded(program, bare))
@@ -53,7 +53,7 @@ def show_upgrades(checks, program, work):
 
 
 def show_heads_stay(checks, program, folder):
-    """Of a folder of version 2 each HEAD stays: what the state has, and what the journal has behind it."""
+    """Of a folder of version 2 each HEAD stays: what the state has, and what the journal has after it."""
     sets = [(ALICE, b"init r\n"), (ALICE, b"init s\n"), (ALICE, b"set-head r refs/heads/x\n")]
     ran = program.ran("run", "--dir", folder.path, "alice=1000", given=frames(sets))
     checks.same("HEAD is set", done(framed(b"ok\n") * 3), ran)

@@ -181,7 +181,7 @@ def show_bound(world):
     world.set(1)
     world.remove(world.cache("a"))
     world.cloned("one that is above the bound by itself is served", "a")
-    checks.same("and goes behind its request, as all others", [], there(world))
+    checks.same("and goes after its request, as all others", [], there(world))
     os.chmod(world.path("caches", "alice"), 0o755)
     ran = world.git(None, "ls-remote", world.url("a"))
     told = (ran.status, ran.fault.startswith(b"forkhost: the front end failed\n"))

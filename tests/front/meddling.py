@@ -57,7 +57,7 @@ def hook_of(world):
 
 
 def show_hook_killed(world):
-    """What asks the host is killed behind each of its requests: the push may be done, and the next call is right."""
+    """What asks the host is killed after each of its requests: the push may be done, and the next call is right."""
     checks = world.checks
     world.init("alice", "r")
     first, second, third = line(world, world.repository("source"), "one", "two", "three")
@@ -76,13 +76,13 @@ def show_hook_killed(world):
 
         world.set(BYTES, Watcher(world.path(f"watched_{word}"), world.host.socket, meddle).path)
         ran = world.git("source", "push", "--porcelain", world.url("r"), f"{tip}:refs/heads/main")
-        checks.same(f"killed behind {word}: it is", (1, 1), (ran.status, len(killed_at)))
+        checks.same(f"killed after {word}: it is", (1, 1), (ran.status, len(killed_at)))
         world.set(BYTES)
         wanted = [f"{tip if is_done else first} refs/heads/main"]
-        checks.same(f"killed behind {word}: the host", wanted, world.kept("r"))
-        copy = world.cloned(f"killed behind {word}: a clone", "r")
-        checks.same(f"killed behind {word}: what it has", wanted[0].split()[0], world.name(copy, "origin/main"))
-        checks.same(f"killed behind {word}: the cache", world.reached(world.cache()), world.in_cache())
+        checks.same(f"killed after {word}: the host", wanted, world.kept("r"))
+        copy = world.cloned(f"killed after {word}: a clone", "r")
+        checks.same(f"killed after {word}: what it has", wanted[0].split()[0], world.name(copy, "origin/main"))
+        checks.same(f"killed after {word}: the cache", world.reached(world.cache()), world.in_cache())
     world.succeeds("the next push", world.git("source", "push", "-q", world.url("r"), f"{third}:refs/heads/main"))
     world.same_clone("after a hook was killed")
     world.host.ends_well(checks, "after a hook was killed")

@@ -80,7 +80,7 @@ def show_fsck(world, first):
 
 
 def show_served(world, label, tip):
-    """What the host has is served, and the cache is in doubt behind a fault, and found to be right."""
+    """What the host has is served, and the cache is in doubt after a fault, and found to be right."""
     world.logged()
     ran = world.git(world.repository("fetched"), "fetch", "-q", world.url("r", "carol"), "wrong")
     world.succeeds(f"{label}: who fetches it", ran)

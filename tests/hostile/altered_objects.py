@@ -241,4 +241,4 @@ def show_arrivals(checks, program, work):
             checks.same(f"{label}: it is not seen", b"no missing %s\n" % name, session.asked(BOB, b"cat-file %s\n" % name))
         put_back(path, data)
     checks.same("its end", done(), session.ended())
-    checks.same("check behind it", sound(), program.tried("sound", "check", "--dir", folder.path))
+    checks.same("check after it", sound(), program.tried("sound", "check", "--dir", folder.path))

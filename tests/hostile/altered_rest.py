@@ -20,7 +20,7 @@ EXTRA = (b"blob", b"one more\n")
 
 
 def altered_texts(chance, text):
-    """The text with a byte turned, cut, with lines that are gone, doubled, exchanged, and with bytes behind it."""
+    """The text with a byte turned, cut, with lines that are gone, doubled, exchanged, and with bytes after it."""
     lines = text.split(b"\n")
     one, other = chance.randrange(len(lines) - 1), chance.randrange(len(lines) - 1)
     at = chance.randrange(len(text))
@@ -70,7 +70,7 @@ def show_state_things(checks, program, work):
 
 
 def journaled(program, store, path):
-    """A folder with a journal of some requests behind its state."""
+    """A folder with a journal of some requests after its state."""
     folder = store.copy(path)
     session = Doubted(program, PATIENCE, "--dir", folder.path)
     turns = [(ALICE, b"init s\n"), (BOB, b"part\n\n" + record(*EXTRA)), (ALICE, b"push s\n\n" + record(*EXTRA))]

@@ -10,7 +10,7 @@ LINE = re.compile(rb"([a-z0-9][a-z0-9_-]{0,31}|@host) (0|[1-9][0-9]{0,6})\n")
 
 
 def requests_in(stream):
-    """The whole frames that stand one behind another at the front of a stream."""
+    """The whole frames that stand one after another at the front of a stream."""
     found, at = [], 0
     while (line := LINE.match(stream, at)) and line.end() + int(line[2]) <= len(stream):
         found.append(stream[at : line.end() + int(line[2])])

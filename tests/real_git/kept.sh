@@ -1,4 +1,4 @@
-# The same turns over a folder: what it keeps, file by file, and what is seen behind another start.
+# The same turns over a folder: what it keeps, file by file, and what is seen after another start.
 # shellcheck shell=bash
 
 # The file of the object with this record: its type, SP, its size, a zero byte, its content.
@@ -21,11 +21,11 @@ is_sound() {
 
 in_a_folder() {
     run_session "$program" --dir "$work/folder"
-    is_sound 'behind the session'
+    is_sound 'after the session'
     mapfile -t names < <(ls "$work/record")
     keeps_all
     : >"$work/turns"
     sees_all whole
     add_up < <("$here/session" "$program" "$work/turns" --dir "$work/folder" || true)
-    is_sound 'behind another one'
+    is_sound 'after another one'
 }

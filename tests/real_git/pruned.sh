@@ -31,7 +31,7 @@ sees_reached() {
 
 # The lines of standard input as a transaction, in Git and by the tenant, and then a prune: what it shows, who asks,
 # and how many objects it takes away at the least.
-prune_behind() {
+prune_after() {
     local before gone
     cat >"$work/commands"
     before=$(wc -l <"$work/reached")
@@ -58,16 +58,16 @@ pruned() {
     uses 'all of it' "$who" "$work/all"
     asks 'a prune before any deletion' "$who" ok <<<prune
     sees_reached 'a prune before any deletion' "$who"
-    prune_behind 'a branch that is merged' "$who" 0 <<<'delete refs/heads/topic'
-    prune_behind 'a branch that is not merged' "$who" 1 <<<'delete refs/heads/signed'
-    prune_behind 'a tag that another one tags' "$who" 0 <<<'delete refs/tags/v1'
-    prune_behind 'a tag of a tag' "$who" 2 <<<'delete refs/tags/v1-again'
-    prune_behind 'notes' "$who" 3 <<<'delete refs/notes/commits'
-    prune_behind 'a reference to a blob' "$who" 0 <<<'delete refs/files/empty'
-    prune_behind 'tags of a tree and of a blob' "$who" 2 <<<$'delete refs/tags/tree\ndelete refs/tags/blob'
-    prune_behind 'a branch goes back' "$who" 6 <<<"update refs/heads/main $(git rev-parse main~5) $(git rev-parse main)"
+    prune_after 'a branch that is merged' "$who" 0 <<<'delete refs/heads/topic'
+    prune_after 'a branch that is not merged' "$who" 1 <<<'delete refs/heads/signed'
+    prune_after 'a tag that another one tags' "$who" 0 <<<'delete refs/tags/v1'
+    prune_after 'a tag of a tag' "$who" 2 <<<'delete refs/tags/v1-again'
+    prune_after 'notes' "$who" 3 <<<'delete refs/notes/commits'
+    prune_after 'a reference to a blob' "$who" 0 <<<'delete refs/files/empty'
+    prune_after 'tags of a tree and of a blob' "$who" 2 <<<$'delete refs/tags/tree\ndelete refs/tags/blob'
+    prune_after 'a branch goes back' "$who" 6 <<<"update refs/heads/main $(git rev-parse main~5) $(git rev-parse main)"
     prune_in_git
     git for-each-ref --format='delete %(refname) %(objectname)' >"$work/deletions"
-    prune_behind 'no reference is left' "$who" 1 <"$work/deletions"
+    prune_after 'no reference is left' "$who" 1 <"$work/deletions"
     same 'nothing is reached without references' '' "$(cat "$work/reached")"
 }

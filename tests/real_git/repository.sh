@@ -63,7 +63,7 @@ branch() {
     git checkout -q main
 }
 
-# A merge of these branches, behind one more commit of main.
+# A merge of these branches, after one more commit of main.
 merge() {
     echo "$*" >>log
     commit "before the merge of $*"

@@ -17,7 +17,7 @@ class Shown(Checks):
         self.work, self.reaches = work, {}
 
     def told(self, wanted, *words, who="alice"):
-        """The reply to this query is this one, which is bytes behind `ok` LF or the words of a refusal."""
+        """The reply to this query is this one, which is bytes after `ok` LF or the words of a refusal."""
         reply = b"ok\n" + wanted if isinstance(wanted, bytes) else f"no {wanted}\n".encode()
         self.same(f"{who}: {' '.join(words)}"[:300], reply, self.host.query(who, *words))
 

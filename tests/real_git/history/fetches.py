@@ -1,4 +1,4 @@
-"""`fetch` beside `git rev-list --objects`, before and behind a prune."""
+"""`fetch` beside `git rev-list --objects`, before and after a prune."""
 from real_git.history.checks import with_signs
 from real_git.history.walks import show_list
 

@@ -32,7 +32,7 @@ class Stream:
 
 
 def all_modes(stream):
-    """One commit with entries of all modes, odd file names, and a folder that sorts behind a file."""
+    """One commit with entries of all modes, odd file names, and a folder that sorts after a file."""
     inline = b" inline %s\ndata 3\nab\n\n"
     paths = (b"a", b"a.b", b"a0", b"-dash", b"*", b'"with space"', b'"qu\\"ote"', b'"tab\\there"', b'"new\\nline"',
              b'"\\377\\376"', b"deep/b/c/d")

@@ -4,7 +4,7 @@ import subprocess
 import sys
 import tempfile
 
-# GLIBC_TUNABLES, where it is set, is handed on (docs/OPERATING.md).
+# GLIBC_TUNABLES, if it is set, is handed on (docs/OPERATING.md).
 HANDED_ON = {name: os.environ[name] for name in ("PATH", "GLIBC_TUNABLES") if name in os.environ}
 ENV = {**HANDED_ON, "GIT_CONFIG_GLOBAL": os.devnull, "GIT_CONFIG_NOSYSTEM": "1", "LC_ALL": "C"}
 REACHED = ["git", "rev-list", "--objects", "--no-object-names"]

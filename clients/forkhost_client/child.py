@@ -27,7 +27,7 @@ def in_memory(data: bytes) -> int:
 
 
 def widen(pipe: int, size: int) -> None:
-    """Room for so many bytes in a pipe, if the kernel gives it."""
+    """Room for this many bytes in a pipe, if the kernel gives it."""
     from fcntl import fcntl
 
     try:

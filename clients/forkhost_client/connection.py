@@ -19,7 +19,7 @@ class Data:
         self.reader, self.left = reader, left
 
     def read(self, count: int) -> bytes:
-        """So many bytes, all of which the reply has."""
+        """This many bytes, all of which the reply has."""
         if count > self.left:
             raise Fatal("the host's reply ends too early")
         self.left -= count

@@ -22,6 +22,6 @@ def is_small(word: bytes) -> bool:
 
 
 def number(digits: bytes, most: int) -> "int | None":
-    """A number of so many digits at the most, none of them needless."""
+    """A number of this many digits at the most, none of them needless."""
     is_one = digits.isdigit() and len(digits) <= most and (digits[:1] != b"0" or len(digits) == 1)
     return int(digits) if is_one else None

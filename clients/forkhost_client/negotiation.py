@@ -1,9 +1,9 @@
 """What both sides have, so that what it leads to need not be sent."""
 from .remote import Remote
 
-# A request names so many objects at the most.
+# A request names this many objects at the most.
 MAX_ITEMS = 64
-# So many of them may be excluded, of which so many are what both sides had before.
+# This many of them may be excluded, of which this many are what both sides had before.
 MAX_EXCLUDED = 48
 MAX_COMMON = 32
 # Commits of this side alone that the host is asked about.

@@ -15,7 +15,7 @@ SIGN, VERSION = b"PACK", (2).to_bytes(4, "big")
 # Fewer objects than this are unpacked, as Git does.
 FEW = 100
 PIECE = 1 << 20
-# Bytes of objects that are packed at once, beside others where there are more.
+# Bytes of objects that are packed at once, beside others if there are more.
 BATCH = 1 << 19
 
 
@@ -107,7 +107,7 @@ class Pack:
             return self.indexed(words)
 
     def indexed(self, words: list) -> "str | None":
-        """By Git, where it is to look at the objects, or where a file can not be given a name."""
+        """By Git, where it is to look at the objects, or where a file cannot be given a name."""
         words = ["--stdin", f"--keep=forkhost {os.getpid()}", *words, *(["-v"] if self.progress.shown else [])]
         word, _, name = self.taken("index-pack", words).strip().partition("\t")
         return os.path.join(self.folder, f"pack-{name}.keep") if word == "keep" else None

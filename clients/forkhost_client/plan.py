@@ -32,7 +32,7 @@ class Plan:
         return length_of(self.objects)
 
     def uploads(self, room: int) -> list:
-        """The objects in their order, in runs of records of at most so many bytes."""
+        """The objects in their order, in runs of records of at most this many bytes."""
         lengths = {kind: length_of(one for one in self.objects if one.kind == kind) for kind in KINDS}
         runs, left, kind = [[]], room, ""
         for one in self.objects:

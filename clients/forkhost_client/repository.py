@@ -57,7 +57,7 @@ class Repository:
         return output.rstrip("\n") if status == 0 else None
 
     def about(self) -> list:
-        """Its format, whether it is cut short, and the folder of its objects; nothing where there is none."""
+        """Its format, whether it is cut short, and the folder of its objects; nothing if there is none."""
         if self.told is None:
             self.told = (self.answer(*ABOUT) or "").split("\n", 2)
         return self.told
@@ -144,7 +144,7 @@ class Batch:
         widen(self.child.output.fileno(), PIPE)
 
     def read(self, count: int) -> bytes:
-        """So many bytes, all of which must be there."""
+        """This many bytes, all of which must be there."""
         data = self.child.output.read(count)
         if len(data) != count:
             raise GitFailed("git cat-file ended too early")

@@ -14,7 +14,7 @@ GONE = "the host ended the connection"
 
 
 def told(path: str, given: bytes):
-    """The frame of the reply, as a file that stands at its beginning."""
+    """The frame of the reply, as a file whose position is its beginning."""
     stream = socket(AF_UNIX)
     try:
         connect(stream, path)
@@ -53,7 +53,7 @@ def line(reader) -> bytes:
 
 
 def pieces(reader, left: int):
-    """So many bytes, as they come."""
+    """This many bytes, as they come."""
     while left:
         try:
             piece = reader.read1(min(left, PIECE))

@@ -29,7 +29,7 @@ class Turn:
             flock(self.file, LOCK_EX)
 
     def leave(self, payload: bytes, is_done: bool) -> None:
-        """Behind its reply: a part that is done leaves the upload open."""
+        """After its reply: a part that is done leaves the upload open."""
         if self.is_taken() and verb(payload) in VERBS and not (is_done and verb(payload) == b"part"):
             os.close(self.file)
             self.file = -1

@@ -5,7 +5,7 @@ from _thread import start_new_thread
 
 # More than these would have nothing to do.
 MOST = 4
-# Of so many pieces for each of them the results are waited for.
+# Of this many pieces for each of them the results are waited for.
 AHEAD = 2
 
 
@@ -33,7 +33,7 @@ class Workers:
         return self.take(self.count * AHEAD)
 
     def take(self, left: int = 0):
-        """Results, until no more than so many pieces are left. A fault of the work is raised."""
+        """Results, until no more than this many pieces are left. A fault of the work is raised."""
         while len(self.results) > left:
             found, fault = self.results.pop(0).get()
             if fault:

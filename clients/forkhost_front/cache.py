@@ -62,7 +62,7 @@ class Cache:
         os.utime(self.use.path)
 
     def freshen(self) -> None:
-        """Brings it up to date with the host. One that is spoiled is made anew."""
+        """Brings it up to date with the host. One that is spoiled is made again."""
         self.lock.exclusive()
         listing = self.listed()
         self.mend()
@@ -86,7 +86,7 @@ class Cache:
             raise
 
     def mend(self) -> None:
-        """What a request left that broke off goes; where something lacks or is in doubt, all is made anew."""
+        """What a request left that broke off goes; where something lacks or is in doubt, all is made again."""
         if not os.path.isdir(self.path):
             self.make("it is not a folder")
             return
@@ -119,7 +119,7 @@ class Cache:
             self.use.shared()
 
     def make(self, why: str) -> None:
-        """An empty one; where one was there, the log tells why it is made anew."""
+        """An empty one; where one was there, the log tells why it is made again."""
         if os.path.lexists(self.path):
             self.tell("made-anew", why)
             is_folder = os.path.isdir(self.path) and not os.path.islink(self.path)

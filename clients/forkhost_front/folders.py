@@ -8,7 +8,7 @@ FAILED = "the front end failed"
 
 
 def own_folder(path: str) -> str:
-    """Makes the folder where it is not there."""
+    """Makes the folder if it is not there."""
     try:
         os.mkdir(path, 0o700)
     except FileExistsError:

@@ -4,7 +4,7 @@ import time
 
 from forkhost_client.faults import Fatal, Internal
 
-# What stands where there is nothing to tell.
+# What stands if there is nothing to tell.
 NOTHING = "-"
 
 

@@ -14,9 +14,9 @@ class Settings:
         self.place = place
         # The host's socket, and the folder of the caches.
         self.socket, self.caches = values["socket"], values["caches"]
-        # The file of the log, or nothing where there is none; and that which gives users of a web server their tenants.
+        # The file of the log, or nothing if there is none; and that which gives users of a web server their tenants.
         self.log, self.users = values["log"], values["users"]
-        # So many bytes all caches have at the most.
+        # This many bytes all caches have at the most.
         self.bytes = int(values["bytes"])
 
 

@@ -1,4 +1,4 @@
-"""What Git asks of a helper that nobody asked Git for; and a push that makes its repository, where that is wanted."""
+"""What Git asks of a helper that nobody asked Git for; and a push that makes its repository, if that is wanted."""
 from lib.making import commit, line
 from lib.program import done
 from lib.watching import Watcher

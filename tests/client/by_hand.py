@@ -26,7 +26,7 @@ OF_HOST = UNKNOWN._replace(fault=UNKNOWN.fault + b"forkhost-ask: ask it as @host
 
 
 def show_asking(checks, program, folder):
-    """Data on standard output; a refusal is status 1, a host fault 2, and so is what can not be asked."""
+    """Data on standard output; a refusal is status 1, a host fault 2, and so is what cannot be asked."""
     world = World(checks, program, folder, "alice=1000", "bob=1000")
     body = b"create refs/tags/v %s\n\n%s blob 6\nhello\n\n" % (NAME.encode(), NAME.encode())
     row = f"{NAME} blob\trefs/tags/v\n".encode()

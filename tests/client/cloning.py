@@ -1,4 +1,4 @@
-"""Clones, listings, and what is said where a clone can not be what was asked for."""
+"""Clones, listings, and what is said where a clone cannot be what was asked for."""
 from lib.making import commit, everything, imported, history, line
 from lib.world import World
 

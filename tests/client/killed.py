@@ -13,7 +13,7 @@ PART = 1_000_000
 
 
 def great(world, name, chance, count=12):
-    """A commit of so many great objects, under a branch."""
+    """A commit of this many great objects, under a branch."""
     blobs = [("100644", f"f{at:02}", hashed(world, "source", "blob", chance.randbytes(PART))) for at in range(count)]
     tip = commit_of(world, "source", tree_of(world, "source", *blobs))
     world.output("source", "update-ref", f"refs/heads/{name}", tip)
@@ -21,7 +21,7 @@ def great(world, name, chance, count=12):
 
 
 def show_kills(checks, program, folder):
-    """A push is killed at moments by chance, and at each kind of its requests; the next one goes on."""
+    """A push is killed at random moments, and at each kind of its requests; the next one goes on."""
     world = World(checks, program, folder)
     world.init("alice", "r")
     world.repository("source")

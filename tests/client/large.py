@@ -78,7 +78,7 @@ def filled(world, pushed, ref, total):
 
 
 def nested(world, chance, depth, width):
-    """A tree in a tree and so on, each with so many gitlinks beside. The name of the outer one."""
+    """A tree in a tree and so on, each with this many gitlinks beside. The name of the outer one."""
     links = [("160000", f"l{at:04}", f"{chance.getrandbits(256):064x}") for at in range(width)]
     inner = tree_of(world, "source", *links)
     for level in range(depth):

@@ -16,6 +16,10 @@ def show_readme(checks, program, folder):
     tools, place = world.path("tools"), world.path("place")
     os.mkdir(tools)
     os.symlink(program.path, os.path.join(tools, "forkhost"))
+    # A reader waits a second; here it is as long as the host takes.
+    with open(os.path.join(tools, "sleep"), "x", encoding="utf-8") as file:
+        file.write(f"#!/bin/sh\nuntil test -S {place}; do /bin/sleep 0.01; done\n")
+    os.chmod(os.path.join(tools, "sleep"), 0o700)
     world.repository("demo")
     tip = commit(world, "demo", "first", files={"greeting": "hello\n"})
     world.output("demo", "tag", "-a", "-m", "the first one", "v1", "main")

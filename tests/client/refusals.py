@@ -91,7 +91,7 @@ def show_large(world, here, large):
 
 
 def show_references(world, here):
-    """References that can not be as they are asked for."""
+    """References that cannot be as they are asked for."""
     here.refused("a branch at a tree", "a branch must point at a commit", "main^{tree}:refs/heads/t")
     world.output("source", "tag", "-a", "-m", "x", "annotated", "main")
     here.refused("a branch at a tag", "a branch must point at a commit", "annotated:refs/heads/t")

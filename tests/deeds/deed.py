@@ -2,7 +2,7 @@
 import re
 from dataclasses import dataclass, field
 
-from functions import function_at, head_at
+from deeds.functions import function_at, head_at
 
 LINE = re.compile(r"(file|old|new): ?(.*)")
 
@@ -10,7 +10,7 @@ LINE = re.compile(r"(file|old|new): ?(.*)")
 @dataclass
 class Deed:
     """A wrong deed: its name, the rows that it writes, by file, and the functions that these stand in. Its fault says why it
-    can not be tried."""
+    cannot be tried."""
 
     name: str
     rows: dict = field(default_factory=dict)
@@ -19,7 +19,7 @@ class Deed:
 
 
 class Unfit(Exception):
-    """Why an edit can not be tried."""
+    """Why an edit cannot be tried."""
 
 
 def swaps_in(text):

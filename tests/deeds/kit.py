@@ -8,10 +8,10 @@ import sys
 import tempfile
 from pathlib import Path
 
-from deed import do
+from deeds.deed import do
 
 PARTS = ("src", "specs", "proofs")
-# A check may take so many seconds.
+# A check may take this many seconds.
 LONGEST = "3600"
 
 

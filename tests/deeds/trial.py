@@ -2,9 +2,9 @@
 import tempfile
 from pathlib import Path
 
-from deed import Deed, batches_of, read_deed
-from kit import checked, unbuilt
-from verdict import REFUSED, SPOILED, UNSETTLED, told_in, verdict_on
+from deeds.deed import Deed, batches_of, read_deed
+from deeds.kit import checked, unbuilt
+from deeds.verdict import REFUSED, SPOILED, UNSETTLED, told_in, verdict_on
 
 FOLDERS = ("wrong", "must-fail")
 NOT_TRIED = "not tried"
@@ -16,7 +16,7 @@ def edits_of(crate):
 
 
 class Trial:
-    """The trial of these wrong deeds of a crate. What each check said is kept in the folder of logs, where there is one."""
+    """The trial of these wrong deeds of a crate. What each check said is kept in the folder of logs, if there is one."""
 
     def __init__(self, crate, files, logs=None):
         self.crate, self.files, self.logs = crate, files, logs

@@ -1,4 +1,4 @@
-"""Requests by chance: a small history, pushes of parts of it, and whatever else a tenant may ask."""
+"""Random requests: a small history, pushes of parts of it, and whatever else a tenant may ask."""
 from folders.cases import raw
 from lib.objects import links_of, name_of, record
 
@@ -50,7 +50,7 @@ class History:
 
 
 class Requests:
-    """What tenants ask, by chance. Where there are peers, offers to these names and from them are among it."""
+    """What tenants ask, at random. If there are peers, offers to these names and from them are among it."""
 
     def __init__(self, chance, history, peers=()):
         self.chance, self.history, self.peers, self.offers = chance, history, peers, []
@@ -73,7 +73,7 @@ class Requests:
         return sign + self.chance.choice([*self.history.tips, *HEADS, *self.history.tags, b"HEAD"])
 
     def payloads(self, who=None):
-        """The payloads of one request, or of a few that go together; of this tenant, where there are peers."""
+        """The payloads of one request, or of a few that go together; of this tenant, if there are peers."""
         pick, place = self.chance.choice, self.chance.choice(REPOSITORIES)
         changes = [b"part", b"update-refs", b"init", b"fork", b"drop", b"prune", b"quota", b"repos", b"set-head"]
         kind = pick([b"push"] * 4 + changes + [b"ask"] * 4 + [b"offer"] * (5 if self.peers else 0))
@@ -127,7 +127,7 @@ class Requests:
         return [b"drop %s\n" % copy, b"fork-offer %s %s %s\n" % (giver, source, copy)][pick([0, 0, 1]) :]
 
     def turns(self, count):
-        """So many requests, of which the last may be an upload that stays open."""
+        """This many requests, of which the last may be an upload that stays open."""
         asked = []
         for _ in range(count):
             who = self.chance.choice([b"alice", b"alice", b"bob"])

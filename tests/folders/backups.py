@@ -79,7 +79,7 @@ class Busy:
             until(lambda: self.folder.swept() == [])
 
     def some(self):
-        """A few requests by chance, with slices of sweeps between."""
+        """A few random requests, with slices of sweeps between."""
         turns = self.requests.turns(self.chance.randint(0, 5))
         return [host_turn(self.chance) if self.chance.random() < 0.2 else turn for turn in turns]
 
@@ -223,7 +223,7 @@ def show_wrong_backups(checks, program, work):
 
 
 def show_busy_backups(checks, program, work):
-    """Requests by chance go on all the time: at first also with savings between."""
+    """Random requests go on all the time: at first also with savings between."""
     for seed in range(SEEDS):
         os.mkdir(place := os.path.join(work, str(seed)))
         busy = Busy(program, place, random.Random(seed))

@@ -53,7 +53,7 @@ def mend(folder, content):
 
 
 def show_kept_objects(checks: Checks, program, work):
-    """What was read is told again when its file can't be read, if it is not too long; and to those alone who see it."""
+    """What was read is told again when its file cannot be read, if it is not too long; and to those alone who see it."""
     folder = Folder(os.path.join(work, "kept"))
     live = begun(checks, program, "--dir", folder.path)
     short, long = b"s" * LONGEST, b"l" * (LONGEST + 1)

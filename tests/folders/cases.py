@@ -267,7 +267,7 @@ def by_chance(chance):
 
 
 def cases(count):
-    """All cases, and so many made by chance with what the plain reader finds."""
+    """All cases, and this many made at random with what the plain reader finds."""
     yield from ((label, *case) for label, case in CASES.items())
     chance = random.Random(5)
     for number in range(count):

@@ -1,4 +1,4 @@
-"""Changes of tenants that are killed at moments by chance: the folder has what it had, or what the change makes of it."""
+"""Changes of tenants that are killed at random moments: the folder has what it had, or what the change makes of it."""
 import os
 import random
 import shutil

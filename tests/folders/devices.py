@@ -1,4 +1,4 @@
-"""What a running host meets in its folder: files that can't be written, that are altered, and that are gone."""
+"""What a running host meets in its folder: files that cannot be written, that are altered, and that are gone."""
 import os
 import shutil
 import subprocess
@@ -103,7 +103,7 @@ def show_writes(checks: Checks, program, folder):
 
 
 def show_second_write(checks: Checks, program, folder):
-    """The second object of a push can't be written, and the first one is: nothing came of the push to anybody."""
+    """The second object of a push cannot be written, and the first one is: nothing came of the push to anybody."""
     live = Live(program, "--dir", folder.path, "alice=10000", "bob=10000")
     for who in (ALICE, BOB):
         checks.same("init", b"ok\n", live.asked(who, b"init r\n"))
@@ -186,7 +186,7 @@ def spoil_one(checks, live, folder):
 
 
 def show_leftovers(checks: Checks, program, folder):
-    """Files that nobody sees and that are not whole are written anew by a push."""
+    """Files that nobody sees and that are not whole are written again by a push."""
     for number, name in enumerate(FILES):
         folder.keep(name, FILES[name][: 9 * number])
     given = frames([(ALICE, b"init r\n"), (ALICE, PUSH)])
@@ -198,7 +198,7 @@ def show_leftovers(checks: Checks, program, folder):
 
 
 def show_saves(checks: Checks, program, folder, rest, fault):
-    """The state can't be written: a folder lies where its part must be. The old one stays, and its journal has what was
+    """The state cannot be written: a folder lies where its part must be. The old one stays, and its journal has what was
     done since."""
     checks.same("the first start", done(), program.ran("run", "--dir", folder.path, "alice=10000"))
     old = folder.state()

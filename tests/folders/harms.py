@@ -201,7 +201,7 @@ def show_upload(checks, program, work):
 
 
 def show_unchanged(checks, program, work):
-    """Behind it all answers as before, and the next look falls where it fell."""
+    """After it everything is answered as before, and the next look falls where it fell."""
     texts = [b"%d kept" % number for number in range(8)]
     dropped = [b"%d dropped" % number for number in range(8)]
     runs = []
@@ -255,7 +255,7 @@ def show_mended(checks, program, work):
 
 
 def show_failing(checks, program, work):
-    """Where a file can't be read that is told, and nothing else; and after it all is as before."""
+    """If a file cannot be read, that is reported, and nothing else; after it all is as before."""
     folder = Folder(os.path.join(work, "failing"))
     live = begun(checks, program, folder, ALICE, texts=[LARGE, SMALL])
     name = blob(LARGE)
@@ -311,7 +311,7 @@ def harms_of(folder):
 
 
 def show_by_chance(checks, program, work):
-    """Folders with alterations by chance: what is told is what a plain reader finds, and `check` agrees."""
+    """Folders with alterations at random: what is told is what a plain reader finds, and `check` agrees."""
     chance = random.Random(13)
     for number in range(60):
         folder = Folder(os.path.join(work, f"chance{number}"))

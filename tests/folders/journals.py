@@ -210,7 +210,7 @@ def shown(program, folder):
 
 
 def show_ends(checks, program, work):
-    """Behind an end no upload is open: nothing is done again, and a start shows what the state shows without a journal."""
+    """After an end no upload is open: nothing is repeated, and a start shows what the state shows without a journal."""
     for end in ENDS:
         folder, label = Folder(os.path.join(work, end.__name__)), end.__name__.replace("_", " ")
         live = opened(checks, program, folder)
@@ -225,7 +225,7 @@ def show_ends(checks, program, work):
 
 
 def show_failed_ends(checks, program, work):
-    """Behind an end that can not be saved all stands that was acknowledged, open uploads too."""
+    """After an end that cannot be saved all that was acknowledged is there, open uploads too."""
     for place, turns in ((("journal", "part"), []), (("journal", "part"), [CHANGE]), (("part",), [CHANGE])):
         folder = Folder(os.path.join(work, "-".join((*place, str(len(turns))))))
         live = opened(checks, program, folder)

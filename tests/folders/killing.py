@@ -1,4 +1,4 @@
-"""A host at a socket that is killed, or whose disk is full, at moments by chance, and that goes on."""
+"""A host at a socket that is killed, or whose disk is full, at random moments, and that goes on."""
 import os
 import random
 import resource
@@ -162,7 +162,7 @@ class Life:
         return Host(self.program, self.folder.path, self.path, *words, prepare=prepare)
 
     def turns(self, count):
-        """So many requests by chance, of four tenants; now and then a push of a great object, in parts or at once; and
+        """This many random requests, of four tenants; now and then a push of a great object, in parts or at once; and
         sweeps between."""
         asked = [(who, b"init %s\n" % self.chance.choice(REPOSITORIES)) for who in TENANTS]
         while len(asked) < count:
@@ -198,7 +198,7 @@ class Life:
             return came + told(stream)
 
     def at_once(self, host, turns, wait):
-        """Asks all at once, and where there is a time, the host is killed after it. What came of it."""
+        """Asks all at once, and if there is a time, the host is killed after it. What came of it."""
         with host.client() as stream:
             tell(stream, turns)
             if wait is not None:

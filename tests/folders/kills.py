@@ -31,7 +31,7 @@ HOST_STORE = b"host store\n"
 
 class Killed:
     """A folder to begin with, a session over it that sweeps what the folder's state still names, and the state that the
-    session leaves. Of the folder's objects one in so many was swept since its state was saved, or none."""
+    session leaves. Of the folder's objects one in this many was swept since its state was saved, or none."""
 
     def __init__(self, checks, program, work, count, swept=0):
         self.checks, self.program, self.work, self.number, self.step = checks, program, work, 0, swept

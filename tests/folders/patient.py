@@ -8,7 +8,7 @@ from lib.frames import framed, frames
 from lib.live import Serving
 from lib.program import done
 
-# A peer has so many seconds; what a machine with much to do takes longer is not counted against the host.
+# A peer has this many seconds; what a machine with much to do takes longer is not counted against the host.
 LEAST, MOST = 29, 42
 LONG = GREAT_ASK * 40
 

@@ -33,7 +33,7 @@ class Tenant(NamedTuple):
 
 
 class Wrong(Exception):
-    """The line can not stand here."""
+    """The line cannot stand here."""
 
 
 def demand(fact):

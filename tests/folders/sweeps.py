@@ -1,4 +1,4 @@
-"""Requests of the host's own by chance, and what a collection leaves."""
+"""Requests of the host's own at random, and what a collection leaves."""
 import itertools
 import re
 

@@ -238,7 +238,7 @@ OFFERS = [
 
 
 def offers(count):
-    """Lines of so many offers, two a piece."""
+    """Lines of this many offers, two a piece."""
     for number in range(count):
         yield from (b"offer b%03d r" % number, head())
 

@@ -1,4 +1,4 @@
-"""A start over a folder that the version before left, and its upgrade; and what can not be upgraded."""
+"""A start over a folder that the version before left, and its upgrade; and what cannot be upgraded."""
 import os
 import shutil
 import subprocess
@@ -140,7 +140,7 @@ def stands(folder):
 
 
 def show_refused_upgrades(checks, program, work):
-    """What can not be loaded or saved is told, and stays."""
+    """What cannot be loaded or saved is told, and stays."""
     for spoil, fault in FAULTS.items():
         folder, label = copy(work, spoil.__name__), spoil.__name__.replace("_", " ")
         spoil(folder)

@@ -89,7 +89,7 @@ def show_log(world):
 
 
 def show_no_log(world):
-    """A log that can not be written: serving goes on, and the user is told nothing of it."""
+    """A log that cannot be written: serving goes on, and the user is told nothing of it."""
     more = {"SSH_ORIGINAL_COMMAND": "quota"}
     for label, log in {"no folder": "no/log", "a folder": "", "no text": "no\udcff/log"}.items():
         rows = f"socket {world.host.socket}\ncaches {world.caches}\nlog {world.path(log)}\n"

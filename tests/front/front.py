@@ -28,7 +28,7 @@ class FrontWorld(World):
         self.wait()
 
     def set(self, bound, socket=None):
-        """Settings anew; `socket` is one that stands before the host's."""
+        """New settings; `socket` is one in front of the host's."""
         rows = {"socket": socket or self.host.socket, "caches": self.caches}
         rows |= {name: self.path(name) for name in ("log", "users")}
         self.write("front", "".join(f"{name} {value}\n" for name, value in rows.items()) + f"bytes {bound}\n")

@@ -89,7 +89,7 @@ def show_hook_killed(world):
 
 
 def show_packs(world):
-    """Each push brings a pack: when they are many they are made fewer, and nothing is made anew."""
+    """Each push brings a pack: when they are many they are made fewer, and nothing is made again."""
     checks = world.checks
     world.init("alice", "r")
     names = line(world, world.repository("source"), *(f"c{at}" for at in range(52)))
@@ -154,7 +154,7 @@ def link_in_place(cache, other):
     os.symlink(other, cache)
 
 
-# What is done to a cache beside another one, and whether the cache is made anew.
+# What is done to a cache beside another one, and whether the cache is made again.
 DEEDS = {
     "it is removed": (lambda cache, other: shutil.rmtree(cache), False),
     "a pack is cut": (lambda cache, other: cut(packs(cache, ".pack")[0]), True),

@@ -49,7 +49,7 @@ class WebWorld(FrontWorld):
         return "".join(row for row in lines.replace("8080", str(self.port)).splitlines(True) if not row.startswith(USER))
 
     def follow_page(self):
-        """The server begins anew, with the settings and the users that the page's commands have made, in its folders."""
+        """The server begins again, with the settings and the users that the page's commands have made, in its folders."""
         self.server.terminate()
         self.server.communicate()
         self.write("lighttpd.conf", self.near(placed(self, configuration())))

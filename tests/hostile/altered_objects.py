@@ -112,7 +112,7 @@ def show_homes(checks, program, work):
 
 
 class Watched:
-    """A session over an altered folder, which is begun anew where it does not answer."""
+    """A session over an altered folder, which is begun again where it does not answer."""
 
     def __init__(self, checks, program, store, folder):
         self.checks, self.program, self.store, self.folder = checks, program, store, folder
@@ -217,7 +217,7 @@ def begun(program, folder):
 
 
 def show_arrivals(checks, program, work):
-    """An object comes in whose place has something else, and which nobody has: it is put anew, or a fault is told."""
+    """An object comes in whose place has something else, and which nobody has: it is put anew, or a fault is reported."""
     store, chance = Store(work), random.Random(26)
     folder = store.copy(os.path.join(work, "folder"))
     session, spare = begun(program, folder), sorted(store.spare)

@@ -48,7 +48,7 @@ def show_states(checks, program, work):
 
 
 def show_state_things(checks, program, work):
-    """Something that is no file stands in the state's place: it can not be read, and stays."""
+    """Something that is no file stands in the state's place: it cannot be read, and stays."""
     store, chance = Store(work), random.Random(28)
     wanted = {kind: [failed("state unreadable")] for kind in UNREADABLE}
     wanted |= {"longer than memory": [failed("memory"), failed("state unreadable")]}
@@ -107,7 +107,7 @@ def show_journals(checks, program, work):
 
 
 def show_journal_things(checks, program, work):
-    """Something that is no file stands in the journal's place: it can not be read, or holds no frame; nothing hangs."""
+    """Something that is no file stands in the journal's place: it cannot be read, or holds no frame; nothing hangs."""
     store, chance = Store(work), random.Random(30)
     unreadable, empty = failed("journal unreadable"), sound()
     ends = {kind: [unreadable] for kind in ("a folder", "a folder with its file", "a pipe", "a socket", "a link to a pipe")}
@@ -128,7 +128,7 @@ def show_journal_things(checks, program, work):
 
 
 def show_locks(checks, program, work):
-    """Something that is no file stands in the lock's place: the folder can not be opened."""
+    """Something that is no file stands in the lock's place: the folder cannot be opened."""
     store, chance = Store(work), random.Random(31)
     kinds = [kind for kind in THINGS if kind not in ("nothing", "a link to a copy", "a link to nothing")]
     for number, kind in enumerate(kinds):
@@ -145,7 +145,7 @@ def show_locks(checks, program, work):
 
 
 def show_parts(checks, program, work):
-    """What was being written, whatever it is: it goes at a start, or the folder can not be opened."""
+    """What was being written, whatever it is: it goes at a start, or the folder cannot be opened."""
     store, chance = Store(work), random.Random(32)
     places = [("part",), ("objects", "00", "part"), ("journal", "part")]
     kinds = [kind for kind in THINGS if kind not in ("nothing", "a folder", "a folder with its file")]

@@ -53,5 +53,5 @@ class Store:
         return any(name in names for names in self.seen.values())
 
     def first(self, names):
-        """The one of these that stands first in the state's text, or None."""
+        """The one of these that comes first in the state's text, or None."""
         return next((name for name in self.order if name in names), None)

@@ -41,7 +41,7 @@ class Checks:
         self.end()
 
     def show_at_once(self, shows, count, world=None):
-        """Shows the subjects that the command line names, or all, so many at once, and ends."""
+        """Shows the subjects that the command line names, or all, this many at once, and ends."""
         chosen = [show for show in shows if show.__name__ in sys.argv[2:] or not sys.argv[2:]]
         with ProcessPoolExecutor(count) as pool:
             for passed, failed in pool.map(counts, chosen, repeat(world)):

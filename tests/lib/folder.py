@@ -76,7 +76,7 @@ class Folder:
         return content(self.journal_path())[FIRST:]
 
     def set_log(self, written):
-        """Writes a journal that was begun over the state that stands there."""
+        """Writes a journal that was begun over the state that is there."""
         write(self.journal_path(), first_line(self.name()) + written)
 
     def journal(self):

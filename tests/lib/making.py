@@ -36,7 +36,7 @@ def line(world, at, *labels, branch="main", parent=None):
 
 
 def history(count, files=4, size=40):
-    """A stream of fast-import: so many commits, each of which changes one file of many."""
+    """A stream of fast-import: this many commits, each of which changes one file of many."""
     for number in range(count):
         yield b"commit refs/heads/main\ncommitter Ada <a@x> %d +0000\ndata 6\n%06d\n" % (1_700_000_000 + number, number)
         for at in range(files) if number == 0 else [number % files]:

@@ -75,7 +75,7 @@ def given_program():
 
 
 def sound(again=0):
-    """A check that finds all right, where a start does so many requests again."""
+    """A check that finds all right, where a start does this many requests again."""
     return Ran(0, b"sound\n", b"journal %d\n" % again if again else b"")
 
 

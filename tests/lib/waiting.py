@@ -7,7 +7,7 @@ import time
 # What a busy machine may take, in seconds.
 PATIENCE = 60
 PAUSE = 0.005
-# A process that sleeps at so many looks in a row waits for somebody.
+# A process that sleeps at this many looks in a row waits for somebody.
 LOOKS = 20
 
 

@@ -26,7 +26,7 @@ class Stream:
         return self.count
 
     def change(self):
-        """One file is written anew."""
+        """One file is written again."""
         path, content = self.chance.choice(FILES), b"content %d" % self.chance.randrange(5)
         return b"M 100644 inline %s\ndata %d\n%s\n" % (path, len(content), content)
 
@@ -75,7 +75,7 @@ def criss_cross(stream, levels, skewed=False):
 
 
 def many_bases(stream, count):
-    """Two merges of so many unrelated roots."""
+    """Two merges of this many unrelated roots."""
     roots = [stream.commit([], START + number) for number in range(count)]
     return stream.commit(roots, START + count), stream.commit(roots[::-1], START + count)
 
@@ -97,7 +97,7 @@ def some_parents(stream, commits):
 
 
 def by_chance(stream, count, skewed):
-    """So many commits with parents by chance, and also dates, of the whole range where they are skewed."""
+    """This many commits with parents at random, and also dates, of the whole range where they are skewed."""
     commits, seconds = [], {}
     for _ in range(count):
         parents = some_parents(stream, commits)

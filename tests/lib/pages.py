@@ -1,10 +1,11 @@
 """The blocks of the pages, for the tests that run them."""
+import glob
 import os
 import re
 
 from lib.places import ROOT
 
-PAGES = ["README.md", "CONTRIBUTING.md", *(f"docs/{name}" for name in sorted(os.listdir(f"{ROOT}/docs")) if name.endswith(".md"))]
+PAGES = [os.path.relpath(path, ROOT) for part in ("*.md", "docs/*.md") for path in sorted(glob.glob(os.path.join(ROOT, part)))]
 
 
 def text_of(page):

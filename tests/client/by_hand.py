@@ -87,7 +87,7 @@ def show_asking(checks, program, folder):
 
 
 def show_names_and_streams(world):
-    """What is no name is told before a host is asked; so is a standard stream that is wanted and closed."""
+    """A wrong name is reported before a host is asked, and so is a standard stream that is needed and closed."""
     checks, nobody = world.checks, world.path("nothing")
     fault = lambda text: Ran(2, b"", f"forkhost-ask: {text}\n".encode())
     for tenant in ("ALICE", "@Host", "@", "-a", "a.b", "a" * 33, "\u00e9"):
@@ -166,7 +166,7 @@ def authorized_line(socket_path, tenant, key):
 
 
 def show_door(checks, program, folder):
-    """A forced command gives each key its tenant: Git works through it, and nothing of another tenant's is told."""
+    """A forced command gives each key its tenant: Git works through it, and shows nothing of another tenant's."""
     world = World(checks, program, folder, "alice=1000000", "alice2=1000000", "bob=1000000")
     world.init("bob", "r")
     line(world, world.repository("source"), "one", "two")
@@ -200,7 +200,7 @@ def show_door(checks, program, folder):
 
 
 def show_frames(checks, world, door):
-    """Frames through the door: those of others are told what a host without them tells, and cost the host nothing."""
+    """Frames through the door: those of others are answered as by a host without them, and cost the host nothing."""
     quota, nobody = frame(b"alice", b"quota\n"), framed(b"no unknown-tenant\n")
     told = framed(b"ok\n" + world.ask("alice", "quota").output)
     turns = {

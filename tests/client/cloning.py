@@ -47,7 +47,7 @@ def show_chosen(world, source):
 
 
 def show_empty(checks, program, folder):
-    """A clone of what is empty is of the SHA-1 format, unless Git is told otherwise; the helper says so."""
+    """A clone of what is empty is of the SHA-1 format, unless Git is set otherwise; the helper says so."""
     world = World(checks, program, folder)
     world.init("alice", "r")
     ran = world.succeeds("a clone of what is empty", world.git(None, "clone", "-q", world.url("r"), "copy"))

@@ -37,7 +37,7 @@ def show_held(checks, program, folder):
 LOST = "the host ended the connection"
 FAILED = "the host failed (store) and this request changed nothing; it may be sent again"
 UNREAD = "this is not a reply of a forkhost"
-# What stands in the place of a reply's frame: how much of it, or what else; and what a person is told.
+# What comes in the place of a reply's frame: how much of it, or what else; and what the user reads.
 CUTS = {
     "no reply": (lambda reply: None, LOST),
     "a part of the length": (lambda reply: reply[:1].replace(b"\n", b""), UNREAD),
@@ -58,7 +58,7 @@ WHOLE, SOME = ("for-each-ref", "fetch", "push"), ("no reply", "half", "a host fa
 
 
 def show_cuts(checks, program, folder):
-    """Each reply in turn is cut, or is something else: told in words, without a trace of the program's own."""
+    """Each reply in turn is cut, or is something else: that is reported in words, without a traceback."""
     world = World(checks, program, folder)
     world.init("alice", "r")
     first, _ = line(world, world.repository("source"), "one", "two")

@@ -1,4 +1,4 @@
-"""A host that ends while a door asks it or hands out what it told, replies that are cut, and a door without room."""
+"""A host that ends while a door asks it or hands out its reply, replies that are cut, and a door without space."""
 import socket
 import threading
 

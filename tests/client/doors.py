@@ -26,7 +26,7 @@ FETCH = frame(b"alice", b"fetch r refs/heads/main\n")
 
 
 class User:
-    """Somebody at a door whose process has begun: it has told them itself that there is no bob."""
+    """Somebody at a door whose process has begun: it has answered by itself that there is no bob."""
 
     def __init__(self, door, who=b"bob"):
         before = len(door.children)
@@ -130,7 +130,7 @@ def is_at_once(ask):
 
 
 def show_slow(checks, program, folder):
-    """Each holds nobody, and is told all when they go on."""
+    """Nobody is held up by them, and they get their whole reply when they go on."""
     doors = Doors(checks, program, folder)
     small = frame(b"alice", b"cat-file %s\n" % doors.blob.encode())
     kinds = {
@@ -225,7 +225,7 @@ def show_two_uploads(checks, program, folder):
 
 
 def show_two(doors):
-    """Two users by turns: each is told what is theirs, whole and in its order."""
+    """Two users by turns: each gets their own replies, whole and in order."""
     checks, turns = doors.checks, 50
     alice, bob = User(doors.alice), User(doors.bob, b"alice")
     alice.stream.settimeout(PATIENCE / 2)

@@ -4,7 +4,7 @@ from lib.making import commit, line
 from lib.program import done
 from lib.world import World
 
-# A clone is told of a HEAD whose branch is not there by the second version of Git's protocol, and not by a helper.
+# The second version of Git's protocol tells a clone of a HEAD whose branch does not exist; a helper cannot.
 FIRST = ["-c", "protocol.version=0"]
 SHOWN = (
     *(["symbolic-ref", "HEAD"], ["rev-parse", "-q", "--verify", "HEAD"], ["symbolic-ref", "refs/remotes/origin/HEAD"]),
@@ -97,7 +97,7 @@ def show_set_head(heads, branch):
 
 
 def show_unborn(checks, program, folder):
-    """Where HEAD's branch is not there nothing is checked out; as soon as it is there, it is."""
+    """If HEAD's branch does not exist nothing is checked out; as soon as it does, it is."""
     world = World(checks, program, folder)
     (tip,) = line(world, world.repository("source"), "one", branch="topic")
     heads = Heads(world)

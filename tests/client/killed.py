@@ -85,7 +85,7 @@ def show_kills_at(world):
 
 
 def show_left_open(world):
-    """An upload that is left open stands in the way of nothing that Git does."""
+    """An upload that is left open does not hinder anything that Git does."""
     world.succeeds("a part is left", world.ask("alice", "part", given=b"create refs/heads/x "))
     tip = world.name("source", "main")
     ran = world.git("source", "push", world.url("r"), "main:refs/heads/small")

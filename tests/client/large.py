@@ -126,7 +126,7 @@ def show_uploads(checks, program, folder):
 
 
 def show_full(checks, program, folder):
-    """The limit is met in a later upload: it is told, what stays is said, and a prune gives it back."""
+    """The limit is met in a later upload: that is reported, with what stays, and a prune gives it back."""
     world = World(checks, program, folder, "alice=50000000")
     pushed = Pushed(world)
     entries = [("100644", f"f{at}", pushed.blob(8_000_000)) for at in range(8)]

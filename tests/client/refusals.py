@@ -1,4 +1,4 @@
-"""What a person is told where the host refuses: in which words, with which status, and that nothing has changed."""
+"""What the user reads if the host refuses: the words, the status, and that nothing has changed."""
 from lib.making import commit, commit_of, hashed, line, tree_of
 from lib.watching import Watcher
 from lib.world import World

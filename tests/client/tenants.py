@@ -1,4 +1,4 @@
-"""A second tenant names what the first one has, and is told what a host without the first would tell."""
+"""A second tenant names what the first one has, and reads what a host without the first would say."""
 import os
 
 from lib.making import commit, commit_of, hashed, line, tree_of
@@ -25,7 +25,7 @@ def without(world, at, name):
 
 
 class Bob:
-    """What bob is told and has, by everything that Git lets him try; each try begins in a folder of its own."""
+    """What bob reads and has, by everything that Git lets him try; each try begins in a folder of its own."""
 
     def __init__(self, world, names):
         self.world, self.names, self.told = world, names, []

@@ -31,7 +31,7 @@ class Trial:
             print(f"{self.crate.name}/{deed.name}: FAILED, {kind}: {why}")
 
     def read(self):
-        """The deeds that can be tried; of each other file it is told why not."""
+        """The deeds that can be tried; for each other file it is reported why not."""
         lacking, deeds = unbuilt(self.crate), []
         for file in self.files:
             in_place = file.parent.parent == Path(self.crate.folder) and file.suffix == ".edit"

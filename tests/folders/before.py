@@ -23,7 +23,7 @@ HEADS = {
     (BOB, b"head r\n"): b"ok\nrefs/heads/main\n",
     (BOB, b"head z\n"): b"ok\nrefs/heads/main\n",
 }
-# How many requests stand after the state of an upgrade: the parts of an open upload.
+# How many requests a journal has after an upgrade: the parts of an open upload.
 LEFT = 1
 # The upload that is open, what is left of it, and what comes of that.
 THREE = (b"blob", b"three\n")

@@ -72,7 +72,7 @@ def begun(history):
 
 
 def among_others(chance, own, history):
-    """A session in which the tenant's requests stand among those of others."""
+    """A session in which the tenant's requests are among those of others."""
     turns = list(begun(history))
     for payload in own:
         turns += other_turns(chance, history, chance.randint(0, 4))

@@ -40,7 +40,7 @@ def begun(checks, program, *words):
 
 
 def spoil(folder, content):
-    """A link to itself lies where the object's file was, so that no read of it succeeds."""
+    """A link to itself is in the place of the object's file, so that no read of it succeeds."""
     path = folder.file_of(name_of(b"blob", content))
     os.remove(path)
     os.symlink(path, path)
@@ -53,7 +53,7 @@ def mend(folder, content):
 
 
 def show_kept_objects(checks: Checks, program, work):
-    """What was read is told again when its file cannot be read, if it is not too long; and to those alone who see it."""
+    """What was read is shown again although its file cannot be read, if it is not too long; and to those alone who see it."""
     folder = Folder(os.path.join(work, "kept"))
     live = begun(checks, program, "--dir", folder.path)
     short, long = b"s" * LONGEST, b"l" * (LONGEST + 1)

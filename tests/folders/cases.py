@@ -1,4 +1,4 @@
-"""Folders made by hand and what `check` finds in each: each refusal, and which of two is told."""
+"""Folders made by hand and what `check` finds in each: each refusal, and which of two is reported."""
 import hashlib
 import random
 

@@ -1,4 +1,4 @@
-"""What is told beside a fault of a folder: the path and the cause, on standard error; and that a folder is open to others."""
+"""What is reported beside a fault of a folder: the path and the cause, on standard error; and that a folder is open to others."""
 import os
 import shutil
 import signal
@@ -175,7 +175,7 @@ def show_no_cause(checks, program, folder):
 
 
 def show_open(checks, program, work):
-    """A folder that others may use is told at each start, which goes on; and no other command tells it."""
+    """A folder that others may use is reported at each start, which goes on, and by no other command."""
     for mode in (0o755, 0o750, 0o701, 0o1777, 0o2770, 0o600 | 0o104):
         path = os.path.join(work, f"{mode:o}")
         os.makedirs(path)

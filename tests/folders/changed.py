@@ -22,7 +22,7 @@ def change(program, folder, word, tenant):
 
 
 def asked(program, folder, *turns):
-    """What a start tells to these turns."""
+    """What a start answers to these turns."""
     return program.ran("run", "--dir", folder.path, given=frames(turns))
 
 
@@ -66,7 +66,7 @@ def unchanged(checks, program, folder, label, fault, *words):
 
 
 def show_refused(checks, program, work):
-    """What is refused is told by one line, and changes nothing."""
+    """A refusal is reported in one line, and changes nothing."""
     folder = pushed(program, os.path.join(work, "kept"))
     no = lambda label, fault, *words: unchanged(checks, program, folder, label, fault, *words)
     no("one that is there", "tenant bob is there already", ADD, "bob=5")

@@ -74,7 +74,7 @@ def hang_up(stream, given):
 
 
 def turn_away(stream, given):
-    """A client that sends this, reads the first byte of what it is told, and goes."""
+    """A client that sends this, reads the first byte of its reply, and disconnects."""
     stream.sendall(given)
     stream.recv(1)
     stream.close()

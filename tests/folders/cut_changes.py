@@ -15,7 +15,7 @@ KILLS = 15
 BEFORE = [Tenant(ALICE, 10000, [], []), tenant(BOB, [], limit=1000)]
 AFTER = tenant(ALICE, OBJECTS, [MAIN])
 BOTH = [AFTER, BEFORE[1]]
-# Each change, the state that it leaves, how many requests stand after that one, and what another such change is told.
+# Each change, the state that it leaves, how many requests its journal has, and what another such change is answered.
 CHANGES = {
     (ADD, "carol=77"): ([*BOTH, Tenant(b"carol", 77, [], [])], 2, failed("tenant carol is there already")),
     (LIMIT, "bob=5"): ([AFTER, tenant(BOB, [], limit=5)], 2, done()),

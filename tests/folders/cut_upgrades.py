@@ -26,7 +26,7 @@ class Upgrades:
         return copy(self.work, str(self.number))
 
     def judge(self, label, folder):
-        """The old state stands with its journal, or the new one; and a start shows all that was acknowledged."""
+        """The old state is there with its journal, or the new one, and a start shows all that was acknowledged."""
         state = folder.state()
         self.checks.same(f"{label}: the state", True, state in (OLD, NEW))
         left = REQUESTS if state == OLD else LEFT
@@ -62,7 +62,7 @@ class Upgrades:
         return found
 
     def inject(self, name, calls):
-        """The process is killed at each call, and each call fails: that is told, or does no harm."""
+        """The process is killed at each call, and each call fails: that is reported, or does no harm."""
         for at in some_of(self.count(calls)):
             folder = self.copy()
             self.traced(folder, calls, "-e", f"inject={calls}:signal=SIGKILL:when={at}")

@@ -83,7 +83,7 @@ def show_untold(checks: Checks, program, work):
 
 
 def show_writes(checks: Checks, program, folder):
-    """No object can be written: files lie where folders must be."""
+    """No object can be written: files are where folders must be."""
     live = Live(program, "--dir", folder.path, "alice=10000")
     checks.same("init", b"ok\n", live.asked(ALICE, b"init r\n"))
     for home in homes(folder):
@@ -149,7 +149,7 @@ def is_right(reply, *others):
 
 
 def show_reads(checks: Checks, program, folder):
-    """A file is altered while the host runs. Who sees it is told what it was, or a fault; who sends it, a fault."""
+    """A file is altered while the host runs. Whoever sees it gets what it was, or a fault; whoever sends it, a fault."""
     live = Live(program, "--dir", folder.path, "alice=10000", "bob=10000")
     for who, payload in ((ALICE, b"init r\n"), (ALICE, PUSH), (BOB, b"init r\n")):
         checks.same(repr(payload[:10]), b"ok\n", live.asked(who, payload))
@@ -164,7 +164,7 @@ def show_reads(checks: Checks, program, folder):
 
 
 def spoil_one(checks, live, folder):
-    """Something else stands where the commit's file was, and then the file again. For one that is gone see `harms.py`."""
+    """Something else is in the place of the commit's file, and then the file again. For one that is gone see `harms.py`."""
     path = folder.file_of(C)
     spoiled = {
         "cut": (lambda: folder.keep(C, FILES[C][:-1]), b"host damaged\n"),
@@ -198,7 +198,7 @@ def show_leftovers(checks: Checks, program, folder):
 
 
 def show_saves(checks: Checks, program, folder, rest, fault):
-    """The state cannot be written: a folder lies where its part must be. The old one stays, and its journal has what was
+    """The state cannot be written: a folder is where its part must be. The old one stays, and its journal has what was
     done since."""
     checks.same("the first start", done(), program.ran("run", "--dir", folder.path, "alice=10000"))
     old = folder.state()

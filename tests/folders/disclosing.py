@@ -1,4 +1,4 @@
-"""What an offer shows to the tenant that it was made to, what it does not show, and what its giver is not told."""
+"""What an offer shows to the tenant that it was made to, what it does not show, and what its giver does not learn."""
 import os
 import random
 
@@ -62,7 +62,7 @@ HERS[1] += b"".join(record(*thing) for thing in OBJECTS.values())
 
 
 def show_offered_objects(checks, program, work):
-    """Before he forks an offer, and after its withdrawal, bob is told what a host without it tells of all its objects."""
+    """Before he forks an offer, and after its withdrawal, bob gets what a host without it tells of all its objects."""
     rounds = [[*GONE, *ROUND], [*NOT_THERE, *ROUND], [*GONE, *NOT_THERE, *ROUND]]
     changes = [(ALICE, b"offer r bob\n"), (ALICE, b"withdraw r bob\n")]
     beside = [*((ALICE, payload) for payload in HERS), *((BOB, payload) for payload in HIS)]

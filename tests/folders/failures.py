@@ -1,4 +1,4 @@
-"""Runs over a store that fails at each of its calls in turn, and what is told and kept of them."""
+"""Runs over a store that fails at each of its calls in turn: what they answer and keep."""
 import os
 import shutil
 
@@ -94,7 +94,7 @@ class Run:
         return self.program.fuse.aside(lambda: shown(self.live))
 
     def turn(self, who, asked, wanted):
-        """Asks until no failure is told; a failure leaves all as it was."""
+        """Asks until no failure is reported; a failure leaves everything as it was."""
         label = f"{self.label}: {asked[:16]!r}"
         before = self.aside()
         told = self.live.asked(who, asked)

@@ -1,4 +1,4 @@
-"""What `fsck` tells of files that are gone or not right, and that a check of the folder and a start tell the same."""
+"""What `fsck` reports of files that are gone or wrong, and that a check of the folder and a start report the same."""
 import os
 import random
 
@@ -137,7 +137,7 @@ def show_unheld(checks, program, work):
 
 
 def show_order(checks, program, work):
-    """Several harms at once stand in the order of the names, whichever came first."""
+    """Several harms at once are in the order of the names, whichever came first."""
     chance = random.Random(11)
     texts = [b"%d of many" % number for number in range(40)]
     for number in range(12):
@@ -156,7 +156,7 @@ def show_order(checks, program, work):
 
 
 def show_holders(checks, program, work):
-    """What two hold is told once, as long as one of them holds it."""
+    """What two hold is reported once, as long as one of them holds it."""
     folder = Folder(os.path.join(work, "holders"))
     live = begun(checks, program, folder, ALICE, BOB, texts=[LARGE, SMALL])
     name = blob(LARGE)
@@ -311,7 +311,7 @@ def harms_of(folder):
 
 
 def show_by_chance(checks, program, work):
-    """Folders with alterations at random: what is told is what a plain reader finds, and `check` agrees."""
+    """Folders with alterations at random: a plain reader finds what is reported, and `check` agrees."""
     chance = random.Random(13)
     for number in range(60):
         folder = Folder(os.path.join(work, f"chance{number}"))

@@ -70,7 +70,7 @@ def journaled(checks, program, path):
 
 
 def show_done_again(checks, program, folder, label, count):
-    """A check counts the first requests, and a start does them again; one journal is left of all that lies there."""
+    """A check counts the first requests, and a start does them again; one journal is left of all that are there."""
     write(folder.inside("journal", "0" * 64), b"")
     write(folder.inside("journal", "part"), b"torn")
     checks.same(f"check of {label}", sound(count), program.checked(folder.path))

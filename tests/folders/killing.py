@@ -41,7 +41,7 @@ def looks(history):
 
 
 def limited(most):
-    """For a child: no file grows longer, and the child is told so by an error."""
+    """For a child: no file grows longer, and it gets an error for that."""
 
     def limit():
         signal.signal(signal.SIGXFSZ, signal.SIG_IGN)
@@ -238,7 +238,7 @@ class Life:
         self.told.went(label, drops, self.at_once(host, drops, None))
 
     def sweep_and_kill(self, label, host):
-        """What a round takes away, and a kill before the connection's end undoes, the next round takes away again."""
+        """What a round removes, and a kill before the connection's end restores, the next round removes again."""
         with host.client() as stream:
             tell(stream, [(HOST, b"collect\n")])
             counted = one_told(stream)
@@ -247,7 +247,7 @@ class Life:
         self.checks.same(f"{label}: the next one", (counted, done()), collected(self.program, self.folder))
 
     def sweep_to_the_end(self, label, host):
-        """What a round takes away is let go at the connection's end, and does not come back."""
+        """What a round removes is gone at the connection's end, and does not come back."""
         self.told.went(label, [(HOST, b"collect\n")], self.at_once(host, [(HOST, b"collect\n")], None))
         self.at_once(host, [(HOST, b"census\n")], None)
         self.checks.same(f"{label}: what was swept is let go", [], self.folder.swept())

@@ -68,7 +68,7 @@ class Killed:
         return b"".join(replies(ran.output)[0])
 
     def copy(self):
-        """The folder to begin with, anew."""
+        """The folder to begin with, made again."""
         self.number += 1
         path = os.path.join(self.work, f"{os.path.basename(self.base.path)}-{self.number}")
         folder = Folder(shutil.copytree(self.base.path, path))

@@ -31,7 +31,7 @@ def used(tenant, files):
 
 
 def verdict(text, files):
-    """What `check` tells of this text, over files by name."""
+    """What `check` reports of this text, over files by name."""
     if text is None:
         return "no state"
     tenants, wrong = read(text)

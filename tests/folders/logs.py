@@ -29,7 +29,7 @@ def files(folder):
 
 
 def looked_at(whole):
-    """Each byte of a first line and of what stands around pieces, and each fifth one of these."""
+    """Each byte of a first line and of what is around pieces, and each fifth one of these."""
     inside = set()
     for start, end in zip(places := bounds(whole[LINE:]), places[1:]):
         inside.update(range(LINE + start + HEAD, LINE + end - SUM))
@@ -37,7 +37,7 @@ def looked_at(whole):
 
 
 def show_flips(checks, program, work):
-    """A bit of a journal differs, at each place: that is told. The name in the first line may differ, and then nothing is
+    """A bit of a journal differs, at each place: that is reported. The name in the first line may differ, and then nothing is
     missing."""
     folder, _ = journaled(checks, program, os.path.join(work, "flipped"))
     path, whole = folder.journal_path(), content(folder.journal_path())
@@ -85,7 +85,7 @@ def put(folder, name, standing, turns):
 
 
 def show_others(checks, program, work):
-    """A journal of another state is told, beside the folder's own and without it. What a killed saving leaves is not."""
+    """A journal of another state is reported, beside the folder's own and without it. What a killed saving leaves is not."""
     base, _ = journaled(checks, program, os.path.join(work, "base"))
     copy = Folder(os.path.join(work, "copy"))
     checks.same("another host", done(), program.ran("run", "--dir", copy.path, "zoe=1000"))
@@ -112,7 +112,7 @@ def show_others(checks, program, work):
 
 
 def show_left_over(checks, program, base):
-    """Beside its own journal lies what a killed saving leaves."""
+    """Beside its own journal is what a killed saving leaves."""
     own, other = base.name(), hashlib.sha256(b"other").hexdigest()
     whole = base.log()
     rows = {

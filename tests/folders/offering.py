@@ -1,4 +1,4 @@
-"""Offers between tenants over a folder: what stands after each request is there again after a start or a kill."""
+"""Offers between tenants over a folder: what there is after each request is there again after a start or a kill."""
 import os
 
 from folders.cases import commit
@@ -125,7 +125,7 @@ def show_killed_offers(checks, program, work):
 
 
 def show_one_journal(checks, program, folder):
-    """A whole row stands in one journal, beside an open upload, and is done again at once."""
+    """A whole row is in one journal, beside an open upload, and is repeated at once."""
     live = Live(program, "--dir", folder.path, "alice=1000", "bob=1000")
     turns = [(BOB, b"part\nab", OK), *MADE, *TAKEN]
     for turn in turns:

@@ -35,7 +35,7 @@ def watch_state(path, kept, early):
 
 
 def show_unsaved(checks, program, folder):
-    """Where a socket cannot be bound, nothing was saved, and no socket is left."""
+    """If a socket cannot be bound, nothing was saved, and no socket is left."""
     path, kept = os.path.join(folder, "socket"), Folder(os.path.join(folder, "kept"))
     write(path, b"kept")
     checks.same("a file is there", failed("socket"), one_refused(program, path, "--dir", kept.path))

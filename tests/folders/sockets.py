@@ -1,4 +1,4 @@
-"""The file of a socket, what stands at its path, and the state that is saved after the last connection."""
+"""The file of a socket, what may be at its path, and the state that is saved after the last connection."""
 import os
 import socket
 import stat
@@ -92,7 +92,7 @@ def one_refused(program, path, *words):
 
 
 def show_faults(checks, program, folder):
-    """What is no socket stays as it is; and a path at which none can be made is told."""
+    """What is not a socket stays as it is, and a path at which none can be made is reported."""
     inside = lambda name: os.path.join(folder, name)
     write(inside("file"), b"kept")
     os.mkdir(inside("folder"))

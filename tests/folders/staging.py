@@ -166,7 +166,7 @@ def show_memory(checks, program, work):
 
 
 def show_unreadable(checks, program, work):
-    """Where an open upload cannot be read no state is saved, and all are served on; once it can be, it is saved again."""
+    """While an open upload cannot be read no state is saved, and everybody is served; once it can be, it is saved again."""
     folder, path = Folder(os.path.join(work, "kept")), os.path.join(work, "socket")
     serving = Serving(program, path, 6, "--dir", folder.path, "alice=10000", "bob=10000000")
     ok = framed(b"ok\n")

@@ -33,7 +33,7 @@ class Tenant(NamedTuple):
 
 
 class Wrong(Exception):
-    """The line cannot stand here."""
+    """The line cannot come here."""
 
 
 def demand(fact):

@@ -119,7 +119,7 @@ def show_connections(checks, program, folder, work):
 
 
 def show_unsaved(checks, program, folder):
-    """Where the state cannot be saved, what was swept stays swept; and it is back after a kill."""
+    """If the state cannot be saved, what was swept stays swept, and it is back after a kill."""
     live = Live(program, "--dir", folder.path)
     checks.same("a change", b"ok\n", live.asked(ALICE, b"init s\n"))
     folder.sweep(B)

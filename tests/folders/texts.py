@@ -187,7 +187,7 @@ COUNTS = [
     (None, text(ALICE, b"repo r", *many(ref(b"refs/heads/b%04d"), 4096), b"repo s", BOB)),
 ]
 
-# What stands after a line that begins a repository or an offer.
+# What comes after a line that begins a repository or an offer.
 BAD_HEADS = [
     *map(head, (b"", b"refs/tags/v", b"refs/heads", b"refs/heads/", b"HEAD", b"refs/heads/a..b", b"refs/heads/a ")),
     *(head(space=space) for space in BAD_SPACES),
@@ -266,7 +266,7 @@ def turned():
 
 
 def moved(lines):
-    """A line is gone, stands twice, or stands in the place of another."""
+    """A line is gone, comes twice, or takes the place of another."""
     places = range(len(lines))
     yield from (lines[:at] + lines[at + 1 :] for at in places)
     yield from (lines[:to] + [lines[at]] + lines[to:] for at in places for to in places)

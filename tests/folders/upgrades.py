@@ -20,7 +20,7 @@ def upgraded(program, folder):
 
 
 def show_old(checks, program, work):
-    """What the version before left is read; a check leaves it as it is, and a start saves it anew."""
+    """A folder of version 1 is read; a check leaves it as it is, and a start saves it in version 2."""
     folder = copy(work, "start")
     checks.same("the fixture is of version 1", b"forkhost state 1", OLD.partition(b"\n")[0])
     checks.same("its journal", 11, folder.again())
@@ -116,7 +116,7 @@ def with_no_state_to_read(folder):
     os.mkdir(folder.inside("state"))
 
 
-# The faults of `check`, each told by `check` too.
+# The faults that `check` reports too.
 FAULTS = {
     without_a_state: "no state",
     with_no_state_to_read: "state unreadable",
@@ -134,13 +134,13 @@ ROOMS = (0, 100, 2000)
 
 
 def stands(folder):
-    """The state and the journals as they stand."""
+    """The state and the journals as they are."""
     paths = [folder.inside("state"), *(folder.inside("journal", name) for name in folder.journals())]
     return {path: content(path) for path in paths if os.path.isfile(path)}
 
 
 def show_refused_upgrades(checks, program, work):
-    """What cannot be loaded or saved is told, and stays."""
+    """What cannot be loaded or saved is reported, and stays."""
     for spoil, fault in FAULTS.items():
         folder, label = copy(work, spoil.__name__), spoil.__name__.replace("_", " ")
         spoil(folder)

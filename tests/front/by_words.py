@@ -1,4 +1,4 @@
-"""Words for hand over SSH, what is no command here, the log, and the bound of all caches."""
+"""Requests by hand over SSH, what is not a command here, the log, and the limit of all caches."""
 import os
 import re
 import subprocess
@@ -11,7 +11,7 @@ LINE = re.compile(r"\d{4}-\d\d-\d\dT\d\d:\d\d:\d\dZ [a-z]+ [a-z-]+ [a-z0-9_-]+(?
 
 
 def show_words(world):
-    """Requests of one tenant, told as the host tells them; each is a line of the log."""
+    """Requests of one tenant, answered as by the host; each is a line of the log."""
     checks = world.checks
     told = lambda *words: world.by_hand("alice", *words)
     no = lambda text: Ran(1, b"", f"forkhost: {text}\n".encode())
@@ -89,7 +89,7 @@ def show_log(world):
 
 
 def show_no_log(world):
-    """A log that cannot be written: serving goes on, and the user is told nothing of it."""
+    """A log that cannot be written: serving goes on, and the user does not notice."""
     more = {"SSH_ORIGINAL_COMMAND": "quota"}
     for label, log in {"no folder": "no/log", "a folder": "", "no text": "no\udcff/log"}.items():
         rows = f"socket {world.host.socket}\ncaches {world.caches}\nlog {world.path(log)}\n"
@@ -131,7 +131,7 @@ NO_COMMANDS = {
 
 
 def show_no_commands(world):
-    """What is no command here is told, and nothing is run."""
+    """What is not a command here is reported, and nothing is run."""
     for command, text in NO_COMMANDS.items():
         ran = world.by_hand("alice", *([command.replace("GOT", world.path("got"))] if command else []))
         wanted = (128, b"", True, False)

@@ -1,4 +1,4 @@
-"""A host that is down: a user is told that it cannot be reached, and the log where it was looked for."""
+"""A host that is down: the user reads that it cannot be reached, and the log has where it was looked for."""
 from front.front import BYTES
 from lib.making import line
 from lib.program import Ran

@@ -9,7 +9,7 @@ PATH = os.pathsep.join([os.environ.get("PATH", os.defpath), "/usr/sbin", "/usr/l
 
 
 def found(name, package):
-    """The path of a program. Where its package cannot be installed either, that is a failure, never passed over."""
+    """The path of a program. If its package cannot be installed either, that is a failure, and never skipped."""
     if not shutil.which(name, path=PATH):
         install = ["apt-get", "install", "-y", "-qq", "--no-install-recommends", package]
         outer = {**os.environ, "DEBIAN_FRONTEND": "noninteractive"}

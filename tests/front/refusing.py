@@ -7,14 +7,14 @@ from lib.world import finished
 
 
 def pushed(world, tenant, *words):
-    """The status of a push, and what is told of each reference that is refused."""
+    """The status of a push, and what is reported of each reference that is refused."""
     ran = world.git("source", "push", "--porcelain", world.url("r", tenant), *words)
     rows = [row.split("\t") for row in ran.output.decode().splitlines()]
     return ran, {row[1].partition(":")[2]: row[2] for row in rows if row[0] == "!"}
 
 
 def refused(world, label, wanted, *words, tenant="alice"):
-    """Three checks: status, what is told of each reference, that the host is as before, and the cache too."""
+    """Three checks: status, what is reported of each reference, that the host is as before, and the cache too."""
     before = world.kept("r", tenant)
     world.git(None, "ls-remote", world.url("r", tenant))
     cached = world.in_cache("r", tenant)

@@ -1,4 +1,4 @@
-"""A second tenant names what the first has, by the front end, and is told what a host without the first would tell."""
+"""A second tenant names what the first has, by the front end, and reads what a host without the first would say."""
 import os
 
 from client.tenants import BOTH, Bob, alice
@@ -10,7 +10,7 @@ KINDS = ("commit", "blob")
 class Neighbour(Bob):
     """Bob, who has Git and the front end, and no socket of the host.
 
-    Where Git and ssh both say something, either may be first."""
+    If Git and ssh both say something, either may be first."""
 
     def does(self, at, *words, given=b""):
         super().does(at, *words, given=given)

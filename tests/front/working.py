@@ -75,7 +75,7 @@ def show_head(world):
 
 
 def show_empty(world):
-    """A clone of what is empty, in the format that Git is told."""
+    """A clone of what is empty, in the format that Git is set to."""
     world.init("alice", "r")
     more = {"GIT_DEFAULT_HASH": "sha256"}
     ran = world.git(None, "clone", "-q", world.url("r"), "copy", more=more)

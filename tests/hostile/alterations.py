@@ -1,4 +1,4 @@
-"""What may come to stand in the place of a file: other bytes, nothing, and things that are no files."""
+"""What may be in the place of a file: other bytes, nothing, and things that are not files."""
 import os
 import random
 import shutil
@@ -87,7 +87,7 @@ def without_rights(path, data):
     os.chmod(path, 0)
 
 
-# What is no file; each is made at a path at which nothing stands, and is given the bytes that the file had.
+# What is not a file; each is made at a path at which nothing is, and is given the bytes that the file had.
 THINGS = {
     "nothing": lambda path, data: None,
     "a folder": lambda path, data: os.mkdir(path),
@@ -122,7 +122,7 @@ AIDS = (".fifo", ".folder", ".copy", ".absent")
 
 
 def clear(path):
-    """Nothing stands at a path any more."""
+    """Nothing is at a path any more."""
     if os.path.isdir(path) and not os.path.islink(path):
         shutil.rmtree(path)
     elif os.path.lexists(path):

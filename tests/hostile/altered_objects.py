@@ -25,7 +25,7 @@ def told_of(word, name):
 
 
 def one_of(checks, label, wanted, told):
-    """One check: what is told is one of what may be told."""
+    """One check: the answer is one of those that may come."""
     checks.same(label, wanted[0] if len(wanted) == 1 else wanted, told if len(wanted) == 1 or told not in wanted else wanted)
 
 
@@ -57,7 +57,7 @@ def show_starts(checks, program, work):
 
 
 def show_many(checks, program, work):
-    """Some files are altered at once: the first that is seen is told, by the order of the state's text."""
+    """Some files are altered at once: the first that is seen is reported, by the order of the state's text."""
     store, chance = Store(work), random.Random(22)
     folder = store.copy(os.path.join(work, "folder"))
     for number in range(200):
@@ -160,7 +160,7 @@ class Watched:
 
 
 def show_asked(checks, program, work):
-    """A file is altered while the host runs: who sees it is told a fault, and what it was once it is put back."""
+    """A file is altered while the host runs: whoever sees it gets a fault, and what it was once it is put back."""
     store, chance = Store(work), random.Random(24)
     for number in range(SESSIONS):
         folder = store.copy(os.path.join(work, f"folder{number}"))
@@ -183,7 +183,7 @@ def queries(store):
 
 
 def show_walks(checks, program, work):
-    """Some files are altered at once, and asked for by walks: what is told is right, or a fault, and nothing changes."""
+    """Some files are altered at once, and asked for by walks: the answer is right, or a fault, and nothing changes."""
     store, chance = Store(work), random.Random(25)
     folder = store.copy(os.path.join(work, "folder"))
     session = Doubted(program, PATIENCE, "--dir", folder.path)

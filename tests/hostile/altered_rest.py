@@ -1,4 +1,4 @@
-"""Alterations of what lies beside the objects: the state, the journal, the lock, parts, what was swept, the socket."""
+"""Alterations of what is beside the objects: the state, the journal, the lock, parts, what was swept, the socket."""
 import os
 import random
 import stat
@@ -34,7 +34,7 @@ def altered_texts(chance, text):
 
 
 def show_states(checks, program, work):
-    """The state's text is altered: what a plain reader finds is told."""
+    """The state's text is altered: what a plain reader finds is reported."""
     store, chance = Store(work), random.Random(27)
     folder = store.copy(os.path.join(work, "folder"))
     path = folder.inside("state")
@@ -48,7 +48,7 @@ def show_states(checks, program, work):
 
 
 def show_state_things(checks, program, work):
-    """Something that is no file stands in the state's place: it cannot be read, and stays."""
+    """Something that is not a file is in the state's place: it cannot be read, and stays."""
     store, chance = Store(work), random.Random(28)
     wanted = {kind: [failed("state unreadable")] for kind in UNREADABLE}
     wanted |= {"longer than memory": [failed("memory"), failed("state unreadable")]}
@@ -107,7 +107,7 @@ def show_journals(checks, program, work):
 
 
 def show_journal_things(checks, program, work):
-    """Something that is no file stands in the journal's place: it cannot be read, or holds no frame; nothing hangs."""
+    """Something that is not a file is in the journal's place: it cannot be read, or holds no frame; nothing hangs."""
     store, chance = Store(work), random.Random(30)
     unreadable, empty = failed("journal unreadable"), sound()
     ends = {kind: [unreadable] for kind in ("a folder", "a folder with its file", "a pipe", "a socket", "a link to a pipe")}
@@ -128,7 +128,7 @@ def show_journal_things(checks, program, work):
 
 
 def show_locks(checks, program, work):
-    """Something that is no file stands in the lock's place: the folder cannot be opened."""
+    """Something that is not a file is in the lock's place: the folder cannot be opened."""
     store, chance = Store(work), random.Random(31)
     kinds = [kind for kind in THINGS if kind not in ("nothing", "a link to a copy", "a link to nothing")]
     for number, kind in enumerate(kinds):
@@ -180,7 +180,7 @@ def show_swept_things(checks, program, work):
 
 
 def show_socket_things(checks, program, work):
-    """What is no socket stands in the socket's place, or in that of the folder beside it: it stays, and is told."""
+    """Something that is not a socket is in the socket's place, or in that of the folder beside it: it stays, and is reported."""
     chance = random.Random(34)
     home = os.path.join(work, "home")
     os.mkdir(home)

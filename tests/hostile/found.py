@@ -1,11 +1,11 @@
-"""What is found where something else stands in an object's place."""
+"""What is found if something else is in an object's place."""
 from typing import NamedTuple
 
 from hostile.alterations import BYTES
 
 
 class Found(NamedTuple):
-    """What a start and `check` tell, what who sees the object is told of it, and the object's line in `fsck`."""
+    """What a start and `check` report, what whoever sees the object gets, and the object's line in `fsck`."""
 
     start: tuple
     asked: tuple

@@ -18,7 +18,7 @@ class Hostile(Program):
         self.hung, self.who = set(), {}
 
     def settle(self, work):
-        """Where this user is one who may do all, nobody runs a copy of the program, and has the folder to work in."""
+        """If this user is root, the user nobody runs a copy of the program, and owns the folder to work in."""
         if os.geteuid() != 0:
             return
         home = os.path.dirname(work)

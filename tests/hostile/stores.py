@@ -15,7 +15,7 @@ LIMIT = 10_000_000
 
 
 class Store:
-    """What lies in the folder, and who sees what of it."""
+    """What is in the folder, and who sees what of it."""
 
     def __init__(self, work):
         chance = random.Random(20)
@@ -44,7 +44,7 @@ class Store:
         return Tenant(who, LIMIT, [Repository(b"r", references)], sorted(self.seen[who]))
 
     def copy(self, path):
-        """The folder anew, given to who runs the program."""
+        """The folder made again, for the user that runs the program."""
         folder = Folder(shutil.copytree(self.base.path, path))
         give(path)
         return folder

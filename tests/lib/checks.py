@@ -20,7 +20,7 @@ class Checks:
         self.passed = self.failed = 0
 
     def same(self, label, wanted, told):
-        """One check: what is told is what is wanted."""
+        """One check: the value is the wanted one."""
         self.holds(label, None if wanted == told else f"{shown(told)}, and not {shown(wanted)}")
 
     def holds(self, label, why):

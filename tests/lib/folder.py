@@ -10,7 +10,7 @@ LINE = re.compile(rb"([a-z0-9][a-z0-9_-]{0,31}|@host) (0|[1-9][0-9]{0,6})\n")
 
 
 def requests_in(stream):
-    """The whole frames that stand one after another at the front of a stream."""
+    """The whole frames at the front of a stream, one after another."""
     found, at = [], 0
     while (line := LINE.match(stream, at)) and line.end() + int(line[2]) <= len(stream):
         found.append(stream[at : line.end() + int(line[2])])
@@ -64,11 +64,11 @@ class Folder:
         return hashlib.sha256(self.state() or b"").hexdigest()
 
     def journal_path(self):
-        """Where the journal lies that continues the state."""
+        """The path of the journal that continues the state."""
         return self.inside("journal", self.name() + ".2")
 
     def old_journal_path(self):
-        """Where it lies in the form before, which is frames alone."""
+        """Its path in version 1, which is frames alone."""
         return self.inside("journal", self.name())
 
     def log(self):
@@ -93,7 +93,7 @@ class Folder:
         self.set_log(log(self.name(), [stream] if stream else []))
 
     def journals(self):
-        """What lies beside one another as journals."""
+        """The names of all journals."""
         home = self.inside("journal")
         return sorted(os.listdir(home)) if os.path.exists(home) else []
 
@@ -102,7 +102,7 @@ class Folder:
         return len(requests_in(self.journal()))
 
     def files(self):
-        """The bytes of all that lies where an object's file may lie, by its name."""
+        """The bytes of each file in the place of an object, by its name."""
         found = {}
         for front in os.listdir(self.inside("objects")):
             for rest in os.listdir(self.inside("objects", front)):
@@ -112,7 +112,7 @@ class Folder:
         return found
 
     def swept_path(self, name):
-        """Where an object's file lies once it is swept."""
+        """The path of an object's file once it is swept."""
         return self.inside("swept", name.decode())
 
     def sweep(self, name):
@@ -121,7 +121,7 @@ class Folder:
         os.rename(self.file_of(name), self.swept_path(name))
 
     def swept(self):
-        """What lies where swept files lie, by the names that it has there."""
+        """The names of the files that are swept."""
         home = self.inside("swept")
         return sorted(os.listdir(home)) if os.path.exists(home) else []
 

@@ -8,7 +8,7 @@ from lib.frames import frame, replies
 from lib.program import ended
 from lib.waiting import PATIENCE, until
 
-# What is told in place of a reply that does not come.
+# What stands for a reply that does not come.
 NO_REPLY = b"no reply comes"
 
 
@@ -90,7 +90,7 @@ class Serving:
         return stream
 
     def told(self, given):
-        """What a connection is told to these bytes, of which the client closes its side."""
+        """What a connection is answered to these bytes, after which the client closes its side."""
         with self.client() as stream:
             stream.sendall(given)
             stream.shutdown(socket.SHUT_WR)

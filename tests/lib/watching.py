@@ -1,4 +1,4 @@
-"""A socket between a client and a host that looks at what passes, and meddles with it where it is told to."""
+"""A socket between a client and a host that looks at what passes, and changes it on demand."""
 import socket
 import threading
 from typing import NamedTuple

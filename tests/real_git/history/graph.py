@@ -1,4 +1,4 @@
-"""What is to be told of commits, by definitions alone: ancestors, their order, and best common ancestors.
+"""What is known of commits, by definitions alone: ancestors, their order, and best common ancestors.
 Sets of commits are whole numbers with a bit for each, as there are hundreds of them and each has its ancestors."""
 from real_git.history.records import headers
 

@@ -25,7 +25,7 @@ class Host:
         return self.query(who, "part-end", repository)
 
     def ended(self):
-        """How the session ends after its input, and what stands after the last reply."""
+        """How the session ends after its input, and what comes after the last reply."""
         return self.live.ended()
 
 

@@ -10,7 +10,7 @@ use Rattle.shared_map.specs.Chunks.{Entry, Entries, Rises, is_before, AreBefore,
 use Rattle.shared_map.specs.Spot.{IsSpot}
 use Rattle.shared_map.specs.declared.spot.Spot.{Spot}
 use Rattle.shared_map.proofs.AllLemmas.{all_both}
-use Rattle.shared_map.proofs.ChangeLemmas.{rises_with, rises_without, get_around, set_around}
+use Rattle.shared_map.proofs.ChangeLemmas.{entries_risen, rises_with, rises_without, get_around, set_around}
 use Rattle.shared_map.proofs.ChunkLemmas.{joined_at, joined_append}
 
 -- what comes before a key in all chunks, and what comes after it
@@ -159,3 +159,7 @@ first_some key cs at k x before within is ahead behind =
 
 pub rest_of : (past : ℕ) (cs : List Entries) → take (length cs - past) (drop past cs) ≡ drop past cs
 rest_of past cs = take_all (length cs - past) (drop past cs) (let size = length-drop past cs in omega (arith, size))
+
+-- the number of entries is that of the map
+pub count_is : (es : Entries) (count : ℕ) (m : finite.FinMap name_cmp (List ℕ)) → Rises es → count ≡ length es → finite.from_entries es ≡ m → count ≡ finite.len m
+count_is es count m rises is shown = is ∙ ap (λ (l : Entries). length l) (sym (entries_risen es rises)) ∙ sym (finite.len-entries (finite.from_entries es)) ∙ ap finite.len shown

@@ -22,7 +22,7 @@ use std::marker::Model;
 #[derive(Drop)]
 pub struct SharedMap {
     alloc: Global,
-    len: usize,
+    count: usize,
     chunks: Option<Chunks>,
 }
 
@@ -40,7 +40,7 @@ impl Model for SharedMap {
 
     ghost view = { λ a. map.from_entries (joined (unwrap_or a.chunks [])) };
 
-    ghost invariant = { λ a. AreChunks (unwrap_or a.chunks []) a.len };
+    ghost invariant = { λ a. AreChunks (unwrap_or a.chunks []) a.count };
 }
 
 impl SharedMap {
@@ -50,7 +50,7 @@ impl SharedMap {
     {
         SharedMap {
             alloc,
-            len: 0,
+            count: 0,
             chunks: None,
         }
     }
@@ -59,7 +59,7 @@ impl SharedMap {
     pub fn len(&self) -> usize
         ensures { result ≡ map.len self.now }
     {
-        self.len
+        self.count
     }
 
     /// The name of a text.
@@ -112,14 +112,14 @@ impl SharedMap {
     pub fn copy(&self) -> Result<SharedMap, AllocError>
         ensures { IfOk result (λ copied. copied ≡ self.now) }
     {
-        let chunks = match &self.chunks {
-            Some(chunks) => Some(chunks.share()?),
-            None => None,
+        let Some(chunks) = &self.chunks else {
+            return Ok(SharedMap::new(self.alloc));
         };
+        let chunks = chunks.share()?;
         Ok(SharedMap {
             alloc: self.alloc,
-            len: self.len,
-            chunks,
+            count: self.len(),
+            chunks: Some(chunks),
         })
     }
 
@@ -133,10 +133,13 @@ impl SharedMap {
         let at = chunk_for(chunks, key);
         let spot = spot_of(entries_at(chunks, at), key);
         let new = rebuilt(alloc, chunks, at, &spot, key, value)?;
-        let len = len_with(len_without(self.len, &spot.value), value)?;
+        let count = len_with(len_without(self.len(), &spot.value), value)?;
         let new = Chunks::new(alloc, new)?;
-        self.chunks = Some(new);
-        self.len = len;
+        *self = SharedMap {
+            alloc,
+            count,
+            chunks: Some(new),
+        };
         Ok(())
     }
 }

@@ -7,7 +7,6 @@ ghost use Rattle.fork_host.specs.Restored.{is_bad_target, references_in, reposit
 
 use fork_request::RepositoryName;
 use git_name::{Kind, Name};
-use git_refname::RefName;
 use git_reftx::{Known, Refs, Repository};
 use state_text::{Offer, TenantState};
 use std::alloc::AllocError;
@@ -76,11 +75,11 @@ fn bad_target_in<K: Known>(known: &K, references: &Refs) -> Option<Name>
 }
 
 // The same for one reference.
-fn is_bad_target<K: Known>(known: &K, reference: &RefName, target: Name) -> bool
+fn is_bad_target<K: Known>(known: &K, reference: &[u8], target: Name) -> bool
     ensures { result ≡ is_bad_target (K.kinds known.now) (reference.now, target) }
 {
     let Some(kind) = known.kind_of(target) else {
         return true;
     };
-    reference.as_bytes().starts_with(b"refs/heads/") && kind != Kind::Commit
+    reference.starts_with(b"refs/heads/") && kind != Kind::Commit
 }

@@ -21,11 +21,11 @@ pub fn for_each_ref<S: Source>(
 {
     let mut text = Vec::new(alloc);
     for (name, target) in references.iter() {
-        if !is_asked(prefix, name.as_bytes()) {
+        if !is_asked(prefix, name) {
             continue;
         }
         if let Some(kind) = source.kind_of(*target) {
-            write_row(&mut text, name.as_bytes(), *target, kind)?;
+            write_row(&mut text, name, *target, kind)?;
         }
     }
     Ok(text)

@@ -4,6 +4,7 @@ pub mod BranchLemmas
 pub mod FrontLemmas
 pub mod MapLemmas
 pub mod MemberLemmas
+pub mod NearLemmas
 pub mod OrderLemmas
 pub mod PushLemmas
 pub mod ReadingLemmas

@@ -1,7 +1,8 @@
--- Which prefixes of a name are names themselves, when names are read in their order.
-use Rattle.std.specs.Prelude.{◌≡◌, ℕ, ◌+◌, ◌<◌, ◌≤◌, Bool, true, false, List, [], ◌∷◌, ◌⊎◌, Option, None, Some, length, take, slice_index_or}
+-- Names above others, and the least of them.
+use Rattle.std.specs.Prelude.{◌≡◌, ℕ, true, List, [], ◌∷◌, ◌⊎◌, Option, None, Some}
 use Rattle.std.specs.declared.cmp.Ordering.TheVariants.{Less}
 use Rattle.git_name.specs.Name.{name_cmp}
+use Rattle.git_reftx.specs.declared.command.Command.{Command}
 use Rattle.git_reftx.specs.Transaction.{stands_above}
 
 -- one name comes before another
@@ -18,58 +19,36 @@ abbrev pub Bounds : Option (List ℕ) → List ℕ → Type 0
 Bounds None v = ⊥
 Bounds (Some u) v = (u ≡ v) ⊎ Before u v
 
--- the prefix of this length is marked
-abbrev pub At : List Bool → ℕ → Type 0
-At fronts k = slice_index_or fronts k false ≡ true
-
--- the marked prefixes of a name, of those shorter than `most`, are the names read so far
-pub record MarksFronts (fronts : List Bool) (met : List (List ℕ)) (name : List ℕ) (most : ℕ) : Type 0 where
-  pub told : (k : ℕ) → k < most → In (take k name) met → At fronts k
-  pub found : (k : ℕ) → k < most → At fronts k → In (take k name) met
-
--- the same for the last name read, which comes after the others
-pub record AreFronts (fronts : List Bool) (met : List (List ℕ)) (last : List ℕ) : Type 0 where
-  pub tells : MarksFronts fronts met last (length last + 1)
-  pub latest : (p : List ℕ) → In p met → (p ≡ last) ⊎ Before p last
-
--- how many bytes two names share at the start
-pub record IsCommon (common : ℕ) (last name : List ℕ) : Type 0 where
-  pub fits_last : common ≤ length last
-  pub same : take common last ≡ take common name
-  pub most : (k : ℕ) → k ≤ length last → k ≤ length name → take k last ≡ take k name → k ≤ common
-
--- marks of which the longer ones are removed
-pub record AreKept (common : ℕ) (before after : List Bool) : Type 0 where
-  pub kept : (k : ℕ) → k ≤ common → slice_index_or after k false ≡ slice_index_or before k false
-  pub forgotten : (k : ℕ) → common < k → slice_index_or after k false ≡ false
-
 -- a name that is above another
-pub record IsUpper (met : List (List ℕ)) (upper : List ℕ) : Type 0 where
-  pub inside : In upper met
+pub record IsUpper (names : List (List ℕ)) (upper : List ℕ) : Type 0 where
+  pub inside : In upper names
   pub lower : List ℕ
-  pub lower_inside : In lower met
+  pub lower_inside : In lower names
   pub above : stands_above upper lower ≡ true
 
--- the least of those
-pub record IsLeast (met : List (List ℕ)) (least : Option (List ℕ)) : Type 0 where
-  pub found : (u : List ℕ) → least ≡ Some u → IsUpper met u
-  pub bound : (v : List ℕ) → IsUpper met v → Bounds least v
+-- the least of those, where one of the two names is near
+pub record IsLeastNear (names : List (List ℕ)) (near : List ℕ → Type 0) (least : Option (List ℕ)) : Type 0 where
+  pub found : (u : List ℕ) → least ≡ Some u → IsUpper names u
+  pub bound : (u l : List ℕ) → In u names → In l names → stands_above u l ≡ true → near u ⊎ near l → Bounds least u
 
--- a `/` of a name whose prefix is marked
-abbrev pub IsSlash : List Bool → List ℕ → ℕ → Type 0
-IsSlash fronts name k = (k < length name) × (slice_index_or name k 0 ≡ 47) × At fronts k
-
--- the first of those
-pub record IsFirstSlash (fronts : List Bool) (name : List ℕ) (k : ℕ) : Type 0 where
-  pub slash : IsSlash fronts name k
-  pub first : (j : ℕ) → j < k → IsSlash fronts name j → ⊥
+-- a command has the name
+abbrev pub AreOf : List Command → List ℕ → Type 0
+AreOf [] name = ⊥
+AreOf (command ∷ commands) name = (command.reference ≡ name) ⊎ AreOf commands name
 
 -- the lesser of two names, if there are two
 abbrev pub IsLesser : Option (List ℕ) → List ℕ → List ℕ → Type 0
 IsLesser None u w = w ≡ u
 IsLesser (Some v) u w = ((w ≡ v) × Bounds (Some v) u) ⊎ ((w ≡ u) × Bounds (Some u) v)
 
--- the least name that is above another, once this name is read too
-abbrev pub LeastWith : List Bool → List ℕ → Option (List ℕ) → Option (List ℕ) → Type 0
-LeastWith fronts name least now =
-    (met : List (List ℕ)) → ((p : List ℕ) → In p met → Before p name) → MarksFronts fronts met name (length name) → IsLeast met least → IsLeast (name ∷ met) now
+-- the same, where there may be no second one
+abbrev pub IsLesserOf : Option (List ℕ) → Option (List ℕ) → Option (List ℕ) → Type 0
+IsLesserOf least None now = now ≡ least
+IsLesserOf None (Some u) now = now ≡ Some u
+IsLesserOf (Some v) (Some u) now = ((now ≡ Some v) × Bounds (Some v) u) ⊎ ((now ≡ Some u) × Bounds (Some u) v)
+
+-- a name above another, and none that is above that comes before it
+pub record IsFrontAbove (names : List (List ℕ)) (name upper : List ℕ) : Type 0 where
+  pub inside : In upper names
+  pub above : stands_above upper name ≡ true
+  pub first : (other : List ℕ) → In other names → stands_above other name ≡ true → Bounds (Some upper) other

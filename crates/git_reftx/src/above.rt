@@ -1,6 +1,7 @@
-ghost use Rattle.std.specs.Prelude.{◌≡◌, ◌&&◌, ◌==◌};
+ghost use Rattle.std.specs.Prelude.{◌≡◌, ◌&&◌, ◌==◌, false, IfSome, IfNone};
 ghost use Rattle.std.specs.FinMap as map;
 ghost use Rattle.std.specs.List.{list_any};
+ghost use Rattle.git_reftx.specs.Fronts.{IsFrontAbove};
 ghost use Rattle.git_reftx.specs.Transaction.{stands_above};
 
 use crate::ref_map::RefMap;
@@ -10,26 +11,28 @@ use git_refname::RefName;
 pub(crate) fn has_above(references: &RefMap, name: &RefName) -> bool
     ensures { result ≡ list_any (λ upper. stands_above upper name.now) (map.keys references.now) }
 {
-    let text = name.as_bytes();
-    for (at, byte) in text.iter().enumerate() {
-        if is_above(references, &text[..at], *byte) {
-            return true;
+    front_above(references, name.as_bytes()).is_some()
+}
+
+// The shortest prefix of the name that is a reference above it.
+pub(crate) fn front_above<'a>(references: &RefMap, name: &'a [u8]) -> Option<&'a [u8]>
+    ensures found { IfSome result (λ upper. IsFrontAbove (map.keys references.now) name.now upper.now) }
+    ensures none { IfNone result (list_any (λ upper. stands_above upper name.now) (map.keys references.now) ≡ false) }
+{
+    for (at, byte) in name.iter().enumerate() {
+        if is_above(references, &name[..at], *byte) {
+            return Some(&name[..at]);
         }
     }
-    false
+    None
 }
 
 // Whether this prefix of a name is a reference that a `/` follows.
 fn is_above(references: &RefMap, front: &[u8], next: u8) -> bool
     ensures { result ≡ ((next == 47) && map.contains_key references.now front.now) }
 {
-    // Called for its clause: each name is valid.
-    let _count = references.len();
     if next != b'/' {
         return false;
     }
-    let Ok(front) = RefName::read(front) else {
-        return false;
-    };
-    references.get(&front).is_some()
+    references.contains(front)
 }

@@ -6,7 +6,8 @@ use crate::order::Order;
 use crate::ref_map::RefMap;
 use std::alloc::AllocError;
 
-// The references after the commands: a copy, in which they are carried out in turn.
+// The references after the commands: a copy, in which they are carried out in turn. It shares with the
+// old ones what no command changes.
 pub(crate) fn carried_out(old: &RefMap, orders: &[Order]) -> Result<RefMap, AllocError>
     ensures { IfOk result (λ new. new ≡ changed orders.now old.now) }
 {
@@ -22,10 +23,7 @@ fn carry_out(references: &mut RefMap, order: &Order) -> Result<(), AllocError>
 {
     match order.change() {
         Change::Keep => Ok(()),
-        Change::Remove => {
-            references.remove(order.reference());
-            Ok(())
-        }
-        Change::Point(name) => references.insert(order.reference().copy(), name),
+        Change::Remove => references.remove(order.reference()),
+        Change::Point(name) => references.insert(order.reference(), name),
     }
 }

@@ -1,21 +1,25 @@
-ghost use Rattle.std.specs.Prelude.{◌≡◌, ◌≤◌, ◌<◌, ◌↔◌, ℕ, true, IsTrue, IfSome, IfNone, length};
+ghost use Rattle.std.specs.Prelude.{◌≡◌, None};
 ghost use Rattle.std.specs.FinMap as map;
 ghost use Rattle.std.specs.Option.{option_copied};
-ghost use Rattle.git_reftx.specs.Fronts.{AreKept, IsCommon, IsFirstSlash, IsLesser, IsSlash, LeastWith};
-ghost use Rattle.git_reftx.specs.Transaction.{least_upper};
-ghost use Rattle.git_refname.specs.declared.name.TheConstants.{MAX_REF_NAME};
+ghost use Rattle.git_reftx.specs.Fronts.{AreOf, IsLeastNear, IsLesser, IsLesserOf};
+ghost use Rattle.git_reftx.specs.Transaction.{changed, least_upper};
 
+use crate::above::front_above;
+use crate::order::Order;
 use crate::ref_map::RefMap;
 use git_refname::RefName;
 use std::cmp::Ordering;
 
-// The least name that is above another.
-pub(crate) fn least_upper(references: &RefMap) -> Option<RefName>
-    ensures { result ≡ least_upper (map.keys references.now) }
+// The least name that is above another after these commands. Before them there was none, so one of the
+// two names is that of a command.
+pub(crate) fn least_upper(old: &RefMap, new: &RefMap, orders: &[Order]) -> Option<RefName>
+    requires free { least_upper (map.keys old.now) ≡ None }
+    requires changed { new.now ≡ changed orders.now old.now }
+    ensures { result ≡ least_upper (map.keys new.now) }
 {
     // Called for its clause: each name is valid.
-    let _count = references.len();
-    let Some(upper) = least_front(references) else {
+    let _count = new.len();
+    let Some(upper) = least_near(new, orders) else {
         return None;
     };
     match RefName::read(upper) {
@@ -24,80 +28,42 @@ pub(crate) fn least_upper(references: &RefMap) -> Option<RefName>
     }
 }
 
-// Its bytes, by one pass over the names in their order. A mark is set at each length at which the
-// prefix of the last name is a name itself. The names between a name and one that begins with it begin
-// with it too.
-fn least_front(references: &RefMap) -> Option<&[u8]>
-    ensures { option_copied result ≡ least_upper (map.keys references.now) }
+// The bytes of the least name that is above another, where a command has one of the two.
+fn least_near<'a>(references: &RefMap, orders: &'a [Order]) -> Option<&'a [u8]>
+    ensures { IsLeastNear (map.keys references.now) (AreOf orders.now) (option_copied result) }
 {
     let mut least: Option<&[u8]> = None;
-    let mut last: &[u8] = b"";
-    let mut fronts = [false; 256];
-    for (name, _) in references.iter() {
-        let text = name.as_bytes();
-        let common = common_len(last, text);
-        forget_behind(&mut fronts, common);
-        least = least_with(&fronts, text, least);
-        fronts[text.len()] = true;
-        last = text;
+    for order in orders {
+        least = lesser_of(least, upper_at(references, order.reference()));
     }
     least
 }
 
-// How many bytes two names share at the start.
-fn common_len(last: &[u8], name: &[u8]) -> usize
-    ensures { IsCommon result last.now name.now }
+// The least name that is above another, where this is one of the two.
+fn upper_at<'a>(references: &RefMap, name: &'a RefName) -> Option<&'a [u8]>
+    ensures { IsLeastNear (map.keys references.now) (λ other. name.now ≡ other) (option_copied result) }
 {
-    for (at, byte) in name.iter().enumerate() {
-        if at >= last.len() {
-            return at;
-        }
-        if last[at] != *byte {
-            return at;
-        }
+    let text = name.as_bytes();
+    if !references.contains(text) {
+        return None;
     }
-    name.len()
+    if let Some(upper) = front_above(references, text) {
+        return Some(upper);
+    }
+    if !references.has_below(name) {
+        return None;
+    }
+    Some(text)
 }
 
-// Removes the marks after the common prefix.
-fn forget_behind(fronts: &mut [bool; 256], common: usize)
-    requires { common < 256 }
-    ensures { AreKept common fronts.old fronts.new }
+// The lesser of two names, if there are two.
+fn lesser_of<'a>(least: Option<&'a [u8]>, upper: Option<&'a [u8]>) -> Option<&'a [u8]>
+    ensures { IsLesserOf (option_copied least.entry) (option_copied upper.entry) (option_copied result) }
 {
-    for at in common + 1..256 {
-        fronts[at] = false;
-    }
-}
-
-// The least name that is above another, with those above the next name.
-fn least_with<'a>(fronts: &[bool; 256], name: &'a [u8], least: Option<&'a [u8]>) -> Option<&'a [u8]>
-    requires { length name.now ≤ MAX_REF_NAME }
-    ensures { LeastWith fronts.now name.now (option_copied least.entry) (option_copied result) }
-{
-    let Some(len) = first_front(fronts, name) else {
+    let Some(upper) = upper else {
         return least;
     };
-    Some(lesser(least, &name[..len]))
-}
-
-// The first `/` of the name that follows a marked prefix.
-fn first_front(fronts: &[bool; 256], name: &[u8]) -> Option<usize>
-    requires { length name.now ≤ MAX_REF_NAME }
-    ensures found { IfSome result (IsFirstSlash fronts.now name.now) }
-    ensures none { IfNone result ((j : ℕ) → IsSlash fronts.now name.now j → ⊥) }
-{
-    for (at, byte) in name.iter().enumerate() {
-        if is_slash(fronts[at], *byte) {
-            return Some(at);
-        }
-    }
-    None
-}
-
-fn is_slash(is_marked: bool, byte: u8) -> bool
-    ensures { IsTrue result ↔ ((is_marked ≡ true) × (byte ≡ 47)) }
-{
-    is_marked && byte == b'/'
+    Some(lesser(least, upper))
 }
 
 fn lesser<'a>(least: Option<&'a [u8]>, front: &'a [u8]) -> &'a [u8]

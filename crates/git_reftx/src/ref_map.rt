@@ -1,24 +1,25 @@
-ghost use Rattle.std.specs.Prelude.{◌≡◌, ◌↔◌, All, IsTrue, OnOk, OnErr, IfOk, None, Some};
+ghost use Rattle.std.specs.Prelude.{◌≡◌, ◌≤◌, ◌+◌, ◌++◌, ◌↔◌, All, IsTrue, OnOk, OnErr, IfOk, codes, length, take};
 ghost use Rattle.std.specs.FinMap as map;
-ghost use Rattle.std.specs.BTreeMap.{IsUnchanged, Updates};
+ghost use Rattle.std.specs.List.{list_any};
 ghost use Rattle.std.specs.List.Sorted.{IsStrictlySortedBy};
 ghost use Rattle.git_name.specs.Name.{name_cmp};
+ghost use Rattle.git_refname.specs.Rule.{begins};
+ghost use Rattle.git_refname.specs.declared.name.TheConstants.{MAX_REF_NAME};
 ghost use Rattle.git_reftx.specs.Fronts.{Before};
 ghost use Rattle.git_reftx.specs.Sound.{AreRefNames};
+ghost use Rattle.git_reftx.specs.Transaction.{stands_above};
 
 use git_name::Name;
-use git_refname::RefName;
+use git_refname::{MAX_REF_NAME, RefName};
+use shared_map::{Iter, SharedMap};
 use std::alloc::{AllocError, Global};
-use std::cmp::Ordering;
-use std::collections::BTreeMap;
-use std::collections::btree_map::Iter;
 use std::marker::Model;
 
 // Names of references, and the object at which each points. All that is known of the names is that
 // each is valid.
 #[derive(Drop)]
 pub(crate) struct RefMap {
-    references: BTreeMap<RefName, Name>,
+    references: SharedMap,
 }
 
 impl Model for RefMap {
@@ -31,9 +32,9 @@ impl Model for RefMap {
 
     ghost coded = { map.code (coded_list coded_ℕ) (coded_list coded_ℕ) };
 
-    ghost view = { λ a. map.from_entries a.references.entries };
+    ghost view = { λ a. a.references };
 
-    ghost invariant = { λ a. AreRefNames (map.from_entries a.references.entries) };
+    ghost invariant = { λ a. AreRefNames a.references };
 }
 
 impl RefMap {
@@ -42,7 +43,7 @@ impl RefMap {
         ensures { result ≡ map.empty }
     {
         RefMap {
-            references: BTreeMap::new(alloc),
+            references: SharedMap::new(alloc),
         }
     }
 
@@ -58,11 +59,18 @@ impl RefMap {
     pub(crate) fn get(&self, name: &RefName) -> Option<Name>
         ensures { result ≡ map.get self.now name.now }
     {
-        self.references.get(name).copied()
+        self.references.get(name.as_bytes())
+    }
+
+    // Whether there is a reference of this name.
+    pub(crate) fn contains(&self, name: &[u8]) -> bool
+        ensures { result ≡ map.contains_key self.now name.now }
+    {
+        self.references.get(name).is_some()
     }
 
     // The references in ascending order.
-    pub(crate) fn iter(&self) -> Iter<'_, RefName, Name>
+    pub(crate) fn iter(&self) -> Iter<'_>
         ensures entries { result ≡ map.entries self.now }
         ensures ordered { IsStrictlySortedBy name_cmp (map.keys self.now) }
     {
@@ -73,63 +81,61 @@ impl RefMap {
     pub(crate) fn is_behind(&self, name: &RefName) -> bool
         ensures { IsTrue result ↔ All (λ other. Before other name.now) (map.keys self.now) }
     {
-        // Called for its clause: the names are in order.
-        let references = &self.references;
-        let _count = references.len();
-        let Some((last, _)) = references.last_key_value() else {
-            return true;
-        };
-        let Ordering::Less = last.cmp(name) else {
-            return false;
-        };
-        true
+        self.references.first_from(name.as_bytes()).is_none()
+    }
+
+    // Whether the name is above one of the references, which then is the first from the name and a `/` on.
+    pub(crate) fn has_below(&self, name: &RefName) -> bool
+        ensures { result ≡ list_any (λ lower. stands_above name.now lower) (map.keys self.now) }
+    {
+        let text = name.as_bytes();
+        let mut front = [0; MAX_REF_NAME + 1];
+        write_front(&mut front, text);
+        begins_one(&self.references, &front[..text.len() + 1])
     }
 
     // Points a reference at an object.
-    pub(crate) fn insert(&mut self, name: RefName, target: Name) -> Result<(), AllocError>
-        ensures ok { OnOk result (self.new ≡ map.insert self.old name target) }
+    pub(crate) fn insert(&mut self, name: &RefName, target: Name) -> Result<(), AllocError>
+        ensures ok { OnOk result (self.new ≡ map.insert self.old name.now target) }
         ensures err { OnErr result (self.new ≡ self.old) }
     {
-        let _name = name.as_bytes();
-        put(&mut self.references, name, target)
+        self.references.insert(name.as_bytes(), target)
     }
 
-    // Removes a reference, if it exists. It allocates nothing.
-    pub(crate) fn remove(&mut self, name: &RefName)
-        ensures { self.new ≡ map.remove self.old name.now }
+    // Removes a reference, if it exists.
+    pub(crate) fn remove(&mut self, name: &RefName) -> Result<(), AllocError>
+        ensures ok { OnOk result (self.new ≡ map.remove self.old name.now) }
+        ensures err { OnErr result (self.new ≡ self.old) }
     {
-        take_out(&mut self.references, name);
+        self.references.remove(name.as_bytes())
     }
 
-    // A copy of the references.
+    // A copy of the references, which shares what is in memory until one of both changes.
     pub(crate) fn copy(&self) -> Result<RefMap, AllocError>
         ensures { IfOk result (λ copied. copied ≡ self.now) }
     {
-        let references = copied(&self.references)?;
+        let references = self.references.copy()?;
         Ok(RefMap { references })
     }
 }
 
-fn copied(references: &BTreeMap<RefName, Name>) -> Result<BTreeMap<RefName, Name>, AllocError>
-    ensures { IfOk result (λ copied. copied.entries ≡ references.now.entries) }
+// Whether one of the texts begins with these bytes.
+fn begins_one(references: &SharedMap, front: &[u8]) -> bool
+    ensures { result ≡ list_any (λ text. begins front.now text) (map.keys references.now) }
 {
-    references.clone()
+    // Called for its clause: the texts are in order.
+    let _texts = references.iter();
+    let Some(first) = references.first_from(front) else {
+        return false;
+    };
+    first.starts_with(front)
 }
 
-fn put(
-    references: &mut BTreeMap<RefName, Name>,
-    name: RefName,
-    target: Name,
-) -> Result<(), AllocError>
-    ensures ok { OnOk result (Updates name_cmp references.old references.new name (Some target)) }
-    ensures err { OnErr result (IsUnchanged references.old references.new) }
+// Writes a name and a `/`.
+fn write_front(out: &mut [u8; MAX_REF_NAME + 1], name: &[u8])
+    requires { length name.now ≤ MAX_REF_NAME }
+    ensures { take (length name.now + 1) out.new ≡ name.now ++ codes "/" }
 {
-    references.insert(name, target)?;
-    Ok(())
-}
-
-fn take_out(references: &mut BTreeMap<RefName, Name>, name: &RefName)
-    ensures { Updates name_cmp references.old references.new name.now None }
-{
-    references.remove(name);
+    out[..name.len()].copy_from_slice(name);
+    out[name.len()] = b'/';
 }

@@ -15,8 +15,8 @@ use crate::ref_map::RefMap;
 use crate::transact::{MAX_REFERENCES, transact};
 use git_name::Name;
 use git_refname::RefName;
+use shared_map::Iter;
 use std::alloc::{AllocError, Global};
-use std::collections::btree_map::Iter;
 use std::marker::Model;
 
 /// The references of a repository: at most 4,096 (own), none above another. Contracts see them as a map
@@ -74,14 +74,14 @@ impl Refs {
     }
 
     /// The references, by name, in ascending order.
-    pub fn iter(&self) -> Iter<'_, RefName, Name>
+    pub fn iter(&self) -> Iter<'_>
         ensures entries { result ≡ map.entries self.now }
         ensures ordered { IsStrictlySortedBy name_cmp (map.keys self.now) }
     {
         self.map.iter()
     }
 
-    /// A copy of the references.
+    /// A copy of the references. It shares what is in memory until one of both changes.
     pub fn copy(&self) -> Result<Refs, AllocError>
         ensures { IfOk result (λ copied. copied ≡ self.now) }
     {
@@ -106,7 +106,7 @@ impl Refs {
         if self.map.len() >= MAX_REFERENCES {
             return Err(PushRefError::TooMany);
         }
-        let Ok(()) = self.map.insert(name, target) else {
+        let Ok(()) = self.map.insert(&name, target) else {
             return Err(PushRefError::Memory);
         };
         Ok(())

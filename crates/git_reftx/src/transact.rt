@@ -1,7 +1,8 @@
-ghost use Rattle.std.specs.Prelude.{◌≡◌, Ok, IfOk, IfErr};
+ghost use Rattle.std.specs.Prelude.{◌≡◌, None, Ok, IfOk, IfErr};
+ghost use Rattle.std.specs.FinMap as map;
 ghost use Rattle.git_reftx.specs.Judging.{refused_before, refused_after, TellsTransacted};
 ghost use Rattle.git_reftx.specs.Sound.{AreSound};
-ghost use Rattle.git_reftx.specs.Transaction.{transacted};
+ghost use Rattle.git_reftx.specs.Transaction.{changed, least_upper, transacted};
 
 use crate::carrying::carried_out;
 use crate::command::Command;
@@ -24,6 +25,7 @@ pub(crate) fn transact<K: Known>(
     commands: &[Command],
     known: &K,
 ) -> Result<RefMap, ApplyError>
+    requires { AreSound old.now }
     ensures found { IfOk result (λ new. transacted old.now commands.now (K.kinds known.now) ≡ Ok new) }
     ensures sound { IfOk result AreSound }
     ensures exact { IfErr result (TellsTransacted (transacted old.now commands.now (K.kinds known.now))) }
@@ -37,7 +39,7 @@ pub(crate) fn transact<K: Known>(
     let Ok(new) = carried_out(old, orders.as_slice()) else {
         return Err(ApplyError::Memory);
     };
-    if let Some(refusal) = refused_after(&new) {
+    if let Some(refusal) = refused_after(old, &new, orders.as_slice()) {
         return Err(ApplyError::Refused(refusal));
     }
     Ok(new)
@@ -65,10 +67,12 @@ fn refused_before<K: Known>(
 }
 
 // What is checked on the references afterwards.
-fn refused_after(new: &RefMap) -> Option<TxRefusal>
+fn refused_after(old: &RefMap, new: &RefMap, orders: &[Order]) -> Option<TxRefusal>
+    requires free { least_upper (map.keys old.now) ≡ None }
+    requires changed { new.now ≡ changed orders.now old.now }
     ensures { result ≡ refused_after new.now }
 {
-    if let Some(upper) = least_upper(new) {
+    if let Some(upper) = least_upper(old, new, orders) {
         return Some(TxRefusal::RefConflict(upper));
     }
     if new.len() > MAX_REFERENCES {

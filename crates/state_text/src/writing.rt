@@ -12,7 +12,7 @@ use crate::states::States;
 use crate::tenant_state::TenantState;
 use fork_request::{RepositoryName, TenantName};
 use git_name::Name;
-use git_refname::{RefName, expand};
+use git_refname::expand;
 use git_reftx::{Refs, Repository};
 use itoa::Buffer;
 use std::alloc::{AllocError, Global};
@@ -44,7 +44,7 @@ fn put_tenant_line(out: &mut Vec<u8>, name: &TenantName, limit: u64) -> Result<(
 fn put_reference(
     out: &mut Vec<u8>,
     prefix: &[u8],
-    name: &RefName,
+    name: &[u8],
     target: &Name,
 ) -> Result<(), AllocError>
     ensures { OnOk result (out.new.items ≡ out.old.items ++ ended (codes "ref " ++ encode_lower target.now ++ codes " " ++ prefix.now ++ name.now)) }
@@ -53,7 +53,7 @@ fn put_reference(
     put_name(out, target)?;
     out.extend_from_slice(b" ")?;
     out.extend_from_slice(prefix)?;
-    out.extend_from_slice(name.as_bytes())?;
+    out.extend_from_slice(name)?;
     out.extend_from_slice(b"\n")?;
     Ok(())
 }

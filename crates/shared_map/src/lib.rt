@@ -1,0 +1,16 @@
+//! Names of objects by texts, in the order of these, in chunks that copies of a map share until one
+//! of them changes. A change makes one chunk and the list of the chunks anew, and leaves all other
+//! copies, and this one if memory runs out, as they were.
+#![tactic(auto)]
+
+mod building;
+mod chunk;
+mod chunks;
+mod entry;
+mod iter;
+mod map;
+mod search;
+mod spot;
+
+pub use crate::iter::Iter;
+pub use crate::map::SharedMap;

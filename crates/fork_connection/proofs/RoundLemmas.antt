@@ -49,13 +49,13 @@ runs_at table at (act ∷ acts) old left is (mid, does, more) =
       runs_to next (put next at left) (put table at left) (steps_at at acts) (runs_at next at acts mid left (there table at mid) more) (λ place. put_again table at mid left place (place == at)),
     )
 
-runs_append : (old mid new : ℕ → Peer) (steps more : List Step) → Runs old steps mid → Runs mid more new → Runs old (steps ++ more) new
+pub runs_append : (old mid new : ℕ → Peer) (steps more : List Step) → Runs old steps mid → Runs mid more new → Runs old (steps ++ more) new
 runs_append old mid new [] [] one two = λ place. one place ∙ two place
 runs_append old mid new [] (step ∷ more) one (next, is, rest) =
     (next, record { does = subst (λ (p : Peer). Does p step.act (next step.at)) (sym (one step.at)) is.does; others = λ place apart. is.others place apart ∙ sym (one place) }, rest)
 runs_append old mid new (step ∷ steps) more (next, is, rest) two = (next, is, runs_append next mid new steps more rest two)
 
-acts_of-append : (steps more : List Step) → acts_of (steps ++ more) ≡ acts_of steps ++ acts_of more
+pub acts_of-append : (steps more : List Step) → acts_of (steps ++ more) ≡ acts_of steps ++ acts_of more
 acts_of-append [] more = refl
 acts_of-append (step ∷ steps) more = ap (λ (l : List Act). step.act ∷ l) (acts_of-append steps more)
 

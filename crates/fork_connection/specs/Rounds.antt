@@ -1,7 +1,8 @@
 -- Turns of many connections, one after another (own): what they did, as acts at the peers.
-use Rattle.std.specs.Prelude.{◌≡◌, ℕ, ◌<◌, ◌≤◌, Bool, true, false, List, [], length, get_or, Result, OnOk, is_err}
+use Rattle.std.specs.Prelude.{◌≡◌, ℕ, ◌<◌, ◌≤◌, Bool, true, false, List, [], length, get_or, Option, Result, OnOk, is_err}
 use Rattle.fork_connection.specs.declared.answering.Lost.{Lost}
-use Rattle.fork_connection.specs.Turns.{Act, Acts, Answered, LeadsTo, Loses, Peer, Runs, Step, acts_of, asked}
+use Rattle.fork_connection.specs.declared.party.Party.{Party}
+use Rattle.fork_connection.specs.Turns.{Act, Acts, Answered, LeadsTo, Loses, Peer, Runs, Step, acts_of, asked, peer_of}
 
 module _ {H : Type 0} where
   -- one connection had its turn, in which at most one frame was answered, unless it was over; if it goes on, it is as the acts
@@ -14,6 +15,13 @@ module _ {H : Type 0} where
     pub leads : LeadsTo answered lost before after acts (is_err result)
     pub few : length (asked acts) ≤ 1
     pub stays : OnOk result (is ≡ false → (was ≡ false) × (left ≡ new))
+
+-- a connection with its two ends, as a peer: `remaining` is what a reader has left, and `contents` what a writer holds
+abbrev pub peer_in : {R W : Type 0} → (R → Option (List ℕ)) → (W → Option (List ℕ)) → Party R W → Peer
+peer_in remaining contents party = peer_of (remaining party.reader) (contents party.writer) party.connection
+
+abbrev pub has_ended : {R W : Type 0} → Party R W → Bool
+has_ended party = party.is_over
 
 module _ {P : Type 0} where
   -- the connections that go on are the peers of this table, by their places

@@ -1,4 +1,4 @@
-ghost use Rattle.std.specs.Prelude.{◌≡◌, ◌≤◌, ◌<◌, ◌+◌, ◌-◌, ◌^◌, [], false, true, length, min};
+ghost use Rattle.std.specs.Prelude.{◌≡◌, ◌≤◌, ◌&&◌, [], false, true, length, not};
 ghost use Rattle.fork_connection.specs.Turns.{peer_of};
 
 use crate::connection::Connection;
@@ -46,9 +46,9 @@ impl<R, W> Party<R, W> {
 
     /// Whether, as far as is known, there may be more to do.
     pub fn is_busy(&self) -> bool
-        ensures { result ≡ self.now.is_busy }
+        ensures { result ≡ (not self.now.is_over && self.now.is_busy) }
     {
-        self.is_busy
+        !self.is_over && self.is_busy
     }
 
     /// Whether all was said, or the connection cannot go on. Then its stream is to be closed.

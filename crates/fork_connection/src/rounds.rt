@@ -1,6 +1,5 @@
 ghost use Rattle.std.specs.Prelude.{◌≡◌, ◌<◌, false, true, length, IsTrue};
-ghost use Rattle.fork_connection.specs.Rounds.{AreTurns, IsServed};
-ghost use Rattle.fork_connection.specs.Turns.{peer_of};
+ghost use Rattle.fork_connection.specs.Rounds.{AreTurns, IsServed, has_ended, peer_in};
 
 use crate::answering::{Answering, Lost};
 use crate::connection::{Turn, TurnFault};
@@ -29,9 +28,8 @@ fn serve<H: Answering, R: Read, W: Write>(
     requires { 0 < length buffer.old }
     ensures buffer { length buffer.new ≡ length buffer.old }
     ensures served { IsServed H.answered H.lost host.old host.new
-        (peer_of (R.remaining party.old.reader) (W.contents party.old.writer) party.old.connection)
-        (peer_of (R.remaining party.new.reader) (W.contents party.new.writer) party.new.connection)
-        party.old.is_over party.new.is_over result }
+        (peer_in R.remaining W.contents party.old) (peer_in R.remaining W.contents party.new)
+        (has_ended party.old) (has_ended party.new) result }
 {
     if !has_turn(party, is_full) {
         return Ok(());
@@ -73,9 +71,8 @@ fn serve_counted<H: Answering, R: Read, W: Write>(
     requires { 0 < length buffer.old }
     ensures buffer { length buffer.new ≡ length buffer.old }
     ensures served { IsServed H.answered H.lost host.old host.new
-        (peer_of (R.remaining party.old.reader) (W.contents party.old.writer) party.old.connection)
-        (peer_of (R.remaining party.new.reader) (W.contents party.new.writer) party.new.connection)
-        party.old.is_over party.new.is_over result }
+        (peer_in R.remaining W.contents party.old) (peer_in R.remaining W.contents party.new)
+        (has_ended party.old) (has_ended party.new) result }
 {
     let before = party.waiting();
     let is_full = *waiting > most;
@@ -106,8 +103,9 @@ pub fn round<H: Answering, R: Read, W: Write>(
     most: usize,
 ) -> Result<(), Lost>
     requires { 0 < length buffer.old }
-    ensures turns { AreTurns H.answered H.lost (λ party. peer_of (R.remaining party.reader) (W.contents party.writer) party.connection)
-        (λ party. party.is_over) host.old host.new parties.old parties.new result }
+    ensures turns { AreTurns H.answered H.lost (peer_in R.remaining W.contents) has_ended
+        host.old host.new parties.old parties.new result }
+    ensures buffer { length buffer.new ≡ length buffer.old }
 {
     let mut waiting = waiting_in(parties);
     for place in 0..parties.len() {

@@ -1,7 +1,7 @@
 use Rattle.std.proofs.Common.{◌<◌, length, refl, ◌∙◌, rules}
 use Rattle.std.proofs.lemmas.List.{length-set}
 use Rattle.std.proofs.lemmas.Result.{err_from_is_err_and}
-use Rattle.fork_connection.specs.Turns.{peer_of}
+use Rattle.fork_connection.specs.Rounds.{has_ended, peer_in}
 use Rattle.fork_connection.proofs.RoundLemmas.{no_turns, turns_more}
 use Rattle.fork_connection.proofs.rounds.round.Goals as goal
 
@@ -16,7 +16,7 @@ loop-place-preserved g c =
     let new = c.serve_counted.new.party in (
       length-set _ _ _ ∙ so_far.0,
       c.serve_counted.ensures.buffer ∙ so_far.1,
-      turns_more g.H.Answering.answered g.H.Answering.lost (λ party. peer_of (g.R.Read.remaining party.reader) (g.W.Write.contents party.writer) party.connection) (λ party. party.is_over) _ c.loop-place.host c.serve_counted.new.host _ c.loop-place.parties c.loop-place.place new old _ within so_far.2
+      turns_more g.H.Answering.answered g.H.Answering.lost (peer_in g.R.Read.remaining g.W.Write.contents) has_ended _ c.loop-place.host c.serve_counted.new.host _ c.loop-place.parties c.loop-place.place new old _ within so_far.2
           c.in_ok-serve_counted.ensures.served,
     )
 
@@ -27,6 +27,7 @@ returns-in_err-serve_counted g c =
     let within : c.loop-place.place < length c.loop-place.parties = search rules in
     let new = c.serve_counted.new.party in
     rw told.1 (record {
-      turns = turns_more g.H.Answering.answered g.H.Answering.lost (λ party. peer_of (g.R.Read.remaining party.reader) (g.W.Write.contents party.writer) party.connection) (λ party. party.is_over) _ c.loop-place.host c.serve_counted.new.host _ c.loop-place.parties c.loop-place.place new old _ within c.loop-place.invariant.2
+      turns = turns_more g.H.Answering.answered g.H.Answering.lost (peer_in g.R.Read.remaining g.W.Write.contents) has_ended _ c.loop-place.host c.serve_counted.new.host _ c.loop-place.parties c.loop-place.place new old _ within c.loop-place.invariant.2
           c.in_err-serve_counted.ensures.served;
+      buffer = c.serve_counted.ensures.buffer ∙ c.loop-place.invariant.1;
     })

@@ -36,7 +36,7 @@ apart met n m one other differs = differs (sym one ∙ other)
 type_is_good : (met : Option (Text × List Row)) (command : Command) → Asks met command → IsBadType met → ⊥
 type_is_good met (HashObject kind) asked bad = bad.2 kind (ap (λ (m : Option (Text × List Row)). type_given (rows_met m)) (sym bad.1 ∙ asked.1) ∙ asked.2)
 type_is_good met (Run hosting) asked bad = apart met 110 115 (ap third_letter asked.1) (ap third_letter bad.1) (omega arith)
-type_is_good met (Serve socket connections hosting) asked bad = apart met 114 115 (ap third_letter asked.1) (ap third_letter bad.1) (omega arith)
+type_is_good met (Serve socket connections at_once hosting) asked bad = apart met 114 115 (ap third_letter asked.1) (ap third_letter bad.1) (omega arith)
 type_is_good met (Check dir) asked bad = apart met 101 115 (ap third_letter asked.1) (ap third_letter bad.1) (omega arith)
 type_is_good met (Upgrade dir) asked bad = apart met 103 115 (ap third_letter asked.1) (ap third_letter bad.1) (omega arith)
 type_is_good met (AddTenant dir grant) asked bad = apart met 100 115 (ap third_letter asked.0.1) (ap third_letter bad.1) (omega arith)
@@ -57,7 +57,7 @@ tenants_are_good met (HashObject kind) word asked (BadOfRun rows is bad) = apart
 tenants_are_good met (Run hosting) word asked (BadOfRun rows is bad) =
     none_is_bad hosting.tenants.items (tenants_given rows) word
     (subst (λ (rs : List Row). AreGrants hosting.tenants.items (tenants_given rs)) (ap rows_met (sym asked.1 ∙ is)) asked.2.tenants) bad
-tenants_are_good met (Serve socket connections hosting) word asked (BadOfRun rows is bad) = apart met 114 110 (ap third_letter asked.1) (ap third_letter is) (omega arith)
+tenants_are_good met (Serve socket connections at_once hosting) word asked (BadOfRun rows is bad) = apart met 114 110 (ap third_letter asked.1) (ap third_letter is) (omega arith)
 tenants_are_good met (Check dir) word asked (BadOfRun rows is bad) = apart met 101 110 (ap third_letter asked.1) (ap third_letter is) (omega arith)
 tenants_are_good met (Upgrade dir) word asked (BadOfRun rows is bad) = apart met 103 110 (ap third_letter asked.1) (ap third_letter is) (omega arith)
 tenants_are_good met (AddTenant dir grant) word asked (BadOfRun rows is bad) = apart met 100 110 (ap third_letter asked.0.1) (ap third_letter is) (omega arith)
@@ -65,7 +65,7 @@ tenants_are_good met (SetLimit dir grant) word asked (BadOfRun rows is bad) = ap
 tenants_are_good met (RemoveTenant dir tenant) word asked (BadOfRun rows is bad) = apart met 109 110 (ap third_letter asked.0.1) (ap third_letter is) (omega arith)
 tenants_are_good met (HashObject kind) word asked (BadOfServe rows is bad) = apart met 115 114 (ap third_letter asked.1) (ap third_letter is) (omega arith)
 tenants_are_good met (Run hosting) word asked (BadOfServe rows is bad) = apart met 110 114 (ap third_letter asked.1) (ap third_letter is) (omega arith)
-tenants_are_good met (Serve socket connections hosting) word asked (BadOfServe rows is bad) =
+tenants_are_good met (Serve socket connections at_once hosting) word asked (BadOfServe rows is bad) =
     none_is_bad hosting.tenants.items (tenants_given rows) word
     (subst (λ (rs : List Row). AreGrants hosting.tenants.items (tenants_given rs)) (ap rows_met (sym asked.1 ∙ is)) asked.2.hosted.tenants) bad
 tenants_are_good met (Check dir) word asked (BadOfServe rows is bad) = apart met 101 114 (ap third_letter asked.1) (ap third_letter is) (omega arith)
@@ -75,7 +75,7 @@ tenants_are_good met (SetLimit dir grant) word asked (BadOfServe rows is bad) = 
 tenants_are_good met (RemoveTenant dir tenant) word asked (BadOfServe rows is bad) = apart met 109 114 (ap third_letter asked.0.1) (ap third_letter is) (omega arith)
 tenants_are_good met (HashObject kind) word asked (BadOfAdd rows is bad) = apart met 115 100 (ap third_letter asked.1) (ap third_letter is) (omega arith)
 tenants_are_good met (Run hosting) word asked (BadOfAdd rows is bad) = apart met 110 100 (ap third_letter asked.1) (ap third_letter is) (omega arith)
-tenants_are_good met (Serve socket connections hosting) word asked (BadOfAdd rows is bad) = apart met 114 100 (ap third_letter asked.1) (ap third_letter is) (omega arith)
+tenants_are_good met (Serve socket connections at_once hosting) word asked (BadOfAdd rows is bad) = apart met 114 100 (ap third_letter asked.1) (ap third_letter is) (omega arith)
 tenants_are_good met (Check dir) word asked (BadOfAdd rows is bad) = apart met 101 100 (ap third_letter asked.1) (ap third_letter is) (omega arith)
 tenants_are_good met (Upgrade dir) word asked (BadOfAdd rows is bad) = apart met 103 100 (ap third_letter asked.1) (ap third_letter is) (omega arith)
 tenants_are_good met (AddTenant dir grant) word asked (BadOfAdd rows is bad) = grant_is_good grant asked.0.0 rows word (ap rows_met (sym asked.0.1 ∙ is)) asked.0.3 asked.1 bad
@@ -83,7 +83,7 @@ tenants_are_good met (SetLimit dir grant) word asked (BadOfAdd rows is bad) = ap
 tenants_are_good met (RemoveTenant dir tenant) word asked (BadOfAdd rows is bad) = apart met 109 100 (ap third_letter asked.0.1) (ap third_letter is) (omega arith)
 tenants_are_good met (HashObject kind) word asked (BadOfLimit rows is bad) = apart met 115 116 (ap third_letter asked.1) (ap third_letter is) (omega arith)
 tenants_are_good met (Run hosting) word asked (BadOfLimit rows is bad) = apart met 110 116 (ap third_letter asked.1) (ap third_letter is) (omega arith)
-tenants_are_good met (Serve socket connections hosting) word asked (BadOfLimit rows is bad) = apart met 114 116 (ap third_letter asked.1) (ap third_letter is) (omega arith)
+tenants_are_good met (Serve socket connections at_once hosting) word asked (BadOfLimit rows is bad) = apart met 114 116 (ap third_letter asked.1) (ap third_letter is) (omega arith)
 tenants_are_good met (Check dir) word asked (BadOfLimit rows is bad) = apart met 101 116 (ap third_letter asked.1) (ap third_letter is) (omega arith)
 tenants_are_good met (Upgrade dir) word asked (BadOfLimit rows is bad) = apart met 103 116 (ap third_letter asked.1) (ap third_letter is) (omega arith)
 tenants_are_good met (AddTenant dir grant) word asked (BadOfLimit rows is bad) = apart met 100 116 (ap third_letter asked.0.1) (ap third_letter is) (omega arith)
@@ -91,7 +91,7 @@ tenants_are_good met (SetLimit dir grant) word asked (BadOfLimit rows is bad) = 
 tenants_are_good met (RemoveTenant dir tenant) word asked (BadOfLimit rows is bad) = apart met 109 116 (ap third_letter asked.0.1) (ap third_letter is) (omega arith)
 tenants_are_good met (HashObject kind) word asked (BadOfRemove rows is bad) = apart met 115 109 (ap third_letter asked.1) (ap third_letter is) (omega arith)
 tenants_are_good met (Run hosting) word asked (BadOfRemove rows is bad) = apart met 110 109 (ap third_letter asked.1) (ap third_letter is) (omega arith)
-tenants_are_good met (Serve socket connections hosting) word asked (BadOfRemove rows is bad) = apart met 114 109 (ap third_letter asked.1) (ap third_letter is) (omega arith)
+tenants_are_good met (Serve socket connections at_once hosting) word asked (BadOfRemove rows is bad) = apart met 114 109 (ap third_letter asked.1) (ap third_letter is) (omega arith)
 tenants_are_good met (Check dir) word asked (BadOfRemove rows is bad) = apart met 101 109 (ap third_letter asked.1) (ap third_letter is) (omega arith)
 tenants_are_good met (Upgrade dir) word asked (BadOfRemove rows is bad) = apart met 103 109 (ap third_letter asked.1) (ap third_letter is) (omega arith)
 tenants_are_good met (AddTenant dir grant) word asked (BadOfRemove rows is bad) = apart met 100 109 (ap third_letter asked.0.1) (ap third_letter is) (omega arith)

@@ -3,7 +3,7 @@ use Rattle.std.proofs.Common.{◌≡◌, ℕ, Option, Some, None, List, [], ◌�
 use Rattle.clap.specs.Words.{Text, fault_of, first_of, subcommand_of}
 use Rattle.clap.specs.declared.error.kind.ErrorKind.TheVariants.{ArgumentConflict, DisplayHelp, DisplayVersion, MissingRequiredArgument, MissingSubcommand, UnknownArgument, ValueValidation}
 use Rattle.clap.proofs.OnLiterals.{clap_on_literals}
-use Rattle.fork_command.specs.Command.{connections_given, tenants_given, type_given}
+use Rattle.fork_command.specs.Command.{at_once_given, connections_given, tenants_given, type_given}
 use Rattle.fork_command.specs.Table.{table_app}
 
 pub hash_object_is_taken : fault_of table_app (codes "forkhost" ∷ codes "hash-object" ∷ []) ≡ []
@@ -79,6 +79,24 @@ more_connections_are_faulty = refl
 pub a_sign_and_zeros_are_passed_over : option_map (λ p. connections_given p.1) (subcommand_of table_app (codes "forkhost" ∷ codes "serve" ∷ codes "--socket=s" ∷ codes "--connections=+007" ∷ [])) ≡ Some (Some 7)
 unfolding clap_on_literals table_app
 a_sign_and_zeros_are_passed_over = refl
+
+pub serve_at_once_is_asked : option_map {U = Option ℕ × Option ℕ} (λ p. (connections_given p.1, at_once_given p.1))
+    (subcommand_of table_app (codes "forkhost" ∷ codes "serve" ∷ codes "--socket=s" ∷ codes "--at-once" ∷ codes "256" ∷ codes "--connections=12" ∷ []))
+    ≡ Some (Some 12, Some 256)
+unfolding clap_on_literals table_app
+serve_at_once_is_asked = refl
+
+pub serve_one_after_another_is_asked : option_map (λ p. at_once_given p.1) (subcommand_of table_app (codes "forkhost" ∷ codes "serve" ∷ codes "--socket=s" ∷ codes "--connections=2" ∷ [])) ≡ Some None
+unfolding clap_on_literals table_app
+serve_one_after_another_is_asked = refl
+
+pub none_at_once_is_faulty : fault_of table_app (codes "forkhost" ∷ codes "serve" ∷ codes "--socket=s" ∷ codes "--connections=2" ∷ codes "--at-once=0" ∷ []) ≡ ValueValidation ∷ []
+unfolding clap_on_literals table_app
+none_at_once_is_faulty = refl
+
+pub more_at_once_are_faulty : fault_of table_app (codes "forkhost" ∷ codes "serve" ∷ codes "--socket=s" ∷ codes "--connections=2" ∷ codes "--at-once=257" ∷ []) ≡ ValueValidation ∷ []
+unfolding clap_on_literals table_app
+more_at_once_are_faulty = refl
 
 pub check_is_asked : option_map {U = Text × Option Text} (λ p. (p.0, first_of (codes "dir") p.1)) (subcommand_of table_app (codes "forkhost" ∷ codes "check" ∷ codes "--dir" ∷ codes "d" ∷ [])) ≡ Some (codes "check", Some (codes "d"))
 unfolding clap_on_literals table_app

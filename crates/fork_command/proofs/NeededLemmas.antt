@@ -1,5 +1,5 @@
 -- Words in which `clap` finds no fault give each subcommand what it needs.
-use Rattle.std.proofs.Common.{◌≡◌, ◌||◌, not, Bool, true, false, List, [], drop, Option, Some, None, is_some, codes, refl, IfSome, slice_get, pos}
+use Rattle.std.proofs.Common.{◌≡◌, ◌||◌, not, Bool, true, false, List, [], drop, Option, Some, None, is_some, codes, refl, sym, subst, IfSome, slice_get, pos}
 use Rattle.std.specs.Option.{option_and_then, option_map_or}
 use Rattle.clap.specs.Words.{App, IsSignedIn, Kinds, Row, Rule, Shape, Text, built, first_of, without_minus}
 use Rattle.clap.specs.Facts.{explicit_source}
@@ -10,8 +10,8 @@ use Rattle.clap.specs.Takes.{is_given}
 use Rattle.clap.specs.Walk.{Names, nothing_held, row_text, rows_after, settled, walk, walk_from}
 use Rattle.clap.specs.declared.builder.value_parser.ValueParser.TheVariants.{Signed}
 use Rattle.clap.proofs.ValueTestLemmas.{accepts-Accepts}
-use Rattle.fork_command.specs.Command.{HasServeWords, HasTenantWords}
-use Rattle.fork_command.specs.Table.{connections_rule, folder_app, needed_rule, serve_app, table_app, tenant_app, word_rule}
+use Rattle.fork_command.specs.Command.{HasServeWords, HasTenantWords, IsPlaces}
+use Rattle.fork_command.specs.Table.{at_once_rule, connections_rule, folder_app, needed_rule, serve_app, table_app, tenant_app, word_rule}
 use Rattle.fork_command.proofs.GivenLemmas.{Holds, found_keeps, other_keeps, others_keep, own_keeps, row_at}
 use Rattle.fork_command.proofs.KeptLemmas.{EachKeeps, level_keeps, or_else_first, or_else_last}
 
@@ -38,6 +38,10 @@ HasValue row = is_some (slice_get row.values 0) ≡ true
 abbrev pub HasNumber : Row → Type 0
 HasNumber row = (text : Text) × (row_text row ≡ Some (without_minus text)) × IsSignedIn (pos 1) (pos 1000000) text
 
+-- a row whose first value is a number from 1 to 256
+abbrev pub HasPlaces : Row → Type 0
+HasPlaces row = (text : Text) × (row_text row ≡ Some (without_minus text)) × IsSignedIn (pos 1) (pos 256) text
+
 value_given : (o : Option Row) → option_map_or (λ r. explicit_source r.source) o false ≡ true → IfSome o HasValue → is_some (option_and_then (λ r. slice_get r.values 0) o) ≡ true
 value_given None given held = absurd (cc)
 value_given (Some row) given held = held
@@ -46,6 +50,10 @@ number_there : (o : Option Row) → option_map_or (λ r. explicit_source r.sourc
     → (text : Text) × (option_and_then row_text o ≡ Some (without_minus text)) × IsSignedIn (pos 1) (pos 1000000) text
 number_there None given held = absurd (cc)
 number_there (Some row) given held = held
+
+places_there : (o : Option Row) → IfSome o HasPlaces → IfSome (option_and_then row_text o) IsPlaces
+places_there None held = tt
+places_there (Some row) held = subst (λ (o : Option Text). IfSome o IsPlaces) (sym held.1) (held.0, refl, held.2)
 
 two_given : (g h : Bool) → check_kinds false false (not g || (not h || false)) ≡ [] → (g ≡ true) × (h ≡ true)
 two_given true true none = (refl, refl)
@@ -62,6 +70,9 @@ socket_built = with_index 1 (filled (needed_rule (codes "socket")))
 
 abbrev connections_built : Rule
 connections_built = with_index 1 (filled connections_rule)
+
+abbrev at_once_built : Rule
+at_once_built = with_index 1 (filled at_once_rule)
 
 abbrev dir_built : Rule
 dir_built = with_index 1 (filled (needed_rule (codes "dir")))
@@ -87,6 +98,21 @@ connections_kept =
       ),
     )
 
+at_once_kept : EachKeeps (standing serve_app) (Holds (codes "at-once") HasPlaces)
+unfolding table_app
+at_once_kept =
+    let s = standing serve_app in
+    found_keeps s (Holds (codes "at-once") HasPlaces) s.rules (
+      other_keeps s socket_built (codes "at-once") HasPlaces refl refl,
+      (
+        other_keeps s connections_built (codes "at-once") HasPlaces refl refl,
+        (
+          own_keeps s at_once_built HasPlaces refl refl refl (λ v vs passed. (v, refl, accepts-Accepts false (Signed (pos 1) (pos 256)) v passed)),
+          others_keep s (codes "at-once") HasPlaces (drop 3 s.rules) refl,
+        ),
+      ),
+    )
+
 dir_kept : (name : Text) → EachKeeps (standing (folder_app name)) (Holds (codes "dir") HasValue)
 unfolding table_app
 dir_kept name =
@@ -105,6 +131,7 @@ serve_words words none =
       text = number.0;
       connections = number.1;
       number = number.2;
+      at_once = places_there (row_at (codes "at-once") rows) (level_keeps s (Holds (codes "at-once") HasPlaces) at_once_kept [] words false [] refl tt none);
     }
 
 pub folder_words : (name : Text) (words : List Text) → level_fault (standing (folder_app name)) [] nothing_held words false [] ≡ [] → is_some (first_of (codes "dir") (rows_after (standing (folder_app name)).rules [] words)) ≡ true

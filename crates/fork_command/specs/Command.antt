@@ -1,5 +1,5 @@
 -- What the command line asks for (own), by `clap`'s meaning of the words in the table below.
-use Rattle.std.specs.Prelude.{◌≡◌, ◌≢◌, ◌⊎◌, ◌≤◌, ℕ, Bool, false, List, [], codes, Option, Some, is_some, option_map, pos, true, unwrap_or}
+use Rattle.std.specs.Prelude.{◌≡◌, ◌≢◌, ◌⊎◌, ◌≤◌, ℕ, Bool, false, IfSome, List, [], codes, Option, Some, is_some, option_map, pos, true, unwrap_or}
 use Rattle.std.specs.Str.Parse.{digits_value, without_leading_plus}
 use Rattle.clap.specs.Words.{IsAmong, IsSignedIn, Kinds, Row, Text, all_of, first_of, kind_of, one_of, without_minus}
 use Rattle.clap.specs.declared.error.kind.ErrorKind.{ErrorKind}
@@ -27,17 +27,23 @@ tenants_given rows = unwrap_or (all_of (codes "tenants") rows) []
 abbrev pub connections_given : List Row → Option ℕ
 connections_given rows = option_map (λ text. digits_value 10 (without_leading_plus text)) (one_of (codes "connections") rows)
 
+-- the number given as M, as `clap` reads it
+abbrev pub at_once_given : List Row → Option ℕ
+at_once_given rows = option_map (λ text. digits_value 10 (without_leading_plus text)) (one_of (codes "at-once") rows)
+
 -- what is hosted: the folder given by `--dir`, if any, and the tenants
 pub record IsHosting (rows : List Row) (hosting : Hosting) : Type 0 where
   pub dir : option_map (λ dir. dir.now) hosting.dir ≡ first_of (codes "dir") rows
   pub tenants : AreGrants hosting.tenants.items (tenants_given rows)
 
 -- what `serve` is asked for
-pub record IsServing (rows : List Row) (path : Text) (n : ℕ) (hosting : Hosting) : Type 0 where
+pub record IsServing (rows : List Row) (path : Text) (n : ℕ) (m : Option ℕ) (hosting : Hosting) : Type 0 where
   pub socket : first_of (codes "socket") rows ≡ Some path
   pub connections : connections_given rows ≡ Some n
   pub least : 1 ≤ n
   pub most : n ≤ 1000000
+  pub at_once : at_once_given rows ≡ m
+  pub places : IfSome m (λ places. (1 ≤ places) × (places ≤ 256))
   pub hosted : IsHosting rows hosting
 
 -- `clap` found a subcommand of this name, which was given this folder
@@ -52,19 +58,24 @@ AsksOfTenant name met dir word = (rows : List Row) × (met ≡ Some (name, rows)
 abbrev pub Asks : Option (Text × List Row) → Command → Type 0
 Asks met (HashObject kind) = (rows : List Row) × (met ≡ Some (codes "hash-object", rows)) × (type_given rows ≡ type_word kind)
 Asks met (Run hosting) = (rows : List Row) × (met ≡ Some (codes "run", rows)) × IsHosting rows hosting
-Asks met (Serve socket connections hosting) = (rows : List Row) × (met ≡ Some (codes "serve", rows)) × IsServing rows socket.now connections hosting
+Asks met (Serve socket connections at_once hosting) = (rows : List Row) × (met ≡ Some (codes "serve", rows)) × IsServing rows socket.now connections at_once hosting
 Asks met (Check dir) = AsksOfFolder (codes "check") met dir.now
 Asks met (Upgrade dir) = AsksOfFolder (codes "upgrade") met dir.now
 Asks met (AddTenant dir grant) = AsksOfTenant (codes "add-tenant") met dir.now (grant_word grant) × IsGrant grant
 Asks met (SetLimit dir grant) = AsksOfTenant (codes "set-limit") met dir.now (grant_word grant) × IsGrant grant
 Asks met (RemoveTenant dir tenant) = AsksOfTenant (codes "remove-tenant") met dir.now tenant × IsTenantName tenant
 
--- the words have what `serve` needs: a socket, and a text that `clap` reads as N
+-- a word that `clap` reads as M
+abbrev pub IsPlaces : Text → Type 0
+IsPlaces word = (text : Text) × (word ≡ without_minus text) × IsSignedIn (pos 1) (pos 256) text
+
+-- the words have what `serve` needs: a socket, and a text that `clap` reads as N; if M is given, it is read as M
 pub record HasServeWords (rows : List Row) : Type 0 where
   pub socket : is_some (first_of (codes "socket") rows) ≡ true
   pub text : Text
   pub connections : one_of (codes "connections") rows ≡ Some (without_minus text)
   pub number : IsSignedIn (pos 1) (pos 1000000) text
+  pub at_once : IfSome (one_of (codes "at-once") rows) IsPlaces
 
 -- the words have what a change of a tenant needs
 pub record HasTenantWords (rows : List Row) : Type 0 where

@@ -16,6 +16,10 @@ needed_rule name = record (option_rule name) { required = true }
 abbrev pub connections_rule : Rule
 connections_rule = record (needed_rule (codes "connections")) { parser = Some (Signed (pos 1) (pos 1000000)) }
 
+-- `--at-once M`, a number from 1 to 256
+abbrev pub at_once_rule : Rule
+at_once_rule = record (option_rule (codes "at-once")) { parser = Some (Signed (pos 1) (pos 256)) }
+
 -- a required word at its place
 abbrev pub word_rule : Text → Rule
 word_rule name = record (new_rule name) { action = Some Set; value_names = 1; required = true }
@@ -32,13 +36,13 @@ hash_object_app = with_rule (new_app (codes "hash-object")) (option_rule (codes 
 abbrev pub run_app : App
 run_app = with_rule (with_rule (new_app (codes "run")) (option_rule (codes "dir"))) tenants_rule
 
--- `serve --socket PATH --connections N [--dir PATH] [TENANT=LIMIT ..]`
+-- `serve --socket PATH --connections N [--at-once M]`
+abbrev pub listening_app : App
+listening_app = with_rule (with_rule (with_rule (new_app (codes "serve")) (needed_rule (codes "socket"))) connections_rule) at_once_rule
+
+-- the same with `[--dir PATH] [TENANT=LIMIT ..]`
 abbrev pub serve_app : App
-serve_app =
-    with_rule
-    (with_rule
-    (with_rule (with_rule (new_app (codes "serve")) (needed_rule (codes "socket"))) connections_rule)
-    (option_rule (codes "dir"))) tenants_rule
+serve_app = with_rule (with_rule listening_app (option_rule (codes "dir"))) tenants_rule
 
 -- a subcommand that takes a folder, `--dir PATH`
 abbrev pub folder_app : Text → App

@@ -28,10 +28,12 @@ pub enum Command<'a> {
     Run {
         hosting: Hosting<'a>,
     },
-    /// Serve this many connections to a Unix socket, one after another.
+    /// Serve this many connections to a Unix socket: as many of them at once as is said, or one after
+    /// another.
     Serve {
         socket: &'a str,
         connections: u32,
+        at_once: Option<u32>,
         hosting: Hosting<'a>,
     },
     /// Read all that a folder keeps and report what is wrong with it.
@@ -94,10 +96,12 @@ fn serving<'a>(alloc: Global, matches: &ArgMatches<'a>) -> Result<Command<'a>, C
     let Some(connections) = matches.get_one::<u32>("connections") else {
         unreachable!();
     };
+    let at_once = matches.get_one::<u32>("at-once");
     let hosting = hosting_of(alloc, matches)?;
     Ok(Command::Serve {
         socket,
         connections,
+        at_once,
         hosting,
     })
 }

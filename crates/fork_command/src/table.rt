@@ -2,7 +2,7 @@ ghost use Rattle.std.specs.Prelude.{◌≡◌, IfOk, codes, false};
 ghost use Rattle.clap.specs.Walk.{rule_of};
 ghost use Rattle.clap.specs.Words.{app_of};
 ghost use Rattle.clap.specs.declared.builder.command.Command.TheViews.{out-Command};
-ghost use Rattle.fork_command.specs.Table.{connections_rule, folder_app, hash_object_app, needed_rule, option_rule, run_app, serve_app, serving_app, table_app, tenant_app, tenants_rule, word_rule};
+ghost use Rattle.fork_command.specs.Table.{at_once_rule, connections_rule, folder_app, hash_object_app, listening_app, needed_rule, option_rule, run_app, serve_app, serving_app, table_app, tenant_app, tenants_rule, word_rule};
 
 use clap::{Arg, ArgAction, Command, value_parser};
 use std::alloc::{AllocError, Global};
@@ -74,22 +74,43 @@ fn connections<'a>(alloc: Global) -> Arg<'a>
     Arg::new(alloc, "connections")
         .long("connections")
         .value_name("N")
-        .help("How many connections to serve, one after another")
+        .help("How many connections to serve")
         .required(true)
         .action(ArgAction::Set)
         .value_parser(value_parser!(u32).range(1..=1_000_000))
 }
 
-fn serve<'a>(alloc: Global) -> Result<Command<'a>, AllocError>
-    ensures table { IfOk result (λ c. app_of c ≡ serve_app) }
+fn at_once<'a>(alloc: Global) -> Arg<'a>
+    ensures rule { rule_of result ≡ at_once_rule }
+    ensures local { result.global ≡ false }
+{
+    Arg::new(alloc, "at-once")
+        .long("at-once")
+        .value_name("M")
+        .help(
+            "How many of them to serve at once, at most 256; one after another where it is not given",
+        )
+        .action(ArgAction::Set)
+        .value_parser(value_parser!(u32).range(1..=256))
+}
+
+// `serve` with what says where, and to how many.
+fn listening<'a>(alloc: Global) -> Result<Command<'a>, AllocError>
+    ensures table { IfOk result (λ c. app_of c ≡ listening_app) }
     ensures local { IfOk result (λ c. (out-Command c).has_globals ≡ false) }
 {
     Command::new(alloc, "serve")
         .about("Serve request frames on a Unix socket")
         .arg(socket(alloc))?
         .arg(connections(alloc))?
-        .arg(dir(alloc))?
-        .arg(tenants(alloc))
+        .arg(at_once(alloc))
+}
+
+fn serve<'a>(alloc: Global) -> Result<Command<'a>, AllocError>
+    ensures table { IfOk result (λ c. app_of c ≡ serve_app) }
+    ensures local { IfOk result (λ c. (out-Command c).has_globals ≡ false) }
+{
+    listening(alloc)?.arg(dir(alloc))?.arg(tenants(alloc))
 }
 
 // A subcommand that takes a folder.

@@ -27,7 +27,7 @@ pub split_line : (text after rest : List ℕ) (frame : Frame) → All (λ byte. 
 split_line text after rest frame plain right is =
     split_unique 10 text after (line_text (line_of frame)) (frame.payload ++ rest) plain (line_plain (line_of frame) _ (is_line_of frame right)) (is ∙ line_first frame rest)
 
-longer : (input front rest : List ℕ) → 1 ≤ length front → input ≡ front ++ rest → 1 ≤ length input
+pub longer : (input front rest : List ℕ) → 1 ≤ length front → input ≡ front ++ rest → 1 ≤ length input
 longer input front rest some parts =
     let whole : length input ≡ length front + length rest = ap (λ (l : List ℕ). length l) parts ∙ length-append front rest in
     omega arith
@@ -41,7 +41,7 @@ none_in_front input front new rest frame plain parts (inl long) right is =
 none_in_front input front new rest frame plain parts (inr all) right is =
     split_none 10 (line_text (line_of frame)) (frame.payload ++ rest) front plain (sym (append-nil front) ∙ (ap (λ r. front ++ r) (sym all) ∙ (sym parts ∙ is ∙ line_first frame rest)))
 
-bad_front : (old new : Option (List ℕ)) (front : List ℕ) → 1 ≤ length front → All (λ byte. byte ≢ 10) front → Consumes old new front → (length front ≡ LONGEST) ⊎ IsAtEnd new → IfSome old IsBad
+pub bad_front : (old new : Option (List ℕ)) (front : List ℕ) → 1 ≤ length front → All (λ byte. byte ≢ 10) front → Consumes old new front → (length front ≡ LONGEST) ⊎ IsAtEnd new → IfSome old IsBad
 bad_front None new front some plain taken cut = tt
 bad_front (Some input) None front some plain taken cut = absurd taken
 bad_front (Some input) (Some rest) front some plain taken cut = record {
@@ -67,7 +67,7 @@ some_line input text after is =
 then_after : (input text after : List ℕ) → input ≡ (text ++ 10 ∷ []) ++ after → text ++ 10 ∷ after ≡ input
 then_after input text after is = sym (is ∙ append_assoc text (10 ∷ []) after)
 
-bad_line : (old mid : Option (List ℕ)) (text : List ℕ) → All (λ byte. byte ≢ 10) text → Consumes old mid (text ++ 10 ∷ []) → ((line : Line) → IsFrameLine line text → ⊥) → IfSome old IsBad
+pub bad_line : (old mid : Option (List ℕ)) (text : List ℕ) → All (λ byte. byte ≢ 10) text → Consumes old mid (text ++ 10 ∷ []) → ((line : Line) → IsFrameLine line text → ⊥) → IfSome old IsBad
 bad_line None mid text plain taken no_line = tt
 bad_line (Some input) None text plain taken no_line = absurd taken
 bad_line (Some input) (Some after) text plain taken no_line = record {
@@ -92,7 +92,7 @@ too_short after payload front rest one two short =
     let whole : length after ≡ length payload + length rest = ap (λ (l : List ℕ). length l) two ∙ length-append payload rest in
     omega arith
 
-bad_payload : (old mid new : Option (List ℕ)) (text front : List ℕ) (line : Line) → All (λ byte. byte ≢ 10) text → Consumes old mid (text ++ 10 ∷ []) → IsFrameLine line text
+pub bad_payload : (old mid new : Option (List ℕ)) (text front : List ℕ) (line : Line) → All (λ byte. byte ≢ 10) text → Consumes old mid (text ++ 10 ∷ []) → IsFrameLine line text
     → length front < line.len → Consumes mid new front → IsAtEnd new → IfSome old IsBad
 bad_payload None mid new text front line plain taken right short more ended = tt
 bad_payload (Some input) None new text front line plain taken right short more ended = absurd taken

@@ -7,7 +7,7 @@ use Rattle.fork_host.specs.Shown.{HostState, Trusted, world_of}
 use Rattle.fork_program.specs.Given.{AreGiven, AreUngiven}
 use Rattle.fork_program.specs.Keeping.{IsSaved, IsUntouched}
 use Rattle.fork_program.specs.Running.{IsBegun, IsHostOf, IsKeptHostOf, IsUnhosted, Ungiven}
-use Rattle.fork_program.specs.Serving.{AreSomeVisits, Deaf, IsLost, IsUnbound, IsUnlistened, Lost}
+use Rattle.fork_program.specs.Serving.{AreSomeServed, Deaf, IsLost, IsUnbound, IsUnlistened, Lost}
 use Rattle.fork_program.specs.declared.fault.Fault.{Fault}
 
 -- a new host is right for any words
@@ -71,9 +71,9 @@ if_err_more (Ok a) more why = tt
 if_err_more (Err e) more why = more e why
 
 -- connections were served up to a fault of the socket
-pub deaf : {A : Type 0} (hosting : Hosting) (first last : HostState) (n : ℕ) (r : Result A Fault) → IsHostOf hosting first → OnErr r (AreSomeVisits first last n) → IfErr r IsUnbound → IfErr r (IsUnlistened hosting n)
-deaf hosting first last n (Ok a) host visits cause = tt
-deaf hosting first last n (Err fault) host visits cause = Deaf first last host visits cause
+pub deaf : {A : Type 0} (hosting : Hosting) (at_once : Option ℕ) (first last : HostState) (n : ℕ) (r : Result A Fault) → IsHostOf hosting first → OnErr r (AreSomeServed at_once first last n) → IfErr r IsUnbound → IfErr r (IsUnlistened hosting at_once n)
+deaf hosting at_once first last n (Ok a) host visits cause = tt
+deaf hosting at_once first last n (Err fault) host visits cause = Deaf first last host visits cause
 
 -- what holds of each fault, by two accounts of it
 pub if_err_both : {A E : Type 0} {P Q : E → Type 0} (R : E → Type 0) (r : Result A E) → ((e : E) → P e → Q e → R e) → IfErr r P → IfErr r Q → IfErr r R
@@ -81,6 +81,6 @@ if_err_both R (Ok a) both one other = tt
 if_err_both R (Err e) both one other = both e one other
 
 -- serving over a folder ended by a fault of the socket, or of what keeps the host
-pub deaf_or_lost : (hosting : Hosting) (first last : HostState) (n : ℕ) (fault : Fault) → is_some hosting.dir ≡ true → IsHostOf hosting first → AreSomeVisits first last n → IsUnbound fault ⊎ IsLost fault → IsUnlistened hosting n fault
-deaf_or_lost hosting first last n fault kept host visits (inl cause) = Deaf first last host visits cause
-deaf_or_lost hosting first last n fault kept host visits (inr lost) = Lost kept first last host visits lost
+pub deaf_or_lost : (hosting : Hosting) (at_once : Option ℕ) (first last : HostState) (n : ℕ) (fault : Fault) → is_some hosting.dir ≡ true → IsHostOf hosting first → AreSomeServed at_once first last n → IsUnbound fault ⊎ IsLost fault → IsUnlistened hosting at_once n fault
+deaf_or_lost hosting at_once first last n fault kept host visits (inl cause) = Deaf first last host visits cause
+deaf_or_lost hosting at_once first last n fault kept host visits (inr lost) = Lost kept first last host visits lost

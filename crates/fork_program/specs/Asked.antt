@@ -10,7 +10,7 @@ use Rattle.fork_command.specs.declared.command.Command.TheVariants.{HashObject, 
 abbrev pub folder_in : Command → Option Text
 folder_in (HashObject kind) = None
 folder_in (Run hosting) = option_map (λ dir. dir.now) hosting.dir
-folder_in (Serve socket connections hosting) = option_map (λ dir. dir.now) hosting.dir
+folder_in (Serve socket connections at_once hosting) = option_map (λ dir. dir.now) hosting.dir
 folder_in (Check dir) = Some dir.now
 folder_in (Upgrade dir) = Some dir.now
 folder_in (AddTenant dir grant) = Some dir.now
@@ -20,7 +20,7 @@ folder_in (RemoveTenant dir tenant) = Some dir.now
 -- the folder of a command that starts a host
 abbrev pub started_in : Command → Option Text
 started_in (Run hosting) = option_map (λ dir. dir.now) hosting.dir
-started_in (Serve socket connections hosting) = option_map (λ dir. dir.now) hosting.dir
+started_in (Serve socket connections at_once hosting) = option_map (λ dir. dir.now) hosting.dir
 started_in command = None
 
 -- the words ask for a command, and this is its folder

@@ -48,7 +48,7 @@ IsToTell (BadTenant word) = ⊤
 abbrev pub IsDone : Command → Option (List ℕ) → Option (List ℕ) → Option (List ℕ) → Type 0
 IsDone (HashObject kind) input before after = TellsName kind input before after
 IsDone (Run hosting) input before after = IsSessionOf hosting input before after Clean
-IsDone (Serve socket connections hosting) input before after = IsListened hosting connections × Keeps before after
+IsDone (Serve socket connections at_once hosting) input before after = IsListened hosting at_once connections × Keeps before after
 IsDone (Check dir) input before after = ⊥
 IsDone (Upgrade dir) input before after = IsUpgraded before after
 IsDone (AddTenant dir grant) input before after = IsTenantAdded grant × Keeps before after
@@ -64,7 +64,7 @@ FindsSound command input left before after = ⊥
 abbrev pub IsUndone : Command → Option (List ℕ) → Option (List ℕ) → Option (List ℕ) → Option (List ℕ) → Fault → Type 0
 IsUndone (HashObject kind) input left before after fault = IsUnnamed kind input before after fault
 IsUndone (Run hosting) input left before after fault = IsUnserved hosting input left before after fault
-IsUndone (Serve socket connections hosting) input left before after fault = IsUnlistened hosting connections fault × IsUntouched input left before after
+IsUndone (Serve socket connections at_once hosting) input left before after fault = IsUnlistened hosting at_once connections fault × IsUntouched input left before after
 IsUndone (Check dir) input left before after fault = IsUnchecked before after fault × Keeps input left
 IsUndone (Upgrade dir) input left before after fault = IsNotUpgraded before after fault × Keeps input left
 IsUndone (AddTenant dir grant) input left before after fault = IsNotAdded grant fault × IsUntouched input left before after

@@ -1,5 +1,6 @@
--- What `serve` does (own): it adds the given tenants to a host, and serves connections to a socket, one after another.
-use Rattle.std.specs.Prelude.{◌≡◌, ◌⊎◌, ◌≤◌, ℕ, true, List, [], ◌∷◌, length, is_some}
+-- What `serve` does (own): it adds the given tenants to a host, and serves connections to a socket, one after another or many at
+-- once.
+use Rattle.std.specs.Prelude.{◌≡◌, ◌⊎◌, ◌≤◌, ℕ, true, List, [], ◌∷◌, Option, None, Some, length, is_some}
 use Rattle.fork_command.specs.declared.hosting.Hosting.{Hosting}
 use Rattle.fork_frame.specs.declared.frame.Frame.{Frame}
 use Rattle.fork_host.specs.Shown.{HostState}
@@ -10,7 +11,8 @@ use Rattle.fork_program.specs.Running.{IsHostOf, IsUnhosted}
 use Rattle.fork_program.specs.declared.fault.Fault.{Fault}
 use Rattle.fork_program.specs.declared.fault.Fault.TheVariants.{Memory, NotKept, NotSaved, Socket}
 
--- what frames that came one after another, up to a pause or however the connection ended, did to the host
+-- what frames that came one after another did to the host: those of one connection, up to a pause or however it ended; or those of
+-- a round of all connections that were open at once
 pub data IsVisit (old new : HostState) : Type 0 where
   -- nothing was asked
   Idle : new ≡ old → IsVisit old new
@@ -28,7 +30,7 @@ abbrev pub Pauses : HostState → List HostState → HostState → Type 0
 Pauses old [] new = old ≡ new
 Pauses old (next ∷ states) new = IsVisitThenSaved old next × Pauses next states new
 
--- what a connection did to the host
+-- what a connection did to the host, or all that were open at once did, round by round
 pub record IsConnection (old new : HostState) : Type 0 where
   pub states : List HostState
   pub left : HostState
@@ -58,12 +60,22 @@ pub record AreSomeVisits (old new : HostState) (n : ℕ) : Type 0 where
   pub number : length states ≤ n
   pub chain : Visits old states new
 
+-- so many connections were served, one after another; or rounds of all that were open at once
+abbrev pub AreServed : Option ℕ → HostState → HostState → ℕ → Type 0
+AreServed None old new n = AreVisits old new n
+AreServed (Some most) old new n = IsConnection old new
+
+-- the same of some of them
+abbrev pub AreSomeServed : Option ℕ → HostState → HostState → ℕ → Type 0
+AreSomeServed None old new n = AreSomeVisits old new n
+AreSomeServed (Some most) old new n = IsConnection old new
+
 -- so many connections to such a host were served
-pub record IsListened (hosting : Hosting) (n : ℕ) : Type 0 where
+pub record IsListened (hosting : Hosting) (at_once : Option ℕ) (n : ℕ) : Type 0 where
   pub first : HostState
   pub last : HostState
   pub host : IsHostOf hosting first
-  pub served : AreVisits first last n
+  pub served : AreServed at_once first last n
 
 -- the faults of a socket
 abbrev pub IsUnbound : Fault → Type 0
@@ -74,16 +86,16 @@ abbrev pub IsLost : Fault → Type 0
 IsLost fault = (fault ≡ NotKept) ⊎ (fault ≡ NotSaved)
 
 -- why so many were not, or why the host was not kept
-pub data IsUnlistened (hosting : Hosting) (n : ℕ) (fault : Fault) : Type 0 where
+pub data IsUnlistened (hosting : Hosting) (at_once : Option ℕ) (n : ℕ) (fault : Fault) : Type 0 where
   -- there was no host
-  Unhosted : IsUnhosted hosting fault → IsUnlistened hosting n fault
+  Unhosted : IsUnhosted hosting fault → IsUnlistened hosting at_once n fault
   -- the socket could not be bound
-  Unbound : (first : HostState) → IsHostOf hosting first → IsUnbound fault → IsUnlistened hosting n fault
+  Unbound : (first : HostState) → IsHostOf hosting first → IsUnbound fault → IsUnlistened hosting at_once n fault
   -- the state could not be saved before the first connection
-  Unready : is_some hosting.dir ≡ true → fault ≡ NotSaved → (first : HostState) → IsHostOf hosting first → IsUnlistened hosting n fault
+  Unready : is_some hosting.dir ≡ true → fault ≡ NotSaved → (first : HostState) → IsHostOf hosting first → IsUnlistened hosting at_once n fault
   -- what was served could not be kept any more
-  Lost : is_some hosting.dir ≡ true → (first last : HostState) → IsHostOf hosting first → AreSomeVisits first last n → IsLost fault → IsUnlistened hosting n fault
+  Lost : is_some hosting.dir ≡ true → (first last : HostState) → IsHostOf hosting first → AreSomeServed at_once first last n → IsLost fault → IsUnlistened hosting at_once n fault
   -- it could not be listened on any more
-  Deaf : (first last : HostState) → IsHostOf hosting first → AreSomeVisits first last n → IsUnbound fault → IsUnlistened hosting n fault
+  Deaf : (first last : HostState) → IsHostOf hosting first → AreSomeServed at_once first last n → IsUnbound fault → IsUnlistened hosting at_once n fault
   -- all were served, and then the state could not be saved
-  Unsaved : is_some hosting.dir ≡ true → fault ≡ NotSaved → IsListened hosting n → IsUnlistened hosting n fault
+  Unsaved : is_some hosting.dir ≡ true → fault ≡ NotSaved → IsListened hosting at_once n → IsUnlistened hosting at_once n fault

@@ -14,6 +14,7 @@ fn folder_of<'a>(command: Command<'a>) -> Option<&'a str>
         Command::Serve {
             socket: _,
             connections: _,
+            at_once: _,
             hosting,
         } => hosting.dir,
         Command::Check { dir } => Some(dir),
@@ -33,6 +34,7 @@ fn start_of<'a>(command: Command<'a>) -> Option<&'a str>
         Command::Serve {
             socket: _,
             connections: _,
+            at_once: _,
             hosting,
         } => hosting.dir,
         _ => None,

@@ -52,8 +52,9 @@ fn carried_out<
         Command::Serve {
             socket,
             connections,
+            at_once,
             hosting,
-        } => done(serve(rt, alloc, socket, connections, hosting)),
+        } => done(serve(rt, alloc, socket, connections, at_once, hosting)),
         Command::Check { dir } => match check(rt, alloc, dir, writer) {
             Ok(count) => Ending::Sound(count),
             Err(fault) => Ending::Failed(fault),

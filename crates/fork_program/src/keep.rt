@@ -302,6 +302,22 @@ impl<'a, H: Files<File = File> + AllocGlobal> Keep<'a, H> {
         }
     }
 
+    /// The same after a round of many connections: what was swept is looked for only if one of them ended.
+    pub fn settle_after<S: LooseFiles>(
+        &mut self,
+        alloc: Global,
+        host: &mut Host<S>,
+        ended: bool,
+    ) -> Result<(), Fault>
+        ensures cause { IfErr result (λ fault. fault ≡ Fault.NotSaved) }
+        ensures saved { IsSaved host.old host.new }
+    {
+        if !ended && self.journal.bytes() <= self.saved.max(SPARE) {
+            return Ok(());
+        }
+        self.settle(alloc, host)
+    }
+
     /// Saves the host's state, where the journal has grown longer than it and than a MiB, or where
     /// anything was swept. Where it can not be drafted, as an upload's object can not be read, the
     /// journal goes on behind the old state. After an `Err` nothing more is to be kept.

@@ -5,12 +5,14 @@
 #![tactic(auto)]
 
 mod asked;
+mod at_once;
 mod cause;
 mod changing;
 mod check;
 mod connections;
 mod content;
 mod ending;
+mod ends;
 mod entry;
 mod fault;
 mod hash_object;
@@ -24,10 +26,12 @@ mod rights;
 mod run;
 mod send;
 mod serve;
+mod table;
 mod telling;
 mod tenants;
 mod trial;
 mod upgrade;
+mod watch;
 
 pub use crate::cause::tell_cause;
 pub use crate::entry::{Untold, program};

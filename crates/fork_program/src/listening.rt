@@ -23,6 +23,12 @@ impl Listening {
     pub fn listener(&self) -> &UnixListener {
         &self.listener
     }
+
+    /// The same, and what keeps other processes away while it lives.
+    pub fn into_parts(self) -> (UnixListener, File) {
+        let Listening { listener, room } = self;
+        (listener, room)
+    }
 }
 
 // Nothing stands at the path, or a socket that nobody listens on.

@@ -28,14 +28,14 @@ enum Awaited {
 }
 
 // When what begins now has to have ended.
-fn end_of(now: Instant) -> Option<Instant>
+pub(crate) fn end_of(now: Instant) -> Option<Instant>
     ensures { IfSome result (λ end. instant_nanos end ≡ instant_nanos now + 30000000000) }
 {
     now.checked_add(Duration::from_secs(PATIENCE))
 }
 
 // How long is left until then, where anything is.
-fn left_until(end: Instant, now: Instant) -> Option<Duration>
+pub(crate) fn left_until(end: Instant, now: Instant) -> Option<Duration>
     ensures left { IfSome result (λ left. as_nanos left ≡ instant_nanos end - instant_nanos now) }
     ensures some { IfSome result (λ left. 1 ≤ as_nanos left) }
     ensures none { IfNone result (instant_nanos end ≤ instant_nanos now) }

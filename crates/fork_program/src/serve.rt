@@ -1,8 +1,9 @@
 ghost use Rattle.std.specs.Prelude.{◌≡◌, ◌⊎◌, IfErr, OnErr, OnOk, is_some, true};
 ghost use Rattle.fork_command.specs.declared.hosting.Hosting.{Hosting};
 ghost use Rattle.fork_program.specs.Running.{IsHostOf, IsKeptHostOf};
-ghost use Rattle.fork_program.specs.Serving.{AreSomeVisits, AreVisits, IsListened, IsLost, IsUnbound, IsUnlistened};
+ghost use Rattle.fork_program.specs.Serving.{AreServed, AreSomeServed, IsListened, IsLost, IsUnbound, IsUnlistened};
 
+use crate::at_once::{serve_at_once, serve_kept_at_once};
 use crate::connections::{serve_connections, serve_kept_connections};
 use crate::fault::Fault;
 use crate::hosts::{host_in_folder, host_in_memory};
@@ -18,26 +19,68 @@ use std::net::Net;
 use std::random::RandomSource;
 use std::time::Clock;
 
+// Serves so many connections, one after another, or as many at once as is said.
+fn serve_all<H: Net + Clock, S: LooseFiles>(
+    rt: &H,
+    alloc: Global,
+    host: &mut Host<S>,
+    listening: Listening,
+    connections: u32,
+    at_once: Option<u32>,
+) -> Result<(), Fault>
+    ensures ok { OnOk result (AreServed at_once host.old host.new connections) }
+    ensures err { OnErr result (AreSomeServed at_once host.old host.new connections) }
+    ensures cause { IfErr result IsUnbound }
+{
+    let (listener, _room) = listening.into_parts();
+    match at_once {
+        None => serve_connections(rt, host, alloc, &listener, connections),
+        Some(most) => serve_at_once(rt, host, alloc, listener, most, connections),
+    }
+}
+
+// The same, and keeps what they do.
+fn serve_all_kept<H: Files<File = File> + AllocGlobal + Net + Clock, S: LooseFiles>(
+    rt: &H,
+    alloc: Global,
+    host: &mut Host<S>,
+    keep: &mut Keep<'_, H>,
+    listening: Listening,
+    connections: u32,
+    at_once: Option<u32>,
+) -> Result<(), Fault>
+    ensures ok { OnOk result (AreServed at_once host.old host.new connections) }
+    ensures err { OnErr result (AreSomeServed at_once host.old host.new connections) }
+    ensures cause { IfErr result (λ fault. IsUnbound fault ⊎ IsLost fault) }
+{
+    let (listener, _room) = listening.into_parts();
+    match at_once {
+        None => serve_kept_connections(rt, host, alloc, keep, &listener, connections),
+        Some(most) => serve_kept_at_once(rt, host, alloc, keep, listener, most, connections),
+    }
+}
+
 // Serves so many connections, and then takes the socket away.
-fn serve_at<H: Files + Clock, S: LooseFiles>(
+fn serve_at<H: Files + Net + Clock, S: LooseFiles>(
     rt: &H,
     alloc: Global,
     host: &mut Host<S>,
     listening: Listening,
     socket: &str,
     connections: u32,
+    at_once: Option<u32>,
 ) -> Result<(), Fault>
-    ensures ok { OnOk result (AreVisits host.old host.new connections) }
-    ensures err { OnErr result (AreSomeVisits host.old host.new connections) }
+    ensures ok { OnOk result (AreServed at_once host.old host.new connections) }
+    ensures err { OnErr result (AreSomeServed at_once host.old host.new connections) }
     ensures cause { IfErr result IsUnbound }
 {
-    let served = serve_connections(rt, host, alloc, listening.listener(), connections);
+    let served = serve_all(rt, alloc, host, listening, connections, at_once);
     let _removed = fs::remove_file(rt, socket);
     served
 }
 
 // Serves so many connections, keeps what they do, and then takes the socket away.
-fn serve_kept_at<H: Files<File = File> + AllocGlobal + Clock, S: LooseFiles>(
+fn serve_kept_at<H: Files<File = File> + Net + AllocGlobal + Clock, S: LooseFiles>(
     rt: &H,
     alloc: Global,
     host: &mut Host<S>,
@@ -45,12 +88,13 @@ fn serve_kept_at<H: Files<File = File> + AllocGlobal + Clock, S: LooseFiles>(
     listening: Listening,
     socket: &str,
     connections: u32,
+    at_once: Option<u32>,
 ) -> Result<(), Fault>
-    ensures ok { OnOk result (AreVisits host.old host.new connections) }
-    ensures err { OnErr result (AreSomeVisits host.old host.new connections) }
+    ensures ok { OnOk result (AreServed at_once host.old host.new connections) }
+    ensures err { OnErr result (AreSomeServed at_once host.old host.new connections) }
     ensures cause { IfErr result (λ fault. IsUnbound fault ⊎ IsLost fault) }
 {
-    let served = serve_kept_connections(rt, host, alloc, keep, listening.listener(), connections);
+    let served = serve_all_kept(rt, alloc, host, keep, listening, connections, at_once);
     let _removed = fs::remove_file(rt, socket);
     served
 }
@@ -62,13 +106,14 @@ fn serve_host<H: Files<File = File> + Net + Clock, S: LooseFiles>(
     host: &mut Host<S>,
     socket: &str,
     connections: u32,
+    at_once: Option<u32>,
 ) -> Result<(), Fault>
-    ensures ok { (hosting : Hosting) → IsHostOf hosting host.old → OnOk result (IsListened hosting connections) }
-    ensures err { (hosting : Hosting) → IsHostOf hosting host.old → IfErr result (IsUnlistened hosting connections) }
+    ensures ok { (hosting : Hosting) → IsHostOf hosting host.old → OnOk result (IsListened hosting at_once connections) }
+    ensures err { (hosting : Hosting) → IsHostOf hosting host.old → IfErr result (IsUnlistened hosting at_once connections) }
 {
     let listening = listen(rt, alloc, socket)?;
     show(rt, alloc, socket)?;
-    serve_at(rt, alloc, host, listening, socket, connections)
+    serve_at(rt, alloc, host, listening, socket, connections, at_once)
 }
 
 // Serves connections to a host that a folder keeps, at a socket that was bound, and has its place once the
@@ -81,13 +126,14 @@ fn keep_connections<'x, H: Files<File = File> + Net + AllocGlobal + Clock, S: Lo
     listening: Listening,
     socket: &str,
     connections: u32,
+    at_once: Option<u32>,
 ) -> Result<(), Fault>
-    ensures ok { (hosting : Hosting) → IsKeptHostOf hosting host.old → OnOk result (IsListened hosting connections) }
-    ensures err { (hosting : Hosting) → IsKeptHostOf hosting host.old → IfErr result (IsUnlistened hosting connections) }
+    ensures ok { (hosting : Hosting) → IsKeptHostOf hosting host.old → OnOk result (IsListened hosting at_once connections) }
+    ensures err { (hosting : Hosting) → IsKeptHostOf hosting host.old → IfErr result (IsUnlistened hosting at_once connections) }
 {
     let mut keep = Keep::begin(rt, alloc, dir, host)?;
     show(rt, alloc, socket)?;
-    let served = serve_kept_at(rt, alloc, host, &mut keep, listening, socket, connections);
+    let served = serve_kept_at(rt, alloc, host, &mut keep, listening, socket, connections, at_once);
     let saved = keep.end(alloc, host, &served);
     match served {
         Ok(()) => saved,
@@ -103,12 +149,13 @@ fn serve_kept_host<'x, H: Files<File = File> + Net + AllocGlobal + Clock, S: Loo
     host: &mut Host<S>,
     socket: &str,
     connections: u32,
+    at_once: Option<u32>,
 ) -> Result<(), Fault>
-    ensures ok { (hosting : Hosting) → IsKeptHostOf hosting host.old → OnOk result (IsListened hosting connections) }
-    ensures err { (hosting : Hosting) → IsKeptHostOf hosting host.old → IfErr result (IsUnlistened hosting connections) }
+    ensures ok { (hosting : Hosting) → IsKeptHostOf hosting host.old → OnOk result (IsListened hosting at_once connections) }
+    ensures err { (hosting : Hosting) → IsKeptHostOf hosting host.old → IfErr result (IsUnlistened hosting at_once connections) }
 {
     let listening = listen(rt, alloc, socket)?;
-    keep_connections(rt, alloc, dir, host, listening, socket, connections)
+    keep_connections(rt, alloc, dir, host, listening, socket, connections, at_once)
 }
 
 // Serves connections to a new host.
@@ -117,13 +164,14 @@ fn serve_in_memory<H: Files<File = File> + Net + RandomSource + Clock>(
     alloc: Global,
     socket: &str,
     connections: u32,
+    at_once: Option<u32>,
     hosting: Hosting<'_>,
 ) -> Result<(), Fault>
-    ensures ok { OnOk result (IsListened hosting.entry connections) }
-    ensures err { IfErr result (IsUnlistened hosting.entry connections) }
+    ensures ok { OnOk result (IsListened hosting.entry at_once connections) }
+    ensures err { IfErr result (IsUnlistened hosting.entry at_once connections) }
 {
     let mut host = host_in_memory(rt, alloc, hosting)?;
-    serve_host(rt, alloc, &mut host, socket, connections)
+    serve_host(rt, alloc, &mut host, socket, connections, at_once)
 }
 
 // Serves connections to the host that a folder keeps.
@@ -133,17 +181,19 @@ fn serve_in_folder<'x, H: Files<File = File> + Net + AllocGlobal + RandomSource 
     dir: &'x str,
     socket: &str,
     connections: u32,
+    at_once: Option<u32>,
     hosting: Hosting<'_>,
 ) -> Result<(), Fault>
     requires { is_some hosting.dir ≡ true }
-    ensures ok { OnOk result (IsListened hosting.entry connections) }
-    ensures err { IfErr result (IsUnlistened hosting.entry connections) }
+    ensures ok { OnOk result (IsListened hosting.entry at_once connections) }
+    ensures err { IfErr result (IsUnlistened hosting.entry at_once connections) }
 {
     let mut host = host_in_folder(rt, alloc, dir, hosting)?;
-    serve_kept_host(rt, alloc, dir, &mut host, socket, connections)
+    serve_kept_host(rt, alloc, dir, &mut host, socket, connections, at_once)
 }
 
-/// Serves so many connections to a socket, each a session of the host that has these tenants too.
+/// Serves so many connections to a socket, each a session of the host that has these tenants too: as many
+/// at once as is said, or one after another.
 /// What was served is saved where a folder keeps the host, but for open uploads, which end with the last
 /// connection; where the folder could not be written, it keeps all that was answered, open uploads too.
 pub fn serve<H: Files<File = File> + Net + AllocGlobal + RandomSource + Clock>(
@@ -151,13 +201,14 @@ pub fn serve<H: Files<File = File> + Net + AllocGlobal + RandomSource + Clock>(
     alloc: Global,
     socket: &str,
     connections: u32,
+    at_once: Option<u32>,
     hosting: Hosting<'_>,
 ) -> Result<(), Fault>
-    ensures ok { OnOk result (IsListened hosting.entry connections) }
-    ensures err { IfErr result (IsUnlistened hosting.entry connections) }
+    ensures ok { OnOk result (IsListened hosting.entry at_once connections) }
+    ensures err { IfErr result (IsUnlistened hosting.entry at_once connections) }
 {
     match hosting.dir {
-        Some(dir) => serve_in_folder(rt, alloc, dir, socket, connections, hosting),
-        None => serve_in_memory(rt, alloc, socket, connections, hosting),
+        Some(dir) => serve_in_folder(rt, alloc, dir, socket, connections, at_once, hosting),
+        None => serve_in_memory(rt, alloc, socket, connections, at_once, hosting),
     }
 }

@@ -13,6 +13,7 @@ ghost use Rattle.fork_frame.specs.Frame.{AreFrames, IsRequestStream};
 ghost use Rattle.fork_frame.specs.declared.ended.Ended.{Ended};
 ghost use Rattle.fork_frame.specs.declared.ended.Ended.TheVariants.{Clean};
 ghost use Rattle.fork_wire.specs.Again.{AreSettled, settled};
+ghost use Rattle.fork_wire.specs.AtOnce.{EachIsHeardAtOnce, RoundsAreOne};
 ghost use Rattle.fork_wire.specs.Kept.{kept_bytes, kept_of};
 ghost use Rattle.fork_wire.specs.Reopening.{ArePartFrames, Reopens, with_upload};
 ghost use Rattle.fork_wire.specs.Sessions.{IsAnswered, events_of, frames_of, payloads_of, told_to};
@@ -100,4 +101,13 @@ pub fn all_uploads_open_again()
         → (replies : List Reply) × Explains (without_uploads world) (events_of frames) replies world × AreFine replies }
     ensures served { (world : World) (frames : List Frame) (old new : HostState) (replies : List Reply) → IsOrderlyWorld world → Reopens (uploads_of world) frames
         → IsAnswered old new frames replies → AreFine replies → Trusted old → world_of old ≡ without_uploads world → world_of new ≡ world }
+{}
+
+/// A law, with no code to run: rounds of many connections, one after another, are one serving. Of this
+/// all frames and replies are one list, in the order of time, so what is said of the frames and replies
+/// of a session holds of them: each tenant is told what it would be told alone, whatever connections it
+/// and others ask at. And each peer is told the replies to its own frames, in their order.
+pub fn rounds_are_one_serving()
+    ensures joined { RoundsAreOne }
+    ensures heard { EachIsHeardAtOnce }
 {}

@@ -16,9 +16,10 @@ returns-in-Serve g c =
     let before = g.W.Write.contents c.args.writer.now in
     let hosting = c.in-Serve.hosting in
     let n = c.in-Serve.connections in
-    let right : OnOk c.serve.result (IsListened hosting n × Keeps before before) = on_ok_weaker c.serve.result (λ served. (served, Keeps-refl before)) c.serve.ensures.ok in
-    let why : IfErr c.serve.result (λ fault. IsUnlistened hosting n fault × IsUntouched input input before before) = if_err_more c.serve.result (λ fault why. (why, untouched input before)) c.serve.ensures.err in
-    rw c.in-Serve.is (carried (Serve c.in-Serve.socket n hosting) input input before before c.serve.result c.done-in-Serve.result c.done-in-Serve.ensures right why)
+    let m = c.in-Serve.at_once in
+    let right : OnOk c.serve.result (IsListened hosting m n × Keeps before before) = on_ok_weaker c.serve.result (λ served. (served, Keeps-refl before)) c.serve.ensures.ok in
+    let why : IfErr c.serve.result (λ fault. IsUnlistened hosting m n fault × IsUntouched input input before before) = if_err_more c.serve.result (λ fault why. (why, untouched input before)) c.serve.ensures.err in
+    rw c.in-Serve.is (carried (Serve c.in-Serve.socket n m hosting) input input before before c.serve.result c.done-in-Serve.result c.done-in-Serve.ensures right why)
 
 pub returns-in-Upgrade : goal.returns-in-Upgrade
 returns-in-Upgrade g c =

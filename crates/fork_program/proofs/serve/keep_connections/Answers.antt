@@ -22,4 +22,4 @@ returns-in-Ok-clause-err g c hosting host =
     if_err_more c.end-saved.result (λ fault is. Unsaved host.kept is (record { first = c.begin.new.host; last = c.serve_kept_at-served.new.host; host = saved_host hosting _ _ host c.begin.ensures.saved; served = rw c.in-Ok.is at c.serve_kept_at-served.ensures.ok })) c.end-saved.ensures
 
 pub returns-clause-err : goal.returns-clause-err
-returns-clause-err g c hosting host = deaf_or_lost _ _ _ _ _ host.kept (saved_host hosting _ _ host c.begin.ensures.saved) (rw c.in-Err.is at c.serve_kept_at-served.ensures.err) (rw c.in-Err.is at c.serve_kept_at-served.ensures.cause)
+returns-clause-err g c hosting host = deaf_or_lost _ _ _ _ _ _ host.kept (saved_host hosting _ _ host c.begin.ensures.saved) (rw c.in-Err.is at c.serve_kept_at-served.ensures.err) (rw c.in-Err.is at c.serve_kept_at-served.ensures.cause)

@@ -17,4 +17,4 @@ pub returns-clause-ok : goal.returns-clause-ok
 returns-clause-ok g c hosting host = on_ok_weaker c.serve_at.result (λ served. record { first = _; last = c.serve_at.new.host; host = host; served = served }) c.serve_at.ensures.ok
 
 pub returns-clause-err : goal.returns-clause-err
-returns-clause-err g c hosting host = deaf _ _ _ _ c.serve_at.result host c.serve_at.ensures.err c.serve_at.ensures.cause
+returns-clause-err g c hosting host = deaf _ _ _ _ _ c.serve_at.result host c.serve_at.ensures.err c.serve_at.ensures.cause

@@ -1,0 +1,198 @@
+ghost use Rattle.std.specs.Prelude.{◌≡◌, ◌≤◌, ◌<◌, [], false, true, OnOk, length};
+ghost use Rattle.fork_frame.specs.declared.ended.Ended.{Ended as HowEnded};
+ghost use Rattle.fork_frame.specs.Reply.{last_line};
+ghost use Rattle.fork_connection.specs.Inbox.{IsPart};
+ghost use Rattle.fork_connection.specs.Turns.{IsExchange, IsSent, IsTurn, Replies, is_loss, peer_of};
+
+use crate::answering::Answering;
+use crate::inbox::{Arrival, Came, Inbox};
+use crate::outbox::Outbox;
+use fork_frame::{Ended, Frame};
+use std::alloc::Global;
+use std::io::{Read, Write};
+use std::marker::Model;
+
+/// How a turn leaves a connection.
+#[derive(Clone, Copy, Debug, PartialEq, Eq)]
+pub(crate) enum Turn {
+    /// A frame was answered, and there may be more to do.
+    Answered,
+    /// There may be more to do.
+    Busy,
+    /// Nothing is to be done before the peer sends or takes something.
+    Waits,
+    /// All was said.
+    Over,
+}
+
+/// Why a turn was cut short.
+#[derive(Clone, Copy, Debug, PartialEq, Eq)]
+pub(crate) enum TurnFault {
+    /// The connection cannot go on: its stream failed, or there was no memory for it.
+    Broken,
+    /// A frame's reply must not go out, and no connection can go on.
+    Lost,
+}
+
+/// A connection that lives. It has no stream: each turn is given the two ends of one.
+#[derive(Debug, Drop)]
+pub(crate) struct Connection {
+    inbox: Inbox,
+    outbox: Outbox,
+    // Nothing more is taken of it; it is over when its last line is out.
+    is_ending: bool,
+}
+
+impl Model for Connection {
+    ghost use Rattle.fork_connection.specs.Turns.{Talk};
+
+    ghost Value = { Talk };
+
+    ghost view = { λ a. record { pending = a.inbox; waiting = a.outbox; is_ending = a.is_ending } };
+}
+
+impl Connection {
+    /// Nothing came, and nothing is to go out.
+    pub(crate) fn new(alloc: Global) -> Connection
+        ensures { result ≡ record { pending = []; waiting = []; is_ending = false } }
+    {
+        Connection {
+            inbox: Inbox::new(alloc),
+            outbox: Outbox::new(alloc),
+            is_ending: false,
+        }
+    }
+
+    /// How many bytes wait for the peer to take them.
+    pub(crate) fn waiting(&self) -> usize
+        ensures { result ≡ length self.now.waiting }
+    {
+        self.outbox.len()
+    }
+
+    /// Whether a frame has begun to come.
+    pub(crate) fn has_begun(&self) -> bool
+        ensures none { result ≡ false → self.now.pending ≡ [] }
+        ensures some { result ≡ true → 1 ≤ length self.now.pending }
+    {
+        !self.inbox.is_empty()
+    }
+
+    // Whether a reply waits for the peer to take it.
+    fn is_owed(&self) -> bool
+        ensures some { result ≡ true → 1 ≤ length self.now.waiting }
+        ensures none { result ≡ false → self.now.waiting ≡ [] }
+    {
+        !self.outbox.is_empty()
+    }
+
+    // Writes once.
+    fn send<W: Write>(&mut self, alloc: Global, writer: &mut W) -> Result<Turn, TurnFault>
+        ensures pending { self.new.pending ≡ self.old.pending }
+        ensures sent { IsSent self.old.waiting self.new.waiting (W.contents writer.old) (W.contents writer.new) }
+        ensures found { is_loss result ≡ false }
+    {
+        match self.outbox.send(alloc, writer) {
+            Ok(n) => {
+                if n == 0 {
+                    return Ok(Turn::Waits);
+                }
+                Ok(Turn::Busy)
+            }
+            Err(_) => Err(TurnFault::Broken),
+        }
+    }
+
+    // Answers a frame that was taken, and sends what goes at once.
+    fn answer<H: Answering, W: Write>(
+        &mut self,
+        alloc: Global,
+        host: &mut H,
+        frame: Frame,
+        writer: &mut W,
+    ) -> Result<Turn, TurnFault>
+        requires { self.old.waiting ≡ [] }
+        ensures pending { self.new.pending ≡ self.old.pending }
+        ensures replied { Replies H.answered H.lost host.old host.new frame self.new.waiting (W.contents writer.old) (W.contents writer.new) result }
+    {
+        let Ok(reply) = host.answer(alloc, &frame) else {
+            return Err(TurnFault::Lost);
+        };
+        let Ok(()) = self.outbox.put_reply(alloc, reply) else {
+            return Err(TurnFault::Broken);
+        };
+        let Ok(_) = self.outbox.send(alloc, writer) else {
+            return Err(TurnFault::Broken);
+        };
+        Ok(Turn::Answered)
+    }
+
+    // Tells that no frame came, and that nothing more is taken.
+    fn refuse<W: Write>(&mut self, alloc: Global, writer: &mut W) -> Result<Turn, TurnFault>
+        requires { self.old.waiting ≡ [] }
+        ensures pending { self.new.pending ≡ self.old.pending }
+        ensures sent { OnOk result (IsSent (last_line HowEnded.BadFrame) self.new.waiting (W.contents writer.old) (W.contents writer.new)) }
+        ensures found { is_loss result ≡ false }
+    {
+        self.is_ending = true;
+        let Ok(()) = self.outbox.put_bad_frame(alloc) else {
+            return Err(TurnFault::Broken);
+        };
+        self.send(alloc, writer)
+    }
+
+    // Reads once.
+    fn read<R: Read, W: Write>(
+        &mut self,
+        alloc: Global,
+        reader: &mut R,
+        writer: &mut W,
+        buffer: &mut [u8],
+    ) -> Result<Turn, TurnFault>
+        requires waiting { self.old.waiting ≡ [] }
+        requires part { IsPart self.old.pending }
+        requires buffer { 0 < length buffer.old }
+        ensures buffer { length buffer.new ≡ length buffer.old }
+        ensures exchange { IsExchange (peer_of (R.remaining reader.old) (W.contents writer.old) self.old)
+            (peer_of (R.remaining reader.new) (W.contents writer.new) self.new) result }
+    {
+        match self.inbox.fill(reader, buffer) {
+            Ok(Came::Some) => Ok(Turn::Busy),
+            Ok(Came::Nothing) => Ok(Turn::Waits),
+            Ok(Came::End) => match self.inbox.ended() {
+                Ended::Clean => Ok(Turn::Over),
+                Ended::BadFrame => self.refuse(alloc, writer),
+            },
+            Err(_) => Err(TurnFault::Broken),
+        }
+    }
+
+    /// One turn: what waits goes out, as far as the peer takes it, before anything more is taken of the
+    /// peer; and then at most one frame is answered. After an `Err` the connection is to be ended.
+    pub(crate) fn turn<H: Answering, R: Read, W: Write>(
+        &mut self,
+        alloc: Global,
+        host: &mut H,
+        reader: &mut R,
+        writer: &mut W,
+        buffer: &mut [u8],
+    ) -> Result<Turn, TurnFault>
+        requires { 0 < length buffer.old }
+        ensures buffer { length buffer.new ≡ length buffer.old }
+        ensures turn { IsTurn H.answered H.lost host.old host.new (peer_of (R.remaining reader.old) (W.contents writer.old) self.old)
+            (peer_of (R.remaining reader.new) (W.contents writer.new) self.new) result }
+    {
+        if self.is_owed() {
+            return self.send(alloc, writer);
+        }
+        if self.is_ending {
+            return Ok(Turn::Over);
+        }
+        match self.inbox.take(alloc) {
+            Ok(Arrival::Frame(frame)) => self.answer(alloc, host, frame, writer),
+            Ok(Arrival::Bad) => self.refuse(alloc, writer),
+            Ok(Arrival::Part) => self.read(alloc, reader, writer, buffer),
+            Err(_) => Err(TurnFault::Broken),
+        }
+    }
+}

@@ -1,0 +1,19 @@
+//! Many connections at once, in one thread. What came of each and is not a whole frame yet, and the one
+//! reply that it has not taken yet, are kept, and each has one turn in a round.
+//! The frames of a connection are those of its peer's bytes, in whatever pieces these come, and whatever
+//! is done at other connections between.
+#![tactic(auto)]
+
+mod answering;
+mod connection;
+mod inbox;
+mod law;
+mod outbox;
+mod party;
+mod piece;
+mod rounds;
+
+pub use crate::answering::{Answering, Lost};
+pub use crate::law::{cuts_change_nothing, each_is_heard};
+pub use crate::party::Party;
+pub use crate::rounds::round;

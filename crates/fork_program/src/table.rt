@@ -1,0 +1,307 @@
+use crate::ends::{Incoming, Outgoing, ends_of};
+use fork_connection::Party;
+use mio::net::{UnixListener, UnixStream};
+use mio::{Events, Interest, Poll, Token};
+use std::alloc::Global;
+use std::io;
+use std::io::ErrorKind;
+use std::net::Net;
+use std::os::unix::net;
+use std::time::{Clock, Duration, Instant};
+
+/// While more than so many bytes wait to go out in all, no frame is taken.
+pub const MOST_WAITING: usize = 67_108_864;
+
+// The listener's number: no connection has it.
+const LISTENER: Token = Token(usize::MAX);
+
+// How long the system is waited for at most where a peer's time runs, or where a connection could not be
+// accepted.
+const TICK: u64 = 500;
+
+// While there is something to do, so many rounds come before the system is asked anew.
+const ROUNDS: u32 = 8;
+
+// Errors of accept(2) of which nothing but time, or the end of a connection, is the cure, by errno(3):
+// ENOMEM, ENFILE, EMFILE, ENOBUFS.
+const FULL: [i32; 4] = [12, 23, 24, 105];
+
+/// A connection over a socket.
+pub type Peer = Party<Incoming, Outgoing>;
+
+/// The connections that are open, and the listener that others come from.
+#[derive(Drop)]
+pub struct Table {
+    poll: Poll,
+    events: Events<Global>,
+    listener: UnixListener,
+    peers: Vec<Peer>,
+    // As many may be open.
+    most: usize,
+    // So many are still to be accepted.
+    left: u32,
+    // The number of the next.
+    next: usize,
+    // More may be accepted at once.
+    is_calling: bool,
+    // So many rounds since the system was asked.
+    rounds: u32,
+}
+
+// Whether a turn may do something at one of them. One that may ask for more has none while too much waits.
+fn has_turn(peer: &Peer, is_full: bool) -> bool {
+    if !peer.is_busy() {
+        return false;
+    }
+    !is_full || peer.waiting() > 0
+}
+
+// Whether nothing is asked at one of them, as far as is known.
+fn is_idle(peer: &Peer) -> bool {
+    !peer.is_busy() && peer.writer().watch().idle_since().is_some()
+}
+
+// Notes how a round left it, and tells whether it stays. No time runs for a frame that is not taken as too
+// much waits.
+fn stays(peer: &Peer, now: Instant, is_full: bool) -> bool {
+    let end = peer.writer();
+    let is_awaited = peer.has_begun() && !(is_full && peer.is_busy());
+    end.note(now, peer.frames(), peer.waiting(), is_awaited);
+    if peer.is_over() || end.watch().is_over(now) {
+        end.end();
+        return false;
+    }
+    true
+}
+
+impl Table {
+    /// No connection is open, and so many are to be accepted, of which as many may be open at once.
+    pub fn new<H: Net>(
+        rt: &H,
+        alloc: Global,
+        listener: net::UnixListener,
+        most: u32,
+        connections: u32,
+    ) -> io::Result<Table> {
+        listener.set_nonblocking(true)?;
+        let mut listener = UnixListener::from_std(listener);
+        let poll = Poll::new(rt)?;
+        poll.registry()
+            .register(&mut listener, LISTENER, Interest::READABLE)?;
+        let events = Events::with_capacity(alloc, 256)?;
+        Ok(Table {
+            poll,
+            events,
+            listener,
+            peers: Vec::new(alloc),
+            most: most as usize,
+            left: connections,
+            next: 0,
+            is_calling: true,
+            rounds: 0,
+        })
+    }
+
+    /// The connections that are open.
+    pub fn peers(&mut self) -> &mut [Peer] {
+        self.peers.as_mut_slice()
+    }
+
+    /// Whether all were accepted, and none is open any more.
+    pub fn is_done(&self) -> bool {
+        self.left == 0 && self.peers.is_empty()
+    }
+
+    // Whether too much waits to go out.
+    fn is_full(&self) -> bool {
+        let mut waiting: usize = 0;
+        for peer in self.peers.iter() {
+            waiting = waiting.saturating_add(peer.waiting());
+        }
+        waiting > MOST_WAITING
+    }
+
+    // Whether the next round may do something.
+    fn has_turns(&self) -> bool {
+        let is_full = self.is_full();
+        self.peers.iter().any(|peer| has_turn(peer, is_full))
+    }
+
+    // Whether a place is free, or one is idle.
+    fn has_place(&self) -> bool {
+        self.peers.len() < self.most || self.peers.iter().any(|peer| is_idle(peer))
+    }
+
+    // Whether something is to be done though nothing happens: a peer's time runs, or more are to be accepted.
+    fn is_timed(&self) -> bool {
+        if self.is_calling && self.left > 0 {
+            return true;
+        }
+        self.peers
+            .iter()
+            .any(|peer| peer.writer().watch().idle_since().is_none())
+    }
+
+    // How long the system is waited for.
+    fn wait(&self) -> Option<Duration> {
+        if self.has_turns() {
+            return Some(Duration::ZERO);
+        }
+        if self.is_timed() {
+            return Some(Duration::from_millis(TICK));
+        }
+        None
+    }
+
+    // Notes at which connections the system says that something happened.
+    fn hear(&mut self) {
+        for event in self.events.iter() {
+            let Token(number) = event.token();
+            if number == usize::MAX {
+                self.is_calling = true;
+                continue;
+            }
+            for peer in self.peers.iter_mut() {
+                if peer.writer().number == number {
+                    peer.wake();
+                }
+            }
+        }
+    }
+
+    // Waits until something is to be done.
+    fn listen(&mut self) -> io::Result<()> {
+        let wait = self.wait();
+        if wait == Some(Duration::ZERO) && self.rounds < ROUNDS {
+            self.rounds += 1;
+            return Ok(());
+        }
+        self.rounds = 0;
+        if let Err(error) = self.poll.poll(&mut self.events, wait) {
+            if error.kind() != ErrorKind::Interrupted {
+                return Err(error);
+            }
+        }
+        self.hear();
+        Ok(())
+    }
+
+    // Where no place is free, the one that has been idle longest goes.
+    fn make_place(&mut self) {
+        if self.peers.len() < self.most {
+            return;
+        }
+        let mut oldest: Option<(usize, Instant)> = None;
+        for peer in self.peers.iter() {
+            if !is_idle(peer) {
+                continue;
+            }
+            let Some(since) = peer.writer().watch().idle_since() else {
+                continue;
+            };
+            let is_older = match oldest {
+                Some((_, other)) => since < other,
+                None => true,
+            };
+            if is_older {
+                oldest = Some((peer.writer().number, since));
+            }
+        }
+        let Some((number, _)) = oldest else {
+            return;
+        };
+        self.peers.retain(|peer| {
+            if peer.writer().number == number {
+                peer.writer().end();
+                return false;
+            }
+            true
+        });
+    }
+
+    // Takes a connection in. One for which there is no memory ends alone.
+    fn add(&mut self, alloc: Global, stream: UnixStream, now: Instant) {
+        let mut stream = stream;
+        let number = self.next;
+        self.next = self.next.wrapping_add(1);
+        if self
+            .poll
+            .registry()
+            .register(
+                &mut stream,
+                Token(number),
+                Interest::READABLE | Interest::WRITABLE,
+            )
+            .is_err()
+        {
+            return;
+        }
+        let Ok((incoming, outgoing)) = ends_of(alloc, stream, number, now) else {
+            return;
+        };
+        let _kept = self.peers.push(Party::new(alloc, incoming, outgoing));
+    }
+
+    // Accepts the connections that wait, as far as there are places.
+    fn accept(&mut self, alloc: Global, now: Instant) -> io::Result<()> {
+        for _ in 0..self.most {
+            if !self.is_calling || self.left == 0 || !self.has_place() {
+                return Ok(());
+            }
+            match self.listener.accept() {
+                Ok((stream, _)) => {
+                    self.left -= 1;
+                    self.make_place();
+                    self.add(alloc, stream, now);
+                }
+                Err(error) => {
+                    if error.kind() == ErrorKind::WouldBlock {
+                        self.is_calling = false;
+                        return Ok(());
+                    }
+                    if error.kind() == ErrorKind::ConnectionAborted
+                        || error.kind() == ErrorKind::Interrupted
+                    {
+                        continue;
+                    }
+                    if is_full(&error) {
+                        return Ok(());
+                    }
+                    return Err(error);
+                }
+            }
+        }
+        Ok(())
+    }
+
+    /// Waits until something is to be done, and accepts the connections that wait.
+    pub fn attend<H: Clock>(&mut self, rt: &H, alloc: Global) -> io::Result<()> {
+        self.listen()?;
+        if self.is_calling {
+            let now = Instant::now(rt)?;
+            self.accept(alloc, now)?;
+        }
+        Ok(())
+    }
+
+    /// After a round: ends the connections at which all was said, that cannot go on, or whose peer's time is
+    /// over, and tells whether there were any.
+    pub fn tidy<H: Clock>(&mut self, rt: &H) -> io::Result<bool> {
+        let now = Instant::now(rt)?;
+        let before = self.peers.len();
+        let is_full = self.is_full();
+        self.peers.retain(|peer| stays(peer, now, is_full));
+        Ok(self.peers.len() < before)
+    }
+}
+
+// Whether accept(2) failed for want of what others may give back.
+fn is_full(error: &io::Error) -> bool {
+    if error.kind() == ErrorKind::OutOfMemory {
+        return true;
+    }
+    match error.raw_os_error() {
+        Some(errno) => FULL.contains(&errno),
+        None => false,
+    }
+}

@@ -1,0 +1,100 @@
+ghost use Rattle.std.specs.Prelude.{◌≡◌, ◌<◌, ℕ, List, IfErr, OnErr, OnOk, true, length};
+ghost use Rattle.fork_connection.specs.Rounds.{Stands, has_ended, peer_in};
+ghost use Rattle.fork_connection.specs.Turns.{Peer};
+ghost use Rattle.fork_request.specs.declared.reply.Reply.{Reply as Told};
+ghost use Rattle.fork_frame.specs.declared.frame.Frame.{Frame as Asked};
+ghost use Rattle.fork_wire.specs.AtOnce.{EndsRound};
+ghost use Rattle.fork_wire.specs.Sessions.{IsAnswered};
+
+use crate::journal::{Journal, NotKept};
+use crate::keeping::keep;
+use crate::session::answer;
+use fork_connection::{Answering, Lost, Party, round};
+use fork_frame::Frame;
+use fork_host::Host;
+use fork_request::Reply;
+use loose_store::LooseFiles;
+use std::alloc::Global;
+use std::io::{Read, Write};
+
+// A host, and what keeps the frames that may have changed it, each before its reply goes out.
+#[derive(Drop)]
+struct Keeping<'a, S: LooseFiles, J> {
+    host: &'a mut Host<S>,
+    journal: &'a mut J,
+}
+
+impl<S: LooseFiles, J: Journal> Answering for Keeping<'_, S, J> {
+    ghost use Rattle.std.specs.Prelude.{◌≡◌, true};
+    ghost use Rattle.std.specs.Io.KnownBytes.{Appends};
+    ghost use Rattle.fork_request.specs.declared.reply.Reply.{Reply as Told};
+    ghost use Rattle.fork_host.specs.Step.{IsStep};
+    ghost use Rattle.fork_wire.specs.Kept.{kept_one};
+    ghost use Rattle.fork_wire.specs.Sessions.{event_of};
+
+    ghost answered = { λ old frame reply new. IsStep old.host.now (event_of frame) reply new.host.now
+        × Appends (J.kept old.journal.now) (J.kept new.journal.now) (kept_one frame reply)
+        × (J.is_cut new.journal.now ≡ J.is_cut old.journal.now)
+        × (new.host.ghost_name ≡ old.host.ghost_name) × (new.journal.ghost_name ≡ old.journal.ghost_name) };
+
+    ghost lost = { λ old frame new. (reply : Told) × IsStep old.host.now (event_of frame) reply new.host.now
+        × J.can_fail × (J.is_cut new.journal.now ≡ true)
+        × (new.host.ghost_name ≡ old.host.ghost_name) × (new.journal.ghost_name ≡ old.journal.ghost_name) };
+
+    fn answer(&mut self, alloc: Global, frame: &Frame) -> Result<Reply, Lost> {
+        let reply = answer(self.host, alloc, frame);
+        if !keep(self.journal, frame, &reply) {
+            return Err(Lost);
+        }
+        Ok(reply)
+    }
+}
+
+/// One turn of each connection to a host, in which at most one frame of it is answered, and kept if it
+/// may have changed the host, before its reply goes out. While more than `most` bytes wait to go out in
+/// all, no frame is taken. If a frame cannot be kept, its reply does not go out, and nothing more is done.
+pub fn serve_round<S: LooseFiles, J: Journal, R: Read, W: Write>(
+    host: &mut Host<S>,
+    alloc: Global,
+    journal: &mut J,
+    parties: &mut [Party<R, W>],
+    buffer: &mut [u8],
+    most: usize,
+) -> Result<(), NotKept>
+    requires { 0 < length buffer.old }
+    ensures served { (first : ℕ → Peer) → Stands (peer_in R.remaining W.contents) has_ended first parties.old
+        → EndsRound (peer_in R.remaining W.contents) has_ended host.old host.new (J.kept journal.old) (J.kept journal.new) first parties.new result }
+    ensures ran { (frames : List Asked) × (replies : List Told) × IsAnswered host.old host.new frames replies }
+    ensures cause { IfErr result (λ _. J.can_fail) }
+    ensures whole { OnOk result (J.is_cut journal.new ≡ J.is_cut journal.old) }
+    ensures cut { OnErr result (J.is_cut journal.new ≡ true) }
+    ensures buffer { length buffer.new ≡ length buffer.old }
+{
+    let mut keeping = Keeping { host, journal };
+    keep_round(&mut keeping, alloc, parties, buffer, most)
+}
+
+// The same, of a host and what keeps its frames.
+fn keep_round<S: LooseFiles, J: Journal, R: Read, W: Write>(
+    keeping: &mut Keeping<'_, S, J>,
+    alloc: Global,
+    parties: &mut [Party<R, W>],
+    buffer: &mut [u8],
+    most: usize,
+) -> Result<(), NotKept>
+    requires { 0 < length buffer.old }
+    ensures served { (first : ℕ → Peer) → Stands (peer_in R.remaining W.contents) has_ended first parties.old
+        → EndsRound (peer_in R.remaining W.contents) has_ended keeping.old.host.now keeping.new.host.now (J.kept keeping.old.journal.now) (J.kept keeping.new.journal.now) first parties.new result }
+    ensures ran { (frames : List Asked) × (replies : List Told) × IsAnswered keeping.old.host.now keeping.new.host.now frames replies }
+    ensures cause { IfErr result (λ _. J.can_fail) }
+    ensures whole { OnOk result (J.is_cut keeping.new.journal.now ≡ J.is_cut keeping.old.journal.now) }
+    ensures cut { OnErr result (J.is_cut keeping.new.journal.now ≡ true) }
+    ensures buffer { length buffer.new ≡ length buffer.old }
+    ensures host { keeping.new.host.ghost_name ≡ keeping.old.host.ghost_name }
+    ensures journal { keeping.new.journal.ghost_name ≡ keeping.old.journal.ghost_name }
+{
+    match round(alloc, keeping, parties, buffer, most) {
+        Ok(()) => Ok(()),
+        Err(_) => Err(NotKept),
+    }
+}

@@ -123,6 +123,14 @@ impl<'a, S: LooseFiles> Own<'a, S> {
         self.vault.learn_links(alloc, self.tenant, name);
     }
 
+    // The vault keeps what links lead to from these names, if the tenant sees it and it is known.
+    pub(crate) fn keep_seen(&mut self, alloc: Global, names: &[Name])
+        ensures vault { self.new.vault.now ≡ self.old.vault.now }
+        ensures same { IsSame self.old self.new }
+    {
+        self.vault.keep_reached(alloc, self.tenant, names);
+    }
+
     // The object that the tenant has staged under this name.
     pub(crate) fn get_staged(
         &mut self,

@@ -56,4 +56,8 @@ impl<S: LooseFiles> Source for Own<'_, S> {
     fn learn_links(&mut self, alloc: Global, name: Name) {
         self.learn_seen(alloc, name);
     }
+
+    fn keep_reached(&mut self, alloc: Global, names: &[Name]) {
+        self.keep_seen(alloc, names);
+    }
 }

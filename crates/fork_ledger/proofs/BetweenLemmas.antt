@@ -19,7 +19,7 @@ use Rattle.object_table.specs.Links.{NamedLinks, leads_nowhere, next_named}
 use Rattle.object_table.specs.Walked.{IsBetween, IsLedTo, IsMet}
 use Rattle.object_table.specs.Words.{Words, is_visible, kept_as, words_that}
 use Rattle.object_table.proofs.ChosenLemmas.{get_chosen}
-use Rattle.fork_ledger.specs.Led.{AreLed}
+use Rattle.fork_ledger.specs.Led.{AreLed, LeadsTo}
 use Rattle.fork_ledger.specs.Shown.{object_at, tenants_of}
 use Rattle.fork_ledger.specs.Store.{IsStored}
 use Rattle.fork_ledger.specs.Tenants.{private_of}
@@ -165,6 +165,32 @@ module _ (files : Files) (m : AllWords) (t : List ℕ) (links : NamedLinks) wher
         by true w false e false is = clash b (all (record { led = wanted_back w; left = λ out. clash (is_reached (linked_names objects) objects excluded q) (excluded_forth out) e })) is
         by false w e out true is = clash (is_reached (linked_names objects) objects wanted q) (wanted_forth (only is).led) w
         by false w e out false is = refl
+
+    -- ---- a name of a kind that leads nowhere is known to lead to nothing
+    some_tested : (o : Option Word) → option_map_or (λ (word : Word). leads_nowhere word.kind) o false ≡ true → is_some o ≡ true
+    some_tested None is = (let differs : ⊥ = cc in absurd differs)
+    some_tested (Some word) is = refl
+
+    rested_leads : (q : List ℕ) → option_map_or (λ (word : Word). leads_nowhere word.kind) (get words q) false ≡ true → LeadsTo files q []
+    rested_leads q rests =
+        let there : contains_key words q ≡ true = some_tested (get words q) rests in
+        let both = seen_both files m t q there in
+        let whole = seen_whole files m t q stored (sym (seen_word m t q) ∙ there) in
+        let same : Some whole.0 ≡ Some (object_at files q both.0) = sym whole.1 ∙ both.2 in
+        let one : whole.0 ≡ object_at files q both.0 = cc in (
+          object_at files q both.0,
+          subst (Whole files q) one whole.2,
+          leaf_links (object_at files q both.0) (ap leads_nowhere (kind_at files q both.0) ∙ sym (ap (λ o. option_map_or (λ (word : Word). leads_nowhere word.kind) o false) both.1) ∙ rests),
+        )
+
+    pub led_rested : (now : NamedLinks)
+        → ((q : List ℕ) (to : List (List ℕ)) → get now q ≡ Some to → (get links q ≡ Some to) ⊎ ((to ≡ []) × (option_map_or (λ (word : Word). leads_nowhere word.kind) (get words q) false ≡ true))) → AreLed now files
+    led_rested now only = record {
+      each = λ q to is. elim (only q to is) [
+        | inl before ↦ led.each q to before
+        | inr rests ↦ subst (LeadsTo files q) (sym rests.0) (rested_leads q rests.1)
+      ];
+    }
 
 -- facts of a result, name by name
 pub told_each : {F E : Type 0} (P Q R S : F → Type 0) (r : Result (Option F) E) → ((x : F) → P x → Q x → R x → S x) → IfOk r (λ o. IfSome o P) → IfOk r (λ o. IfSome o Q) → IfOk r (λ o. IfSome o R) → IfOk r (λ o. IfSome o S)

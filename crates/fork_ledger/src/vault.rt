@@ -1,7 +1,7 @@
 ghost use Rattle.std.specs.Prelude.{◌≡◌, ◌≢◌, ◌⊎◌, ◌≤◌, ◌<◌, ◌+◌, ◌∷◌, ℕ, List, [], Contains, Err, false, true, length, map as map_list, IsTrue, OnOk, OnErr, IfOk, IfErr, IfSome, Some, is_some, nat_le};
 ghost use Rattle.std.specs.FinMap as map;
 ghost use Rattle.std.specs.HashSet.{contains};
-ghost use Rattle.std.specs.List.{AllByRecursion};
+ghost use Rattle.std.specs.List.{AllByRecursion, IsDistinct};
 ghost use Rattle.std.specs.Result.{IsOk};
 ghost use Rattle.git_name.specs.Maps.{joined};
 ghost use Rattle.git_name.specs.Object.{Object, object_name};
@@ -226,6 +226,14 @@ impl<S: LooseFiles> Vault<S> {
             return;
         };
         learn_links(alloc, &mut self.holdings, name, kind, bytes);
+    }
+
+    /// Keeps all that links lead to from these names, if the tenant sees it and it is known, so that it need
+    /// not be found again. It asks no store.
+    pub fn keep_reached(&mut self, alloc: Global, tenant: &TenantName, names: &[Name])
+        ensures { self.new ≡ self.old }
+    {
+        self.holdings.keep_reached(alloc, tenant, names);
     }
 
     /// The names of what a tenant sees that links lead to from the wanted ones, and from none of the
@@ -579,12 +587,14 @@ impl<S: LooseFiles> Vault<S> {
     /// What holds of every vault between calls, for who is to show something of it: nothing is done.
     pub fn invariant(&self)
         ensures place { self.now.places.place ≤ length self.now.places.names }
+        ensures distinct { IsDistinct same_name self.now.places.names }
         ensures accounted { IsTrue self.now.honest → IsAccounted self.now }
         ensures graph { IsGraph self.now.commits }
         ensures one { IsTrue self.now.honest → HoldOne self.now.tenants }
         ensures parents { IsTrue self.now.honest → (tenant : List ℕ) → AreParents (private_of self.now.tenants tenant).visible self.now.commits }
     {
         let _place = self.holdings.place();
+        self.holdings.names_are_distinct();
         let _count = self.graph.len();
     }
 }

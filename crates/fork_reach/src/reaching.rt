@@ -1,4 +1,4 @@
-ghost use Rattle.std.specs.Prelude.{◌≡◌, [], false, true, List, ℕ, IsTrue, IfOk};
+ghost use Rattle.std.specs.Prelude.{◌≡◌, [], false, true, List, ℕ, IsTrue, IfOk, IfSome};
 ghost use Rattle.std.specs.List.{Contains};
 ghost use Rattle.std.specs.HashSet.{contains};
 ghost use Rattle.std.specs.FinMap as map;
@@ -29,6 +29,26 @@ fn walk_all<S: Source>(
         return Ok(none);
     }
     walk(alloc, source, Along::Links, roots, &none)
+}
+
+// The same, along links that the source knows; nothing if it does not know all. What the excluded names lead to is
+// kept for the next time.
+fn known_between<S: Source>(
+    alloc: Global,
+    source: &mut S,
+    wanted: &[Name],
+    excluded: &[Name],
+) -> Result<Option<IndexSet<Name, Hashing>>, SourceFault>
+    ensures found { IsTrue (S.state source.old).honest → IfOk result (λ known. IfSome known (λ found. (name : List ℕ) → contains same_name found name ≡ is_between (linked_names (S.state source.old).objects) (S.state source.old).objects wanted.now excluded.now name)) }
+    ensures there { IfOk result (λ known. IfSome known (λ found. (name : List ℕ) → contains same_name found name ≡ true → map.contains_key (S.state source.old).objects name ≡ true)) }
+    ensures rooted { excluded.now ≡ [] → IfOk result (λ known. IfSome known (λ found. (name : List ℕ) → Contains wanted.now name → map.contains_key (S.state source.old).objects name ≡ true → contains same_name found name ≡ true)) }
+    ensures asked { IsAsked (S.state source.old) (S.state source.new) (fault_in result) }
+{
+    source.keep_reached(alloc, excluded);
+    match source.known_between(alloc, wanted, excluded) {
+        Ok(known) => Ok(known),
+        Err(_) => Err(SourceFault::Memory),
+    }
 }
 
 // What links lead to from the wanted names, and from none of the excluded ones. What the excluded ones reach is
@@ -64,11 +84,10 @@ pub fn reach_between<S: Source>(
     ensures rooted { excluded.now ≡ [] → IfOk result (λ found. (name : List ℕ) → Contains wanted.now name → map.contains_key (S.state source.old).objects name ≡ true → contains same_name found name ≡ true) }
     ensures asked { IsAsked (S.state source.old) (S.state source.new) (fault_in result) }
 {
-    match source.known_between(alloc, wanted, excluded) {
-        Ok(Some(known)) => Ok(known),
-        Ok(None) => walk_between(alloc, source, wanted, excluded),
-        Err(_) => Err(SourceFault::Memory),
+    if let Some(known) = known_between(alloc, source, wanted, excluded)? {
+        return Ok(known);
     }
+    walk_between(alloc, source, wanted, excluded)
 }
 
 /// The names of the source's objects that links lead to from these roots, and of the roots that it

@@ -90,4 +90,13 @@ pub trait Source {
         let _alloc = alloc;
         let _name = name;
     }
+
+    /// Keeps what links lead to from these names, if it knows that, so that it need not find it again. It reads
+    /// nothing, and what the source shows stays.
+    fn keep_reached(&mut self, alloc: Global, names: &[Name])
+        ensures asked { IsAsked (state self.old) (state self.new) None }
+    {
+        let _alloc = alloc;
+        let _names = names;
+    }
 }

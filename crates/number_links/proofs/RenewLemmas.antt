@@ -92,3 +92,32 @@ known_before clock n renewed begins pool are q ms is = by (cases_eq q n)
           apart,
           before.1,
         ))
+
+-- ---- and what leads elsewhere is told still
+still_after : (clock n : ℕ) (renewed : List ℕ) (learned : ℕ) (numbers : List ℕ) → (Contains numbers n → ⊥) → are_still renewed learned numbers ≡ true → are_still (set renewed n (clock + 1)) learned numbers ≡ true
+still_after clock n renewed learned numbers apart still =
+    all_from_each (λ m. nat_le (get_or (set renewed n (clock + 1)) m 0) learned) numbers (λ m among.
+    (let other : m ≢ n = (λ same. apart (subst (Contains numbers) same among)) in
+    ap (λ t. nat_le t learned) (get_or-set_other renewed n m (clock + 1) 0 other) ∙ each_from_all (λ k. nat_le (get_or renewed k 0) learned) numbers m still among))
+
+told_after : (clock n : ℕ) (renewed : List ℕ) (learned : ℕ) (numbers ms : List ℕ) → (Contains ms n → ⊥) → told_at renewed learned numbers ≡ Some ms → told_at (set renewed n (clock + 1)) learned numbers ≡ Some ms
+told_after clock n renewed learned numbers ms apart is =
+    let still = still_told renewed learned numbers ms is in
+    ap (λ b. cond b (Some numbers) None) (still_after clock n renewed learned numbers (λ among. apart (subst (λ ns. Contains ns n) still.1 among)) still.0) ∙ ap Some still.1
+
+told_beside : (clock n : ℕ) (renewed pool : List ℕ) (begin : ℕ) (ms : List ℕ) → (Contains ms n → ⊥) → told renewed pool begin ≡ Some ms → told (set renewed n (clock + 1)) pool begin ≡ Some ms
+unfolding told
+told_beside clock n renewed pool begin ms apart = by (nat_eq begin 4294967295) (nat_eq begin 4294967294)
+  where
+    by : (one other : Bool) → cond one None (cond other (Some []) (told_at renewed (get_or pool begin 0) (numbers_at pool begin))) ≡ Some ms
+        → cond one None (cond other (Some []) (told_at (set renewed n (clock + 1)) (get_or pool begin 0) (numbers_at pool begin))) ≡ Some ms
+    by true other is = is
+    by false true is = is
+    by false false is = told_after clock n renewed (get_or pool begin 0) (numbers_at pool begin) ms apart is
+
+-- what is known of another number that does not lead to the renewed one is known still
+pub known_after : (clock n : ℕ) (renewed begins pool : List ℕ) (q : ℕ) (ms : List ℕ) → known (map (told renewed pool) begins) q ≡ Some ms → q ≢ n → (Contains ms n → ⊥)
+    → known (map (told (set renewed n (clock + 1)) pool) (set begins n 4294967295)) q ≡ Some ms
+known_after clock n renewed begins pool q ms is other apart =
+    known_told (set renewed n (clock + 1)) pool (set begins n 4294967295) q ∙ ap (told (set renewed n (clock + 1)) pool) (get_or-set_other begins n q 4294967295 4294967295 other)
+    ∙ told_beside clock n renewed pool (get_or begins q 4294967295) ms apart (sym (known_told renewed pool begins q) ∙ is)

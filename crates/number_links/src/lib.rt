@@ -2,14 +2,18 @@
 //! through no number that it is not allowed to.
 #![tactic(auto)]
 
+mod graph;
+mod kept;
 mod links;
 mod lists;
 mod noting;
 mod packing;
 mod records;
 mod resting;
+mod settling;
 mod walking;
 
+pub use crate::graph::Graph;
 pub use crate::links::Links;
 pub use crate::resting::Resting;
 pub use crate::walking::{between, walk};

@@ -1,4 +1,4 @@
-ghost use Rattle.std.specs.Prelude.{◌≡◌, ◌≢◌, ◌⊎◌, ◌<◌, ◌≤◌, ℕ, List, Some, None, IfOk, IfSome, IfNone, OnOk, OnErr, All, Contains, get_or, length};
+ghost use Rattle.std.specs.Prelude.{◌≡◌, ◌≢◌, true, ◌⊎◌, ◌<◌, ◌≤◌, ℕ, List, Some, None, IfOk, IfSome, IfNone, OnOk, OnErr, All, Contains, get_or, length};
 ghost use Rattle.number_links.specs.Known.{known};
 ghost use Rattle.number_links.specs.Records.{IsWritten};
 
@@ -70,9 +70,11 @@ impl Links {
         self.note(n, to)
     }
 
-    /// The number comes to be another name's, or nobody's. It takes no memory.
-    pub fn renew(&mut self, n: u32)
+    /// The number comes to be another name's, or nobody's. It takes no memory. Answers whether all else that
+    /// was known still is.
+    pub fn renew(&mut self, n: u32) -> bool
         ensures gone { (q : ℕ) (ms : List ℕ) → known self.new q ≡ Some ms → (known self.old q ≡ Some ms) × (q ≢ n) × (Contains ms n → ⊥) }
+        ensures stays { result ≡ true → (q : ℕ) (ms : List ℕ) → known self.old q ≡ Some ms → q ≢ n → (Contains ms n → ⊥) → known self.new q ≡ Some ms }
     {
         if self.clock == u32::MAX {
             self.clock = 0;
@@ -80,13 +82,14 @@ impl Links {
             self.begins.clear();
             self.pool.clear();
             self.gone = 0;
-            return;
+            return false;
         }
         self.clock += 1;
         let last = get(&self.begins, n, UNKNOWN);
         self.gone = self.gone.saturating_add(words(&self.pool, last));
         put(&mut self.renewed, n, self.clock);
         put(&mut self.begins, n, UNKNOWN);
+        true
     }
 
     // Notes what a number leads to, with the pool as it is.

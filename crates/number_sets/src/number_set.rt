@@ -101,6 +101,25 @@ impl NumberSet {
         }
     }
 
+    /// Whether each number of the set is in another one. It may answer `false` where it is so, if the set has
+    /// a page in which no number is left.
+    pub fn is_within(&self, other: &NumberSet) -> bool
+        ensures { result ≡ true → (q : ℕ) → has self.now q ≡ true → has other.now q ≡ true }
+    {
+        let common = self.pages.len().min(other.pages.len());
+        for at in 0..common {
+            if !slot::is_within(&self.pages[at], &other.pages[at]) {
+                return false;
+            }
+        }
+        for at in common..self.pages.len() {
+            if self.pages[at].is_some() {
+                return false;
+            }
+        }
+        true
+    }
+
     /// Takes all numbers out, and gives their room back.
     pub fn clear(&mut self)
         ensures has { (q : ℕ) → has self.new q ≡ false }

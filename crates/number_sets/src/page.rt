@@ -1,7 +1,7 @@
 ghost use Rattle.std.specs.Prelude.{◌≡◌, ◌<◌, ◌≤◌, ℕ, ◌||◌, ◌&&◌, not, nat_eq, false, true, IfOk, IfSome, IfNone};
 ghost use Rattle.number_sets.specs.Numbers.{is_in};
 
-use crate::words::{either, is_set, less, next_bit, with_bit, without_bit};
+use crate::words::{either, is_part, is_set, less, next_bit, with_bit, without_bit};
 use std::alloc::{AllocError, Global};
 use std::boxed::Box;
 use std::marker::Model;
@@ -73,6 +73,18 @@ impl Page {
         for at in 0..64 {
             self.words[at] = less(self.words[at], other.words[at]);
         }
+    }
+
+    // Whether each number is in another page.
+    pub(crate) fn is_within(&self, other: &Page) -> bool
+        ensures { result ≡ true → (q : ℕ) → is_in self.now q ≡ true → is_in other.now q ≡ true }
+    {
+        for at in 0..64 {
+            if !is_part(self.words[at], other.words[at]) {
+                return false;
+            }
+        }
+        true
     }
 
     // The first number at one or after it.

@@ -84,6 +84,19 @@ pub(crate) fn subtract(slot: &mut Option<Page>, other: &Option<Page>)
     page.subtract(other);
 }
 
+// Whether each number is in another place's page. A page is taken to have numbers.
+pub(crate) fn is_within(slot: &Option<Page>, other: &Option<Page>) -> bool
+    ensures { result ≡ true → (q : ℕ) → is_there slot.now q ≡ true → is_there other.now q ≡ true }
+{
+    let Some(page) = slot else {
+        return true;
+    };
+    let Some(other) = other else {
+        return false;
+    };
+    page.is_within(other)
+}
+
 // The first number at one or after it.
 pub(crate) fn next(slot: &Option<Page>, from: u32) -> Option<u32>
     ensures some { IfSome result (λ k. (k < 4096) × (from ≤ k) × (is_there slot.now k ≡ true)) }

@@ -31,6 +31,13 @@ pub(crate) fn less(a: u64, b: u64) -> u64
     a ^ (a & b)
 }
 
+// Whether a word has no bit that another one has not.
+pub(crate) fn is_part(a: u64, b: u64) -> bool
+    ensures { result ≡ true → (q : ℕ) → has_bit a q ≡ true → has_bit b q ≡ true }
+{
+    less(a, b) == 0
+}
+
 // Whether a word has a bit.
 pub(crate) fn is_set(word: u64, k: u32) -> bool
     requires { k < 64 }

@@ -148,6 +148,19 @@ learned rows links after name row to are here only q names is = by (row_in rows 
                 let one : map (numbered_name rows) ms ≡ names = cc in
                 inr (one_name q name (are.numbers q name other row there here now.0), sym one ∙ ap (map (numbered_name rows)) now.1))
 
+pub learned_links : (rows : Rows) (links after : Known) (name : List ℕ) (row : Row) (to : List ℕ) → AreLinks rows links → row_in rows name ≡ Some row → ((m : ℕ) → Contains to m → IsUsed rows m)
+    → ((n : ℕ) (ms : List ℕ) → known after n ≡ Some ms → (known links n ≡ Some ms) ⊎ ((n ≡ row.number) × (ms ≡ to))) → AreLinks rows after
+learned_links rows links after name row to linked here used only = record {
+  own = λ n ms is. elim (only n ms is) [
+    | inl before ↦ linked.own n ms before
+    | inr now ↦ record { name = name; row = row; here = here; same = sym now.0 }
+  ];
+  used = λ n ms m is among. elim (only n ms is) [
+    | inl before ↦ linked.used n ms m before among
+    | inr now ↦ used m (subst (λ xs. Contains xs m) now.1 among)
+  ];
+}
+
 pub either_known : {A B C : Type 0} {x y z : A} {u v w : B} → x ≡ y → v ≡ w → (y ≡ z) ⊎ (C × (u ≡ v)) → (x ≡ z) ⊎ (C × (u ≡ w))
 either_known same other (inl before) = inl (same ∙ before)
 either_known same other (inr now) = inr (now.0, now.1 ∙ other)

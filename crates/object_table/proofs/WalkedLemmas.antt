@@ -208,3 +208,44 @@ module _ (rows : Rows) (own : Sets) (links : Known) (are : AreRows rows) (is_own
         → (option_map_or (λ (word : Word). leads_nowhere word.kind) (get (Seen rows own) q) false ≡ true) ⊎ (contains_key (named_links rows links) q ≡ true)
     between_known is q (inl led) = (let here = reached_row wanted q led in told q here.0 here.1 here.2 (is here.0.number (inl (named_goes wanted ns only all q led here.0 here.1))))
     between_known is q (inr led) = (let here = reached_row excluded q led in told q here.0 here.1 here.2 (is here.0.number (inr (named_goes excluded ms only_out all_out q led here.0 here.1))))
+
+  -- ---- what is known once all that some names lead to is kept
+  module _ (after : Known) (only : (n : ℕ) (ms : List ℕ) → known after n ≡ Some ms → (known links n ≡ Some ms) ⊎ ((ms ≡ []) × (has own.visible n ≡ true) × (rests_in rows n ≡ true))) where
+    seen_used : (n : ℕ) → has own.visible n ≡ true → IsUsed rows n
+    seen_used n seen = is_own.within n (ap (λ b. b || has own.staged n) seen)
+
+    pub kept_links : AreLinks rows after
+    kept_links = record {
+      own = λ n to is. elim (only n to is) [
+        | inl before ↦ are_links.own n to before
+        | inr rests ↦ seen_used n rests.1
+      ];
+      used = λ n to m is among. elim (only n to is) [
+        | inl before ↦ are_links.used n to m before among
+        | inr rests ↦ absurd (no_element to m rests.0 among)
+      ];
+    }
+      where
+        no_element : (to : List ℕ) (m : ℕ) → to ≡ [] → Contains to m → ⊥
+        no_element [] m is among = (let l = among.1 in omega (arith, l))
+        no_element (x ∷ xs) m is among = (let differs : ⊥ = cc in differs)
+
+    pub kept_named : (q : List ℕ) (names : List (List ℕ)) → get (named_links rows after) q ≡ Some names
+        → (get (named_links rows links) q ≡ Some names) ⊎ ((names ≡ []) × (option_map_or (λ (word : Word). leads_nowhere word.kind) (get (Seen rows own) q) false ≡ true))
+    kept_named q names is = by (row_in rows q) refl (sym (get_named rows after q are.distinct) ∙ is)
+      where
+        by : (o : Option Row) → row_in rows q ≡ o → option_and_then (led_from rows after) o ≡ Some names
+            → (get (named_links rows links) q ≡ Some names) ⊎ ((names ≡ []) × (option_map_or (λ (word : Word). leads_nowhere word.kind) (get (Seen rows own) q) false ≡ true))
+        by None none led = none_is_some _ names led
+        by (Some row) here led = at (known after row.number) refl led
+          where
+            at : (o : Option (List ℕ)) → known after row.number ≡ o → option_map (map (numbered_name rows)) o ≡ Some names
+                → (get (named_links rows links) q ≡ Some names) ⊎ ((names ≡ []) × (option_map_or (λ (word : Word). leads_nowhere word.kind) (get (Seen rows own) q) false ≡ true))
+            at None none led = none_is_some _ names led
+            at (Some ms) knows led = elim (only row.number ms knows) [
+              | inl before ↦ inl (led_row q row here ∙ ap (option_map (map (numbered_name rows))) before ∙ led)
+              | inr rests ↦
+                  (let both : Some (map (numbered_name rows) ms) ≡ Some names = led in
+                  let one : map (numbered_name rows) ms ≡ names = cc in
+                  inr (sym one ∙ ap (map (numbered_name rows)) rests.0, kind_seen q row here rests.1 ∙ sym (rests_row q row here) ∙ rests.2))
+            ]

@@ -1,6 +1,7 @@
 ghost use Rattle.std.specs.Prelude.{◌≡◌, ◌≢◌, ◌<◌, ◌≤◌, ◌+◌, ◌⊎◌, ◌++◌, ◌∷◌, [], ◌||◌, ◌&&◌, not, ℕ, List, Contains, None, Some, length, slice_get, take, OnOk, OnErr, IfOk, IfErr, IfSome, IfNone, false, true, nat_le, IsPermutation, map as mapped};
 ghost use Rattle.std.specs.FinMap as map;
 ghost use Rattle.std.specs.HashSet.{contains};
+ghost use Rattle.std.specs.List.{IsDistinct};
 ghost use Rattle.std.specs.Option.{option_map_or};
 ghost use Rattle.git_name.specs.Same.{is_listed, same_name};
 ghost use Rattle.looks.specs.Growth.{GrowsAmong};
@@ -23,7 +24,7 @@ use crate::coming::{coming, use_with_coming, word_under};
 use crate::describing::{describe_all, is_as};
 use crate::entry::Entry;
 use crate::ledgers::Ledgers;
-use crate::linking::{names_between, numbers_of};
+use crate::linking::{keep_names, names_between, numbers_of};
 use crate::listing::{count_seen, seen_names};
 use crate::name_set::NameSet;
 use crate::row::Row;
@@ -33,7 +34,7 @@ use crate::word::Word;
 use fork_request::TenantName;
 use git_name::{Hashing, Kind, Name};
 use indexmap::IndexSet;
-use number_links::Links;
+use number_links::Graph;
 use std::alloc::{AllocError, Global};
 use std::marker::Model;
 
@@ -43,7 +44,7 @@ use std::marker::Model;
 pub struct Holdings {
     table: Table,
     ledgers: Ledgers,
-    links: Links,
+    links: Graph,
 }
 
 impl Model for Holdings {
@@ -75,7 +76,7 @@ impl Holdings {
         let mut holdings = Holdings {
             table: Table::new(alloc, hashing),
             ledgers: Ledgers::new(alloc),
-            links: Links::new(alloc),
+            links: Graph::new(alloc),
         };
         for name in names {
             holdings.enter(*name)?;
@@ -344,7 +345,7 @@ impl Holdings {
         let Some(row) = self.table.row(name) else {
             return false;
         };
-        self.links.of(row.number).is_some()
+        self.links.links().of(row.number).is_some()
     }
 
     /// The names of what a tenant sees that links lead to from the wanted ones, and from none of the excluded
@@ -364,6 +365,19 @@ impl Holdings {
             return Ok(None);
         };
         names_between(alloc, &self.table, &self.links, own, wanted, excluded)
+    }
+
+    /// All that these names lead to is kept, so that it need not be walked again, if the tenant sees all of it
+    /// and it is known. What leads to no other is known to from then on.
+    pub fn keep_reached(&mut self, alloc: Global, tenant: &TenantName, names: &[Name])
+        ensures ledgers { self.new.ledgers ≡ self.old.ledgers }
+        ensures catalogue { self.new.catalogue ≡ self.old.catalogue }
+        ensures links { (q : List ℕ) (to : List (List ℕ)) → map.get self.new.links q ≡ Some to → (map.get self.old.links q ≡ Some to) ⊎ ((to ≡ []) × (option_map_or (λ word. leads_nowhere word.kind) (map.get (words_that is_visible (ledger_at self.old.ledgers tenant.now)) q) false ≡ true)) }
+    {
+        let Some(own) = self.ledgers.get(tenant) else {
+            return;
+        };
+        keep_names(alloc, &self.table, &mut self.links, own, names);
     }
 
     /// How many names are catalogued.
@@ -395,6 +409,13 @@ impl Holdings {
         ensures { (name : List ℕ) → is_held_in self.now.ledgers name ≡ true → is_listed (places_of self.now.catalogue).names name ≡ true }
     {
         let _ledgers = &self.ledgers;
+    }
+
+    /// A law, and no work: no name is catalogued twice.
+    pub fn names_are_distinct(&self)
+        ensures { IsDistinct same_name (places_of self.now.catalogue).names }
+    {
+        self.table.invariant();
     }
 
     /// A law, and no work: what ledgers say of one name is of one kind and length.
@@ -449,7 +470,7 @@ impl Holdings {
 }
 
 // The same by numbers.
-fn forget_in(table: &Table, links: &mut Links, name: Name)
+fn forget_in(table: &Table, links: &mut Graph, name: Name)
     requires linked { AreLinks table.now.entries links.old }
     ensures linked { AreLinks table.now.entries links.new }
     ensures links { KnowsNoMore (named_links table.now.entries links.old) (named_links table.now.entries links.new) }
@@ -463,7 +484,7 @@ fn forget_in(table: &Table, links: &mut Links, name: Name)
 }
 
 // What the object of a row leads to is learned: objects of these numbers.
-fn learn_row(table: &Table, links: &mut Links, name: Name, row: Row, to: &[u32])
+fn learn_row(table: &Table, links: &mut Graph, name: Name, row: Row, to: &[u32])
     requires linked { AreLinks table.now.entries links.old }
     requires here { row_in table.now.entries name ≡ Some row }
     requires used { (m : ℕ) → Contains to.now m → IsUsed table.now.entries m }
@@ -525,7 +546,7 @@ fn is_within_in(table: &Table, ledgers: &Ledgers, tenant: &TenantName, limit: u6
 fn enter_in(
     table: &mut Table,
     ledgers: &Ledgers,
-    links: &Links,
+    links: &Graph,
     name: Name,
 ) -> Result<(), AllocError>
     requires held { AreHeld table.old.entries ledgers.now }
@@ -545,7 +566,7 @@ fn enter_in(
 }
 
 // What is known of the number of a name is forgotten, and what leads to it.
-fn renew(table: &Table, links: &mut Links, name: Name)
+fn renew(table: &Table, links: &mut Graph, name: Name)
     ensures { (row : Row) → row_in table.now.entries name ≡ Some row → (n : ℕ) (to : List ℕ) → known links.new n ≡ Some to → (known links.old n ≡ Some to) × (n ≢ row.number) × (Contains to row.number → ⊥) }
 {
     let Some(row) = table.row(name) else {
@@ -555,7 +576,7 @@ fn renew(table: &Table, links: &mut Links, name: Name)
 }
 
 // Takes out a name that nobody holds.
-fn leave_in(table: &mut Table, ledgers: &Ledgers, links: &mut Links, name: Name)
+fn leave_in(table: &mut Table, ledgers: &Ledgers, links: &mut Graph, name: Name)
     requires held { AreHeld table.old.entries ledgers.now }
     requires linked { AreLinks table.old.entries links.old }
     requires next { LooksNextAt (places_of table.old) name }

@@ -1,5 +1,5 @@
 // What the objects of names lead to, by their numbers.
-ghost use Rattle.std.specs.Prelude.{◌≡◌, ◌⊎◌, ℕ, List, Contains, Some, IfOk, IfSome, OnOk, false, is_some, map as mapped, true};
+ghost use Rattle.std.specs.Prelude.{◌≡◌, ◌⊎◌, ℕ, List, [], Contains, Some, IfOk, IfSome, OnOk, false, is_some, map as mapped, true};
 ghost use Rattle.std.specs.FinMap.{contains_key, get};
 ghost use Rattle.std.specs.HashSet.{contains};
 ghost use Rattle.std.specs.Option.{option_map_or};
@@ -17,7 +17,7 @@ use crate::ledger::Ledger;
 use crate::table::Table;
 use git_name::{Hashing, Kind, Name};
 use indexmap::IndexSet;
-use number_links::{Links, Resting, between};
+use number_links::{Graph, Resting};
 use number_sets::NumberSet;
 use std::alloc::{AllocError, Global};
 
@@ -118,7 +118,7 @@ fn names_of(
 pub(crate) fn names_between(
     alloc: Global,
     table: &Table,
-    links: &Links,
+    links: &Graph,
     own: &Ledger,
     wanted: &[Name],
     excluded: &[Name],
@@ -132,9 +132,8 @@ pub(crate) fn names_between(
     table.invariant();
     let from = numbers_there(alloc, table, wanted)?;
     let past = numbers_there(alloc, table, excluded)?;
-    let Some(numbers) = between(
+    let Some(numbers) = links.between(
         alloc,
-        links,
         own.visible(),
         table,
         from.as_slice(),
@@ -145,4 +144,25 @@ pub(crate) fn names_between(
     };
     let names = names_of(alloc, table, &numbers)?;
     Ok(Some(names))
+}
+
+// All that these names lead to is kept, so that it need not be walked again, if all of it is seen and known. What
+// leads to no other is known to from then on.
+pub(crate) fn keep_names(
+    alloc: Global,
+    table: &Table,
+    links: &mut Graph,
+    own: &Ledger,
+    names: &[Name],
+)
+    requires own { IsOwn table.now.entries own.now }
+    requires linked { AreLinks table.now.entries links.old }
+    ensures linked { AreLinks table.now.entries links.new }
+    ensures links { (q : List ℕ) (to : List (List ℕ)) → get (named_links table.now.entries links.new) q ≡ Some to → (get (named_links table.now.entries links.old) q ≡ Some to) ⊎ ((to ≡ []) × (option_map_or (λ word. leads_nowhere word.kind) (get (words_that is_visible (words_of table.now.entries own.now)) q) false ≡ true)) }
+{
+    table.invariant();
+    let Ok(roots) = numbers_there(alloc, table, names) else {
+        return;
+    };
+    links.keep(alloc, own.visible(), table, roots.as_slice());
 }

@@ -2,7 +2,7 @@ use Rattle.std.proofs.Common.{◌≡◌, false, is_some, Option, None, Some, Lis
 use Rattle.std.specs.Prelude.{IfNone, IfSome}
 use Rattle.std.specs.FinMap.{contains_key}
 use Rattle.std.specs.Option.{option_map_or}
-use Rattle.number_links.specs.Known.{known}
+use Rattle.number_links.specs.Known.{Known, known}
 use Rattle.object_table.specs.declared.row.Row.{Row}
 use Rattle.object_table.specs.Holders.{HoldingsState}
 use Rattle.object_table.proofs.LinkLemmas.{knows_row}
@@ -19,7 +19,7 @@ pub returns : goal.returns
 returns c =
     let rows = c.self.inside.table.entries in
     let links = c.self.inside.links in
-    c.is_some.ensures ∙ by (λ to. to.now) c.of.result (known links c.in-Some.row.number) c.of.ensures.some c.of.ensures.none
+    c.is_some.ensures ∙ by (λ to. to.now) c.of.result (known c.links.result.now c.in-Some.row.number) c.of.ensures.some c.of.ensures.none ∙ ap (λ (k : Known). is_some (known k c.in-Some.row.number)) c.links.ensures
     ∙ ap (λ o. option_map_or (λ (row : Row). is_some (known links row.number)) o false) c.in-Some.ensures ∙ sym (knows_row rows links c.args.name c.invariant.ensures.rows.distinct)
     ∙ ap (λ (s : HoldingsState). contains_key s.links c.args.name) c.self.view_is
   where

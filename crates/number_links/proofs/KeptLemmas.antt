@@ -1,0 +1,132 @@
+-- A set of all that some numbers lead to, as more becomes known and as numbers are renewed.
+use Rattle.std.proofs.Common.{◌≡◌, ◌≢◌, ◌⊎◌, ℕ, Bool, true, false, List, [], Option, Some, None, is_some, not, All, get_or, refl, sym, ap, subst, ◌∙◌, inl, inr}
+use Rattle.std.specs.List.{Contains}
+use Rattle.std.specs.Option.{unwrap_or}
+use Rattle.std.specs.Prelude.{filter}
+use Rattle.std.proofs.lemmas.Bool.{and_parts, not-true}
+use Rattle.std.proofs.lemmas.List.Elements.{All-filter, All-same, All-weaker, filter_passes}
+use Rattle.number_sets.specs.Numbers.{has}
+use Rattle.number_links.specs.Kept.{IsAllLedTo, IsKept}
+use Rattle.number_links.specs.Known.{Known, RestsOrIsKnown, known, linked}
+use Rattle.number_links.specs.declared.kept.Kept.{Kept}
+use Rattle.number_links.specs.Reach.{IsReached, Root, Next, past}
+use Rattle.number_links.proofs.PastLemmas.{IsBeyond, reached_allowed}
+
+-- whatever is allowed, all that is reached is in the set
+pub all_led : (links : Known) (roots : List ℕ) (among allowed : ℕ → Bool) → IsAllLedTo links roots among → (n : ℕ) → IsReached (linked links) allowed roots n → among n ≡ true
+all_led links roots among allowed is _ (Root n root there) = is.rooted n root
+all_led links roots among allowed is _ (Next from n reached linked_to there) = is.closed from n (all_led links roots among allowed is from reached) linked_to
+
+-- if all of the set is allowed, all of it is reached through what is allowed
+pub led_all : (links : Known) (roots : List ℕ) (among allowed : ℕ → Bool) → IsAllLedTo links roots among → ((n : ℕ) → among n ≡ true → allowed n ≡ true) → (n : ℕ) → IsReached (linked links) (λ _. true) roots n → IsReached (linked links) allowed roots n
+led_all links roots among allowed is within _ (Root n root there) = Root n root (within n (is.rooted n root))
+led_all links roots among allowed is within _ (Next from n reached linked_to there) =
+    Next from n (led_all links roots among allowed is within from reached) linked_to (within n (is.closed from n (all_led links roots among (λ _. true) is from reached) linked_to))
+
+-- so it is what is reached from the roots
+pub kept_beyond : (links : Known) (roots : List ℕ) (among allowed : ℕ → Bool) → IsAllLedTo links roots among → ((n : ℕ) → among n ≡ true → allowed n ≡ true) → IsBeyond (linked links) allowed roots among
+kept_beyond links roots among allowed is within = record {
+  only = λ n there. led_all links roots among allowed is within n (is.only n there);
+  all = all_led links roots among allowed is;
+}
+
+-- what is known of its numbers stays: it is the set still
+module _ (links now : Known) (roots : List ℕ) (among : ℕ → Bool) (is : IsAllLedTo links roots among) (stays : (q : ℕ) → among q ≡ true → known now q ≡ known links q) where
+  same_linked : (q : ℕ) → among q ≡ true → linked now q ≡ linked links q
+  same_linked q there = ap (λ o. unwrap_or o []) (stays q there)
+
+  still_led : (n : ℕ) → IsReached (linked links) (λ _. true) roots n → IsReached (linked now) (λ _. true) roots n
+  still_led _ (Root n root there) = Root n root there
+  still_led _ (Next from n reached linked_to there) =
+      Next from n (still_led from reached) (subst (λ ms. Contains ms n) (sym (same_linked from (all_led links roots among (λ _. true) is from reached))) linked_to) there
+
+  pub kept_still : IsAllLedTo now roots among
+  kept_still = record {
+    rooted = is.rooted;
+    closed = λ from n there linked_to. is.closed from n there (subst (λ ms. Contains ms n) (same_linked from there) linked_to);
+    only = λ n there. still_led n (is.only n there);
+    known = λ n there. ap is_some (stays n there) ∙ is.known n there;
+  }
+
+-- more is known
+pub kept_more : (links now : Known) (roots : List ℕ) (among : ℕ → Bool) → ((q : ℕ) → is_some (known links q) ≡ true → known now q ≡ known links q) → IsAllLedTo links roots among → IsAllLedTo now roots among
+kept_more links now roots among stays is = kept_still links now roots among is (λ q there. stays q (is.known q there))
+
+-- a number that is not in it is renewed
+pub kept_renewed : (links now : Known) (roots : List ℕ) (among : ℕ → Bool) (n : ℕ) → ((q : ℕ) (ms : List ℕ) → known links q ≡ Some ms → q ≢ n → (Contains ms n → ⊥) → known now q ≡ Some ms)
+    → among n ≡ false → IsAllLedTo links roots among → IsAllLedTo now roots among
+kept_renewed links now roots among n stays out is = kept_still links now roots among is (λ q there. by q there (known links q) refl (is.known q there))
+  where
+    no : among n ≡ true → ⊥
+    no there = (let differs : true ≡ false = sym there ∙ out in cc)
+
+    by : (q : ℕ) → among q ≡ true → (o : Option (List ℕ)) → known links q ≡ o → is_some o ≡ true → known now q ≡ known links q
+    by q there None is_none wrong = absurd (let differs : ⊥ = cc in differs)
+    by q there (Some ms) is_some_ms _ =
+        stays q ms is_some_ms (λ same. no (subst (λ m. among m ≡ true) same there)) (λ leads. no (is.closed q n there (subst (λ xs. Contains xs n) (sym (ap (λ o. unwrap_or o []) is_some_ms)) leads))) ∙ sym is_some_ms
+
+-- what was learned leads to nothing: links lead where they led
+pub linked_as_before : (links now : Known) → ((q : ℕ) → is_some (known links q) ≡ true → known now q ≡ known links q)
+    → ((q : ℕ) (ms : List ℕ) → known now q ≡ Some ms → (known links q ≡ Some ms) ⊎ (ms ≡ [])) → (q : ℕ) → linked now q ≡ linked links q
+linked_as_before links now stays only q = by (known links q) refl (known now q) refl
+  where
+    rest : (ms : List ℕ) → known links q ≡ None → (known links q ≡ Some ms) ⊎ (ms ≡ []) → ms ≡ []
+    rest ms none (inl before) = absurd (let differs : ⊥ = cc in differs)
+    rest ms none (inr is) = is
+
+    by : (o : Option (List ℕ)) → known links q ≡ o → (p : Option (List ℕ)) → known now q ≡ p → linked now q ≡ linked links q
+    by (Some ms) is p is_now = ap (λ o. unwrap_or o []) (stays q (ap is_some is))
+    by None is None is_now = ap (λ o. unwrap_or o []) (is_now ∙ sym is)
+    by None is (Some ms) is_now = ap (λ o. unwrap_or o []) is_now ∙ rest ms is (only q ms is_now) ∙ sym (ap (λ o. unwrap_or o []) is)
+
+-- what is reached through what is allowed is reached
+pub reached_anyhow : (next now : ℕ → List ℕ) (allowed : ℕ → Bool) (roots : List ℕ) → ((q : ℕ) → now q ≡ next q) → (n : ℕ) → IsReached next allowed roots n → IsReached now (λ _. true) roots n
+reached_anyhow next now allowed roots same _ (Root n root there) = Root n root refl
+reached_anyhow next now allowed roots same _ (Next from n reached linked_to there) = Next from n (reached_anyhow next now allowed roots same from reached) (subst (λ ms. Contains ms n) (sym (same from)) linked_to) refl
+
+-- a number of which nothing was known is learned
+pub unless_known : (links now : Known) (n : ℕ) → known links n ≡ None → ((q : ℕ) → q ≢ n → known now q ≡ known links q) → (q : ℕ) → is_some (known links q) ≡ true → known now q ≡ known links q
+unless_known links now n none stays q is = stays q (λ same. (let differs : true ≡ false = sym is ∙ ap (λ m. is_some (known links m)) same ∙ ap is_some none in let wrong : ⊥ = cc in wrong))
+
+-- ---- all that are kept
+pub all_more : (links now : Known) → ((q : ℕ) → is_some (known links q) ≡ true → known now q ≡ known links q) → (ks : List Kept) → All (IsKept links) ks → All (IsKept now) ks
+all_more links now stays ks are = All-weaker (IsKept links) (IsKept now) (λ one is. kept_more links now one.roots.items (has one.reached) stays is) ks are
+
+pub all_renewed : (links now : Known) (n : ℕ) → ((q : ℕ) (ms : List ℕ) → known links q ≡ Some ms → q ≢ n → (Contains ms n → ⊥) → known now q ≡ Some ms)
+    → (ks : List Kept) → All (λ one. IsKept links one × (has one.reached n ≡ false)) ks → All (IsKept now) ks
+all_renewed links now n stays ks are =
+    All-weaker (λ one. IsKept links one × (has one.reached n ≡ false)) (IsKept now) (λ one is. kept_renewed links now one.roots.items (has one.reached) n stays is.1 is.0) ks are
+
+-- those that pass a test
+pub all_without : (links : Known) (n : ℕ) (ks now : List Kept) → now ≡ filter (λ one. not (has one.reached n)) ks → All (IsKept links) ks → All (λ one. IsKept links one × (has one.reached n ≡ false)) now
+all_without links n ks now is are =
+    let test : Kept → Bool = (λ one. not (has one.reached n)) in
+    let kept = All-filter test (IsKept links) ks are in
+    let passes = filter_passes test ks in
+    All-same (λ one. IsKept links one × (has one.reached n ≡ false)) now (filter test ks) is (λ k d within. (kept k d within, not-true (has (get_or (filter test ks) k d).reached n) (passes k d within)))
+
+-- what a walk found, if it is settled
+pub kept_made : (links now : Known) (roots : List ℕ) (among allowed hidden : ℕ → Bool) → ((n : ℕ) → Contains roots n → among n ≡ true) → ((n : ℕ) → among n ≡ true → IsReached (linked links) (past allowed hidden) roots n)
+    → ((q : ℕ) → is_some (known links q) ≡ true → known now q ≡ known links q)
+    → ((q : ℕ) (ms : List ℕ) → known now q ≡ Some ms → (known links q ≡ Some ms) ⊎ ((among q ≡ true) × (ms ≡ []) × (known links q ≡ None)))
+    → ((n : ℕ) → among n ≡ true → is_some (known now n) ≡ true) → ((n m : ℕ) → among n ≡ true → Contains (linked now n) m → among m ≡ true) → IsAllLedTo now roots among
+kept_made links now roots among allowed hidden rooted reached stays only are_known closed = record {
+  rooted = rooted;
+  closed = closed;
+  only = λ n there. reached_anyhow (linked links) (linked now) (past allowed hidden) roots (linked_as_before links now stays (λ q ms is. weaker q ms (only q ms is))) n (reached n there);
+  known = are_known;
+}
+  where
+    weaker : (q : ℕ) (ms : List ℕ) → (known links q ≡ Some ms) ⊎ ((among q ≡ true) × (ms ≡ []) × (known links q ≡ None)) → (known links q ≡ Some ms) ⊎ (ms ≡ [])
+    weaker q ms (inl before) = inl before
+    weaker q ms (inr learned) = inr learned.1
+
+-- what was not known and was reached rests
+pub rested : (links now : Known) (rests allowed hidden : ℕ → Bool) (among : ℕ → Bool) (roots : List ℕ) → ((n : ℕ) → among n ≡ true → IsReached (linked links) (past allowed hidden) roots n) → ((n : ℕ) → among n ≡ true → RestsOrIsKnown links rests n)
+    → (q : ℕ) (ms : List ℕ) → (known links q ≡ Some ms) ⊎ ((among q ≡ true) × (ms ≡ []) × (known links q ≡ None)) → (known links q ≡ Some ms) ⊎ ((ms ≡ []) × (allowed q ≡ true) × (rests q ≡ true))
+rested links now rests allowed hidden among roots reached clear q ms (inl before) = inl before
+rested links now rests allowed hidden among roots reached clear q ms (inr learned) = inr (learned.1, (and_parts (not (hidden q)) (allowed q) (reached_allowed (linked links) (past allowed hidden) roots q (reached q learned.0))).1, by (clear q learned.0))
+  where
+    by : RestsOrIsKnown links rests q → rests q ≡ true
+    by (inl rest) = rest
+    by (inr is) = absurd (let differs : ⊥ = (let none = learned.2 in cc) in differs)

@@ -1,16 +1,17 @@
 -- A set of all that some numbers lead to, as more becomes known and as numbers are renewed.
-use Rattle.std.proofs.Common.{◌≡◌, ◌≢◌, ◌⊎◌, ℕ, Bool, true, false, List, [], Option, Some, None, is_some, not, All, get_or, refl, sym, ap, subst, ◌∙◌, inl, inr}
+use Rattle.std.proofs.Common.{◌≡◌, ◌≢◌, ◌⊎◌, ℕ, Bool, true, false, List, [], ◌∷◌, Option, Some, None, is_some, not, All, get_or, refl, sym, ap, subst, ◌∙◌, inl, inr}
 use Rattle.std.specs.List.{Contains}
 use Rattle.std.specs.Option.{unwrap_or}
 use Rattle.std.specs.Prelude.{filter}
-use Rattle.std.proofs.lemmas.Bool.{and_parts, not-true}
+use Rattle.std.proofs.lemmas.Bool.{not-true}
 use Rattle.std.proofs.lemmas.List.Elements.{All-filter, All-same, All-weaker, filter_passes}
 use Rattle.number_sets.specs.Numbers.{has}
 use Rattle.number_links.specs.Kept.{IsAllLedTo, IsKept}
 use Rattle.number_links.specs.Known.{Known, RestsOrIsKnown, known, linked}
 use Rattle.number_links.specs.declared.kept.Kept.{Kept}
-use Rattle.number_links.specs.Reach.{IsReached, Root, Next, past}
-use Rattle.number_links.proofs.PastLemmas.{IsBeyond, reached_allowed}
+use Rattle.number_links.specs.Reach.{IsReached, Root, Next}
+use Rattle.number_links.proofs.SeeingLemmas.{sole_there}
+use Rattle.number_links.proofs.PastLemmas.{reached_allowed}
 
 -- whatever is allowed, all that is reached is in the set
 pub all_led : (links : Known) (roots : List ℕ) (among allowed : ℕ → Bool) → IsAllLedTo links roots among → (n : ℕ) → IsReached (linked links) allowed roots n → among n ≡ true
@@ -22,13 +23,6 @@ pub led_all : (links : Known) (roots : List ℕ) (among allowed : ℕ → Bool) 
 led_all links roots among allowed is within _ (Root n root there) = Root n root (within n (is.rooted n root))
 led_all links roots among allowed is within _ (Next from n reached linked_to there) =
     Next from n (led_all links roots among allowed is within from reached) linked_to (within n (is.closed from n (all_led links roots among (λ _. true) is from reached) linked_to))
-
--- so it is what is reached from the roots
-pub kept_beyond : (links : Known) (roots : List ℕ) (among allowed : ℕ → Bool) → IsAllLedTo links roots among → ((n : ℕ) → among n ≡ true → allowed n ≡ true) → IsBeyond (linked links) allowed roots among
-kept_beyond links roots among allowed is within = record {
-  only = λ n there. led_all links roots among allowed is within n (is.only n there);
-  all = all_led links roots among allowed is;
-}
 
 -- what is known of its numbers stays: it is the set still
 module _ (links now : Known) (roots : List ℕ) (among : ℕ → Bool) (is : IsAllLedTo links roots among) (stays : (q : ℕ) → among q ≡ true → known now q ≡ known links q) where
@@ -90,12 +84,12 @@ unless_known links now n none stays q is = stays q (λ same. (let differs : true
 
 -- ---- all that are kept
 pub all_more : (links now : Known) → ((q : ℕ) → is_some (known links q) ≡ true → known now q ≡ known links q) → (ks : List Kept) → All (IsKept links) ks → All (IsKept now) ks
-all_more links now stays ks are = All-weaker (IsKept links) (IsKept now) (λ one is. kept_more links now one.roots.items (has one.reached) stays is) ks are
+all_more links now stays ks are = All-weaker (IsKept links) (IsKept now) (λ one is. kept_more links now (one.root ∷ []) (has one.reached) stays is) ks are
 
 pub all_renewed : (links now : Known) (n : ℕ) → ((q : ℕ) (ms : List ℕ) → known links q ≡ Some ms → q ≢ n → (Contains ms n → ⊥) → known now q ≡ Some ms)
     → (ks : List Kept) → All (λ one. IsKept links one × (has one.reached n ≡ false)) ks → All (IsKept now) ks
 all_renewed links now n stays ks are =
-    All-weaker (λ one. IsKept links one × (has one.reached n ≡ false)) (IsKept now) (λ one is. kept_renewed links now one.roots.items (has one.reached) n stays is.1 is.0) ks are
+    All-weaker (λ one. IsKept links one × (has one.reached n ≡ false)) (IsKept now) (λ one is. kept_renewed links now (one.root ∷ []) (has one.reached) n stays is.1 is.0) ks are
 
 -- those that pass a test
 pub all_without : (links : Known) (n : ℕ) (ks now : List Kept) → now ≡ filter (λ one. not (has one.reached n)) ks → All (IsKept links) ks → All (λ one. IsKept links one × (has one.reached n ≡ false)) now
@@ -106,14 +100,14 @@ all_without links n ks now is are =
     All-same (λ one. IsKept links one × (has one.reached n ≡ false)) now (filter test ks) is (λ k d within. (kept k d within, not-true (has (get_or (filter test ks) k d).reached n) (passes k d within)))
 
 -- what a walk found, if it is settled
-pub kept_made : (links now : Known) (roots : List ℕ) (among allowed hidden : ℕ → Bool) → ((n : ℕ) → Contains roots n → among n ≡ true) → ((n : ℕ) → among n ≡ true → IsReached (linked links) (past allowed hidden) roots n)
+pub kept_made : (links now : Known) (root : ℕ) (among allowed : ℕ → Bool) → among root ≡ true → ((n : ℕ) → among n ≡ true → IsReached (linked links) allowed (root ∷ []) n)
     → ((q : ℕ) → is_some (known links q) ≡ true → known now q ≡ known links q)
     → ((q : ℕ) (ms : List ℕ) → known now q ≡ Some ms → (known links q ≡ Some ms) ⊎ ((among q ≡ true) × (ms ≡ []) × (known links q ≡ None)))
-    → ((n : ℕ) → among n ≡ true → is_some (known now n) ≡ true) → ((n m : ℕ) → among n ≡ true → Contains (linked now n) m → among m ≡ true) → IsAllLedTo now roots among
-kept_made links now roots among allowed hidden rooted reached stays only are_known closed = record {
-  rooted = rooted;
+    → ((n : ℕ) → among n ≡ true → is_some (known now n) ≡ true) → ((n m : ℕ) → among n ≡ true → Contains (linked now n) m → among m ≡ true) → IsAllLedTo now (root ∷ []) among
+kept_made links now root among allowed itself reached stays only are_known closed = record {
+  rooted = λ n is. subst (λ m. among m ≡ true) (sole_there root n is) itself;
   closed = closed;
-  only = λ n there. reached_anyhow (linked links) (linked now) (past allowed hidden) roots (linked_as_before links now stays (λ q ms is. weaker q ms (only q ms is))) n (reached n there);
+  only = λ n there. reached_anyhow (linked links) (linked now) allowed (root ∷ []) (linked_as_before links now stays (λ q ms is. weaker q ms (only q ms is))) n (reached n there);
   known = are_known;
 }
   where
@@ -122,10 +116,10 @@ kept_made links now roots among allowed hidden rooted reached stays only are_kno
     weaker q ms (inr learned) = inr learned.1
 
 -- what was not known and was reached rests
-pub rested : (links now : Known) (rests allowed hidden : ℕ → Bool) (among : ℕ → Bool) (roots : List ℕ) → ((n : ℕ) → among n ≡ true → IsReached (linked links) (past allowed hidden) roots n) → ((n : ℕ) → among n ≡ true → RestsOrIsKnown links rests n)
+pub rested : (links : Known) (rests allowed among : ℕ → Bool) (roots : List ℕ) → ((n : ℕ) → among n ≡ true → IsReached (linked links) allowed roots n) → ((n : ℕ) → among n ≡ true → RestsOrIsKnown links rests n)
     → (q : ℕ) (ms : List ℕ) → (known links q ≡ Some ms) ⊎ ((among q ≡ true) × (ms ≡ []) × (known links q ≡ None)) → (known links q ≡ Some ms) ⊎ ((ms ≡ []) × (allowed q ≡ true) × (rests q ≡ true))
-rested links now rests allowed hidden among roots reached clear q ms (inl before) = inl before
-rested links now rests allowed hidden among roots reached clear q ms (inr learned) = inr (learned.1, (and_parts (not (hidden q)) (allowed q) (reached_allowed (linked links) (past allowed hidden) roots q (reached q learned.0))).1, by (clear q learned.0))
+rested links rests allowed among roots reached clear q ms (inl before) = inl before
+rested links rests allowed among roots reached clear q ms (inr learned) = inr (learned.1, reached_allowed (linked links) allowed roots q (reached q learned.0), by (clear q learned.0))
   where
     by : RestsOrIsKnown links rests q → rests q ≡ true
     by (inl rest) = rest

@@ -1,8 +1,10 @@
 -- What is reached past numbers that are hidden.
-use Rattle.std.proofs.Common.{◌≡◌, ℕ, Bool, true, false, not, List, ◌⊎◌, inl, inr, refl, sym, ap, ◌∙◌}
+use Rattle.std.proofs.Common.{◌≡◌, ◌&&◌, ℕ, Bool, true, false, not, List, arith, ◌⊎◌, inl, inr, refl, sym, ap, ◌∙◌}
 use Rattle.std.specs.List.{Contains}
 use Rattle.std.proofs.lemmas.Bool.{and_from, and_parts, cases_Bool, false_from_ne_true, not-true}
 use Rattle.number_links.specs.Reach.{IsReached, Root, Next, past}
+use Rattle.number_links.specs.Seeing.{Sees}
+use Rattle.number_links.proofs.CountLemmas.{count_no_more}
 
 -- what these lead to is among them, where it is allowed
 abbrev pub IsClosed : (ℕ → List ℕ) → (ℕ → Bool) → (ℕ → Bool) → Type 0
@@ -74,3 +76,26 @@ in_either next allowed beyond wanted excluded is n (inl reached) = elim (cases_B
   | inl out ↦ inl out
   | inr apart ↦ inr (between_all next allowed beyond wanted excluded is n reached (λ out. (let no : true ≡ false = sym (is.all n out) ∙ apart in cc)))
 ]
+
+-- where nothing is hidden, numbers are seen to as what is allowed says alone
+pub sees_open : (bound : ℕ) (allowed hidden : ℕ → Bool) (ns : List ℕ) (seen : ℕ → Bool) (waits : List ℕ) (now_seen : ℕ → Bool) (now_waits : List ℕ) → ((n : ℕ) → hidden n ≡ false)
+    → Sees bound (past allowed hidden) ns seen waits now_seen now_waits → Sees bound allowed ns seen waits now_seen now_waits
+sees_open bound allowed hidden ns seen waits now_seen now_waits none sees = record {
+  kept = sees.kept;
+  stays = sees.stays;
+  all = λ n among there. sees.all n among (opened n there);
+  only = λ n is. elim (sees.only n is) [
+    | inl before ↦ inl before
+    | inr found ↦ inr (found.0, (and_parts (not (hidden n)) (allowed n) found.1).1)
+  ];
+  new = sees.new;
+  noted = sees.noted;
+  less =
+      (let fewer = count_no_more bound (λ n. past allowed hidden n && not (now_seen n)) (λ n. allowed n && not (now_seen n)) (λ n is. and_from (past allowed hidden n) (not (now_seen n)) (opened n (and_parts (allowed n) (not (now_seen n)) is).0) (and_parts (allowed n) (not (now_seen n)) is).1) in
+      let more = count_no_more bound (λ n. allowed n && not (seen n)) (λ n. past allowed hidden n && not (seen n)) (λ n is. and_from (allowed n) (not (seen n)) (and_parts (not (hidden n)) (allowed n) (and_parts (past allowed hidden n) (not (seen n)) is).0).1 (and_parts (past allowed hidden n) (not (seen n)) is).1) in
+      let less = sees.less in
+      omega arith);
+}
+  where
+    opened : (n : ℕ) → allowed n ≡ true → past allowed hidden n ≡ true
+    opened n there = and_from (not (hidden n)) (allowed n) (ap not (none n)) there

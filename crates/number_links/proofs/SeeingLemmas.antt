@@ -1,9 +1,9 @@
 -- Numbers that are seen to one by one, and list by list.
-use Rattle.std.proofs.Common.{◌≡◌, ℕ, zero, suc, ◌+◌, ◌<◌, Bool, true, false, not, ◌&&◌, ◌||◌, nat_eq, List, [], ◌∷◌, ◌++◌, refl, sym, ap, subst, ◌∙◌, arith, inl, inr, ◌⊎◌, length, length-append}
+use Rattle.std.proofs.Common.{◌≡◌, ℕ, zero, suc, ◌+◌, ◌<◌, ◌≤◌, Bool, true, false, not, ◌&&◌, ◌||◌, nat_eq, List, [], ◌∷◌, ◌++◌, refl, sym, ap, subst, ◌∙◌, arith, inl, inr, ◌⊎◌, length, length-append}
 use Rattle.std.specs.List.{Contains, slice_index_or}
 use Rattle.std.proofs.lemmas.List.Elements.{Contains-append_left, Contains-append_right, Contains-append_cases}
-use Rattle.number_links.specs.Seeing.{Sees}
-use Rattle.number_links.proofs.CountLemmas.{count_less}
+use Rattle.number_links.specs.Seeing.{Sees, unseen}
+use Rattle.number_links.proofs.CountLemmas.{count_less, count_no_more}
 
 pub none_there : (n : ℕ) → Contains {X = ℕ} [] n → ⊥
 none_there n among = omega (arith, among.1)
@@ -95,7 +95,7 @@ either_seen first n old now is seen = by (nat_eq n first) refl
     by true same = inl (search arith)
     by false apart = inr (sym (ap (λ b. b || old) apart) ∙ sym is ∙ seen)
 
-or_true : (a b : Bool) → b ≡ true → a || b ≡ true
+pub or_true : (a b : Bool) → b ≡ true → a || b ≡ true
 or_true true b is = refl
 or_true false b is = is
 
@@ -113,6 +113,10 @@ still_out : (a old now : Bool) → (old ≡ true → now ≡ true) → a && not 
 still_out true true now kept is = (let no : ⊥ = cc (kept refl) in absurd no)
 still_out true false now kept is = refl
 still_out false old now kept is = (let no : ⊥ = cc in absurd no)
+
+-- more is seen: no more is unseen
+pub unseen_no_more : (bound : ℕ) (allowed seen now_seen : ℕ → Bool) → ((n : ℕ) → seen n ≡ true → now_seen n ≡ true) → unseen bound allowed now_seen ≤ unseen bound allowed seen
+unseen_no_more bound allowed seen now_seen kept = count_no_more bound (λ n. allowed n && not (seen n)) (λ n. allowed n && not (now_seen n)) (λ n. still_out (allowed n) (seen n) (now_seen n) (kept n))
 
 -- a number that is new, and allowed
 pub sees_new : (bound : ℕ) (allowed : ℕ → Bool) (first : ℕ) (seen : ℕ → Bool) (waits : List ℕ) (now_seen : ℕ → Bool) (now_waits : List ℕ) → first < bound → allowed first ≡ true → seen first ≡ false

@@ -1,10 +1,11 @@
 -- A walk: what is seen is reached, and all that is reached is seen once nothing waits.
-use Rattle.std.proofs.Common.{◌≡◌, ℕ, length, refl, arith, Bool, true, false, List, [], ◌∷◌, ◌++◌, sym, subst, ◌∙◌, inl, inr, ◌⊎◌}
+use Rattle.std.proofs.Common.{◌≡◌, ℕ, length, refl, arith, Bool, true, false, ◌||◌, List, [], ◌∷◌, ◌++◌, sym, ap, subst, ◌∙◌, inl, inr, ◌⊎◌}
 use Rattle.std.specs.List.{Contains}
 use Rattle.std.proofs.lemmas.List.Elements.{Contains-append_left, Contains-append_right, Contains-append_cases}
+use Rattle.std.proofs.lemmas.Bool.{or_cases}
 use Rattle.number_links.specs.Reach.{IsReached, Root, Next}
 use Rattle.number_links.specs.Seeing.{Sees}
-use Rattle.number_links.proofs.SeeingLemmas.{none_there, sole, sole_there}
+use Rattle.number_links.proofs.SeeingLemmas.{none_there, or_true, sole, sole_there}
 
 -- between two steps: what is seen is reached, and waits, or was found clear and leads to nothing that is not seen
 pub record Walks (clear : ℕ → Type 0) (next : ℕ → List ℕ) (allowed : ℕ → Bool) (roots : List ℕ) (seen : ℕ → Bool) (waits : List ℕ) : Type 0 where
@@ -90,3 +91,49 @@ walks_clear clear next allowed roots seen waits none walks n is =
 -- the last of those that wait is reached
 pub last_reached : (clear : ℕ → Type 0) (next : ℕ → List ℕ) (allowed : ℕ → Bool) (roots : List ℕ) (seen : ℕ → Bool) (waits rest : List ℕ) (last : ℕ) → waits ≡ rest ++ last ∷ [] → Walks clear next allowed roots seen waits → IsReached next allowed roots last
 last_reached clear next allowed roots seen waits rest last popped walks = walks.reached last (walks.noted last (subst (λ w. Contains w last) (sym popped) (Contains-append_right rest (last ∷ []) last (sole last))))
+
+-- ---- a set is taken whole
+-- what is reached from a number that is reached is reached
+pub reached_from : (next : ℕ → List ℕ) (allowed : ℕ → Bool) (roots : List ℕ) (root : ℕ) → IsReached next allowed roots root → (n : ℕ) → IsReached next allowed (root ∷ []) n → IsReached next allowed roots n
+reached_from next allowed roots root first _ (Root n only there) = subst (IsReached next allowed roots) (sole_there root n only) first
+reached_from next allowed roots root first _ (Next from n before leads there) = Next from n (reached_from next allowed roots root first from before) leads there
+
+-- the last of those that wait leads to just these, all of which are clear
+pub walks_taken : (clear : ℕ → Type 0) (next : ℕ → List ℕ) (allowed : ℕ → Bool) (roots : List ℕ) (seen : ℕ → Bool) (waits rest : List ℕ) (last : ℕ) (set now_seen : ℕ → Bool)
+    → waits ≡ rest ++ last ∷ [] → set last ≡ true → ((n : ℕ) → set n ≡ true → clear n) → ((from n : ℕ) → set from ≡ true → Contains (next from) n → set n ≡ true)
+    → ((n : ℕ) → set n ≡ true → IsReached next allowed (last ∷ []) n) → Walks clear next allowed roots seen waits → ((n : ℕ) → now_seen n ≡ (seen n || set n)) → Walks clear next allowed roots now_seen rest
+walks_taken clear next allowed roots seen waits rest last set now_seen popped itself clears closed reach walks takes = record {
+  begun = λ n root there. keep n (walks.begun n root there);
+  noted = λ n is. keep n (walks.noted n (back n (Contains-append_left rest (last ∷ []) n is)));
+  reached = λ n is. elim (either n is) [
+    | inl before ↦ walks.reached n before
+    | inr taken ↦ reached_from next allowed roots last (walks.reached last (walks.noted last (back last (Contains-append_right rest (last ∷ []) last (sole last))))) n (reach n taken)
+  ];
+  closed = λ from is. elim (either from is) [
+    | inl before ↦ still from (walks.closed from before)
+    | inr taken ↦ inr (taken_closed from taken)
+  ];
+}
+  where
+    keep : (n : ℕ) → seen n ≡ true → now_seen n ≡ true
+    keep n is = takes n ∙ ap (λ b. b || set n) is
+
+    put : (n : ℕ) → set n ≡ true → now_seen n ≡ true
+    put n is = takes n ∙ or_true (seen n) (set n) is
+
+    either : (n : ℕ) → now_seen n ≡ true → (seen n ≡ true) ⊎ (set n ≡ true)
+    either n is = or_cases (seen n) (set n) (sym (takes n) ∙ is)
+
+    back : (n : ℕ) → Contains (rest ++ last ∷ []) n → Contains waits n
+    back n is = subst (λ w. Contains w n) (sym popped) is
+
+    taken_closed : (from : ℕ) → set from ≡ true → clear from × ((n : ℕ) → Contains (next from) n → allowed n ≡ true → now_seen n ≡ true)
+    taken_closed from is = (clears from is, λ n leads there. put n (closed from n is leads))
+
+    here : (from : ℕ) → Contains rest from ⊎ Contains (last ∷ []) from → Contains rest from ⊎ (clear from × ((n : ℕ) → Contains (next from) n → allowed n ≡ true → now_seen n ≡ true))
+    here from (inl front) = inl front
+    here from (inr end) = inr (taken_closed from (subst (λ m. set m ≡ true) (sole_there last from end) itself))
+
+    still : (from : ℕ) → Contains waits from ⊎ (clear from × ((n : ℕ) → Contains (next from) n → allowed n ≡ true → seen n ≡ true)) → Contains rest from ⊎ (clear from × ((n : ℕ) → Contains (next from) n → allowed n ≡ true → now_seen n ≡ true))
+    still from (inl waited) = here from (Contains-append_cases rest (last ∷ []) from (subst (λ w. Contains w from) popped waited))
+    still from (inr done) = inr (done.0, λ n linked there. keep n (done.1 n linked there))

@@ -1,5 +1,5 @@
--- All that some numbers lead to, which is kept to be asked again (own).
-use Rattle.std.specs.Prelude.{◌≡◌, ℕ, Bool, true, List, Contains, is_some}
+-- All that some numbers lead to, which is kept so that a walk need not find it again (own).
+use Rattle.std.specs.Prelude.{◌≡◌, ℕ, Bool, true, List, [], ◌∷◌, Contains, is_some}
 use Rattle.number_sets.specs.Numbers.{has}
 use Rattle.number_links.specs.Known.{Known, known, linked}
 use Rattle.number_links.specs.Reach.{IsReached}
@@ -12,6 +12,6 @@ pub record IsAllLedTo (links : Known) (roots : List ℕ) (among : ℕ → Bool) 
   pub only : (n : ℕ) → among n ≡ true → IsReached (linked links) (λ _. true) roots n
   pub known : (n : ℕ) → among n ≡ true → is_some (known links n) ≡ true
 
--- the same of a set that is kept
+-- the same of a set that is kept, and its root
 abbrev pub IsKept : Known → Kept → Type 0
-IsKept links kept = IsAllLedTo links kept.roots.items (has kept.reached)
+IsKept links kept = IsAllLedTo links (kept.root ∷ []) (has kept.reached)

@@ -1,13 +1,15 @@
-ghost use Rattle.std.specs.Prelude.{◌≡◌, ◌≢◌, ◌⊎◌, ◌↔◌, ℕ, List, [], Some, None, true, is_some, IfOk, IfSome, IfNone, OnOk, Contains};
+ghost use Rattle.std.specs.Prelude.{◌≡◌, ◌≢◌, ◌⊎◌, ◌↔◌, ℕ, List, [], Some, None, true, is_some, IfOk, IfSome, IfNone, OnOk, All, Contains};
 ghost use Rattle.number_sets.specs.Numbers.{has};
+ghost use Rattle.number_links.specs.Kept.{IsKept};
 ghost use Rattle.number_links.specs.Known.{RestsOrIsKnown, known, linked};
 ghost use Rattle.number_links.specs.Reach.{IsReached, ReachesUnknown};
 
-use crate::kept::{Kept, find, let_go, put};
+use crate::keeping::keep_all;
+use crate::kept::{Kept, let_go};
 use crate::links::Links;
 use crate::resting::Resting;
-use crate::settling::{has_all, settle};
-use crate::walking::{between, walk};
+use crate::taking::reach_all;
+use crate::walking::walk;
 use number_sets::NumberSet;
 use std::alloc::{AllocError, Global};
 use std::marker::Model;
@@ -73,8 +75,8 @@ impl Graph {
         }
     }
 
-    /// Keeps all that these numbers lead to, if all of it is allowed, and known or resting. What rests is known
-    /// to lead to nothing from then on.
+    /// Keeps all that these numbers lead to, the first 8 of them, if all of it is allowed, and known or resting, and if it
+    /// is much. What rests is known to lead to nothing from then on.
     pub fn keep<R: Resting>(
         &mut self,
         alloc: Global,
@@ -84,23 +86,14 @@ impl Graph {
     )
         ensures only { (q : ℕ) (ms : List ℕ) → known self.new q ≡ Some ms → (known self.old q ≡ Some ms) ⊎ ((ms ≡ []) × (has allowed.now q ≡ true) × (R.rests resting.now q ≡ true)) }
     {
-        if find(&self.kept, allowed, roots).is_some() {
-            return;
-        }
-        let none = NumberSet::new(alloc);
-        let Ok(Some(reached)) = walk(alloc, &self.links, allowed, resting, roots, &none) else {
-            return;
-        };
-        if !has_all(&reached, roots) {
-            return;
-        }
-        let Ok(roots) = roots.to_vec(alloc) else {
-            return;
-        };
-        if !settle(&mut self.links, &reached) {
-            return;
-        }
-        put(&mut self.kept, Kept { roots, reached });
+        keep_all(
+            alloc,
+            &mut self.links,
+            &mut self.kept,
+            allowed,
+            resting,
+            roots,
+        );
     }
 
     /// The numbers that are reached from the wanted ones and from none of the excluded ones, or `None` where
@@ -117,9 +110,36 @@ impl Graph {
         ensures known { IfOk result (λ r. IfSome r (λ found. (n : ℕ) → IsReached (linked self.now) (has allowed.now) wanted.now n ⊎ IsReached (linked self.now) (has allowed.now) excluded.now n → RestsOrIsKnown self.now (R.rests resting.now) n)) }
         ensures unknown { IfOk result (λ r. IfNone r (ReachesUnknown self.now (R.rests resting.now) (has allowed.now) wanted.now ⊎ ReachesUnknown self.now (R.rests resting.now) (has allowed.now) excluded.now)) }
     {
-        if let Some(beyond) = find(&self.kept, allowed, excluded) {
-            return walk(alloc, &self.links, allowed, resting, wanted, beyond);
-        }
-        between(alloc, &self.links, allowed, resting, wanted, excluded)
+        between(
+            alloc,
+            &self.links,
+            self.kept.as_slice(),
+            allowed,
+            resting,
+            wanted,
+            excluded,
+        )
     }
+}
+
+// The numbers that are reached from the wanted ones and from none of the excluded ones.
+fn between<R: Resting>(
+    alloc: Global,
+    links: &Links,
+    kept: &[Kept],
+    allowed: &NumberSet,
+    resting: &R,
+    wanted: &[u32],
+    excluded: &[u32],
+) -> Result<Option<NumberSet>, AllocError>
+    requires { All (IsKept links.now) kept.now }
+    ensures found { IfOk result (λ r. IfSome r (λ found. (n : ℕ) → (has found n ≡ true) ↔ (IsReached (linked links.now) (has allowed.now) wanted.now n × (IsReached (linked links.now) (has allowed.now) excluded.now n → ⊥)))) }
+    ensures known { IfOk result (λ r. IfSome r (λ found. (n : ℕ) → IsReached (linked links.now) (has allowed.now) wanted.now n ⊎ IsReached (linked links.now) (has allowed.now) excluded.now n → RestsOrIsKnown links.now (R.rests resting.now) n)) }
+    ensures unknown { IfOk result (λ r. IfNone r (ReachesUnknown links.now (R.rests resting.now) (has allowed.now) wanted.now ⊎ ReachesUnknown links.now (R.rests resting.now) (has allowed.now) excluded.now)) }
+{
+    let mut count = 0;
+    let Some(beyond) = reach_all(alloc, links, kept, allowed, resting, excluded, &mut count)? else {
+        return Ok(None);
+    };
+    walk(alloc, links, allowed, resting, wanted, &beyond)
 }

@@ -1,5 +1,5 @@
-// Sets of all that some numbers lead to, which are kept to be asked again.
-ghost use Rattle.std.specs.Prelude.{◌≡◌, ℕ, All, Contains, IfSome, false, true};
+// Sets of all that a number leads to, which are kept so that a walk need not find it again.
+ghost use Rattle.std.specs.Prelude.{◌≡◌, [], ◌∷◌, ℕ, All, IfSome, false, true};
 ghost use Rattle.number_sets.specs.Numbers.{has};
 ghost use Rattle.number_links.specs.Kept.{IsAllLedTo, IsKept};
 ghost use Rattle.number_links.specs.Known.{Known};
@@ -9,34 +9,30 @@ use number_sets::NumberSet;
 // How many sets are kept.
 const MOST: usize = 16;
 
-// All that some numbers lead to.
+// All that a number leads to, itself among it.
 #[derive(Drop)]
 pub(crate) struct Kept {
-    pub(crate) roots: Vec<u32>,
+    pub(crate) root: u32,
     pub(crate) reached: NumberSet,
 }
 
-// Whether a set is that of these roots, and all of it is allowed.
-fn serves(one: &Kept, allowed: &NumberSet, roots: &[u32]) -> bool
-    ensures roots { result ≡ true → one.now.roots.items ≡ roots.now }
+// Whether a set is that of this root, and all of it is allowed.
+fn serves(one: &Kept, allowed: &NumberSet, root: u32) -> bool
+    ensures root { result ≡ true → one.now.root ≡ root }
     ensures within { result ≡ true → (n : ℕ) → has one.now.reached n ≡ true → has allowed.now n ≡ true }
 {
-    if one.roots.as_slice() != roots {
+    if one.root != root {
         return false;
     }
     one.reached.is_within(allowed)
 }
 
-// The set of all that these roots lead to, if it is kept and all of it is allowed.
-pub(crate) fn find<'a>(
-    kept: &'a [Kept],
-    allowed: &NumberSet,
-    roots: &[u32],
-) -> Option<&'a NumberSet>
-    ensures { (links : Known) → All (IsKept links) kept.now → IfSome result (λ reached. IsAllLedTo links roots.now (has reached.now) × ((n : ℕ) → has reached.now n ≡ true → has allowed.now n ≡ true)) }
+// The set of all that this number leads to, if it is kept and all of it is allowed.
+pub(crate) fn find<'a>(kept: &'a [Kept], allowed: &NumberSet, root: u32) -> Option<&'a NumberSet>
+    ensures { (links : Known) → All (IsKept links) kept.now → IfSome result (λ reached. IsAllLedTo links (root ∷ []) (has reached.now) × ((n : ℕ) → has reached.now n ≡ true → has allowed.now n ≡ true)) }
 {
     for one in kept {
-        if serves(one, allowed, roots) {
+        if serves(one, allowed, root) {
             return Some(&one.reached);
         }
     }

@@ -3,6 +3,7 @@
 #![tactic(auto)]
 
 mod graph;
+mod keeping;
 mod kept;
 mod links;
 mod lists;
@@ -11,9 +12,9 @@ mod packing;
 mod records;
 mod resting;
 mod settling;
+mod taking;
 mod walking;
 
 pub use crate::graph::Graph;
 pub use crate::links::Links;
 pub use crate::resting::Resting;
-pub use crate::walking::{between, walk};

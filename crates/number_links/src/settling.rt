@@ -7,7 +7,7 @@ use crate::links::Links;
 use number_sets::NumberSet;
 
 // Whether each of these is in a set.
-pub(crate) fn has_all(numbers: &NumberSet, these: &[u32]) -> bool
+fn has_all(numbers: &NumberSet, these: &[u32]) -> bool
     ensures { result ≡ true → (n : ℕ) → Contains these.now n → has numbers.now n ≡ true }
 {
     for n in these {

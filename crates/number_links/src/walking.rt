@@ -9,9 +9,9 @@ use crate::resting::Resting;
 use number_sets::NumberSet;
 use std::alloc::{AllocError, Global};
 
-/// The numbers that are reached from the roots, through none that is hidden or not allowed, or `None`
-/// where one of them neither rests nor has known links. Each is followed once.
-pub fn walk<R: Resting>(
+// The numbers that are reached from the roots, through none that is hidden or not allowed, or `None`
+// where one of them neither rests nor has known links. Each is followed once.
+pub(crate) fn walk<R: Resting>(
     alloc: Global,
     links: &Links,
     allowed: &NumberSet,
@@ -37,7 +37,7 @@ pub fn walk<R: Resting>(
 }
 
 // What a number leads to, if it rests or that is known.
-fn next<'a, R: Resting>(links: &'a Links, resting: &R, n: u32) -> Option<&'a [u32]>
+pub(crate) fn next<'a, R: Resting>(links: &'a Links, resting: &R, n: u32) -> Option<&'a [u32]>
     ensures some { IfSome result (λ to. linked links.now n ≡ to.now) }
     ensures known { IfSome result (λ to. RestsOrIsKnown links.now (R.rests resting.now) n) }
     ensures none { IfNone result ((R.rests resting.now n ≡ false) × (known links.now n ≡ None)) }
@@ -49,25 +49,4 @@ fn next<'a, R: Resting>(links: &'a Links, resting: &R, n: u32) -> Option<&'a [u3
         return Some(&[]);
     }
     None
-}
-
-/// The numbers that are reached from the wanted ones and from none of the excluded ones, or `None` where
-/// one that is reached from either neither rests nor has known links.
-pub fn between<R: Resting>(
-    alloc: Global,
-    links: &Links,
-    allowed: &NumberSet,
-    resting: &R,
-    wanted: &[u32],
-    excluded: &[u32],
-) -> Result<Option<NumberSet>, AllocError>
-    ensures found { IfOk result (λ r. IfSome r (λ found. (n : ℕ) → (has found n ≡ true) ↔ (IsReached (linked links.now) (has allowed.now) wanted.now n × (IsReached (linked links.now) (has allowed.now) excluded.now n → ⊥)))) }
-    ensures known { IfOk result (λ r. IfSome r (λ found. (n : ℕ) → IsReached (linked links.now) (has allowed.now) wanted.now n ⊎ IsReached (linked links.now) (has allowed.now) excluded.now n → RestsOrIsKnown links.now (R.rests resting.now) n)) }
-    ensures unknown { IfOk result (λ r. IfNone r (ReachesUnknown links.now (R.rests resting.now) (has allowed.now) wanted.now ⊎ ReachesUnknown links.now (R.rests resting.now) (has allowed.now) excluded.now)) }
-{
-    let none = NumberSet::new(alloc);
-    let Some(beyond) = walk(alloc, links, allowed, resting, excluded, &none)? else {
-        return Ok(None);
-    };
-    walk(alloc, links, allowed, resting, wanted, &beyond)
 }

@@ -1,9 +1,9 @@
 -- One set within another, part by part.
-use Rattle.std.proofs.Common.{◌≡◌, ℕ, ◌/◌, ◌%◌, ◌<◌, ◌≤◌, true, false, List, None, length, get_or, sym, ap, subst, ◌∙◌, arith, inl, inr}
+use Rattle.std.proofs.Common.{◌≡◌, ℕ, ◌/◌, ◌%◌, ◌<◌, ◌≤◌, true, false, List, None, is_some, length, get_or, sym, ap, ◌∙◌, arith, inl, inr}
 use Rattle.std.proofs.lemmas.Bool.{cases_lt}
 use Rattle.std.proofs.lemmas.List.{get_or_past}
-use Rattle.number_sets.specs.Numbers.{Pages, has, has_bit, is_in, is_there}
-use Rattle.number_sets.proofs.PageLemmas.{past_has, zero_has}
+use Rattle.number_sets.specs.Numbers.{Pages, has, has_bit, has_room, is_in, is_there}
+use Rattle.number_sets.proofs.PageLemmas.{zero_has}
 
 -- all words of a page were compared
 pub page_within : (own other : List ℕ) (at : ℕ) → length own ≤ at → ((i k : ℕ) → i < at → has_bit (get_or own i 0) k ≡ true → has_bit (get_or other i 0) k ≡ true) → (q : ℕ) → is_in own q ≡ true → is_in other q ≡ true
@@ -29,4 +29,18 @@ set_within own other common at end first all parts none q is = elim (cases_lt (q
         (let no : true ≡ false = sym is ∙ ap (λ p. is_there p (q % 4096)) (get_or_past own (q / 4096) None (omega (arith, all, beyond))) in
         let wrong : ⊥ = cc in absurd wrong)
   ]
+]
+
+-- ---- the same numbers, and room for those of another set
+pub has_alike : (own now : Pages) → ((i k : ℕ) → is_there (get_or now i None) k ≡ is_there (get_or own i None) k) → (q : ℕ) → has now q ≡ has own q
+unfolding has
+has_alike own now alike q = alike (q / 4096) (q % 4096)
+
+pub room_of : (other own : Pages) (at : ℕ) → length other ≤ at → ((i : ℕ) → i < at → is_some (get_or other i None) ≡ true → is_some (get_or own i None) ≡ true) → (q : ℕ) → has_room other q ≡ true → has_room own q ≡ true
+unfolding has_room
+room_of other own at all pages q room = elim (cases_lt (q / 4096) at) [
+  | inl inside ↦ pages (q / 4096) inside room
+  | inr past ↦
+      (let no : true ≡ false = sym room ∙ ap is_some (get_or_past other (q / 4096) None (omega (arith, all, past))) in
+      let wrong : ⊥ = cc in absurd wrong)
 ]

@@ -1,5 +1,5 @@
-ghost use Rattle.std.specs.Prelude.{◌≡◌, ◌<◌, ◌≤◌, ℕ, ◌||◌, ◌&&◌, not, nat_eq, false, true, IfSome, IfNone, OnOk, None, get_or, length};
-ghost use Rattle.number_sets.specs.Numbers.{HasRoomOf, Pages, has, has_room};
+ghost use Rattle.std.specs.Prelude.{◌≡◌, ◌<◌, ◌≤◌, ℕ, ◌||◌, ◌&&◌, not, nat_eq, false, true, IfSome, IfNone, OnOk, None, get_or, is_some, length};
+ghost use Rattle.number_sets.specs.Numbers.{HasRoomOf, Pages, has, has_room, is_there};
 
 use crate::page::Page;
 use crate::slot;
@@ -57,6 +57,18 @@ impl NumberSet {
         let at = n as usize / 4096;
         lengthen(&mut self.pages, at)?;
         slot::fill(alloc, &mut self.pages[at])
+    }
+
+    /// Sees to it that each number of another set has room. The set stays as it is.
+    pub fn reserve_all(&mut self, other: &NumberSet) -> Result<(), AllocError>
+        ensures has { (q : ℕ) → has self.new q ≡ has self.old q }
+        ensures ok { OnOk result (HasRoomOf other.now self.new) }
+    {
+        let alloc = *self.pages.allocator();
+        for at in 0..other.pages.len() {
+            fill_at(alloc, &mut self.pages, at, &other.pages[at])?;
+        }
+        Ok(())
     }
 
     /// Puts a number into the set. It takes no memory.
@@ -158,4 +170,21 @@ fn lengthen(pages: &mut Vec<Option<Page>>, at: usize) -> Result<(), AllocError>
         pages.push(None)?;
     }
     Ok(())
+}
+
+// Sees to it that there is a page at this place, if another place has one. No number comes.
+fn fill_at(
+    alloc: Global,
+    pages: &mut Vec<Option<Page>>,
+    at: usize,
+    other: &Option<Page>,
+) -> Result<(), AllocError>
+    requires { at < 1048576 }
+    ensures there { (i k : ℕ) → is_there (get_or pages.new.items i None) k ≡ is_there (get_or pages.old.items i None) k }
+    ensures ok { OnOk result (is_some other.now ≡ true → is_some (get_or pages.new.items at None) ≡ true) }
+    ensures kept { (i : ℕ) → is_some (get_or pages.old.items i None) ≡ true → is_some (get_or pages.new.items i None) ≡ true }
+    ensures few { length pages.old.items ≤ 1048576 → length pages.new.items ≤ 1048576 }
+{
+    lengthen(pages, at)?;
+    slot::fill_like(alloc, &mut pages[at], other)
 }

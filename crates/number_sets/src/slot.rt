@@ -30,6 +30,22 @@ pub(crate) fn fill(alloc: Global, slot: &mut Option<Page>) -> Result<(), AllocEr
     Ok(())
 }
 
+// The same where another place has a page.
+pub(crate) fn fill_like(
+    alloc: Global,
+    slot: &mut Option<Page>,
+    other: &Option<Page>,
+) -> Result<(), AllocError>
+    ensures numbers { (q : ℕ) → is_there slot.new q ≡ is_there slot.old q }
+    ensures ok { OnOk result (is_some other.now ≡ true → is_some slot.new ≡ true) }
+    ensures page { is_some slot.old ≡ true → is_some slot.new ≡ true }
+{
+    if other.is_none() {
+        return Ok(());
+    }
+    fill(alloc, slot)
+}
+
 // Puts a number in.
 pub(crate) fn insert(slot: &mut Option<Page>, k: u32)
     requires page { is_some slot.old ≡ true }

@@ -1,4 +1,4 @@
-use Rattle.std.proofs.Common.{◌≡◌, ◌≤◌, true, length, sym, ap, subst, arith, rules}
+use Rattle.std.proofs.Common.{◌≡◌, true, sym, subst, rules}
 use Rattle.number_sets.specs.Numbers.{has}
 use Rattle.number_sets.proofs.WithinLemmas.{set_within}
 use Rattle.number_sets.proofs.number_set.NumberSet.is_within.Goals as goal

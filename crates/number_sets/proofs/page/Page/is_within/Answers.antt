@@ -1,4 +1,4 @@
-use Rattle.std.proofs.Common.{◌≡◌, ◌≤◌, true, length, sym, ap, subst, arith}
+use Rattle.std.proofs.Common.{◌≡◌, true, sym, subst, arith}
 use Rattle.number_sets.specs.Numbers.{is_in}
 use Rattle.number_sets.proofs.WithinLemmas.{page_within}
 use Rattle.number_sets.proofs.page.Page.is_within.Goals as goal

@@ -1,0 +1,74 @@
+// Keeping what numbers lead to.
+ghost use Rattle.std.specs.Prelude.{◌≡◌, ◌⊎◌, ℕ, List, [], Some, All, true};
+ghost use Rattle.number_sets.specs.Numbers.{has};
+ghost use Rattle.number_links.specs.Kept.{IsKept};
+ghost use Rattle.number_links.specs.Known.{known};
+
+use crate::kept::{Kept, put};
+use crate::links::Links;
+use crate::resting::Resting;
+use crate::settling::settle;
+use crate::taking::reach_all;
+use number_sets::NumberSet;
+use std::alloc::Global;
+
+// What takes fewer steps to find is not worth being kept.
+const FEW: usize = 4096;
+
+// How many numbers are kept of a list at the most.
+const MOST_ROOTS: usize = 8;
+
+// Keeps all that a number leads to.
+fn keep_one<R: Resting>(
+    alloc: Global,
+    links: &mut Links,
+    kept: &mut Vec<Kept>,
+    allowed: &NumberSet,
+    resting: &R,
+    root: u32,
+)
+    requires { All (IsKept links.old) kept.old.items }
+    ensures kept { All (IsKept links.new) kept.new.items }
+    ensures only { (q : ℕ) (ms : List ℕ) → known links.new q ≡ Some ms → (known links.old q ≡ Some ms) ⊎ ((ms ≡ []) × (has allowed.now q ≡ true) × (R.rests resting.now q ≡ true)) }
+{
+    let mut count = 0;
+    let Ok(Some(reached)) = reach_all(
+        alloc,
+        links,
+        kept.as_slice(),
+        allowed,
+        resting,
+        &[root],
+        &mut count,
+    ) else {
+        return;
+    };
+    if count < FEW {
+        return;
+    }
+    if !reached.contains(root) {
+        return;
+    }
+    if !settle(links, &reached) {
+        return;
+    }
+    put(kept, Kept { root, reached });
+}
+
+// The same of each of these numbers, the first of them.
+pub(crate) fn keep_all<R: Resting>(
+    alloc: Global,
+    links: &mut Links,
+    kept: &mut Vec<Kept>,
+    allowed: &NumberSet,
+    resting: &R,
+    roots: &[u32],
+)
+    requires { All (IsKept links.old) kept.old.items }
+    ensures kept { All (IsKept links.new) kept.new.items }
+    ensures only { (q : ℕ) (ms : List ℕ) → known links.new q ≡ Some ms → (known links.old q ≡ Some ms) ⊎ ((ms ≡ []) × (has allowed.now q ≡ true) × (R.rests resting.now q ≡ true)) }
+{
+    for at in 0..roots.len().min(MOST_ROOTS) {
+        keep_one(alloc, links, kept, allowed, resting, roots[at]);
+    }
+}

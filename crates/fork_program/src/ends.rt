@@ -64,11 +64,8 @@ impl Write for Outgoing {
 impl Outgoing {
     /// Notes how a turn left the connection.
     pub fn note(&self, now: Instant, frames: u64, waiting: usize, has_begun: bool) {
-        self.watch.set(
-            self.watch
-                .get()
-                .after(now, frames, waiting, has_begun),
-        );
+        self.watch
+            .set(self.watch.get().after(now, frames, waiting, has_begun));
     }
 
     /// What is waited for.

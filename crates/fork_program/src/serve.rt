@@ -133,7 +133,16 @@ fn keep_connections<'x, H: Files<File = File> + Net + AllocGlobal + Clock, S: Lo
 {
     let mut keep = Keep::begin(rt, alloc, dir, host)?;
     show(rt, alloc, socket)?;
-    let served = serve_kept_at(rt, alloc, host, &mut keep, listening, socket, connections, at_once);
+    let served = serve_kept_at(
+        rt,
+        alloc,
+        host,
+        &mut keep,
+        listening,
+        socket,
+        connections,
+        at_once,
+    );
     let saved = keep.end(alloc, host, &served);
     match served {
         Ok(()) => saved,
@@ -155,7 +164,16 @@ fn serve_kept_host<'x, H: Files<File = File> + Net + AllocGlobal + Clock, S: Loo
     ensures err { (hosting : Hosting) → IsKeptHostOf hosting host.old → IfErr result (IsUnlistened hosting at_once connections) }
 {
     let listening = listen(rt, alloc, socket)?;
-    keep_connections(rt, alloc, dir, host, listening, socket, connections, at_once)
+    keep_connections(
+        rt,
+        alloc,
+        dir,
+        host,
+        listening,
+        socket,
+        connections,
+        at_once,
+    )
 }
 
 // Serves connections to a new host.

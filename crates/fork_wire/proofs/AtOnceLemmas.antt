@@ -90,10 +90,10 @@ rounds_are_one old mid new before then after first next last one two =
       steps = one.steps ++ two.steps;
       runs = runs_append first next last one.steps two.steps one.runs two.runs;
       answered = answered_so_far old new (asked (acts_of (one.steps ++ two.steps))) (replied (acts_of (one.steps ++ two.steps)))
-      (subst (λ (l : List Act). IsRun old (events_of (asked l)) (replied l) new) (sym acts) (run_in_two old mid new (acts_of one.steps) (acts_of two.steps) one.answered.ran two.answered.ran));
+          (subst (λ (l : List Act). IsRun old (events_of (asked l)) (replied l) new) (sym acts) (run_in_two old mid new (acts_of one.steps) (acts_of two.steps) one.answered.ran two.answered.ran));
       kept = subst (λ (l : List Act). Appends before after (kept_bytes (asked l) (replied l))) (sym acts)
-      (subst (Appends before after) (sym (kept_joined (acts_of one.steps) (acts_of two.steps)))
-      (Appends-trans before then after (kept_bytes (asked (acts_of one.steps)) (replied (acts_of one.steps))) (kept_bytes (asked (acts_of two.steps)) (replied (acts_of two.steps))) one.kept two.kept));
+          (subst (Appends before after) (sym (kept_joined (acts_of one.steps) (acts_of two.steps)))
+          (Appends-trans before then after (kept_bytes (asked (acts_of one.steps)) (replied (acts_of one.steps))) (kept_bytes (asked (acts_of two.steps)) (replied (acts_of two.steps))) one.kept two.kept));
     }
 
 pub each_is_heard_at_once : EachIsHeardAtOnce

@@ -9,7 +9,7 @@ use crate::spot::Spot;
 use git_name::Name;
 use std::alloc::{AllocError, Global};
 
-// The most entries of a chunk. Two chunks beside each other have more than 24 in all.
+// The most entries of a chunk, and the most of two that are joined.
 const MOST: usize = 32;
 
 const FEW: usize = 24;

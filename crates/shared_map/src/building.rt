@@ -9,9 +9,10 @@ use crate::spot::Spot;
 use git_name::Name;
 use std::alloc::{AllocError, Global};
 
-// The most entries of a chunk. Two chunks beside each other have more than 24 in all.
+// The most entries of a chunk.
 const MOST: usize = 32;
 
+// The most entries of two chunks that are joined.
 const FEW: usize = 24;
 
 // The chunks after a change at a key, which is in this chunk at this spot, or would be.

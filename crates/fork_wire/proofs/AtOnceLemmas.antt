@@ -1,5 +1,5 @@
 -- Acts at many connections, and what answers them, as one session of the host.
-use Rattle.std.proofs.Common.{◌≡◌, ◌<◌, Bool, true, false, ℕ, zero, suc, get_or, None, List, [], ◌∷◌, ◌++◌, Option, Result, Ok, Err, refl, sym, ap, ◌∙◌, subst, append_assoc, length, arith}
+use Rattle.std.proofs.Common.{◌≡◌, ◌<◌, Bool, ℕ, zero, suc, get_or, None, List, [], ◌∷◌, ◌++◌, Option, Result, Ok, Err, refl, sym, ap, ◌∙◌, subst, append_assoc, length, arith}
 use Rattle.std.specs.Io.KnownBytes.{Appends}
 use Rattle.std.proofs.KnownBytes.{Appends-nil, Appends-trans}
 use Rattle.std.proofs.lemmas.List.{map-append}
@@ -8,7 +8,6 @@ use Rattle.fork_host.specs.Shown.{HostState}
 use Rattle.fork_host.specs.Step.{IsRun, IsStep}
 use Rattle.fork_host.proofs.StepLemmas.{run_joined}
 use Rattle.fork_frame.specs.declared.frame.Frame.{Frame}
-use Rattle.fork_frame.specs.Frame.{IsFrame}
 use Rattle.fork_connection.specs.declared.answering.Lost.{Lost}
 use Rattle.fork_connection.specs.Rounds.{AreTurns, Stands}
 use Rattle.fork_connection.specs.Turns.{Act, Answered, Answers, Chain, Loses, Peer, Reads, Refuses, Runs, Step, Writes, acts_of, asked}
@@ -90,10 +89,10 @@ rounds_are_one old mid new before then after first next last one two =
       steps = one.steps ++ two.steps;
       runs = runs_append first next last one.steps two.steps one.runs two.runs;
       answered = answered_so_far old new (asked (acts_of (one.steps ++ two.steps))) (replied (acts_of (one.steps ++ two.steps)))
-      (subst (λ (l : List Act). IsRun old (events_of (asked l)) (replied l) new) (sym acts) (run_in_two old mid new (acts_of one.steps) (acts_of two.steps) one.answered.ran two.answered.ran));
+          (subst (λ (l : List Act). IsRun old (events_of (asked l)) (replied l) new) (sym acts) (run_in_two old mid new (acts_of one.steps) (acts_of two.steps) one.answered.ran two.answered.ran));
       kept = subst (λ (l : List Act). Appends before after (kept_bytes (asked l) (replied l))) (sym acts)
-      (subst (Appends before after) (sym (kept_joined (acts_of one.steps) (acts_of two.steps)))
-      (Appends-trans before then after (kept_bytes (asked (acts_of one.steps)) (replied (acts_of one.steps))) (kept_bytes (asked (acts_of two.steps)) (replied (acts_of two.steps))) one.kept two.kept));
+          (subst (Appends before after) (sym (kept_joined (acts_of one.steps) (acts_of two.steps)))
+          (Appends-trans before then after (kept_bytes (asked (acts_of one.steps)) (replied (acts_of one.steps))) (kept_bytes (asked (acts_of two.steps)) (replied (acts_of two.steps))) one.kept two.kept));
     }
 
 pub each_is_heard_at_once : EachIsHeardAtOnce

@@ -94,7 +94,7 @@ fn waiting_in<R, W>(parties: &[Party<R, W>]) -> usize {
 
 /// One turn of each connection, in which at most one frame of it is answered, so that none holds up
 /// another. While more than `most` bytes wait to go out in all, no frame is taken. Stops where a reply
-/// must not go out.
+/// must not go out. What comes is read through the buffer; if that has no room, nothing is done.
 pub fn round<H: Answering, R: Read, W: Write>(
     alloc: Global,
     host: &mut H,
@@ -102,11 +102,13 @@ pub fn round<H: Answering, R: Read, W: Write>(
     buffer: &mut [u8],
     most: usize,
 ) -> Result<(), Lost>
-    requires { 0 < length buffer.old }
     ensures turns { AreTurns H.answered H.lost (peer_in R.remaining W.contents) has_ended
         host.old host.new parties.old parties.new result }
     ensures buffer { length buffer.new ≡ length buffer.old }
 {
+    if buffer.is_empty() {
+        return Ok(());
+    }
     let mut waiting = waiting_in(parties);
     for place in 0..parties.len() {
         serve_counted(alloc, host, &mut parties[place], buffer, &mut waiting, most)?;

@@ -4,3 +4,4 @@ pub mod HostingLemmas
 pub mod EntryLemmas
 pub mod VisitLemmas
 pub mod ChangingLemmas
+pub mod ServingLemmas

@@ -3,9 +3,10 @@
 use Rattle.std.specs.Prelude.{◌≡◌, ◌⊎◌, ◌≤◌, ℕ, true, List, [], ◌∷◌, Option, None, Some, length, is_some}
 use Rattle.fork_command.specs.declared.hosting.Hosting.{Hosting}
 use Rattle.fork_frame.specs.declared.frame.Frame.{Frame}
-use Rattle.fork_host.specs.Shown.{HostState}
+use Rattle.fork_host.specs.Shown.{HostState, Trusted, world_of}
+use Rattle.fork_model.specs.World.{Explains}
 use Rattle.fork_request.specs.declared.reply.Reply.{Reply}
-use Rattle.fork_wire.specs.Sessions.{IsAnswered}
+use Rattle.fork_wire.specs.Sessions.{IsAnswered, IsPrivateRun, events_of}
 use Rattle.fork_program.specs.Keeping.{IsSaved}
 use Rattle.fork_program.specs.Running.{IsHostOf, IsUnhosted}
 use Rattle.fork_program.specs.declared.fault.Fault.{Fault}
@@ -99,3 +100,15 @@ pub data IsUnlistened (hosting : Hosting) (at_once : Option ℕ) (n : ℕ) (faul
   Deaf : (first last : HostState) → IsHostOf hosting first → AreSomeServed at_once first last n → IsUnbound fault → IsUnlistened hosting at_once n fault
   -- all were served, and then the state could not be saved
   Unsaved : is_some hosting.dir ≡ true → fault ≡ NotSaved → IsListened hosting at_once n → IsUnlistened hosting at_once n fault
+
+-- all frames that were answered, and their replies, in the order of time, explain how the world changed, and each tenant's part of
+-- them is that of a private host
+pub record IsOneRun (old new : HostState) : Type 0 where
+  pub frames : List Frame
+  pub replies : List Reply
+  pub explained : Explains (world_of old) (events_of frames) replies (world_of new)
+  pub private_run : IsPrivateRun (world_of old) (events_of frames) replies (world_of new)
+
+-- a whole serving over a trusted store is one run, whatever the connections, and whatever was saved between
+abbrev pub ServingIsOneRun : Type 0
+ServingIsOneRun = (at_once : Option ℕ) (old new : HostState) (n : ℕ) → AreServed at_once old new n → Trusted old → IsOneRun old new

@@ -19,6 +19,7 @@ mod hash_object;
 mod hosts;
 mod keep;
 mod keeping;
+mod law;
 mod listening;
 mod patience;
 mod replaying;
@@ -35,4 +36,5 @@ mod watch;
 
 pub use crate::cause::tell_cause;
 pub use crate::entry::{Untold, program};
+pub use crate::law::a_serving_is_one_run;
 pub use crate::rights::tell_rights;

@@ -1,5 +1,5 @@
 -- Acts at many connections, and what answers them, as one session of the host.
-use Rattle.std.proofs.Common.{◌≡◌, ◌<◌, Bool, true, false, ℕ, zero, suc, get_or, None, List, [], ◌∷◌, ◌++◌, Option, Result, Ok, Err, refl, sym, ap, ◌∙◌, subst, append_assoc, length, arith}
+use Rattle.std.proofs.Common.{◌≡◌, ◌<◌, Bool, ℕ, zero, suc, get_or, None, List, [], ◌∷◌, ◌++◌, Option, Result, Ok, Err, refl, sym, ap, ◌∙◌, subst, append_assoc, length, arith}
 use Rattle.std.specs.Io.KnownBytes.{Appends}
 use Rattle.std.proofs.KnownBytes.{Appends-nil, Appends-trans}
 use Rattle.std.proofs.lemmas.List.{map-append}
@@ -8,7 +8,6 @@ use Rattle.fork_host.specs.Shown.{HostState}
 use Rattle.fork_host.specs.Step.{IsRun, IsStep}
 use Rattle.fork_host.proofs.StepLemmas.{run_joined}
 use Rattle.fork_frame.specs.declared.frame.Frame.{Frame}
-use Rattle.fork_frame.specs.Frame.{IsFrame}
 use Rattle.fork_connection.specs.declared.answering.Lost.{Lost}
 use Rattle.fork_connection.specs.Rounds.{AreTurns, Stands}
 use Rattle.fork_connection.specs.Turns.{Act, Answered, Answers, Chain, Loses, Peer, Reads, Refuses, Runs, Step, Writes, acts_of, asked}

@@ -78,7 +78,7 @@ begins_with (Some bytes) None came frames taken right = absurd taken
 begins_with (Some bytes) (Some rest) came frames taken right = (came, rest, right, taken)
 
 -- a run is private
-private_of : (old new : World) (events : List Event) (replies : List Reply) → Explains old events replies new → IsPrivateRun old events replies new
+pub private_of : (old new : World) (events : List Event) (replies : List Reply) → Explains old events replies new → IsPrivateRun old events replies new
 private_of old new events replies run = record {
   met = λ tenant view again here fine. run_private tenant old new events replies view again fine here;
   steady = λ tenant view here fine leaves. run_alone tenant old new events replies view run fine leaves here;

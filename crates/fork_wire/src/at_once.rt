@@ -1,4 +1,4 @@
-ghost use Rattle.std.specs.Prelude.{◌≡◌, ◌<◌, ℕ, List, IfErr, OnErr, OnOk, true, length};
+ghost use Rattle.std.specs.Prelude.{◌≡◌, ℕ, List, IfErr, OnErr, OnOk, true, length};
 ghost use Rattle.fork_connection.specs.Rounds.{Stands, has_ended, peer_in};
 ghost use Rattle.fork_connection.specs.Turns.{Peer};
 ghost use Rattle.fork_request.specs.declared.reply.Reply.{Reply as Told};
@@ -53,6 +53,7 @@ impl<S: LooseFiles, J: Journal> Answering for Keeping<'_, S, J> {
 /// One turn of each connection to a host, in which at most one frame of it is answered, and kept if it
 /// may have changed the host, before its reply goes out. While more than `most` bytes wait to go out in
 /// all, no frame is taken. If a frame cannot be kept, its reply does not go out, and nothing more is done.
+/// What comes is read through the buffer; if that has no room, nothing is done.
 pub fn serve_round<S: LooseFiles, J: Journal, R: Read, W: Write>(
     host: &mut Host<S>,
     alloc: Global,
@@ -61,7 +62,6 @@ pub fn serve_round<S: LooseFiles, J: Journal, R: Read, W: Write>(
     buffer: &mut [u8],
     most: usize,
 ) -> Result<(), NotKept>
-    requires { 0 < length buffer.old }
     ensures served { (first : ℕ → Peer) → Stands (peer_in R.remaining W.contents) has_ended first parties.old
         → EndsRound (peer_in R.remaining W.contents) has_ended host.old host.new (J.kept journal.old) (J.kept journal.new) first parties.new result }
     ensures ran { (frames : List Asked) × (replies : List Told) × IsAnswered host.old host.new frames replies }
@@ -82,7 +82,6 @@ fn keep_round<S: LooseFiles, J: Journal, R: Read, W: Write>(
     buffer: &mut [u8],
     most: usize,
 ) -> Result<(), NotKept>
-    requires { 0 < length buffer.old }
     ensures served { (first : ℕ → Peer) → Stands (peer_in R.remaining W.contents) has_ended first parties.old
         → EndsRound (peer_in R.remaining W.contents) has_ended keeping.old.host.now keeping.new.host.now (J.kept keeping.old.journal.now) (J.kept keeping.new.journal.now) first parties.new result }
     ensures ran { (frames : List Asked) × (replies : List Told) × IsAnswered keeping.old.host.now keeping.new.host.now frames replies }

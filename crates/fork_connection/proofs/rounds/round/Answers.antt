@@ -31,3 +31,6 @@ returns-in_err-serve_counted g c =
           c.in_err-serve_counted.ensures.served;
       buffer = c.serve_counted.ensures.buffer ∙ c.loop-place.invariant.1;
     })
+
+pub returns-then-is_empty-clause-turns : goal.returns-then-is_empty-clause-turns
+returns-then-is_empty-clause-turns g c = no_turns _ _ _ _ _ _

@@ -32,7 +32,7 @@ led_then old mid new one two =
       frames = one.frames ++ two.frames;
       replies = one.replies ++ two.replies;
       explained = subst (λ (e : List Event). Explains (world_of old) e (one.replies ++ two.replies) (world_of new)) (sym events)
-      (explains_joined (world_of old) (world_of mid) (world_of new) (events_of one.frames) (events_of two.frames) one.replies two.replies one.explained two.explained);
+          (explains_joined (world_of old) (world_of mid) (world_of new) (events_of one.frames) (events_of two.frames) one.replies two.replies one.explained two.explained);
       trusted = two.trusted;
     }
 

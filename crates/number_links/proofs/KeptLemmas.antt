@@ -1,18 +1,17 @@
 -- A set of all that some numbers lead to, as more becomes known and as numbers are renewed.
-use Rattle.std.proofs.Common.{◌≡◌, ◌≢◌, ◌⊎◌, ◌||◌, ℕ, Bool, true, false, List, [], ◌∷◌, Option, Some, None, is_some, not, All, get_or, refl, sym, ap, subst, ◌∙◌, inl, inr}
+use Rattle.std.proofs.Common.{◌≡◌, ◌≢◌, ◌⊎◌, ℕ, Bool, true, false, List, [], ◌∷◌, Option, Some, None, is_some, not, All, get_or, refl, sym, ap, subst, ◌∙◌, inl, inr}
 use Rattle.std.specs.List.{Contains}
 use Rattle.std.specs.Option.{unwrap_or}
 use Rattle.std.specs.Prelude.{filter}
-use Rattle.std.proofs.lemmas.Bool.{not-true, or_cases}
+use Rattle.std.proofs.lemmas.Bool.{not-true}
 use Rattle.std.proofs.lemmas.List.Elements.{All-filter, All-same, All-weaker, filter_passes}
 use Rattle.number_sets.specs.Numbers.{has}
-use Rattle.number_links.specs.Kept.{IsAllLedTo, IsKept, IsTaken}
+use Rattle.number_links.specs.Kept.{IsAllLedTo, IsKept}
 use Rattle.number_links.specs.Known.{Known, RestsOrIsKnown, known, linked}
 use Rattle.number_links.specs.declared.kept.Kept.{Kept}
 use Rattle.number_links.specs.Reach.{IsReached, Root, Next}
-use Rattle.number_links.proofs.SeeingLemmas.{or_true, sole, sole_there}
+use Rattle.number_links.proofs.SeeingLemmas.{sole_there}
 use Rattle.number_links.proofs.PastLemmas.{reached_allowed}
-use Rattle.number_links.proofs.WalkLemmas.{reached_from}
 
 -- whatever is allowed, all that is reached is in the set
 pub all_led : (links : Known) (roots : List ℕ) (among allowed : ℕ → Bool) → IsAllLedTo links roots among → (n : ℕ) → IsReached (linked links) allowed roots n → among n ≡ true
@@ -125,34 +124,3 @@ rested links rests allowed among roots reached clear q ms (inr learned) = inr (l
     by : RestsOrIsKnown links rests q → rests q ≡ true
     by (inl rest) = rest
     by (inr is) = absurd (let differs : ⊥ = (let none = learned.2 in cc) in differs)
-
--- ---- what is kept of roots, taken one by one
-pub nothing_taken : (links : Known) (allowed : ℕ → Bool) (roots : List ℕ) (among : ℕ → Bool) → ((n : ℕ) → among n ≡ false) → IsTaken links allowed roots among
-nothing_taken links allowed roots among none = record {
-  closed = λ from n is leads. absurd (no from is);
-  only = λ n is. absurd (no n is);
-  known = λ n is. absurd (no n is);
-}
-  where
-    no : (n : ℕ) → among n ≡ true → ⊥
-    no n is = (let differs : true ≡ false = sym is ∙ none n in cc)
-
-pub one_taken : (links : Known) (allowed : ℕ → Bool) (roots : List ℕ) (root : ℕ) (set seen now_seen : ℕ → Bool) → Contains roots root → IsAllLedTo links (root ∷ []) set → ((n : ℕ) → set n ≡ true → allowed n ≡ true)
-    → ((n : ℕ) → now_seen n ≡ (seen n || set n)) → IsTaken links allowed roots seen → IsTaken links allowed roots now_seen
-one_taken links allowed roots root set seen now_seen among is within takes taken = record {
-  closed = λ from n there leads. elim (either from there) [
-    | inl before ↦ takes n ∙ ap (λ b. b || set n) (taken.closed from n before leads)
-    | inr here ↦ takes n ∙ or_true (seen n) (set n) (is.closed from n here leads)
-  ];
-  only = λ n there. elim (either n there) [
-    | inl before ↦ taken.only n before
-    | inr here ↦ reached_from (linked links) allowed roots root (Root root among (within root (is.rooted root (sole root)))) n (led_all links (root ∷ []) set allowed is within n (is.only n here))
-  ];
-  known = λ n there. elim (either n there) [
-    | inl before ↦ taken.known n before
-    | inr here ↦ is.known n here
-  ];
-}
-  where
-    either : (n : ℕ) → now_seen n ≡ true → (seen n ≡ true) ⊎ (set n ≡ true)
-    either n there = or_cases (seen n) (set n) (sym (takes n) ∙ there)

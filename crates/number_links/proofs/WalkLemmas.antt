@@ -137,23 +137,3 @@ walks_taken clear next allowed roots seen waits rest last set now_seen popped it
     still : (from : ℕ) → Contains waits from ⊎ (clear from × ((n : ℕ) → Contains (next from) n → allowed n ≡ true → seen n ≡ true)) → Contains rest from ⊎ (clear from × ((n : ℕ) → Contains (next from) n → allowed n ≡ true → now_seen n ≡ true))
     still from (inl waited) = here from (Contains-append_cases rest (last ∷ []) from (subst (λ w. Contains w from) popped waited))
     still from (inr done) = inr (done.0, λ n linked there. keep n (done.1 n linked there))
-
--- the roots were seen to after some of what they lead to was taken
-pub walks_begin_taken : (bound : ℕ) (clear : ℕ → Type 0) (next : ℕ → List ℕ) (allowed : ℕ → Bool) (roots : List ℕ) (seen : ℕ → Bool) (waits : List ℕ) (now_seen : ℕ → Bool) (now_waits : List ℕ)
-    → ((from n : ℕ) → seen from ≡ true → Contains (next from) n → seen n ≡ true) → ((n : ℕ) → seen n ≡ true → IsReached next allowed roots n) → ((n : ℕ) → seen n ≡ true → clear n)
-    → waits ≡ [] → Sees bound allowed roots seen waits now_seen now_waits → Walks clear next allowed roots now_seen now_waits
-walks_begin_taken bound clear next allowed roots seen waits now_seen now_waits closed reach clears none_waits sees = record {
-  begun = sees.all;
-  noted = λ n is. elim (sees.noted n is) [
-    | inl before ↦ absurd (none_there n (subst (λ w. Contains w n) none_waits before))
-    | inr seen_now ↦ seen_now
-  ];
-  reached = λ n is. elim (sees.only n is) [
-    | inl before ↦ reach n before
-    | inr found ↦ Root n found.0 found.1
-  ];
-  closed = λ from is. elim (sees.new from is) [
-    | inl before ↦ inr (clears from before, λ n leads there. sees.kept n (closed from n before leads))
-    | inr waiting ↦ inl waiting
-  ];
-}

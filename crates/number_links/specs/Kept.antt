@@ -15,9 +15,3 @@ pub record IsAllLedTo (links : Known) (roots : List ℕ) (among : ℕ → Bool) 
 -- the same of a set that is kept, and its root
 abbrev pub IsKept : Known → Kept → Type 0
 IsKept links kept = IsAllLedTo links (kept.root ∷ []) (has kept.reached)
-
--- all of these are reached from the roots; they lead to each other alone, and of each of them it is known what it leads to
-pub record IsTaken (links : Known) (allowed : ℕ → Bool) (roots : List ℕ) (among : ℕ → Bool) : Type 0 where
-  pub closed : (from n : ℕ) → among from ≡ true → Contains (linked links from) n → among n ≡ true
-  pub only : (n : ℕ) → among n ≡ true → IsReached (linked links) allowed roots n
-  pub known : (n : ℕ) → among n ≡ true → is_some (known links n) ≡ true

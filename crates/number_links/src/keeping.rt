@@ -4,7 +4,7 @@ ghost use Rattle.number_sets.specs.Numbers.{has};
 ghost use Rattle.number_links.specs.Kept.{IsKept};
 ghost use Rattle.number_links.specs.Known.{known};
 
-use crate::kept::{Kept, find, put};
+use crate::kept::{Kept, put};
 use crate::links::Links;
 use crate::resting::Resting;
 use crate::settling::settle;
@@ -55,19 +55,7 @@ fn keep_one<R: Resting>(
     put(kept, Kept { root, reached });
 }
 
-// Whether a number is in what is kept of one of these.
-fn is_covered(kept: &[Kept], allowed: &NumberSet, roots: &[u32], n: u32) -> bool {
-    for root in roots {
-        if let Some(set) = find(kept, allowed, *root) {
-            if set.contains(n) {
-                return true;
-            }
-        }
-    }
-    false
-}
-
-// The same of each of these numbers, the first of them, that one before it does not lead to.
+// The same of each of these numbers, the first of them.
 pub(crate) fn keep_all<R: Resting>(
     alloc: Global,
     links: &mut Links,
@@ -81,9 +69,6 @@ pub(crate) fn keep_all<R: Resting>(
     ensures only { (q : ℕ) (ms : List ℕ) → known links.new q ≡ Some ms → (known links.old q ≡ Some ms) ⊎ ((ms ≡ []) × (has allowed.now q ≡ true) × (R.rests resting.now q ≡ true)) }
 {
     for at in 0..roots.len().min(MOST_ROOTS) {
-        if is_covered(kept.as_slice(), allowed, &roots[..at], roots[at]) {
-            continue;
-        }
         keep_one(alloc, links, kept, allowed, resting, roots[at]);
     }
 }

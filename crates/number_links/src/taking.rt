@@ -1,8 +1,8 @@
 // A walk that takes what is kept whole.
-ghost use Rattle.std.specs.Prelude.{◌≡◌, ◌||◌, ℕ, List, All, Contains, None, false, true, IfOk, IfSome, IfNone, OnOk};
+ghost use Rattle.std.specs.Prelude.{◌≡◌, ◌||◌, ℕ, All, None, false, true, IfOk, IfSome, IfNone, OnOk};
 ghost use Rattle.number_sets.specs.Numbers.{has};
-ghost use Rattle.number_links.specs.Kept.{IsKept, IsTaken};
-ghost use Rattle.number_links.specs.Known.{Known, RestsOrIsKnown, known, linked};
+ghost use Rattle.number_links.specs.Kept.{IsKept};
+ghost use Rattle.number_links.specs.Known.{RestsOrIsKnown, known, linked};
 ghost use Rattle.number_links.specs.Reach.{IsReached, ReachesUnknown};
 
 use crate::kept::{Kept, find};
@@ -19,36 +19,6 @@ fn take(seen: &mut NumberSet, set: &NumberSet) -> Result<(), AllocError>
 {
     seen.reserve_all(set)?;
     seen.unite(set);
-    Ok(())
-}
-
-// Takes all that is kept of a root, if anything is.
-fn take_root(
-    kept: &[Kept],
-    allowed: &NumberSet,
-    root: u32,
-    seen: &mut NumberSet,
-) -> Result<(), AllocError>
-    ensures { (links : Known) (roots : List ℕ) → All (IsKept links) kept.now → Contains roots root → IsTaken links (has allowed.now) roots (has seen.old) → OnOk result (IsTaken links (has allowed.now) roots (has seen.new)) }
-{
-    let Some(set) = find(kept, allowed, root) else {
-        return Ok(());
-    };
-    take(seen, set)
-}
-
-// The same of each of these roots, so that none of it is walked.
-fn take_roots(
-    kept: &[Kept],
-    allowed: &NumberSet,
-    roots: &[u32],
-    seen: &mut NumberSet,
-) -> Result<(), AllocError>
-    ensures { (links : Known) → All (IsKept links) kept.now → ((n : ℕ) → has seen.old n ≡ false) → OnOk result (IsTaken links (has allowed.now) roots.now (has seen.new)) }
-{
-    for root in roots {
-        take_root(kept, allowed, *root, seen)?;
-    }
     Ok(())
 }
 
@@ -73,7 +43,6 @@ pub(crate) fn reach_all<R: Resting>(
     let none = NumberSet::new(alloc);
     let mut seen = NumberSet::new(alloc);
     let mut waiting = Vec::new(alloc);
-    take_roots(kept, allowed, roots, &mut seen)?;
     note_all(allowed, &none, roots, &mut seen, &mut waiting)?;
     'waiting: while let Some(n) = waiting.pop() {
         if let Some(set) = find(kept, allowed, n) {

@@ -8,18 +8,15 @@ use Rattle.number_links.proofs.KeptLemmas.{led_all}
 use Rattle.number_links.proofs.OptionLemmas.{some_is}
 use Rattle.number_links.proofs.PastLemmas.{sees_open}
 use Rattle.number_links.proofs.SeeingLemmas.{sole, unseen_no_more}
-use Rattle.number_links.proofs.WalkLemmas.{last_reached, none_waits, walks_begin_taken, walks_end, walks_on, walks_taken}
+use Rattle.number_links.proofs.WalkLemmas.{last_reached, none_waits, walks_begin, walks_end, walks_on, walks_taken}
 use Rattle.number_links.proofs.taking.reach_all.Goals as goal
 
 pub waiting-init : goal.waiting-init
 waiting-init g c =
     let rests = g.R.Resting.rests c.args.resting.now in
     let links = c.args.links.now in
-    let seen = has c.take_roots.new.seen in
-    let taken = c.in_ok-take_roots.ensures links c.requires c.new-seen.ensures.has in
-    walks_begin_taken 4294967296 (RestsOrIsKnown links rests) (linked links) (has c.args.allowed.now) c.args.roots.now seen c.new-waiting.result.items (has c.note_all.new.seen) c.note_all.new.waiting.items
-    taken.closed taken.only (λ n is. inr (taken.known n is)) c.new-waiting.ensures.items
-    (sees_open 4294967296 (has c.args.allowed.now) (has c.new-none.result) c.args.roots.now seen c.new-waiting.result.items (has c.note_all.new.seen) c.note_all.new.waiting.items c.new-none.ensures.has c.in_ok-note_all.ensures)
+    walks_begin 4294967296 (RestsOrIsKnown links rests) (linked links) (has c.args.allowed.now) c.args.roots.now (has c.new-seen.result) c.new-waiting.result.items (has c.note_all.new.seen) c.note_all.new.waiting.items c.new-seen.ensures.has c.new-waiting.ensures.items
+    (sees_open 4294967296 (has c.args.allowed.now) (has c.new-none.result) c.args.roots.now (has c.new-seen.result) c.new-waiting.result.items (has c.note_all.new.seen) c.note_all.new.waiting.items c.new-none.ensures.has c.in_ok-note_all.ensures)
 
 pub waiting-smaller-in-Some-find : goal.waiting-smaller-in-Some-find
 waiting-smaller-in-Some-find g c =
